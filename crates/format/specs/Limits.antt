@@ -1,0 +1,29 @@
+-- The limits, each with one home.
+use Prim.Native.Nat.{ℕ}
+
+-- "file 65,536 bytes"
+abbrev pub fileBytes : ℕ
+fileBytes = 65536
+
+-- "a field's own name 64 (a listed name may be longer); value 4,096; 256 fields a record"
+abbrev pub nameBytes : ℕ
+nameBytes = 64
+
+abbrev pub valueBytes : ℕ
+valueBytes = 4096
+
+abbrev pub recordFields : ℕ
+recordFields = 256
+
+-- "64 descriptors; per descriptor 32 typedefs, 32 `%type` fields, and 64 words each in all mandatory, prohibit, allowed and unique fields"
+abbrev pub descriptors : ℕ
+descriptors = 64
+
+abbrev pub typedefs : ℕ
+typedefs = 32
+
+abbrev pub typeFields : ℕ
+typeFields = 32
+
+abbrev pub listWords : ℕ
+listWords = 64

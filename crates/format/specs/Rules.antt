@@ -1,0 +1,178 @@
+-- The rules of a descriptor.
+use Prim.Native.Nat.{ℕ}
+use mathlib.Core.Bool.{Bool, true, false, _&&_, _||_, not}
+use mathlib.Core.List.{List, [], _∷_, _++_, map}
+use mathlib.Core.Option.{Option, none, some}
+use lib.Dec.{leb, ltb, eqb}
+use lib.ListN.{length, getD}
+use Rattle.format.specs.Bytes.{Bytes, text, pick, all, any, same, among}
+use Rattle.format.specs.Lines.{isName}
+use Rattle.format.specs.Records.{Field, Record}
+use Rattle.format.specs.Sets.{valuesOf}
+use Rattle.format.specs.Words.{firstWord, afterWord, words, split, isTypeName}
+use Rattle.format.specs.Numbers.{Bounds, onward, numberOf}
+use Rattle.format.specs.Types.{Kind, Typed, Typedef, typeOf, kindOf, meets}
+
+abbrev pub isSpecial : Bytes → Bool
+isSpecial n = eqb (getD n 0 0) 37
+
+-- "several such fields make a union": the words of all fields of one name
+abbrev pub joinAll : {A : Type 0} → List (List A) → List A
+joinAll [] = []
+joinAll (x ∷ xs) = x ++ joinAll xs
+
+abbrev pub listed : Bytes → Record → List Bytes
+listed n r = joinAll (map words (valuesOf n r))
+
+abbrev pub mandatory : Record → List Bytes
+mandatory r = listed (text "%mandatory") r
+
+abbrev pub prohibited : Record → List Bytes
+prohibited r = listed (text "%prohibit") r
+
+abbrev pub allowed : Record → List Bytes
+allowed r = listed (text "%allowed") r
+
+abbrev pub unique : Record → List Bytes
+unique r = listed (text "%unique") r
+
+-- one name or none
+abbrev pub key : Record → List Bytes
+key r = listed (text "%key") r
+
+-- "`%size`: .. one word, a number (exactly that many), or two words, one of `<` `<=` `>` `>=` and a number"
+
+pub record Size : Type 0 where
+  pub order : ℕ → ℕ → Bool
+  pub number : ℕ
+
+abbrev pub orderOf : Bytes → Option (ℕ → ℕ → Bool)
+orderOf w =
+    pick (same w (text "<")) (some (λ m n. ltb m n))
+    (pick (same w (text "<=")) (some (λ m n. leb m n))
+    (pick (same w (text ">")) (some (λ m n. ltb n m))
+    (pick (same w (text ">=")) (some (λ m n. leb n m))
+    none)))
+
+abbrev pub sizeBy : Option (ℕ → ℕ → Bool) → Option ℕ → Option Size
+sizeBy none x = none
+sizeBy (some o) none = none
+sizeBy (some o) (some n) = some (record { order = o; number = n })
+
+abbrev pub sizeRule : Bounds → List Bytes → Option Size
+sizeRule b [] = none
+sizeRule b (w ∷ []) = sizeBy (some (λ m n. eqb m n)) (numberOf b w)
+sizeRule b (w ∷ v ∷ []) = sizeBy (orderOf w) (numberOf b v)
+sizeRule b (w ∷ v ∷ u ∷ us) = none
+
+abbrev pub isSize : Option Size → Bool
+isSize none = false
+isSize (some z) = true
+
+abbrev pub meetsSize : Option Size → ℕ → Bool
+meetsSize none n = true
+meetsSize (some z) n = z .order n (z .number)
+
+-- "`%typedef`: a name and a type."
+abbrev pub defines : Bytes → Option Typed → List Typedef
+defines n none = []
+defines n (some t) = record { name = n; type = t } ∷ []
+
+abbrev pub typedefOf : Bounds → Bytes → List Typedef
+typedefOf b v = defines (firstWord v) (typeOf b (afterWord v))
+
+abbrev pub typedefsOf : Bounds → Record → List Typedef
+typedefsOf b r = joinAll (map (typedefOf b) (valuesOf (text "%typedef") r))
+
+-- "`%type`: names joined by commas in one word, then a type"
+pub record TypeRule : Type 0 where
+  pub names : List Bytes
+  pub kind : Kind
+
+abbrev pub typedNames : Bytes → List Bytes
+typedNames v = split 44 (firstWord v)
+
+abbrev pub typeRuleBy : List Bytes → Option Kind → List TypeRule
+typeRuleBy ns none = []
+typeRuleBy ns (some k) = record { names = ns; kind = k } ∷ []
+
+-- the kind at the end of a type, where it has one
+abbrev pub endKind : Bounds → List Typedef → Bytes → Option Kind
+endKind b ds v = onward (kindOf ds) (typeOf b (afterWord v))
+
+abbrev pub typeRules : Bounds → Record → List TypeRule
+typeRules b r = joinAll (map (λ (v : Bytes). typeRuleBy (typedNames v) (endKind b (typedefsOf b r) v)) (valuesOf (text "%type") r))
+
+-- "all that name a field hold"
+abbrev pub isTyped : Bounds → List TypeRule → Field → Bool
+isTyped b ts f = all (λ (t : TypeRule). not (among (f .name) (t .names)) || meets b (t .kind) (f .value)) ts
+
+-- are the fields of a descriptor well formed, each by the row of its name
+
+pub record Shape : Type 0 where
+  pub name : Bytes
+  pub fits : Bytes → Bool
+
+abbrev pub one : (Bytes → Bool) → List Bytes → Bool
+one p [] = false
+one p (w ∷ []) = p w
+one p (w ∷ v ∷ ws) = false
+
+abbrev pub several : (Bytes → Bool) → List Bytes → Bool
+several p [] = false
+several p (w ∷ ws) = all p (w ∷ ws)
+
+-- any text; `%typedef` and `%type` fields have a question of their own
+abbrev pub free : Bytes → Bool
+free v = true
+
+abbrev pub nameList : Bytes → Bool
+nameList v = several isName (words v)
+
+abbrev pub shapes : Bounds → List Shape
+shapes b =
+    record { name = text "%rec"; fits = λ (v : Bytes). one isTypeName (words v) } ∷
+    record { name = text "%doc"; fits = free } ∷
+    record { name = text "%mandatory"; fits = nameList } ∷
+    record { name = text "%prohibit"; fits = nameList } ∷
+    record { name = text "%allowed"; fits = nameList } ∷
+    record { name = text "%unique"; fits = nameList } ∷
+    record { name = text "%key"; fits = λ (v : Bytes). one isName (words v) } ∷
+    record { name = text "%size"; fits = λ (v : Bytes). isSize (sizeRule b (words v)) } ∷
+    record { name = text "%typedef"; fits = free } ∷
+    record { name = text "%type"; fits = free } ∷ []
+
+-- "Other `%` names are faults. Names without `%` have no effect."
+abbrev pub isShaped : Bounds → Field → Bool
+isShaped b f = not (isSpecial (f .name)) || any (λ (x : Shape). same (f .name) (x .name) && x .fits (f .value)) (shapes b)
+
+-- "`%key`: at most one", "`%size`: at most one"
+abbrev pub isWellFormed : Bounds → Record → Bool
+isWellFormed b r = all (isShaped b) r && leb (length (valuesOf (text "%key") r)) 1 && leb (length (valuesOf (text "%size") r)) 1
+
+-- "No typedef is called by a kind's name or `email`, `date`, `regexp`, `rec`"
+abbrev pub reserved : List Bytes
+reserved = map text ("int" ∷ "range" ∷ "real" ∷ "line" ∷ "size" ∷ "enum" ∷ "bool" ∷ "field" ∷ "uuid" ∷ "email" ∷ "date" ∷ "regexp" ∷ "rec" ∷ [])
+
+abbrev pub isTypedefName : Bytes → Bool
+isTypedefName n = isTypeName n && not (among n reserved)
+
+abbrev pub isDefined : Option Kind → Bool
+isDefined none = false
+isDefined (some k) = true
+
+abbrev pub distinct : List Bytes → Bool
+distinct [] = true
+distinct (x ∷ xs) = not (among x xs) && distinct xs
+
+-- "Missing names and loops are faults even if unused", "or defined twice"
+abbrev pub isTypedWell : Bounds → Record → Bool
+isTypedWell b r =
+    let ds : List Typedef = typedefsOf b r in
+    let tds : List Bytes = valuesOf (text "%typedef") r in
+    let tys : List Bytes = valuesOf (text "%type") r in
+    all (λ (v : Bytes). isTypedefName (firstWord v)) tds
+    && all (λ (v : Bytes). isDefined (endKind b ds v)) tds
+    && distinct (map firstWord tds)
+    && all (λ (v : Bytes). all isName (typedNames v)) tys
+    && all (λ (v : Bytes). isDefined (endKind b ds v)) tys
