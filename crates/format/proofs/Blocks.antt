@@ -11,21 +11,21 @@ use Rattle.format.proofs.Elements.{Each, each-append, Filled}
 
 -- blocks as they are cut: no blank line but at the head of each but the first
 
-abbrev pub Plain : Block → Type 0
-Plain [] = Unit {0}
-Plain (Piece.blank l ∷ b) = ⊥
-Plain (Piece.comment l ∷ b) = Plain b
-Plain (Piece.field n v ls ∷ b) = Plain b
+abbrev pub Unbroken : Block → Type 0
+Unbroken [] = Unit {0}
+Unbroken (Piece.blank l ∷ b) = ⊥
+Unbroken (Piece.comment l ∷ b) = Unbroken b
+Unbroken (Piece.field n v ls ∷ b) = Unbroken b
 
 abbrev pub Headed : Block → Type 0
 Headed [] = ⊥
-Headed (Piece.blank l ∷ b) = Plain b
+Headed (Piece.blank l ∷ b) = Unbroken b
 Headed (Piece.comment l ∷ b) = ⊥
 Headed (Piece.field n v ls ∷ b) = ⊥
 
 abbrev pub Chopped : List Block → Type 0
 Chopped [] = ⊥
-Chopped (b ∷ bs) = Plain b × Each Headed bs
+Chopped (b ∷ bs) = Unbroken b × Each Headed bs
 
 chopped-place : (p : Piece) (bs : List Block) → Chopped bs → Chopped (place p bs)
 chopped-place p [] c = absurd c
@@ -52,23 +52,23 @@ pub flat-blocks : (ps : List Piece) → flat (blocks ps) ≡ ps
 flat-blocks [] = refl
 flat-blocks (p ∷ ps) = flat-place p (blocks ps) ∙ ap {B = List Piece} (λ x. p ∷ x) (flat-blocks ps)
 
--- a plain block in front of pieces whose first block is empty is that first block
-pub blocks-plain : (b : Block) (ps : List Piece) (bs : List Block) → Plain b → blocks ps ≡ [] ∷ bs → blocks (b ++ ps) ≡ b ∷ bs
-blocks-plain [] ps bs h e = e
-blocks-plain (Piece.blank l ∷ b) ps bs h e = absurd h
-blocks-plain (Piece.comment l ∷ b) ps bs h e = ap (onto (Piece.comment l)) (blocks-plain b ps bs h e)
-blocks-plain (Piece.field n v ls ∷ b) ps bs h e = ap (onto (Piece.field n v ls)) (blocks-plain b ps bs h e)
+-- an unbroken block in front of pieces whose first block is empty is that first block
+pub blocks-unbroken : (b : Block) (ps : List Piece) (bs : List Block) → Unbroken b → blocks ps ≡ [] ∷ bs → blocks (b ++ ps) ≡ b ∷ bs
+blocks-unbroken [] ps bs h e = e
+blocks-unbroken (Piece.blank l ∷ b) ps bs h e = absurd h
+blocks-unbroken (Piece.comment l ∷ b) ps bs h e = ap (onto (Piece.comment l)) (blocks-unbroken b ps bs h e)
+blocks-unbroken (Piece.field n v ls ∷ b) ps bs h e = ap (onto (Piece.field n v ls)) (blocks-unbroken b ps bs h e)
 
 blocks-headed : (bs : List Block) → Each Headed bs → blocks (flat bs) ≡ [] ∷ bs
 blocks-headed [] h = refl
 blocks-headed ([] ∷ bs) h = absurd (h .0)
-blocks-headed ((Piece.blank l ∷ b) ∷ bs) h = ap (place (Piece.blank l)) (blocks-plain b (flat bs) bs (h .0) (blocks-headed bs (h .1)))
+blocks-headed ((Piece.blank l ∷ b) ∷ bs) h = ap (place (Piece.blank l)) (blocks-unbroken b (flat bs) bs (h .0) (blocks-headed bs (h .1)))
 blocks-headed ((Piece.comment l ∷ b) ∷ bs) h = absurd (h .0)
 blocks-headed ((Piece.field n v ls ∷ b) ∷ bs) h = absurd (h .0)
 
 pub blocks-flat : (bs : List Block) → Chopped bs → blocks (flat bs) ≡ bs
 blocks-flat [] c = absurd c
-blocks-flat (b ∷ bs) c = blocks-plain b (flat bs) bs (c .0) (blocks-headed bs (c .1))
+blocks-flat (b ∷ bs) c = blocks-unbroken b (flat bs) bs (c .0) (blocks-headed bs (c .1))
 
 pub flat-append : (bs cs : List Block) → flat (bs ++ cs) ≡ flat bs ++ flat cs
 flat-append [] cs = refl
@@ -98,58 +98,58 @@ pub records-filled : (ps : List Piece) → Each Filled (records ps)
 unfolding records
 records-filled ps = filled-in (blocks ps)
 
--- an edit of a block keeps it plain but for the blank line at its head, and the block that it inserts is headed
+-- an edit of a block keeps it unbroken but for the blank line at its head, and the block that it inserts is headed
 
-plain-append : (a b : Block) → Plain a → Plain b → Plain (a ++ b)
-plain-append [] b h k = k
-plain-append (Piece.blank l ∷ a) b h k = absurd h
-plain-append (Piece.comment l ∷ a) b h k = plain-append a b h k
-plain-append (Piece.field n v ls ∷ a) b h k = plain-append a b h k
+unbroken-append : (a b : Block) → Unbroken a → Unbroken b → Unbroken (a ++ b)
+unbroken-append [] b h k = k
+unbroken-append (Piece.blank l ∷ a) b h k = absurd h
+unbroken-append (Piece.comment l ∷ a) b h k = unbroken-append a b h k
+unbroken-append (Piece.field n v ls ∷ a) b h k = unbroken-append a b h k
 
-pub plain-new : (ps : List Pair) → Plain (map newPiece ps)
-plain-new [] = tt
-plain-new (p ∷ ps) = plain-new ps
+pub unbroken-new : (ps : List Pair) → Unbroken (map newPiece ps)
+unbroken-new [] = tt
+unbroken-new (p ∷ ps) = unbroken-new ps
 
-plain-unfielded : (b : Block) → Plain b → Plain (unfielded b)
-plain-unfielded [] h = tt
-plain-unfielded (Piece.blank l ∷ b) h = absurd h
-plain-unfielded (Piece.comment l ∷ b) h = plain-unfielded b h
-plain-unfielded (Piece.field n v ls ∷ b) h = plain-unfielded b h
+unbroken-unfielded : (b : Block) → Unbroken b → Unbroken (unfielded b)
+unbroken-unfielded [] h = tt
+unbroken-unfielded (Piece.blank l ∷ b) h = absurd h
+unbroken-unfielded (Piece.comment l ∷ b) h = unbroken-unfielded b h
+unbroken-unfielded (Piece.field n v ls ∷ b) h = unbroken-unfielded b h
 
-plain-last : (r : Record) (p : Pair) (n v : Bytes) (ls : List Line) (b more : Block) → Plain b → Plain more → Plain (lastThen r (newPiece p) (Piece.field n v ls) b more)
-plain-last [] p n v ls b more h k = h
-plain-last (f ∷ r) p n v ls b more h k = k
+unbroken-last : (r : Record) (p : Pair) (n v : Bytes) (ls : List Line) (b more : Block) → Unbroken b → Unbroken more → Unbroken (lastThen r (newPiece p) (Piece.field n v ls) b more)
+unbroken-last [] p n v ls b more h k = h
+unbroken-last (f ∷ r) p n v ls b more h k = k
 
-plain-add : (p : Pair) (b : Block) → Plain b → Plain (addLast (newPiece p) b)
-plain-add p [] h = tt
-plain-add p (Piece.blank l ∷ b) h = absurd h
-plain-add p (Piece.comment l ∷ b) h = plain-add p b h
-plain-add p (Piece.field n v ls ∷ b) h = plain-last (fieldsOf b) p n v ls b (addLast (newPiece p) b) h (plain-add p b h)
+unbroken-add : (p : Pair) (b : Block) → Unbroken b → Unbroken (addLast (newPiece p) b)
+unbroken-add p [] h = tt
+unbroken-add p (Piece.blank l ∷ b) h = absurd h
+unbroken-add p (Piece.comment l ∷ b) h = unbroken-add p b h
+unbroken-add p (Piece.field n v ls ∷ b) h = unbroken-last (fieldsOf b) p n v ls b (addLast (newPiece p) b) h (unbroken-add p b h)
 
-plain-change : (c : Change) (n v : Bytes) (ls : List Line) → Plain (changePiece c (Piece.field n v ls))
-plain-change (Change.value w) n v ls = tt
-plain-change Change.dropped n v ls = tt
-plain-change (Change.name m) n v ls = tt
+unbroken-change : (c : Change) (n v : Bytes) (ls : List Line) → Unbroken (changePiece c (Piece.field n v ls))
+unbroken-change (Change.value w) n v ls = tt
+unbroken-change Change.dropped n v ls = tt
+unbroken-change (Change.name m) n v ls = tt
 
-plain-at : (t : Turn) (n : Bytes) (c : Change) (b : Block) → Plain b → Plain (atPiece t n (changePiece c) b)
-plain-at t n c [] h = tt
-plain-at t n c (Piece.blank l ∷ b) h = absurd h
-plain-at t n c (Piece.comment l ∷ b) h = plain-at t n c b h
-plain-at Turn.here n c (Piece.field m v ls ∷ b) h = plain-append (changePiece c (Piece.field m v ls)) b (plain-change c m v ls) h
-plain-at (Turn.later o) n c (Piece.field m v ls ∷ b) h = plain-at (fieldTurn n o (fieldsOf b)) n c b h
+unbroken-at : (t : Turn) (n : Bytes) (c : Change) (b : Block) → Unbroken b → Unbroken (atPiece t n (changePiece c) b)
+unbroken-at t n c [] h = tt
+unbroken-at t n c (Piece.blank l ∷ b) h = absurd h
+unbroken-at t n c (Piece.comment l ∷ b) h = unbroken-at t n c b h
+unbroken-at Turn.here n c (Piece.field m v ls ∷ b) h = unbroken-append (changePiece c (Piece.field m v ls)) b (unbroken-change c m v ls) h
+unbroken-at (Turn.later o) n c (Piece.field m v ls ∷ b) h = unbroken-at (fieldTurn n o (fieldsOf b)) n c b h
 
-in-plain : (e : Edit) (b : Block) → Plain b → Chopped (inBlock e b)
-in-plain (Edit.insert ps) b h = (h, (plain-new ps, tt))
-in-plain Edit.delete b h = (plain-unfielded b h, tt)
-in-plain (Edit.add p) b h = (plain-add p b h, tt)
-in-plain (Edit.change n o c) b h = (plain-at (fieldTurn n o (fieldsOf b)) n c b h, tt)
+in-unbroken : (e : Edit) (b : Block) → Unbroken b → Chopped (inBlock e b)
+in-unbroken (Edit.insert ps) b h = (h, (unbroken-new ps, tt))
+in-unbroken Edit.delete b h = (unbroken-unfielded b h, tt)
+in-unbroken (Edit.add p) b h = (unbroken-add p b h, tt)
+in-unbroken (Edit.change n o c) b h = (unbroken-at (fieldTurn n o (fieldsOf b)) n c b h, tt)
 
 in-headed : (e : Edit) (b : Block) → Headed b → Each Headed (inBlock e b)
 in-headed e [] h = absurd h
-in-headed (Edit.insert ps) (Piece.blank l ∷ b) h = (h, (plain-new ps, tt))
-in-headed Edit.delete (Piece.blank l ∷ b) h = in-plain Edit.delete b h
-in-headed (Edit.add p) (Piece.blank l ∷ b) h = in-plain (Edit.add p) b h
-in-headed (Edit.change n o c) (Piece.blank l ∷ b) h = in-plain (Edit.change n o c) b h
+in-headed (Edit.insert ps) (Piece.blank l ∷ b) h = (h, (unbroken-new ps, tt))
+in-headed Edit.delete (Piece.blank l ∷ b) h = in-unbroken Edit.delete b h
+in-headed (Edit.add p) (Piece.blank l ∷ b) h = in-unbroken (Edit.add p) b h
+in-headed (Edit.change n o c) (Piece.blank l ∷ b) h = in-unbroken (Edit.change n o c) b h
 in-headed e (Piece.comment l ∷ b) h = absurd h
 in-headed e (Piece.field n v ls ∷ b) h = absurd h
 
@@ -164,5 +164,5 @@ chopped-append (b ∷ bs) cs c h = (c .0, each-append Headed bs cs (c .1) h)
 
 pub edit-chopped : (e : Edit) (t : Turn) (bs : List Block) → Chopped bs → Chopped (atBlock t (inBlock e) bs)
 edit-chopped e t [] c = absurd c
-edit-chopped e Turn.here (b ∷ bs) c = chopped-append (inBlock e b) bs (in-plain e b (c .0)) (c .1)
+edit-chopped e Turn.here (b ∷ bs) c = chopped-append (inBlock e b) bs (in-unbroken e b (c .0)) (c .1)
 edit-chopped e (Turn.later k) (b ∷ bs) c = (c .0, edit-headed e (blockTurn k bs) bs (c .1))

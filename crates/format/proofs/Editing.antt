@@ -1,26 +1,18 @@
 -- An edit of pieces: what it does to their records, and what it leaves true of each piece.
-use Prim.Native.Nat.{ℕ, zero, suc, _+_, _-_}
+use Prim.Native.Nat.{ℕ, zero, suc}
 use mathlib.Core.Path.{_≡_, refl, sym, ap, _∙_, subst}
 use mathlib.Core.List.{List, [], _∷_, _++_, map}
-use lib.ListN.{length}
 use Rattle.format.specs.Bytes.{Bytes}
-use Rattle.format.specs.Lines.{Line, lines}
+use Rattle.format.specs.Lines.{Line}
 use Rattle.format.specs.Pieces.{Piece}
-use Rattle.format.specs.Records.{Field, Record, Block, blocks, countOf, fieldsOf, close, recordsIn, records}
-use Rattle.format.specs.Written.{Pair, written, newField, newPiece}
-use Rattle.format.specs.Edits.{Change, Edit, Turn, turn, fieldTurn, atField, fieldOf, atPiece, renamedLines, changePiece, changeField, unfielded, lastThen, addLast, addField, newline, inBlock, inRecord, flat, isRecord, blockTurn, atBlock, onPieces, onRecords}
+use Rattle.format.specs.Records.{Field, Record, Block, blocks, fieldsOf, close, recordsIn, records}
+use Rattle.format.specs.Written.{Pair, newField, newPiece}
+use Rattle.format.specs.Edits.{Change, Edit, Turn, turn, fieldTurn, atField, fieldOf, atPiece, changePiece, changeField, unfielded, lastThen, addLast, addField, newline, inBlock, inRecord, flat, isRecord, blockTurn, atBlock, onPieces, onRecords}
 use Rattle.format.proofs.Elements.{Each, each-append, each-parts, each-map}
+use Rattle.format.proofs.Whole.{Sound}
+use Rattle.format.proofs.Writing.{field-new, fields-new}
+use Rattle.format.proofs.Renaming.{count-rename}
 use Rattle.format.proofs.Blocks.{flat-blocks, blocks-flat, chopped, flat-append, recordsIn-append, edit-chopped}
-
--- a piece keeps its count under a rename, but for the difference of the names
-abbrev pub Renames : Piece → Type 0
-Renames (Piece.blank l) = Unit {0}
-Renames (Piece.comment l) = Unit {0}
-Renames (Piece.field n v ls) = (m : Bytes) → countOf (renamedLines n m ls) ≡ (countOf ls + length m) - length n
-
--- the lines that are written count the bytes that are written
-abbrev pub Counted : Type 0
-Counted = (p : Pair) → countOf (lines (written (p .name) (p .value))) ≡ length (written (p .name) (p .value))
 
 -- the fields of an edited block
 
@@ -36,58 +28,50 @@ fields-unfielded (Piece.blank l ∷ b) = fields-unfielded b
 fields-unfielded (Piece.comment l ∷ b) = fields-unfielded b
 fields-unfielded (Piece.field n v ls ∷ b) = fields-unfielded b
 
-module _ (counted : Counted) where
-  piece-field : (p : Pair) (r : Record) → fieldsOf (newPiece p ∷ []) ++ r ≡ newField p ∷ r
-  piece-field p r = ap {B = Record} (λ x. record { name = p .name; value = p .value; count = x } ∷ r) (counted p)
+fields-last : (p : Pair) (n v : Bytes) (ls : List Line) (r : Record) (b more : Block) → fieldsOf b ≡ r → fieldsOf more ≡ addField (newField p) r → fieldsOf (lastThen r (newPiece p) (Piece.field n v ls) b more) ≡ addField (newField p) (fieldOf n v ls ∷ r)
+fields-last p n v ls [] b more e h = ap {B = Record} (λ x. fieldOf n v ls ∷ x) (field-new p (fieldsOf b) ∙ ap {B = Record} (λ x. newField p ∷ x) e)
+fields-last p n v ls (f ∷ r) b more e h = ap {B = Record} (λ x. fieldOf n v ls ∷ x) h
 
-  pub fields-new : (ps : List Pair) → fieldsOf (map newPiece ps) ≡ map newField ps
-  fields-new [] = refl
-  fields-new (p ∷ ps) = piece-field p (fieldsOf (map newPiece ps)) ∙ ap {B = Record} (λ x. newField p ∷ x) (fields-new ps)
+fields-add : (p : Pair) (b : Block) → fieldsOf (addLast (newPiece p) b) ≡ addField (newField p) (fieldsOf b)
+fields-add p [] = refl
+fields-add p (Piece.blank l ∷ b) = fields-add p b
+fields-add p (Piece.comment l ∷ b) = fields-add p b
+fields-add p (Piece.field n v ls ∷ b) = fields-last p n v ls (fieldsOf b) b (addLast (newPiece p) b) refl (fields-add p b)
 
-  fields-last : (p : Pair) (n v : Bytes) (ls : List Line) (r : Record) (b more : Block) → fieldsOf b ≡ r → fieldsOf more ≡ addField (newField p) r → fieldsOf (lastThen r (newPiece p) (Piece.field n v ls) b more) ≡ addField (newField p) (fieldOf n v ls ∷ r)
-  fields-last p n v ls [] b more e h = ap {B = Record} (λ x. fieldOf n v ls ∷ x) (piece-field p (fieldsOf b) ∙ ap {B = Record} (λ x. newField p ∷ x) e)
-  fields-last p n v ls (f ∷ r) b more e h = ap {B = Record} (λ x. fieldOf n v ls ∷ x) h
+fields-change : (c : Change) (n v : Bytes) (ls : List Line) → Sound (Piece.field n v ls) → fieldsOf (changePiece c (Piece.field n v ls)) ≡ changeField c (fieldOf n v ls)
+fields-change (Change.value w) n v ls h = field-new (record { name = n; value = w }) []
+fields-change Change.dropped n v ls h = refl
+fields-change (Change.name m) n v ls h = ap {B = Record} (λ x. record { name = m; value = v; count = x } ∷ []) (count-rename n v ls m h)
 
-  fields-add : (p : Pair) (b : Block) → fieldsOf (addLast (newPiece p) b) ≡ addField (newField p) (fieldsOf b)
-  fields-add p [] = refl
-  fields-add p (Piece.blank l ∷ b) = fields-add p b
-  fields-add p (Piece.comment l ∷ b) = fields-add p b
-  fields-add p (Piece.field n v ls ∷ b) = fields-last p n v ls (fieldsOf b) b (addLast (newPiece p) b) refl (fields-add p b)
+fields-at : (t : Turn) (n : Bytes) (c : Change) (b : Block) → Each Sound b → fieldsOf (atPiece t n (changePiece c) b) ≡ atField t n (changeField c) (fieldsOf b)
+fields-at t n c [] h = refl
+fields-at t n c (Piece.blank l ∷ b) h = fields-at t n c b (h .1)
+fields-at t n c (Piece.comment l ∷ b) h = fields-at t n c b (h .1)
+fields-at Turn.here n c (Piece.field m v ls ∷ b) h = fields-append (changePiece c (Piece.field m v ls)) b ∙ ap (λ (x : Record). x ++ fieldsOf b) (fields-change c m v ls (h .0))
+fields-at (Turn.later o) n c (Piece.field m v ls ∷ b) h = ap {B = Record} (λ x. fieldOf m v ls ∷ x) (fields-at (fieldTurn n o (fieldsOf b)) n c b (h .1))
 
-  fields-change : (c : Change) (n v : Bytes) (ls : List Line) → Renames (Piece.field n v ls) → fieldsOf (changePiece c (Piece.field n v ls)) ≡ changeField c (fieldOf n v ls)
-  fields-change (Change.value w) n v ls h = piece-field (record { name = n; value = w }) []
-  fields-change Change.dropped n v ls h = refl
-  fields-change (Change.name m) n v ls h = ap {B = Record} (λ x. record { name = m; value = v; count = x } ∷ []) (h m)
+in-records : (e : Edit) (b : Block) (f : Field) (r : Record) → Each Sound b → fieldsOf b ≡ f ∷ r → recordsIn (inBlock e b) ≡ inRecord e (f ∷ r)
+in-records (Edit.insert ps) b f r h q = ap (λ (x : Record). close (fieldsOf b) (close x [])) (fields-new ps) ∙ ap (λ (x : Record). close x (close (map newField ps) [])) q
+in-records Edit.delete b f r h q = ap (λ (x : Record). close x []) (fields-unfielded b)
+in-records (Edit.add p) b f r h q = ap (λ (x : Record). close x []) (fields-add p b) ∙ ap (inRecord (Edit.add p)) q
+in-records (Edit.change n o c) b f r h q = ap (λ (x : Record). close x []) (fields-at (fieldTurn n o (fieldsOf b)) n c b h) ∙ ap (inRecord (Edit.change n o c)) q
 
-  fields-at : (t : Turn) (n : Bytes) (c : Change) (b : Block) → Each Renames b → fieldsOf (atPiece t n (changePiece c) b) ≡ atField t n (changeField c) (fieldsOf b)
-  fields-at t n c [] h = refl
-  fields-at t n c (Piece.blank l ∷ b) h = fields-at t n c b (h .1)
-  fields-at t n c (Piece.comment l ∷ b) h = fields-at t n c b (h .1)
-  fields-at Turn.here n c (Piece.field m v ls ∷ b) h = fields-append (changePiece c (Piece.field m v ls)) b ∙ ap (λ (x : Record). x ++ fieldsOf b) (fields-change c m v ls (h .0))
-  fields-at (Turn.later o) n c (Piece.field m v ls ∷ b) h = ap {B = Record} (λ x. fieldOf m v ls ∷ x) (fields-at (fieldTurn n o (fieldsOf b)) n c b (h .1))
+-- the edit comes to the block of the record that it is for
+at-step : (e : Edit) (b : Block) (bs : List Block) (k : ℕ) (r : Record) → Each Sound b → fieldsOf b ≡ r → ((j : ℕ) → recordsIn (atBlock (blockTurn j bs) (inBlock e) bs) ≡ onRecords j e (recordsIn bs)) → recordsIn (atBlock (turn (isRecord r) k) (inBlock e) (b ∷ bs)) ≡ onRecords k e (close r (recordsIn bs))
+at-step e b bs k [] h q ih = ap (λ (x : Record). close x (recordsIn (atBlock (blockTurn k bs) (inBlock e) bs))) q ∙ ih k
+at-step e b bs zero (f ∷ r) h q ih = recordsIn-append (inBlock e b) bs ∙ ap (λ (x : List Record). x ++ recordsIn bs) (in-records e b f r h q)
+at-step e b bs (suc k) (f ∷ r) h q ih = ap (λ (x : Record). close x (recordsIn (atBlock (blockTurn k bs) (inBlock e) bs))) q ∙ ap {B = List Record} (λ x. (f ∷ r) ∷ x) (ih k)
 
-  in-records : (e : Edit) (b : Block) (f : Field) (r : Record) → Each Renames b → fieldsOf b ≡ f ∷ r → recordsIn (inBlock e b) ≡ inRecord e (f ∷ r)
-  in-records (Edit.insert ps) b f r h q = ap (λ (x : Record). close (fieldsOf b) (close x [])) (fields-new ps) ∙ ap (λ (x : Record). close x (close (map newField ps) [])) q
-  in-records Edit.delete b f r h q = ap (λ (x : Record). close x []) (fields-unfielded b)
-  in-records (Edit.add p) b f r h q = ap (λ (x : Record). close x []) (fields-add p b) ∙ ap (inRecord (Edit.add p)) q
-  in-records (Edit.change n o c) b f r h q = ap (λ (x : Record). close x []) (fields-at (fieldTurn n o (fieldsOf b)) n c b h) ∙ ap (inRecord (Edit.change n o c)) q
+at-records : (e : Edit) (bs : List Block) → Each Sound (flat bs) → (k : ℕ) → recordsIn (atBlock (blockTurn k bs) (inBlock e) bs) ≡ onRecords k e (recordsIn bs)
+at-records e [] h k = refl
+at-records e (b ∷ bs) h k = let s = each-parts Sound b (flat bs) h in at-step e b bs k (fieldsOf b) (s .0) refl (at-records e bs (s .1))
 
-  -- the edit comes to the block of the record that it is for
-  at-step : (e : Edit) (b : Block) (bs : List Block) (k : ℕ) (r : Record) → Each Renames b → fieldsOf b ≡ r → ((j : ℕ) → recordsIn (atBlock (blockTurn j bs) (inBlock e) bs) ≡ onRecords j e (recordsIn bs)) → recordsIn (atBlock (turn (isRecord r) k) (inBlock e) (b ∷ bs)) ≡ onRecords k e (close r (recordsIn bs))
-  at-step e b bs k [] h q ih = ap (λ (x : Record). close x (recordsIn (atBlock (blockTurn k bs) (inBlock e) bs))) q ∙ ih k
-  at-step e b bs zero (f ∷ r) h q ih = recordsIn-append (inBlock e b) bs ∙ ap (λ (x : List Record). x ++ recordsIn bs) (in-records e b f r h q)
-  at-step e b bs (suc k) (f ∷ r) h q ih = ap (λ (x : Record). close x (recordsIn (atBlock (blockTurn k bs) (inBlock e) bs))) q ∙ ap {B = List Record} (λ x. (f ∷ r) ∷ x) (ih k)
-
-  at-records : (e : Edit) (bs : List Block) → Each Renames (flat bs) → (k : ℕ) → recordsIn (atBlock (blockTurn k bs) (inBlock e) bs) ≡ onRecords k e (recordsIn bs)
-  at-records e [] h k = refl
-  at-records e (b ∷ bs) h k = let s = each-parts Renames b (flat bs) h in at-step e b bs k (fieldsOf b) (s .0) refl (at-records e bs (s .1))
-
-  -- the records of edited pieces are the edited records
-  pub edit-records : (e : Edit) (k : ℕ) (ps : List Piece) → Each Renames ps → records (onPieces k e ps) ≡ onRecords k e (records ps)
-  unfolding records
-  edit-records e k ps h =
-      let bs : List Block = atBlock (blockTurn k (blocks ps)) (inBlock e) (blocks ps) in
-      ap recordsIn (blocks-flat bs (edit-chopped e (blockTurn k (blocks ps)) (blocks ps) (chopped ps))) ∙ at-records e (blocks ps) (subst (Each Renames) (sym (flat-blocks ps)) h) k
+-- the records of edited pieces are the edited records
+pub edit-records : (e : Edit) (k : ℕ) (ps : List Piece) → Each Sound ps → records (onPieces k e ps) ≡ onRecords k e (records ps)
+unfolding records
+edit-records e k ps h =
+    let bs : List Block = atBlock (blockTurn k (blocks ps)) (inBlock e) (blocks ps) in
+    ap recordsIn (blocks-flat bs (edit-chopped e (blockTurn k (blocks ps)) (blocks ps) (chopped ps))) ∙ at-records e (blocks ps) (subst (Each Sound) (sym (flat-blocks ps)) h) k
 
 -- What an edit asks of a statement about pieces, so that it stays true of each: that the pieces which it writes have it.
 abbrev pub Keeps : (Piece → Type 0) → Edit → Type 0

@@ -1,8 +1,11 @@
 -- What is said of a list's elements: each has something, there is one, there is one at a place.
 use Prim.Native.Nat.{ℕ, zero, suc, _<_}
 use native.Mathlib.Omega.{arith}
+use mathlib.Core.Path.{_≡_, refl, sym, ap, _∙_}
+use mathlib.Core.Bool.{Bool, true, false, _||_, and-eq-true-iff, false≢true}
 use mathlib.Core.List.{List, [], _∷_, _++_, map}
 use lib.ListN.{length}
+use Rattle.format.specs.Bytes.{all, any}
 
 abbrev pub Each : {A : Type 0} → (A → Type 0) → List A → Type 0
 Each P [] = Unit {0}
@@ -20,6 +23,36 @@ module _ {A : Type 0} (P : A → Type 0) where
   pub each-map : {B : Type 0} (f : B → A) (xs : List B) → Each (λ (x : B). P (f x)) xs → Each P (map f xs)
   each-map f [] h = tt
   each-map f (x ∷ xs) h = (h .0, each-map f xs (h .1))
+
+pub each-imp : {A : Type 0} (P Q : A → Type 0) → ((x : A) → P x → Q x) → (xs : List A) → Each P xs → Each Q xs
+each-imp P Q f [] h = tt
+each-imp P Q f (x ∷ xs) h = (f x (h .0), each-imp P Q f xs (h .1))
+
+pub each-both : {A : Type 0} (P Q : A → Type 0) (xs : List A) → Each P xs → Each Q xs → Each (λ (x : A). P x × Q x) xs
+each-both P Q [] h k = tt
+each-both P Q (x ∷ xs) h k = ((h .0, k .0), each-both P Q xs (h .1) (k .1))
+
+-- a test of all, or of some one, and of each
+neither : (a b : Bool) → (a || b) ≡ false → (a ≡ false) × (b ≡ false)
+neither true b e = absurd (false≢true (sym e))
+neither false b e = (refl, e)
+
+module _ {A : Type 0} (p : A → Bool) where
+  pub all-each : (xs : List A) → all p xs ≡ true → Each (λ (x : A). p x ≡ true) xs
+  all-each [] e = tt
+  all-each (x ∷ xs) e = let h = and-eq-true-iff (p x) (all p xs) .0 e in (h .0, all-each xs (h .1))
+
+  pub each-all : (xs : List A) → Each (λ (x : A). p x ≡ true) xs → all p xs ≡ true
+  each-all [] h = refl
+  each-all (x ∷ xs) h = and-eq-true-iff (p x) (all p xs) .1 (h .0, each-all xs (h .1))
+
+  pub any-none : (xs : List A) → any p xs ≡ false → Each (λ (x : A). p x ≡ false) xs
+  any-none [] e = tt
+  any-none (x ∷ xs) e = let h = neither (p x) (any p xs) e in (h .0, any-none xs (h .1))
+
+  pub none-any : (xs : List A) → Each (λ (x : A). p x ≡ false) xs → any p xs ≡ false
+  none-any [] h = refl
+  none-any (x ∷ xs) h = ap (λ (b : Bool). b || any p xs) (h .0) ∙ none-any xs (h .1)
 
 abbrev pub Filled : {A : Type 0} → List A → Type 0
 Filled [] = ⊥
@@ -40,8 +73,3 @@ module _ {A : Type 0} where
   below-has [] k h = omega arith
   below-has (x ∷ xs) zero h = tt
   below-has (x ∷ xs) (suc k) h = below-has xs k (omega arith)
-
-  pub has-below : (xs : List A) (k : ℕ) → Has xs k → k < length xs
-  has-below [] k h = absurd h
-  has-below (x ∷ xs) zero h = omega arith
-  has-below (x ∷ xs) (suc k) h = omega (arith, has-below xs k h)

@@ -1,19 +1,23 @@
 -- Insert at its three places: behind a set's last record, behind its descriptor, in front of the file.
 use Prim.Native.Nat.{ℕ, zero, suc}
 use mathlib.Core.Path.{_≡_, refl, sym, ap, _∙_, subst}
-use mathlib.Core.Logic.{_⊎_, inl, inr, ⊎-elim}
-use mathlib.Core.List.{List, [], _∷_, _++_, append-assoc, map}
-use Rattle.format.specs.Bytes.{Bytes}
+use mathlib.Core.Bool.{true}
+use mathlib.Core.List.{List, [], _∷_, _++_, append-assoc, append-nil, map}
+use mathlib.Core.Option.{some}
+use Rattle.format.specs.Bytes.{Bytes, all}
 use Rattle.format.specs.Lines.{Line}
-use Rattle.format.specs.Pieces.{Piece}
+use Rattle.format.specs.Pieces.{Piece, pieces}
 use Rattle.format.specs.Records.{Record, Block, onto, blocks, close, recordsIn, records}
-use Rattle.format.specs.Sets.{RecSet, joinsSet, enters, sets}
-use Rattle.format.specs.Written.{Pair, newField, newPiece}
+use Rattle.format.specs.Sets.{RecSet, default, joinsSet, enters, sets, setsOf}
+use Rattle.format.specs.Written.{Pair, writtenAll, newField, newPiece, isLegalPair}
 use Rattle.format.specs.Edits.{Edit, newline, onRecords, flatSets, past, lastAt, lastOf, onSet, gap, inFront}
-use Rattle.format.proofs.Elements.{Each, each-append, each-map, Filled, Has}
-use Rattle.format.proofs.Blocks.{blocks-plain, plain-new}
-use Rattle.format.proofs.Editing.{Counted, Keeps, fields-new}
-use Rattle.format.proofs.Sets.{Member, Names, Described, GoodSets, recValues, flat-sets, good-sets, sets-on, on-past, on-close, NoRec, member-new, has-past, has-close}
+use Rattle.format.specs.Plain.{membersAt}
+use Rattle.format.proofs.Elements.{Each, each-append, each-map, each-imp, all-each, Filled, Has}
+use Rattle.format.proofs.Writing.{fields-new}
+use Rattle.format.proofs.Legal.{legal-name, legal-not-rec, record-reads-back}
+use Rattle.format.proofs.Blocks.{blocks-unbroken, unbroken-new}
+use Rattle.format.proofs.Editing.{Keeps}
+use Rattle.format.proofs.Sets.{Member, Names, Described, GoodSets, recValues, flat-sets, good-sets, sets-on, on-past, on-close, NotRec, NoRec, member-new, has-past, has-close}
 
 -- set i has a record or a descriptor
 abbrev pub HasLast : List RecSet → ℕ → Type 0
@@ -74,19 +78,18 @@ joins-first : (r : Record) (ss : List RecSet) → GoodSets ss → joinsSet r ss 
 joins-first r [] g = absurd g
 joins-first r (s ∷ ss) g = refl
 
-module _ (counted : Counted) where
-  pub front-records : (ps : List Pair) (qs : List Piece) → records (inFront ps qs) ≡ close (map newField ps) (records qs)
-  unfolding records
-  front-records ps [] = ap recordsIn (blocks-plain (map newPiece ps) [] [] (plain-new ps) refl) ∙ ap (λ (x : Record). close x []) (fields-new counted ps)
-  front-records ps (q ∷ qs) =
-      let bs : List Block = blocks (q ∷ qs) in
-      ap recordsIn (blocks-plain (map newPiece ps) (newline ∷ q ∷ qs) (onto newline bs) (plain-new ps) refl) ∙ ap (λ (x : Record). close x (recordsIn (onto newline bs))) (fields-new counted ps) ∙ ap (close (map newField ps)) (records-onto [] bs)
+front-records : (ps : List Pair) (qs : List Piece) → records (inFront ps qs) ≡ close (map newField ps) (records qs)
+unfolding records
+front-records ps [] = ap recordsIn (blocks-unbroken (map newPiece ps) [] [] (unbroken-new ps) refl) ∙ ap (λ (x : Record). close x []) (fields-new ps)
+front-records ps (q ∷ qs) =
+    let bs : List Block = blocks (q ∷ qs) in
+    ap recordsIn (blocks-unbroken (map newPiece ps) (newline ∷ q ∷ qs) (onto newline bs) (unbroken-new ps) refl) ∙ ap (λ (x : Record). close x (recordsIn (onto newline bs))) (fields-new ps) ∙ ap (close (map newField ps)) (records-onto [] bs)
 
-  -- the record becomes the default set's first
-  pub front-sets : (p : Pair) (ps : List Pair) → NoRec (Edit.insert (p ∷ ps)) → (qs : List Piece) → sets (records (inFront (p ∷ ps) qs)) ≡ onSet 0 (λ (ms : List Record). map newField (p ∷ ps) ∷ ms) (sets (records qs))
-  front-sets p ps n qs =
-      let r : Record = map newField (p ∷ ps) in
-      ap sets (front-records (p ∷ ps) qs) ∙ ap (λ (vs : List Bytes). enters vs r (sets (records qs))) (member-new (p ∷ ps) n) ∙ joins-first r (sets (records qs)) (good-sets (records qs))
+-- the record becomes the default set's first
+pub front-sets : (p : Pair) (ps : List Pair) → NoRec (Edit.insert (p ∷ ps)) → (qs : List Piece) → sets (records (inFront (p ∷ ps) qs)) ≡ onSet 0 (λ (ms : List Record). map newField (p ∷ ps) ∷ ms) (sets (records qs))
+front-sets p ps n qs =
+    let r : Record = map newField (p ∷ ps) in
+    ap sets (front-records (p ∷ ps) qs) ∙ ap (λ (vs : List Bytes). enters vs r (sets (records qs))) (member-new (p ∷ ps) n) ∙ joins-first r (sets (records qs)) (good-sets (records qs))
 
 -- where the first set has no record, that is its last too
 
@@ -94,11 +97,15 @@ abbrev pub FirstEmpty : List RecSet → Type 0
 FirstEmpty [] = ⊥
 FirstEmpty (s ∷ ss) = s .members ≡ []
 
+pub first-empty : (ss : List RecSet) → Has ss 0 → membersAt 0 ss ≡ [] → FirstEmpty ss
+first-empty [] h e = absurd h
+first-empty (s ∷ ss) h e = e
+
 pub first-last : (r : Record) (ss : List RecSet) → FirstEmpty ss → onSet 0 (λ (ms : List Record). r ∷ ms) ss ≡ onSet 0 (λ (ms : List Record). ms ++ (r ∷ [])) ss
 first-last r [] h = absurd h
 first-last r (s ∷ ss) h = ap {B = List RecSet} (λ (ms : List Record). record { name = s .name; rules = s .rules; members = r ∷ ms } ∷ ss) h ∙ ap {B = List RecSet} (λ (ms : List Record). record { name = s .name; rules = s .rules; members = ms ++ (r ∷ []) } ∷ ss) (sym h)
 
--- no set is left out: each has a record or a descriptor, but for the default set without records
+-- a set has a record or a descriptor, but for the default set without records
 
 last-described : (r : Record) (n : Bytes) (ms : List Record) → Names (recValues r) n → Filled (close r ms)
 last-described [] n ms h = absurd h
@@ -109,15 +116,17 @@ last-others [] i d h = absurd h
 last-others (s ∷ ss) zero d h = last-described (s .rules) (s .name) (s .members) (d .0 .0)
 last-others (s ∷ ss) (suc i) d h = last-others ss i (d .1) h
 
-last-first : (r : Record) (ms : List Record) → Filled (close r ms) ⊎ (ms ≡ [])
-last-first [] [] = inr refl
-last-first [] (m ∷ ms) = inl tt
-last-first (f ∷ fs) ms = inl tt
+pub has-last : (ss : List RecSet) → GoodSets ss → (i : ℕ) → Has ss (suc i) → HasLast ss (suc i)
+has-last [] g i h = absurd h
+has-last (s ∷ ss) g i h = last-others ss i (g .3) h
 
-pub last-or-front : (ss : List RecSet) → GoodSets ss → (i : ℕ) → Has ss i → HasLast ss i ⊎ ((i ≡ 0) × FirstEmpty ss)
-last-or-front [] g i h = absurd h
-last-or-front (s ∷ ss) g zero h = ⊎-elim (λ x. inl x) (λ x. inr (refl, x)) (last-first (s .rules) (s .members))
-last-or-front (s ∷ ss) g (suc i) h = inl (last-others ss i (g .3) h)
+last-filled : (r : Record) (ms : List Record) → Filled ms → Filled (close r ms)
+last-filled [] ms h = h
+last-filled (f ∷ fs) ms h = tt
+
+pub first-has-last : (ss : List RecSet) → Filled (membersAt 0 ss) → HasLast ss 0
+first-has-last [] h = h
+first-has-last (s ∷ ss) h = last-filled (s .rules) (s .members) h
 
 -- what an insert asks of a statement about pieces is enough in front too
 
@@ -127,3 +136,10 @@ each-gap P x (q ∷ qs) h = (x, h)
 
 pub front-all : (P : Piece → Type 0) (ps : List Pair) → Keeps P (Edit.insert ps) → (qs : List Piece) → Each P qs → Each P (inFront ps qs)
 front-all P ps x qs h = each-append P (map newPiece ps) (gap qs) (each-map P newPiece ps (x .1)) (each-gap P (x .0) qs h)
+
+-- a record that is written alone reads back as a file of that record
+pub set-reads-back : (p : Pair) (ps : List Pair) → all isLegalPair (p ∷ ps) ≡ true → (qs : List Piece) × (pieces (writtenAll (p ∷ ps)) ≡ some qs) × (setsOf qs ≡ default (map newField (p ∷ ps) ∷ []) ∷ [])
+unfolding setsOf records
+set-reads-back p ps e =
+    let n = each-imp (λ (q : Pair). isLegalPair q ≡ true) (λ (q : Pair). NotRec (q .name)) (λ q x. legal-not-rec (q .name) (legal-name q x)) (p ∷ ps) (all-each isLegalPair (p ∷ ps) e) in
+    (map newPiece (p ∷ ps), record-reads-back (p ∷ ps) e, ap (λ (qs : List Piece). sets (records qs)) (sym (append-nil (map newPiece (p ∷ ps)))) ∙ front-sets p ps n [])

@@ -7,34 +7,23 @@ use mathlib.Core.List.{List, [], _∷_, _++_, append-assoc}
 use borrow.Author.Tests.{eqb-true}
 use Rattle.format.specs.Bytes.{Bytes, isNewline, isAllowed, all}
 use Rattle.format.specs.Lines.{Line, put, lines, bytes, isEnded}
+use Rattle.format.proofs.Elements.{Each}
 
 -- a line holds no newline
 abbrev pub Clean : Line → Type 0
 Clean [] = Unit {0}
 Clean (c ∷ l) = (isNewline c ≡ false) × Clean l
 
-abbrev pub AllClean : List Line → Type 0
-AllClean [] = Unit {0}
-AllClean (l ∷ ls) = Clean l × AllClean ls
-
 pub clean-append : (a b : Line) → Clean a → Clean b → Clean (a ++ b)
 clean-append [] b x y = y
 clean-append (c ∷ a) b x y = (x .0, clean-append a b (x .1) y)
-
-pub cleans-append : (a b : List Line) → AllClean a → AllClean b → AllClean (a ++ b)
-cleans-append [] b x y = y
-cleans-append (l ∷ a) b x y = (x .0, cleans-append a b (x .1) y)
-
-pub cleans-split : (a b : List Line) → AllClean (a ++ b) → AllClean a × AllClean b
-cleans-split [] b x = (tt, x)
-cleans-split (l ∷ a) b x = let h = cleans-split a b (x .1) in ((x .0, h .0), h .1)
 
 -- the lines of the bytes of clean lines are those lines
 lines-line : (l : Line) (s : Bytes) (ls : List Line) → Clean l → lines s ≡ ls → lines (l ++ (10 ∷ s)) ≡ l ∷ ls
 lines-line [] s ls x e = ap {B = List Line} (λ y. [] ∷ y) e
 lines-line (c ∷ l) s ls x e = ap (put (isNewline c) c) (lines-line l s ls (x .1) e) ∙ ap (λ (b : Bool). put b c (l ∷ ls)) (x .0)
 
-pub lines-bytes : (ls : List Line) → AllClean ls → lines (bytes ls) ≡ ls
+pub lines-bytes : (ls : List Line) → Each Clean ls → lines (bytes ls) ≡ ls
 lines-bytes [] x = refl
 lines-bytes (l ∷ ls) x = lines-line l (bytes ls) ls (x .0) (lines-bytes ls (x .1))
 
@@ -50,12 +39,12 @@ bytes-lines (c ∷ []) e = ap (λ (b : Bool). bytes (put b c [])) e ∙ ap {B = 
 bytes-lines (c ∷ d ∷ s) e = bytes-put (isNewline c) c d s (lines (d ∷ s)) refl (bytes-lines (d ∷ s) e)
 
 -- lines are clean
-put-clean : (b : Bool) (c : ℕ) (ls : List Line) → isNewline c ≡ b → AllClean ls → AllClean (put b c ls)
+put-clean : (b : Bool) (c : ℕ) (ls : List Line) → isNewline c ≡ b → Each Clean ls → Each Clean (put b c ls)
 put-clean true c ls q x = (tt, x)
 put-clean false c [] q x = ((q, tt), tt)
 put-clean false c (l ∷ ls) q x = ((q, x .0), x .1)
 
-pub lines-clean : (s : Bytes) → AllClean (lines s)
+pub lines-clean : (s : Bytes) → Each Clean (lines s)
 lines-clean [] = tt
 lines-clean (c ∷ s) = put-clean (isNewline c) c (lines s) refl (lines-clean s)
 

@@ -1,26 +1,24 @@
--- The number of a set's records: insert adds one, delete takes one, the others keep it while a field is left.
+-- The number of a set's records: delete takes one, insert appends one, the others keep it while a field is left.
 use Prim.Native.Nat.{ℕ, zero, suc, _+_}
 use native.Mathlib.Omega.{arith}
 use mathlib.Core.Path.{_≡_, refl, ap}
 use mathlib.Core.Logic.{_≢_}
 use mathlib.Core.List.{List, [], _∷_, _++_}
-use lib.ListN.{length, getD, length-append}
+use lib.ListN.{length, length-append}
 use Rattle.format.specs.Bytes.{Bytes}
 use Rattle.format.specs.Records.{Field, Record, close}
 use Rattle.format.specs.Sets.{RecSet}
 use Rattle.format.specs.Written.{Pair, newField}
 use Rattle.format.specs.Edits.{Change, Edit, Turn, fieldTurn, atField, changeField, addField, inRecord, onRecords, onSet}
+use Rattle.format.specs.Plain.{membersAt, recordAt}
 use Rattle.format.proofs.Elements.{Each, Filled, Has}
 use Rattle.format.proofs.Sets.{There}
 
 -- what comes in the place of one record
-pub edit-number : (e : Edit) (k : ℕ) (rs : List Record) → Has rs k → suc (length (onRecords k e rs)) ≡ length (inRecord e (getD rs k [])) + length rs
+edit-number : (e : Edit) (k : ℕ) (rs : List Record) → Has rs k → suc (length (onRecords k e rs)) ≡ length (inRecord e (recordAt k rs)) + length rs
 edit-number e k [] h = absurd h
 edit-number e zero (r ∷ rs) h = omega (arith, length-append (inRecord e r) rs)
 edit-number e (suc k) (r ∷ rs) h = omega (arith, edit-number e k rs h)
-
-pub insert-number : (p : Pair) (ps : List Pair) (k : ℕ) (rs : List Record) → Has rs k → length (onRecords k (Edit.insert (p ∷ ps)) rs) ≡ suc (length rs)
-insert-number p ps k rs h = omega (arith, edit-number (Edit.insert (p ∷ ps)) k rs h)
 
 pub delete-number : (k : ℕ) (rs : List Record) → Has rs k → suc (length (onRecords k Edit.delete rs)) ≡ length rs
 delete-number k rs h = omega (arith, edit-number Edit.delete k rs h)
@@ -29,7 +27,7 @@ close-number : (r : Record) → Filled r → length (close r []) ≡ 1
 close-number [] h = absurd h
 close-number (f ∷ fs) h = refl
 
-filled-at : (k : ℕ) (rs : List Record) → Each Filled rs → Has rs k → Filled (getD rs k [])
+filled-at : (k : ℕ) (rs : List Record) → Each Filled rs → Has rs k → Filled (recordAt k rs)
 filled-at k [] s h = absurd h
 filled-at zero (r ∷ rs) s h = s .0
 filled-at (suc k) (r ∷ rs) s h = filled-at k rs (s .1) h
@@ -40,18 +38,15 @@ filled-add f (g ∷ r) h = tt
 
 pub add-number : (p : Pair) (k : ℕ) (rs : List Record) → Each Filled rs → Has rs k → length (onRecords k (Edit.add p) rs) ≡ length rs
 add-number p k rs s h =
-    let r : Record = addField (newField p) (getD rs k []) in
-    omega (arith, edit-number (Edit.add p) k rs h, close-number r (filled-add (newField p) (getD rs k []) (filled-at k rs s h)))
+    let r : Record = addField (newField p) (recordAt k rs) in
+    omega (arith, edit-number (Edit.add p) k rs h, close-number r (filled-add (newField p) (recordAt k rs) (filled-at k rs s h)))
 
 -- what a change leaves of a record
 abbrev pub changed : Bytes → ℕ → Change → Record → Record
 changed n o c r = atField (fieldTurn n o r) n (changeField c) r
 
-pub change-number : (n : Bytes) (o : ℕ) (c : Change) (k : ℕ) (rs : List Record) → Has rs k → Filled (changed n o c (getD rs k [])) → length (onRecords k (Edit.change n o c) rs) ≡ length rs
-change-number n o c k rs h s = omega (arith, edit-number (Edit.change n o c) k rs h, close-number (changed n o c (getD rs k [])) s)
-
-pub emptied-number : (n : Bytes) (o : ℕ) (c : Change) (k : ℕ) (rs : List Record) → Has rs k → changed n o c (getD rs k []) ≡ [] → suc (length (onRecords k (Edit.change n o c) rs)) ≡ length rs
-emptied-number n o c k rs h s = omega (arith, edit-number (Edit.change n o c) k rs h, ap (λ (r : Record). length (close r [])) s)
+pub change-number : (n : Bytes) (o : ℕ) (c : Change) (k : ℕ) (rs : List Record) → Has rs k → Filled (changed n o c (recordAt k rs)) → length (onRecords k (Edit.change n o c) rs) ≡ length rs
+change-number n o c k rs h s = omega (arith, edit-number (Edit.change n o c) k rs h, close-number (changed n o c (recordAt k rs)) s)
 
 -- a field is left where the change drops none, or another is there
 
@@ -85,11 +80,6 @@ pub changed-left : (n : Bytes) (o : ℕ) (c : Change) (f g : Field) (r : Record)
 changed-left n o c f g r = filled-two (fieldTurn n o (f ∷ g ∷ r)) n c f g r
 
 -- the records of set i, where a change of its records is seen and one of another set's is not
-
-abbrev pub membersAt : ℕ → List RecSet → List Record
-membersAt i [] = []
-membersAt zero (s ∷ ss) = s .members
-membersAt (suc i) (s ∷ ss) = membersAt i ss
 
 pub there-at : (ss : List RecSet) (i j : ℕ) → Has (membersAt i ss) j → There ss i j
 there-at [] i j h = h

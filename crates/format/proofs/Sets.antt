@@ -1,21 +1,16 @@
 -- Records and their sets: each comes back from the other, also after an edit.
 use Prim.Native.Nat.{ℕ, zero, suc}
 use mathlib.Core.Path.{_≡_, refl, sym, ap, _∙_, subst}
-use native.Mathlib.Omega.{arith}
-use mathlib.Core.Bool.{Bool, true, false, _&&_, not}
+use mathlib.Core.Bool.{Bool, true, false}
 use mathlib.Core.List.{List, [], _∷_, _++_, append-assoc, map}
-use lib.Dec.{eqb, leb}
-use lib.ListN.{length, getD}
-use borrow.Author.Tests.{eq-eqb, ne-eqb}
 use Rattle.format.specs.Bytes.{Bytes, text, same}
-use Rattle.format.specs.Lines.{isName}
-use Rattle.format.specs.Limits.{nameBytes}
 use Rattle.format.specs.Words.{firstWord}
-use Rattle.format.specs.Records.{Field, Record, close}
+use Rattle.format.specs.Records.{Record, close}
 use Rattle.format.specs.Sets.{keepIf, valuesOf, RecSet, default, joinsSet, enters, sets}
-use Rattle.format.specs.Written.{Pair, newField, isLegalName}
-use Rattle.format.specs.Edits.{Change, Edit, Turn, fieldTurn, atField, changeField, addField, inRecord, onRecords, flatSets, past, ordinal, onSet}
-use Rattle.format.proofs.Elements.{Each, each-append, each-map, Filled, Has, has-append}
+use Rattle.format.specs.Written.{Pair, newField}
+use Rattle.format.specs.Edits.{Edit, inRecord, onRecords, flatSets, past, ordinal, onSet}
+use Rattle.format.proofs.Elements.{Each, each-imp, Filled, Has, has-append}
+use Rattle.format.proofs.Named.{Named, NewNames, named-new, named-on}
 
 -- Sets as they are gathered: the default set first, then each with a descriptor that holds its name, and no descriptor among the members.
 
@@ -54,7 +49,7 @@ sets-others : (ss : List RecSet) → Each Described ss → sets (flatSets ss) �
 sets-others [] h = refl
 sets-others (s ∷ ss) h = sets-described (s .rules) (s .name) (s .members) (flatSets ss) ss (h .0 .0) (h .0 .1) (sets-others ss (h .1))
 
-pub sets-flat : (ss : List RecSet) → GoodSets ss → sets (flatSets ss) ≡ ss
+sets-flat : (ss : List RecSet) → GoodSets ss → sets (flatSets ss) ≡ ss
 sets-flat [] h = absurd h
 sets-flat (s ∷ ss) h =
     ap (λ (r : Record). sets (close r (s .members ++ flatSets ss))) (h .1) ∙ sets-members (s .members) (flatSets ss) ss (h .2) (sets-others ss (h .3)) ∙ (λ i. record { name = sym (h .0) i; rules = sym (h .1) i; members = s .members } ∷ ss)
@@ -70,6 +65,10 @@ pub good-sets : (rs : List Record) → GoodSets (sets rs)
 good-sets [] = (refl, refl, tt, tt)
 good-sets (r ∷ rs) = good-enters (recValues r) r (sets rs) refl (good-sets rs)
 
+pub good-members : (ss : List RecSet) → GoodSets ss → Each (λ (s : RecSet). Each Member (s .members)) ss
+good-members [] g = tt
+good-members (s ∷ ss) g = (g .2, each-imp Described (λ (t : RecSet). Each Member (t .members)) (λ t d. d .1) ss (g .3))
+
 flat-enters : (vs : List Bytes) (r : Record) (ss : List RecSet) → recValues r ≡ vs → GoodSets ss → flatSets (enters vs r ss) ≡ r ∷ flatSets ss
 flat-enters vs r [] e g = absurd g
 flat-enters [] r (s ∷ ss) e g =
@@ -82,17 +81,18 @@ pub flat-sets : (rs : List Record) → flatSets (sets rs) ≡ rs
 flat-sets [] = refl
 flat-sets (r ∷ rs) = flat-enters (recValues r) r (sets rs) refl (good-sets rs) ∙ ap {B = List Record} (λ x. r ∷ x) (flat-sets rs)
 
+-- a set with its records changed, and what is said of each set
+pub each-on : (P : RecSet → Type 0) (g : List Record → List Record) → ((s : RecSet) → P s → P (record { name = s .name; rules = s .rules; members = g (s .members) })) → (i : ℕ) (ss : List RecSet) → Each P ss → Each P (onSet i g ss)
+each-on P g k i [] h = tt
+each-on P g k zero (s ∷ ss) h = (k s (h .0), h .1)
+each-on P g k (suc i) (s ∷ ss) h = (h .0, each-on P g k i ss (h .1))
+
 -- a change of one set's records that brings in no descriptor
 module _ (g : List Record → List Record) (keeps : (rs : List Record) → Each Member rs → Each Member (g rs)) where
-  described-on : (i : ℕ) (ss : List RecSet) → Each Described ss → Each Described (onSet i g ss)
-  described-on i [] h = tt
-  described-on zero (s ∷ ss) h = ((h .0 .0, keeps (s .members) (h .0 .1)), h .1)
-  described-on (suc i) (s ∷ ss) h = (h .0, described-on i ss (h .1))
-
   good-on : (i : ℕ) (ss : List RecSet) → GoodSets ss → GoodSets (onSet i g ss)
   good-on i [] h = absurd h
   good-on zero (s ∷ ss) h = (h .0, h .1, keeps (s .members) (h .2), h .3)
-  good-on (suc i) (s ∷ ss) h = (h .0, h .1, h .2, described-on i ss (h .3))
+  good-on (suc i) (s ∷ ss) h = (h .0, h .1, h .2, each-on Described g (λ s k. (k .0, keeps (s .members) (k .1))) i ss (h .3))
 
   pub sets-on : (i : ℕ) (rs new : List Record) → new ≡ flatSets (onSet i g (sets rs)) → sets new ≡ onSet i g (sets rs)
   sets-on i rs new e = ap sets e ∙ sets-flat (onSet i g (sets rs)) (good-on i (sets rs) (good-sets rs))
@@ -125,88 +125,31 @@ module _ (e : Edit) where
   on-sets (s ∷ ss) (suc i) j h =
       on-close (s .rules) (s .members ++ flatSets ss) (past (s .members) (ordinal ss i j)) ∙ ap (close (s .rules)) (on-past (s .members) (flatSets ss) (ordinal ss i j) ∙ ap (λ (x : List Record). s .members ++ x) (on-sets ss i j h))
 
--- The edit writes no field that is called `%rec`.
+-- The edit writes no field that is called `%rec`, so a member stays one.
 
 abbrev pub NotRec : Bytes → Type 0
 NotRec n = same (text "%rec") n ≡ false
 
-abbrev pub NewNotRec : Change → Type 0
-NewNotRec (Change.value w) = Unit {0}
-NewNotRec Change.dropped = Unit {0}
-NewNotRec (Change.name m) = NotRec m
-
 abbrev pub NoRec : Edit → Type 0
-NoRec (Edit.insert ps) = Each (λ (p : Pair). NotRec (p .name)) ps
-NoRec Edit.delete = Unit {0}
-NoRec (Edit.add p) = NotRec (p .name)
-NoRec (Edit.change n o c) = NewNotRec c
-
--- a legal name is not `%rec`: it has another first byte
-
-last-true : (a b : Bool) → (a && b) ≡ true → b ≡ true
-last-true true b e = e
-last-true false b e = absurd (let z : _≡_ {A = ℕ} 0 1 = cc in omega arith)
-
-first-other : (n : Bytes) → not (eqb (getD n 0 0) 37) ≡ true → NotRec n
-first-other [] e = refl
-first-other (c ∷ s) e =
-    let d : eqb 37 c ≡ false = ne-eqb 37 c (λ (q : 37 ≡ c). let t : eqb c 37 ≡ true = eq-eqb c 37 (sym q) in let f : false ≡ true = ap not (sym t) ∙ e in let z : _≡_ {A = ℕ} 0 1 = cc in omega arith) in
-    ap (λ (b : Bool). b && same (text "rec") s) d
-
-pub legal-not-rec : (n : Bytes) → isLegalName n ≡ true → NotRec n
-legal-not-rec n e = first-other n (last-true (isName n && leb (length n) nameBytes) (not (eqb (getD n 0 0) 37)) e)
-
--- a member stays one under such an edit
-
-abbrev Other : Field → Type 0
-Other f = NotRec (f .name)
+NoRec e = NewNames NotRec e
 
 kept-none : (b : Bool) (v : Bytes) (vs : List Bytes) → keepIf b v vs ≡ [] → (b ≡ false) × (vs ≡ [])
 kept-none true v vs e = absurd (subst Filled e tt)
 kept-none false v vs e = (refl, e)
 
-member-others : (r : Record) → Member r → Each Other r
-member-others [] h = tt
-member-others (f ∷ fs) h = let k = kept-none (same (text "%rec") (f .name)) (f .value) (recValues fs) h in (k .0, member-others fs (k .1))
+member-named : (r : Record) → Member r → Named NotRec r
+member-named [] h = tt
+member-named (f ∷ fs) h = let k = kept-none (same (text "%rec") (f .name)) (f .value) (recValues fs) h in (k .0, member-named fs (k .1))
 
-others-member : (r : Record) → Each Other r → Member r
-others-member [] h = refl
-others-member (f ∷ fs) h = ap (λ (b : Bool). keepIf b (f .value) (recValues fs)) (h .0) ∙ others-member fs (h .1)
-
-members-close : (r : Record) → Each Other r → Each Member (close r [])
-members-close [] h = tt
-members-close (f ∷ fs) h = (others-member (f ∷ fs) h, tt)
-
-others-new : (ps : List Pair) → Each (λ (p : Pair). NotRec (p .name)) ps → Each Other (map newField ps)
-others-new ps h = each-map Other newField ps h
+named-member : (r : Record) → Named NotRec r → Member r
+named-member [] h = refl
+named-member (f ∷ fs) h = ap (λ (b : Bool). keepIf b (f .value) (recValues fs)) (h .0) ∙ named-member fs (h .1)
 
 pub member-new : (ps : List Pair) → Each (λ (p : Pair). NotRec (p .name)) ps → Member (map newField ps)
-member-new ps h = others-member (map newField ps) (others-new ps h)
-
-others-add : (f : Field) (r : Record) → Other f → Each Other r → Each Other (addField f r)
-others-add f [] h k = tt
-others-add f (g ∷ r) h k = each-append Other (g ∷ r) (f ∷ []) k (h, tt)
-
-others-change : (c : Change) → NewNotRec c → (f : Field) → Other f → Each Other (changeField c f)
-others-change (Change.value w) h f k = (k, tt)
-others-change Change.dropped h f k = tt
-others-change (Change.name m) h f k = (h, tt)
-
-others-at : (t : Turn) (n : Bytes) (c : Change) → NewNotRec c → (r : Record) → Each Other r → Each Other (atField t n (changeField c) r)
-others-at t n c h [] k = tt
-others-at Turn.here n c h (f ∷ r) k = each-append Other (changeField c f) r (others-change c h f (k .0)) (k .1)
-others-at (Turn.later o) n c h (f ∷ r) k = (k .0, others-at (fieldTurn n o r) n c h r (k .1))
-
-members-in : (e : Edit) → NoRec e → (r : Record) → Member r → Each Member (inRecord e r)
-members-in (Edit.insert ps) h r k = (k, members-close (map newField ps) (others-new ps h))
-members-in Edit.delete h r k = tt
-members-in (Edit.add p) h r k = members-close (addField (newField p) r) (others-add (newField p) r h (member-others r k))
-members-in (Edit.change n o c) h r k = members-close (atField (fieldTurn n o r) n (changeField c) r) (others-at (fieldTurn n o r) n c h r (member-others r k))
+member-new ps h = named-member (map newField ps) (named-new NotRec ps h)
 
 members-on : (e : Edit) → NoRec e → (j : ℕ) (rs : List Record) → Each Member rs → Each Member (onRecords j e rs)
-members-on e h j [] k = tt
-members-on e h zero (r ∷ rs) k = each-append Member (inRecord e r) rs (members-in e h r (k .0)) (k .1)
-members-on e h (suc j) (r ∷ rs) k = (k .0, members-on e h j rs (k .1))
+members-on e h j rs k = each-imp (Named NotRec) Member named-member (onRecords j e rs) (named-on NotRec e h j rs (each-imp Member (Named NotRec) member-named rs k))
 
 -- the sets of edited records are the edited sets
 pub edit-sets : (e : Edit) → NoRec e → (rs : List Record) (i j : ℕ) → There (sets rs) i j → sets (onRecords (ordinal (sets rs) i j) e rs) ≡ onSet i (onRecords j e) (sets rs)

@@ -11,8 +11,9 @@ use Rattle.format.specs.Lines.{Line, lines, bytes, isEnded, Form, form}
 use Rattle.format.specs.Pieces.{Piece, linesOf, allLines, bytesOf, Mode, after, unopened, seen}
 use Rattle.format.specs.Pieces.{Reading, takeLine, takeIn, atEnd, readFrom, piecesIn, pieces}
 use Rattle.format.specs.Edits.{newline}
+use Rattle.format.proofs.Elements.{Each, each-append, each-parts, each-imp}
 use Rattle.format.proofs.Kept.{read-lines}
-use Rattle.format.proofs.Lines.{AllClean, lines-bytes, bytes-lines, lines-clean, bytes-append, cleans-append, cleans-split}
+use Rattle.format.proofs.Lines.{Clean, lines-bytes, bytes-lines, lines-clean, bytes-append}
 
 -- pieces, and nothing for a field that is open before them
 abbrev pub alone : List Piece → Reading
@@ -22,17 +23,9 @@ alone ps = record { value = []; own = []; pieces = ps }
 abbrev pub Whole : Piece → Type 0
 Whole p = readFrom Mode.closed (linesOf p) ≡ some (alone (p ∷ []))
 
-abbrev AllWhole : List Piece → Type 0
-AllWhole [] = Unit {0}
-AllWhole (p ∷ ps) = Whole p × AllWhole ps
-
 -- and hold no newline
 abbrev pub Sound : Piece → Type 0
-Sound p = AllClean (linesOf p) × Whole p
-
-abbrev pub AllSound : List Piece → Type 0
-AllSound [] = Unit {0}
-AllSound (p ∷ ps) = Sound p × AllSound ps
+Sound p = Each Clean (linesOf p) × Whole p
 
 -- a line that is seen as a form, then lines
 abbrev pub readAs : Form → Line → List Line → Option Reading
@@ -88,7 +81,7 @@ module _ (b : List Line) (qs : List Piece) (reads : readFrom Mode.closed b ≡ s
   lines-followed [] m r e = end-followed m r e
   lines-followed (l ∷ a) m r e = line-followed (seen m l) l a r (readFrom (after (seen m l)) a) (lines-followed a (after (seen m l))) e
 
-whole-reads : (ps : List Piece) → AllWhole ps → readFrom Mode.closed (allLines ps) ≡ some (alone ps)
+whole-reads : (ps : List Piece) → Each Whole ps → readFrom Mode.closed (allLines ps) ≡ some (alone ps)
 whole-reads [] h = refl
 whole-reads (p ∷ ps) h = lines-followed (allLines ps) ps (whole-reads ps (h .1)) (linesOf p) Mode.closed (alone (p ∷ [])) (h .0)
 
@@ -98,7 +91,7 @@ ownOnly r = record { value = r .value; own = r .own; pieces = [] }
 
 abbrev Good : Mode → Option Reading → Type 0
 Good m none = Unit {0}
-Good m (some r) = AllWhole (r .pieces) × (readFrom m (r .own) ≡ some (ownOnly r))
+Good m (some r) = Each Whole (r .pieces) × (readFrom m (r .own) ≡ some (ownOnly r))
 
 own-seen : (m : Mode) (F : Form) (l : Line) (r : Reading) → seen m l ≡ F → readFrom (after F) (r .own) ≡ some (ownOnly r) → readFrom m (l ∷ r .own) ≡ takeLine F l (ownOnly r)
 own-seen m F l r e h = ap (λ (G : Form). readAs G l (r .own)) e ∙ ap (takeIn F l) h
@@ -143,48 +136,36 @@ good [] m = good-end m
 good (l ∷ ls) m = good-in m l (readFrom (after (seen m l)) ls) (good ls (after (seen m l)))
 
 -- sound is clean and whole, piece by piece
-sound-whole : (ps : List Piece) → AllSound ps → AllWhole ps
-sound-whole [] h = tt
-sound-whole (p ∷ ps) h = (h .0 .1, sound-whole ps (h .1))
-
-sound-clean : (ps : List Piece) → AllSound ps → AllClean (allLines ps)
+sound-clean : (ps : List Piece) → Each Sound ps → Each Clean (allLines ps)
 sound-clean [] h = tt
-sound-clean (p ∷ ps) h = cleans-append (linesOf p) (allLines ps) (h .0 .0) (sound-clean ps (h .1))
+sound-clean (p ∷ ps) h = each-append Clean (linesOf p) (allLines ps) (h .0 .0) (sound-clean ps (h .1))
 
-whole-sound : (ps : List Piece) → AllWhole ps → AllClean (allLines ps) → AllSound ps
+whole-sound : (ps : List Piece) → Each Whole ps → Each Clean (allLines ps) → Each Sound ps
 whole-sound [] w c = tt
-whole-sound (p ∷ ps) w c = let h = cleans-split (linesOf p) (allLines ps) c in ((h .0, w .0), whole-sound ps (w .1) (h .1))
+whole-sound (p ∷ ps) w c = let h = each-parts Clean (linesOf p) (allLines ps) c in ((h .0, w .0), whole-sound ps (w .1) (h .1))
 
 -- The pieces of a file are whole, and their bytes, one after another, are the file.
 abbrev SoundIn : Bytes → Option (List Piece) → Type 0
 SoundIn s none = Unit {0}
-SoundIn s (some ps) = AllSound ps × (bytes (allLines ps) ≡ s)
+SoundIn s (some ps) = Each Sound ps × (bytes (allLines ps) ≡ s)
 
 sound-in : (s : Bytes) (x : Option Reading) → isEnded s ≡ true → readFrom Mode.closed (lines s) ≡ x → SoundIn s (piecesIn x)
 sound-in s none h e = tt
 sound-in s (some r) h e =
     let k = read-lines (lines s) r e in
     let w = subst (Good Mode.closed) e (good (lines s) Mode.closed) in
-    (whole-sound (r .pieces) (w .0) (subst AllClean (sym k) (lines-clean s)), ap bytes k ∙ bytes-lines s h)
+    (whole-sound (r .pieces) (w .0) (subst (Each Clean) (sym k) (lines-clean s)), ap bytes k ∙ bytes-lines s h)
 
-pub pieces-sound : (s : Bytes) (ps : List Piece) → isEnded s ≡ true → pieces s ≡ some ps → AllSound ps × (bytesOf ps ≡ s)
+pub pieces-sound : (s : Bytes) (ps : List Piece) → isEnded s ≡ true → pieces s ≡ some ps → Each Sound ps × (bytesOf ps ≡ s)
 unfolding pieces bytesOf
 pieces-sound s ps h e = subst (SoundIn s) e (sound-in s (readFrom Mode.closed (lines s)) h refl)
 
 -- Whole pieces in any order read as those pieces.
-pub sound-pieces : (ps : List Piece) → AllSound ps → pieces (bytesOf ps) ≡ some ps
+pub sound-pieces : (ps : List Piece) → Each Sound ps → pieces (bytesOf ps) ≡ some ps
 unfolding pieces bytesOf
-sound-pieces ps h = ap (λ (ls : List Line). piecesIn (readFrom Mode.closed ls)) (lines-bytes (allLines ps) (sound-clean ps h)) ∙ ap piecesIn (whole-reads ps (sound-whole ps h))
+sound-pieces ps h = ap (λ (ls : List Line). piecesIn (readFrom Mode.closed ls)) (lines-bytes (allLines ps) (sound-clean ps h)) ∙ ap piecesIn (whole-reads ps (each-imp Sound Whole (λ p s. s .1) ps h))
 
 -- pieces one after another
-pub sound-append : (a b : List Piece) → AllSound a → AllSound b → AllSound (a ++ b)
-sound-append [] b x y = y
-sound-append (p ∷ a) b x y = (x .0, sound-append a b (x .1) y)
-
-pub sound-split : (a b : List Piece) → AllSound (a ++ b) → AllSound a × AllSound b
-sound-split [] b x = (tt, x)
-sound-split (p ∷ a) b x = let h = sound-split a b (x .1) in ((x .0, h .0), h .1)
-
 allLines-append : (a b : List Piece) → allLines (a ++ b) ≡ allLines a ++ allLines b
 allLines-append [] b = refl
 allLines-append (p ∷ a) b = ap (λ (x : List Line). linesOf p ++ x) (allLines-append a b) ∙ sym (append-assoc (linesOf p) (allLines a) (allLines b))

@@ -4,20 +4,19 @@ use mathlib.Core.Path.{_≡_, refl, sym, ap, _∙_, subst}
 use mathlib.Core.Bool.{Bool, true, false, _&&_, not, and-eq-true-iff, and-true}
 use mathlib.Core.List.{List, [], _∷_, _++_, map, append-assoc}
 use mathlib.Core.Option.{some}
-use lib.Dec.{eqb, leb}
-use lib.ListN.{length, getD}
-use borrow.Author.Tests.{eqb-true, eqb-false, ne-eqb, not-true}
-use Rattle.format.specs.Bytes.{Bytes, text, isAllowed, all, same}
+use lib.Dec.{eqb}
+use lib.ListN.{length}
+use borrow.Author.Tests.{eqb-true, not-true}
+use Rattle.format.specs.Bytes.{Bytes, isAllowed, all}
 use Rattle.format.specs.Lines.{Line, lines, bytes, isEnded, isName, Form, form, joins, cutLast, cut}
-use Rattle.format.specs.Pieces.{Piece, bytesOf, allLines, Mode, joinedIf, unopened, Reading, goesOn, begins, takeIn, readFrom, pieces}
-use Rattle.format.specs.Records.{Record, onto, blocks, countOf, fieldsOf, close, recordsIn, records}
-use Rattle.format.specs.Sets.{keepIf, valuesOf, default, enters, sets, setsOf}
+use Rattle.format.specs.Pieces.{Piece, bytesOf, allLines, Mode, joinedIf, unopened, Reading, goesOn, begins, takeIn, readFrom}
+use Rattle.format.specs.Records.{Record, countOf, fieldsOf}
 use Rattle.format.specs.Words.{Parts, partBy, partsBy, split}
-use Rattle.format.specs.Limits.{nameBytes, valueBytes}
-use Rattle.format.specs.Written.{indentBy, indent, written, Pair, writtenAll, newField, newPiece, isLegalName, noneJoins, isLegalValue, isLegalPair}
-use Rattle.format.proofs.Lines.{Clean, AllClean, clean-append, lines-bytes, bytes-lines, bytes-append, ended-bytes, all-append}
-use Rattle.format.proofs.Whole.{alone, Whole, Sound, AllSound, readAs, sound-pieces}
-use Rattle.format.proofs.Names.{name-clean, name-allowed, name-form}
+use Rattle.format.specs.Written.{indentBy, indent, written, Pair, writtenAll, newField, newPiece, noneJoins}
+use Rattle.format.proofs.Elements.{Each}
+use Rattle.format.proofs.Lines.{Clean, clean-append, lines-bytes, bytes-lines, bytes-append, ended-bytes, all-append}
+use Rattle.format.proofs.Whole.{alone, Whole, Sound, readAs}
+use Rattle.format.proofs.Names.{name-clean, name-form}
 
 -- the lines of a written field: one of its name, and a plus line for each further line of the value
 abbrev plusLine : Line → Line
@@ -56,15 +55,15 @@ writtenAll-bytes (p ∷ ps) =
     bytes-append (lines s) (allLines (map newPiece ps)) ∙ ap (λ (x : Bytes). x ++ bytes (allLines (map newPiece ps))) (written-bytes p) ∙ ap (λ (x : Bytes). s ++ x) (writtenAll-bytes ps)
 
 -- a written field's lines hold no newline
-part-clean : (b : Bool) (c : ℕ) (p : Parts) → eqb c 10 ≡ b → Clean (p .first) × AllClean (map plusLine (p .others)) → Clean (partBy b c p .first) × AllClean (map plusLine (partBy b c p .others))
+part-clean : (b : Bool) (c : ℕ) (p : Parts) → eqb c 10 ≡ b → Clean (p .first) × Each Clean (map plusLine (p .others)) → Clean (partBy b c p .first) × Each Clean (map plusLine (partBy b c p .others))
 part-clean true c p q h = (tt, ((refl, (refl, h .0)), h .1))
 part-clean false c p q h = ((q, h .0), h .1)
 
-parts-clean : (v : Bytes) → Clean (partsBy 10 v .first) × AllClean (map plusLine (partsBy 10 v .others))
+parts-clean : (v : Bytes) → Clean (partsBy 10 v .first) × Each Clean (map plusLine (partsBy 10 v .others))
 parts-clean [] = (tt, tt)
 parts-clean (c ∷ s) = part-clean (eqb c 10) c (partsBy 10 s) refl (parts-clean s)
 
-written-clean : (n v : Bytes) → isName n ≡ true → AllClean (writtenLines n v)
+written-clean : (n v : Bytes) → isName n ≡ true → Each Clean (writtenLines n v)
 written-clean n v e = (clean-append n (58 ∷ 32 ∷ partsBy 10 v .first) (name-clean n e) (refl, (refl, parts-clean v .0)), parts-clean v .1)
 
 written-lines : (n v : Bytes) → isName n ≡ true → lines (written n v) ≡ writtenLines n v
@@ -119,77 +118,15 @@ written-whole n v en ev =
 pub written-sound : (n v : Bytes) → isName n ≡ true → noneJoins (split 10 v) ≡ true → Sound (newPiece (record { name = n; value = v }))
 written-sound n v en ev = subst (λ (ls : List Line). Sound (Piece.field n v ls)) (sym (written-lines n v en)) (written-clean n v en, written-whole n v en ev)
 
--- what a legal pair is
-legal-name : (p : Pair) → isLegalPair p ≡ true → isLegalName (p .name) ≡ true
-legal-name p e = and-eq-true-iff (isLegalName (p .name)) (isLegalValue (p .value)) .0 e .0
+-- the fields of new pieces
+pub field-new : (p : Pair) (r : Record) → fieldsOf (newPiece p ∷ []) ++ r ≡ newField p ∷ r
+field-new p r = ap {B = Record} (λ k. record { name = p .name; value = p .value; count = k } ∷ r) (written-count p)
 
-legal-value : (p : Pair) → isLegalPair p ≡ true → isLegalValue (p .value) ≡ true
-legal-value p e = and-eq-true-iff (isLegalName (p .name)) (isLegalValue (p .value)) .0 e .1
-
-pub legal-is-name : (n : Bytes) → isLegalName n ≡ true → isName n ≡ true
-legal-is-name n e =
-    let h = and-eq-true-iff (isName n && leb (length n) nameBytes) (not (eqb (getD n 0 0) 37)) .0 e in
-    and-eq-true-iff (isName n) (leb (length n) nameBytes) .0 (h .0) .0
-
-pub legal-not-percent : (n : Bytes) → isLegalName n ≡ true → eqb (getD n 0 0) 37 ≡ false
-legal-not-percent n e = not-true (eqb (getD n 0 0) 37) (and-eq-true-iff (isName n && leb (length n) nameBytes) (not (eqb (getD n 0 0) 37)) .0 e .1)
-
-percent-first : (n : Bytes) → eqb (getD n 0 0) 37 ≡ false → same (text "%rec") n ≡ false
-percent-first [] e = refl
-percent-first (c ∷ s) e = ap (λ (b : Bool). b && same (text "rec") s) (ne-eqb 37 c (λ q. eqb-false c 37 e (sym q)))
-
-pub legal-not-rec : (n : Bytes) → isLegalName n ≡ true → same (text "%rec") n ≡ false
-legal-not-rec n e = percent-first n (legal-not-percent n e)
-
-pub legal-joins : (v : Bytes) → isLegalValue v ≡ true → noneJoins (split 10 v) ≡ true
-legal-joins v e = and-eq-true-iff (leb (length v) valueBytes && all isAllowed v) (noneJoins (split 10 v)) .0 e .1
-
-pub legal-allowed : (v : Bytes) → isLegalValue v ≡ true → all isAllowed v ≡ true
-legal-allowed v e =
-    let h = and-eq-true-iff (leb (length v) valueBytes && all isAllowed v) (noneJoins (split 10 v)) .0 e in
-    and-eq-true-iff (leb (length v) valueBytes) (all isAllowed v) .0 (h .0) .1
-
--- Legal pairs are written as sound pieces, and read back as themselves.
-pub legal-sound : (p : Pair) → isLegalPair p ≡ true → Sound (newPiece p)
-legal-sound p e = written-sound (p .name) (p .value) (legal-is-name (p .name) (legal-name p e)) (legal-joins (p .value) (legal-value p e))
-
-pub legals-sound : (ps : List Pair) → all isLegalPair ps ≡ true → AllSound (map newPiece ps)
-legals-sound [] e = tt
-legals-sound (p ∷ ps) e = let h = and-eq-true-iff (isLegalPair p) (all isLegalPair ps) .0 e in (legal-sound p (h .0), legals-sound ps (h .1))
-
-pub record-reads-back : (ps : List Pair) → all isLegalPair ps ≡ true → pieces (writtenAll ps) ≡ some (map newPiece ps)
-record-reads-back ps e = sym (ap pieces (writtenAll-bytes ps)) ∙ sound-pieces (map newPiece ps) (legals-sound ps e)
-
--- the record and the set of new pieces
 pub fields-new : (ps : List Pair) → fieldsOf (map newPiece ps) ≡ map newField ps
 fields-new [] = refl
-fields-new (p ∷ ps) =
-    ap (λ (k : ℕ). record { name = p .name; value = p .value; count = k } ∷ fieldsOf (map newPiece ps)) (written-count p)
-    ∙ ap {B = Record} (λ r. newField p ∷ r) (fields-new ps)
+fields-new (p ∷ ps) = field-new p (fieldsOf (map newPiece ps)) ∙ ap {B = Record} (λ r. newField p ∷ r) (fields-new ps)
 
-blocks-new : (ps : List Pair) → blocks (map newPiece ps) ≡ map newPiece ps ∷ []
-blocks-new [] = refl
-blocks-new (p ∷ ps) = ap (onto (newPiece p)) (blocks-new ps)
-
-pub records-new : (p : Pair) (ps : List Pair) → records (map newPiece (p ∷ ps)) ≡ map newField (p ∷ ps) ∷ []
-unfolding records
-records-new p ps = ap recordsIn (blocks-new (p ∷ ps)) ∙ ap (λ (r : Record). close r []) (fields-new (p ∷ ps))
-
-pub values-new : (ps : List Pair) → all isLegalPair ps ≡ true → valuesOf (text "%rec") (map newField ps) ≡ []
-values-new [] e = refl
-values-new (p ∷ ps) e =
-    let h = and-eq-true-iff (isLegalPair p) (all isLegalPair ps) .0 e in
-    let vs : List Bytes = valuesOf (text "%rec") (map newField ps) in
-    ap (λ (b : Bool). keepIf b (p .value) vs) (legal-not-rec (p .name) (legal-name p (h .0))) ∙ values-new ps (h .1)
-
-pub sets-new : (p : Pair) (ps : List Pair) → all isLegalPair (p ∷ ps) ≡ true → setsOf (map newPiece (p ∷ ps)) ≡ default (map newField (p ∷ ps) ∷ []) ∷ []
-unfolding setsOf
-sets-new p ps e = ap sets (records-new p ps) ∙ ap (λ (vs : List Bytes). enters vs (map newField (p ∷ ps)) (sets [])) (values-new (p ∷ ps) e)
-
-pub set-reads-back : (p : Pair) (ps : List Pair) → all isLegalPair (p ∷ ps) ≡ true → (qs : List Piece) × (pieces (writtenAll (p ∷ ps)) ≡ some qs) × (setsOf qs ≡ default (map newField (p ∷ ps) ∷ []) ∷ [])
-set-reads-back p ps e = (map newPiece (p ∷ ps), record-reads-back (p ∷ ps) e, sets-new p ps e)
-
--- what is written of legal pairs is allowed
+-- what is written is allowed where the name and the value are
 indent-by-allowed : (b : Bool) (c : ℕ) (s t : Bytes) → all isAllowed s ≡ all isAllowed t → all isAllowed (indentBy b c s) ≡ (isAllowed c && all isAllowed t)
 indent-by-allowed true c s t e = ap (λ (x : Bool). isAllowed c && x) e
 indent-by-allowed false c s t e = ap (λ (x : Bool). isAllowed c && x) e
@@ -203,16 +140,3 @@ unfolding written
 allowed-written n v =
     all-append isAllowed n (58 ∷ 32 ∷ (indent v ++ (10 ∷ [])))
     ∙ ap (λ (t : Bool). all isAllowed n && t) (all-append isAllowed (indent v) (10 ∷ []) ∙ and-true (all isAllowed (indent v)) ∙ indent-allowed v)
-
-pub written-allowed : (p : Pair) → isLegalPair p ≡ true → all isAllowed (written (p .name) (p .value)) ≡ true
-written-allowed p e =
-    allowed-written (p .name) (p .value)
-    ∙ and-eq-true-iff (all isAllowed (p .name)) (all isAllowed (p .value)) .1 (name-allowed (p .name) (legal-is-name (p .name) (legal-name p e)), legal-allowed (p .value) (legal-value p e))
-
-pub writtenAll-allowed : (ps : List Pair) → all isLegalPair ps ≡ true → all isAllowed (writtenAll ps) ≡ true
-writtenAll-allowed [] e = refl
-writtenAll-allowed (p ∷ ps) e =
-    let h = and-eq-true-iff (isLegalPair p) (all isLegalPair ps) .0 e in
-    let s : Bytes = written (p .name) (p .value) in
-    all-append isAllowed s (writtenAll ps)
-    ∙ and-eq-true-iff (all isAllowed s) (all isAllowed (writtenAll ps)) .1 (written-allowed p (h .0), writtenAll-allowed ps (h .1))

@@ -1,10 +1,10 @@
 // Byte classes and limits of recfiles. The definitions of the format stand in specs/, the laws about them in proofs/.
 ghost use mathlib.Core.Path.{_≡_};
-ghost use mathlib.Core.Bool.{_&&_, true};
-ghost use Prim.Native.Nat.{_<_};
+ghost use mathlib.Core.Bool.{_&&_};
 ghost use lib.Dec.{leb};
-ghost use Rattle.format.specs.Bytes.{classOf, classTable, isAllowed, isBlank};
+ghost use Rattle.format.specs.Bytes.{classOf, classTable};
 ghost use Rattle.format.specs.Lines.{isFirst, isLater};
+ghost use Rattle.format.specs.Limits.{fileBytes, nameBytes, valueBytes, recordFields, typedefs, typeFields, listWords};
 
 // The class of each byte: 1 letter, 2 digit, 3 blank, 4 newline, 5 underscore, 6 percent, 7 another allowed byte, 0 none.
 const CLASSES: [u8; 256] = [
@@ -300,4 +300,120 @@ pub fn is_later(table: &[u8; 256], b: u8) -> bool
         return true;
     }
     k == 2 || k == 5
+}
+
+// A file, by its used length.
+pub struct File {
+    pub used: usize,
+}
+
+impl File {
+    pub const BYTES: usize = 65536;
+
+    pub fn new(used: usize) -> Self
+        ensures { λ r. ⌜ r .used ≡ used ⌝ }
+    {
+        Self { used }
+    }
+
+    // Is the used length at most the buffer's and the limit?
+    pub fn fits(self, room: usize) -> bool
+        ensures { λ r. ⌜ r ≡ (leb (self .used) room && leb (self .used) fileBytes) ⌝ }
+    {
+        if self.used > room {
+            return false;
+        }
+        self.used <= File::BYTES
+    }
+}
+
+// A record, by its number of fields, its longest name and its longest value.
+pub struct Record {
+    pub fields: usize,
+    pub name: usize,
+    pub value: usize,
+}
+
+impl Record {
+    pub const FIELDS: usize = 256;
+
+    pub const NAME: usize = 64;
+
+    pub const VALUE: usize = 4096;
+
+    pub fn new() -> Self
+        ensures { λ r. ⌜ (r .fields ≡ 0) × (r .name ≡ 0) × (r .value ≡ 0) ⌝ }
+    {
+        Self {
+            fields: 0,
+            name: 0,
+            value: 0,
+        }
+    }
+
+    pub fn fits(self) -> bool
+        ensures { λ r. ⌜ r ≡ (leb (self .fields) recordFields && leb (self .name) nameBytes && leb (self .value) valueBytes) ⌝ }
+    {
+        if self.fields > Record::FIELDS {
+            return false;
+        }
+        if self.name > Record::NAME {
+            return false;
+        }
+        self.value <= Record::VALUE
+    }
+}
+
+// A descriptor, by its numbers of typedefs, of `%type` fields and of words in each list of names.
+pub struct Descriptor {
+    pub typedefs: usize,
+    pub types: usize,
+    pub mandatory: usize,
+    pub prohibited: usize,
+    pub allowed: usize,
+    pub unique: usize,
+}
+
+impl Descriptor {
+    pub const COUNT: usize = 64;
+
+    pub const TYPEDEFS: usize = 32;
+
+    pub const TYPES: usize = 32;
+
+    pub const WORDS: usize = 64;
+
+    pub fn new() -> Self
+        ensures { λ r. ⌜ (r .typedefs ≡ 0) × (r .types ≡ 0) × (r .mandatory ≡ 0) × (r .prohibited ≡ 0) × (r .allowed ≡ 0) × (r .unique ≡ 0) ⌝ }
+    {
+        Self {
+            typedefs: 0,
+            types: 0,
+            mandatory: 0,
+            prohibited: 0,
+            allowed: 0,
+            unique: 0,
+        }
+    }
+
+    pub fn fits(self) -> bool
+        ensures { λ r. ⌜ r ≡ (leb (self .typedefs) typedefs && leb (self .types) typeFields && leb (self .mandatory) listWords && leb (self .prohibited) listWords && leb (self .allowed) listWords && leb (self .unique) listWords) ⌝ }
+    {
+        if self.typedefs > Descriptor::TYPEDEFS {
+            return false;
+        }
+        if self.types > Descriptor::TYPES {
+            return false;
+        }
+        if self.mandatory > Descriptor::WORDS {
+            return false;
+        }
+        if self.prohibited > Descriptor::WORDS {
+            return false;
+        }
+        if self.allowed > Descriptor::WORDS {
+            return false;
+        }
+        self.unique <= Descriptor::WORDS
+    }
 }

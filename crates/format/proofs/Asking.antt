@@ -1,0 +1,94 @@
+-- Questions in order: none says no where each says yes; and what an accepted and a refused request are.
+use Prim.Native.Nat.{ℕ, zero, suc, _≤_}
+use native.Mathlib.Omega.{arith}
+use mathlib.Core.Path.{_≡_, refl, sym, ap, _∙_, subst}
+use mathlib.Core.Bool.{Bool, true, false, and-eq-true-iff}
+use mathlib.Core.List.{List, [], _∷_}
+use mathlib.Core.Option.{Option, none, some}
+use lib.Dec.{leb, ltb}
+use borrow.Author.Tests.{leb-true, ltb-true}
+use Rattle.format.specs.Bytes.{Bytes, pick, all}
+use Rattle.format.specs.Limits.{fileBytes}
+use Rattle.format.specs.Numbers.{Bounds, bits32}
+use Rattle.format.specs.Questions.{Row, firstNo, fileOf, questions, verdictIn, verdict}
+use Rattle.format.specs.Requests.{Request, requestOf}
+use Rattle.format.specs.Plain.{Plain, size, apply, Asked, editQuestions, Step, stepBy, stepOf, step}
+use Rattle.format.proofs.Elements.{Each}
+use Rattle.format.proofs.Requested.{HasPairs, request-pairs}
+use Rattle.format.proofs.Applying.{Granted}
+
+abbrev pub Yes : {A : Type 0} → A → Row A → Type 0
+Yes a r = r .asks a ≡ true
+
+-- the number of a no is not 0
+abbrev isNumbered : {A : Type 0} → Row A → Bool
+isNumbered r = ltb 0 (r .number)
+
+picked-yes : (b : Bool) (others number : ℕ) → ltb 0 number ≡ true → pick b others number ≡ 0 → (b ≡ true) × (others ≡ 0)
+picked-yes true others number h e = (refl, e)
+picked-yes false others number h e = absurd (omega (arith, ltb-true 0 number h))
+
+module _ {A : Type 0} where
+  first-yes : (rs : List (Row A)) (a : A) → all isNumbered rs ≡ true → firstNo rs a ≡ 0 → Each (Yes a) rs
+  first-yes [] a h e = tt
+  first-yes (r ∷ rs) a h e =
+      let n = and-eq-true-iff (isNumbered r) (all isNumbered rs) .0 h in
+      let k = picked-yes (r .asks a) (firstNo rs a) (r .number) (n .0) e in
+      (k .0, first-yes rs a (n .1) (k .1))
+
+  yes-first : (rs : List (Row A)) (a : A) → Each (Yes a) rs → firstNo rs a ≡ 0
+  yes-first [] a h = refl
+  yes-first (r ∷ rs) a h = ap (λ (b : Bool). pick b (firstNo rs a) (r .number)) (h .0) ∙ yes-first rs a (h .1)
+
+-- a file passes where all its questions say yes
+pub verdict-yes : (buffer : Bytes) (used : ℕ) → verdict buffer used ≡ 0 → Each (Yes (fileOf buffer used)) (questions bits32)
+unfolding verdict verdictIn
+verdict-yes buffer used e = first-yes (questions bits32) (fileOf buffer used) refl e
+
+pub yes-verdict : (buffer : Bytes) (used : ℕ) → Each (Yes (fileOf buffer used)) (questions bits32) → verdict buffer used ≡ 0
+unfolding verdict verdictIn
+yes-verdict buffer used h = yes-first (questions bits32) (fileOf buffer used) h
+
+-- an edit's questions, 21 to 25 among them
+pub yes-granted : (b : Bounds) (a : Asked) → Each (Yes a) (editQuestions b) → Granted a
+yes-granted b a y = record { set = y .0; row = y .1 .0; occurrence = y .1 .1 .0; left = y .1 .1 .1 .0; legal = y .1 .1 .1 .1 .0 }
+
+-- what is asked of a request
+abbrev pub asked : ℕ → Plain → Request → Asked
+asked room p q = record { room = room; file = p; request = q; result = apply q p }
+
+-- an accepted request has the form of one, all its questions say yes, and the plain file is what it makes of it
+pub record Accepted (room : ℕ) (p : Plain) (request : Bytes) (file : Plain) : Type 0 where
+  pub asks : Request
+  pub reads : requestOf request ≡ some asks
+  pub yes : Each (Yes (asked room p asks)) (editQuestions bits32)
+  pub makes : file ≡ apply asks p
+
+pub accepted-pairs : (room : ℕ) (p : Plain) (request : Bytes) (file : Plain) (a : Accepted room p request file) → HasPairs (a .asks .edit)
+accepted-pairs room p request file a = request-pairs request (a .asks) (a .reads)
+
+pub accepted-fits : (room : ℕ) (p : Plain) (request : Bytes) (file : Plain) → Accepted room p request file → size file ≤ room
+accepted-fits room p request file a =
+    let r : Plain = apply (a .asks) p in
+    let k = and-eq-true-iff (leb (size r) room) (leb (size r) fileBytes) .0 (a .yes .1 .1 .1 .1 .1 .0) in
+    subst (λ (x : Plain). size x ≤ room) (sym (a .makes)) (leb-true (size r) room (k .0))
+
+abbrev Answered : ℕ → Plain → Bytes → Step → Type 0
+Answered room p request s = (s .number ≡ 0 → Accepted room p request (s .file)) × ((k : ℕ) → s .number ≡ suc k → s .file ≡ p)
+
+answered-by : (room : ℕ) (p : Plain) (request : Bytes) (q : Request) (n : ℕ) → requestOf request ≡ some q → firstNo (editQuestions bits32) (asked room p q) ≡ n → Answered room p request (stepBy n p (apply q p))
+answered-by room p request q zero e h = (λ z. record { asks = q; reads = e; yes = first-yes (editQuestions bits32) (asked room p q) refl h; makes = refl }, λ k z. absurd (omega arith))
+answered-by room p request q (suc n) e h = (λ z. absurd (omega arith), λ k z. refl)
+
+answered-of : (room : ℕ) (p : Plain) (request : Bytes) (x : Option Request) → requestOf request ≡ x → Answered room p request (stepOf bits32 room p x)
+answered-of room p request none e = (λ z. absurd (omega arith), λ k z. refl)
+answered-of room p request (some q) e = answered-by room p request q (firstNo (editQuestions bits32) (asked room p q)) e refl
+
+pub step-accepted : (room : ℕ) (p : Plain) (request : Bytes) → step room p request .number ≡ 0 → Accepted room p request (step room p request .file)
+unfolding step
+step-accepted room p request e = answered-of room p request (requestOf request) refl .0 e
+
+-- "refused edits change nothing"
+pub step-refused : (room : ℕ) (p : Plain) (request : Bytes) (k : ℕ) → step room p request .number ≡ suc k → step room p request .file ≡ p
+unfolding step
+step-refused room p request k e = answered-of room p request (requestOf request) refl .1 k e

@@ -1,0 +1,134 @@
+-- The name that a text begins with, and the form of the line that begins so.
+use Prim.Native.Nat.{ℕ, zero, suc, _+_, _≤_, _<_}
+use native.Mathlib.Nat.{not-suc-le-zero}
+use native.Mathlib.Numerals.{add-one, one-add}
+use native.Mathlib.Omega.{arith}
+use mathlib.Core.Path.{_≡_, refl, sym, ap, _∙_}
+use mathlib.Core.Bool.{Bool, true, false, false≢true}
+use mathlib.Core.List.{[], _∷_}
+use borrow.Author.Tests.{eqb-true}
+use lib.Dec.{eqb}
+use lib.ListN.{length, take, drop, getD, drop-of-length-le}
+use lib.Seq.{drop-cons}
+use Rattle.format.specs.Bytes.{Bytes, pick, isNewline, isBlank}
+use Rattle.format.specs.Lines.{isEnded, isFirst, isLater, Form, afterColon, afterBlank, longer, nameRest, form}
+use Rattle.lines.specs.Line.{lineLen, firstLine, run, nameLen}
+use Rattle.lines.proofs.Cuts.{ended-tail}
+
+-- the bytes at the front that pass a test, from an index on
+module _ (p : ℕ → Bool) (s : Bytes) (i : ℕ) where
+  pub run-more : i < length s → p (getD s i 0) ≡ true → run p (drop i s) ≡ suc (run p (drop (i + 1) s))
+  unfolding run
+  run-more h e = rw (add-one, drop-cons s i 0, e)
+
+  pub run-stop : i < length s → p (getD s i 0) ≡ false → run p (drop i s) ≡ 0
+  unfolding run
+  run-stop h e = rw (drop-cons s i 0, e)
+
+  pub run-end : length s ≤ i → run p (drop i s) ≡ 0
+  unfolding run
+  run-end h = rw (drop-of-length-le s)
+
+-- a name: its first byte, then later ones
+pub name-first : (s : Bytes) → 0 < length s → isFirst (getD s 0 0) ≡ true → nameLen s ≡ 1 + run isLater (drop 1 s)
+unfolding nameLen run
+name-first [] h e = absurd (not-suc-le-zero h)
+name-first (c ∷ s) h e = rw (e, one-add)
+
+pub name-none : (s : Bytes) → isFirst (getD s 0 0) ≡ false → nameLen s ≡ 0
+unfolding nameLen
+name-none [] e = refl
+name-none (c ∷ s) e = rw e
+
+pub name-empty : (s : Bytes) → length s ≡ 0 → nameLen s ≡ 0
+unfolding nameLen
+name-empty [] e = refl
+name-empty (c ∷ s) e = omega arith
+
+-- a name is within its text
+run-le : (p : ℕ → Bool) (s : Bytes) → run p s ≤ length s
+unfolding run
+run-le p [] = omega arith
+run-le p (c ∷ s) = go (p c) (run-le p s)
+  where
+    go : (t : Bool) → run p s ≤ length s → pick t (suc (run p s)) 0 ≤ suc (length s)
+    go true h = omega arith
+    go false h = omega arith
+
+pub name-le : (s : Bytes) → nameLen s ≤ length s
+unfolding nameLen
+name-le [] = omega arith
+name-le (c ∷ s) = go (isFirst c) (run-le isLater s)
+  where
+    go : (t : Bool) → run isLater s ≤ length s → pick t (suc (run isLater s)) 0 ≤ suc (length s)
+    go true h = omega arith
+    go false h = omega arith
+
+-- a colon is not the last byte of an ended text
+pub colon-inside : (s : Bytes) (n : ℕ) → isEnded s ≡ true → getD s n 0 ≡ 58 → suc n < length s
+colon-inside [] n e h = absurd (omega arith)
+colon-inside (c ∷ []) zero e h = absurd (omega (arith, eqb-true c 10 e))
+colon-inside (c ∷ []) (suc n) e h = absurd (omega arith)
+colon-inside (c ∷ d ∷ s) zero e h = omega arith
+colon-inside (c ∷ d ∷ s) (suc n) e h = omega (arith, colon-inside (d ∷ s) n e h)
+
+-- The form of a line that begins with a name of n bytes: by whether a colon follows, and by whether the byte behind that is a newline or a blank.
+abbrev pub Told : Bool → Bool → Bool → ℕ → ℕ → Bytes → Form → Type 0
+Told false e k n len name F = F ≡ Form.fault
+Told true true k n len name F = (F ≡ Form.field name []) × (len ≡ suc n)
+Told true false true n len name F = (v : Bytes) × (F ≡ Form.field name v) × (suc n < len)
+Told true false false n len name F = F ≡ Form.fault
+
+told-longer : (c : ℕ) (a e k : Bool) (n len : ℕ) (name : Bytes) (F : Form) → Told a e k n len name F → Told a e k (suc n) (suc len) (c ∷ name) (longer c F)
+told-longer c false e k n len name F h = ap (longer c) h
+told-longer c true true k n len name F h = (ap (longer c) (h .0), ap suc (h .1))
+told-longer c true false true n len name F h = (h .0, ap (longer c) (h .1), omega (arith, h .2))
+told-longer c true false false n len name F h = ap (longer c) h
+
+blank-told : (d : ℕ) (s : Bytes) (k : Bool) → Told true false k 0 (suc (suc (lineLen s))) [] (afterBlank k (firstLine s))
+blank-told d s true = (firstLine s, refl, omega arith)
+blank-told d s false = refl
+
+colon-told : (b : Bool) (s : Bytes) → (b ≡ true → 0 < length s) → Told b (isNewline (getD s 0 0)) (isBlank (getD s 0 0)) 0 (suc (lineLen s)) [] (afterColon b (firstLine s))
+unfolding lineLen
+colon-told false s h = refl
+colon-told true [] h = absurd (not-suc-le-zero (h refl))
+colon-told true (d ∷ s) h = go (isNewline d)
+  where
+    go : (t : Bool) → Told true t (isBlank d) 0 (suc (pick t 0 (suc (lineLen s)))) [] (afterColon true (take (pick t 0 (suc (lineLen s))) (d ∷ s)))
+    go true = (refl, refl)
+    go false = blank-told d s (isBlank d)
+
+-- the same of the first n bytes of a text
+abbrev pub At : ℕ → ℕ → Bytes → Form → Type 0
+At n len s F = Told (eqb (getD s n 0) 58) (isNewline (getD s (suc n) 0)) (isBlank (getD s (suc n) 0)) n len (take n s) F
+
+at-longer : (c n len : ℕ) (s : Bytes) (F : Form) → At n len s F → At (suc n) (suc len) (c ∷ s) (longer c F)
+at-longer c n len s F h = told-longer c (eqb (getD s n 0) 58) (isNewline (getD s (suc n) 0)) (isBlank (getD s (suc n) 0)) n len (take n s) F h
+
+more-behind : (c : ℕ) (s : Bytes) → isEnded (c ∷ s) ≡ true → isNewline c ≡ false → 0 < length s
+more-behind c [] e q = absurd (false≢true (sym q ∙ e))
+more-behind c (d ∷ s) e q = omega arith
+
+rest-told : (s : Bytes) → isEnded s ≡ true → At (run isLater s) (lineLen s) s (nameRest (firstLine s))
+unfolding run lineLen
+rest-told [] e = refl
+rest-told (c ∷ s) e = go (isNewline c) (isLater c) refl refl (rest-told s (ended-tail c s e))
+  where
+    go : (t u : Bool) → isNewline c ≡ t → isLater c ≡ u → At (run isLater s) (lineLen s) s (nameRest (firstLine s))
+        → At (pick u (suc (run isLater s)) 0) (pick t 0 (suc (lineLen s))) (c ∷ s) (nameRest (take (pick t 0 (suc (lineLen s))) (c ∷ s)))
+    go true true p q h = absurd (false≢true (ap isLater (sym (eqb-true c 10 p)) ∙ q))
+    go true false p q h = rw (eqb-true c 10 p)
+    go false true p q h = rw q (at-longer c (run isLater s) (lineLen s) s (nameRest (firstLine s)) h)
+    go false false p q h = rw q (colon-told (eqb c 58) s (λ x. more-behind c s e p))
+
+pub name-told : (s : Bytes) → isEnded s ≡ true → 0 < nameLen s → At (nameLen s) (lineLen s) s (form (firstLine s))
+unfolding nameLen run lineLen
+name-told [] e h = absurd (not-suc-le-zero h)
+name-told (c ∷ s) e h = go (isNewline c) (isFirst c) refl refl h
+  where
+    go : (t u : Bool) → isNewline c ≡ t → isFirst c ≡ u → 0 < pick u (suc (run isLater s)) 0
+        → At (pick u (suc (run isLater s)) 0) (pick t 0 (suc (lineLen s))) (c ∷ s) (form (take (pick t 0 (suc (lineLen s))) (c ∷ s)))
+    go t false p q h = absurd (not-suc-le-zero h)
+    go true true p q h = absurd (false≢true (ap isFirst (sym (eqb-true c 10 p)) ∙ q))
+    go false true p q h = rw q (at-longer c (run isLater s) (lineLen s) s (nameRest (firstLine s)) (rest-told s (ended-tail c s e)))

@@ -1,0 +1,12 @@
+-- Laws of the readers.
+pub mod Cuts
+pub mod Heads
+pub mod Extents
+pub mod Nexts
+pub mod Owned
+pub mod Shapes
+pub mod Over
+pub mod Decoding
+pub mod Values
+pub mod Pieces
+pub mod Inside

@@ -1,0 +1,72 @@
+-- The first piece of a text, as lengths.
+use Prim.Native.Nat.{ℕ, suc, _+_}
+use mathlib.Core.Bool.{Bool, true, false, _||_}
+use mathlib.Core.List.{List, [], _∷_}
+use mathlib.Core.Option.{Option, none, some}
+use lib.Dec.{eqb}
+use lib.ListN.{length, getD, take, drop}
+use Rattle.format.specs.Bytes.{Bytes, pick}
+use Rattle.format.specs.Lines.{Line, lines, Form, form, joins}
+use Rattle.format.specs.Pieces.{Piece}
+use Rattle.lines.specs.Line.{firstLine}
+use Rattle.lines.specs.Value.{valueFrom}
+use Rattle.lines.specs.declared.Extent.{Extent}
+use Rattle.lines.specs.declared.Next.{Next}
+
+-- a line with its newline
+abbrev pub lineSize : Line → ℕ
+lineSize l = suc (length l)
+
+abbrev pub isPlus : Line → Bool
+isPlus l = eqb (getD l 0 0) 43
+
+-- the bytes of a field, n of them before these lines; taken: the line before takes the next one on
+unfoldable pub extentOf : Bool → ℕ → List Line → Extent
+extentOf true n [] = Extent.Open
+extentOf false n [] = Extent.Size n
+extentOf taken n (l ∷ ls) = pick (taken || isPlus l) (extentOf (joins l) (n + lineSize l) ls) (Extent.Size n)
+
+-- where a field's value begins: behind its name, the colon and the dropped blank, or at the newline behind the colon
+abbrev pub valueAt : ℕ → Line → ℕ
+valueAt name l = pick (eqb (length l) (name + 1)) (name + 1) (name + 2)
+
+abbrev pub fieldNext : ℕ → ℕ → Extent → Next
+fieldNext name value (Extent.Size size) = Next.Field name value size
+fieldNext name value Extent.Open = Next.Fault
+
+abbrev pub nextBy : Form → Line → List Line → Next
+nextBy Form.blank l ls = Next.Blank (lineSize l)
+nextBy Form.comment l ls = Next.Comment (lineSize l)
+nextBy (Form.field n v) l ls = fieldNext (length n) (valueAt (length n) l) (extentOf true 0 (l ∷ ls))
+nextBy (Form.plus v) l ls = Next.Fault
+nextBy (Form.part v) l ls = Next.Fault
+nextBy Form.fault l ls = Next.Fault
+
+abbrev pub nextIn : List Line → Next
+nextIn [] = Next.End
+nextIn (l ∷ ls) = nextBy (form l) l ls
+
+-- what a text goes on with
+unfoldable pub nextOf : Bytes → Next
+nextOf s = nextIn (lines s)
+
+-- how many bytes it takes, and the piece that it is
+abbrev pub sizeOf : Next → ℕ
+sizeOf Next.End = 0
+sizeOf Next.Fault = 0
+sizeOf (Next.Blank k) = k
+sizeOf (Next.Comment k) = k
+sizeOf (Next.Field n v k) = k
+
+abbrev pub pieceOf : Next → Bytes → Option Piece
+pieceOf Next.End s = none
+pieceOf Next.Fault s = none
+pieceOf (Next.Blank k) s = some (Piece.blank (firstLine s))
+pieceOf (Next.Comment k) s = some (Piece.comment (firstLine s))
+pieceOf (Next.Field n v k) s = some (Piece.field (take n s) (valueFrom (drop v (take k s))) (lines (take k s)))
+
+-- a piece in front of pieces, where there is one and they are
+abbrev pub onPiece : Option Piece → Option (List Piece) → Option (List Piece)
+onPiece none x = none
+onPiece (some p) none = none
+onPiece (some p) (some ps) = some (p ∷ ps)

@@ -1,0 +1,316 @@
+// Reading lines: each reader is given the part of the file that starts at the byte reached.
+ghost use mathlib.Core.Path.{_≡_};
+ghost use mathlib.Core.Bool.{true, false};
+ghost use Prim.Native.Nat.{ℕ, _+_, _<_, _≤_};
+ghost use lib.ListN.{length, take, drop, getD};
+ghost use Rattle.format.specs.Bytes.{classTable, same, isBlank, all};
+ghost use Rattle.format.specs.Lines.{lines, isEnded, joins};
+ghost use Rattle.format.specs.Calls.{over};
+ghost use Rattle.lines.specs.Line.{lineLen, firstLine, run, nameLen};
+ghost use Rattle.lines.specs.Piece.{extentOf, nextOf};
+ghost use Rattle.lines.specs.Value.{valueFrom, Unfolds};
+
+// The byte at i, 0 past the end.
+pub fn byte(s: &[u8], i: usize) -> u8
+    ensures { λ r. ⌜ r ≡ getD (now (s .entry)) i 0 ⌝ }
+{
+    if i < s.len() { s[i] } else { 0 }
+}
+
+// Are two texts the same?
+pub fn same_bytes(a: &[u8], b: &[u8]) -> bool
+    ensures { λ r. ⌜ r ≡ same (now (a .entry)) (now (b .entry)) ⌝ }
+{
+    if a.len() != b.len() {
+        return false;
+    }
+    let mut i = 0;
+    while i < a.len() {
+        if a[i] != b[i] {
+            return false;
+        }
+        i += 1;
+    }
+    true
+}
+
+// The number of bytes before the first newline.
+pub fn line_len(s: &[u8]) -> usize
+    ensures { λ r. ⌜ r ≡ lineLen (now (s .entry)) ⌝ }
+{
+    let mut i = 0;
+    while i < s.len() {
+        if s[i] == 10 {
+            return i;
+        }
+        i += 1;
+    }
+    i
+}
+
+// The first physical line: how long it is without its newline, and whether its last byte is a backslash.
+pub struct Line {
+    pub len: usize,
+    pub joins: bool,
+}
+
+pub fn first_line(s: &[u8]) -> Line
+    ensures { λ r. ⌜ (r .len ≡ lineLen (now (s .entry))) × (r .joins ≡ joins (firstLine (now (s .entry)))) ⌝ }
+{
+    let len = line_len(s);
+    if len == 0 {
+        return Line { len, joins: false };
+    }
+    Line {
+        len,
+        joins: s[len - 1] == 92,
+    }
+}
+
+// Is the first physical line empty or all blanks?
+pub fn blank_line(table: &[u8; 256], s: &[u8]) -> bool
+    requires { ⌜ now table ≡ classTable ⌝ }
+    ensures { λ r. ⌜ r ≡ all isBlank (firstLine (now (s .entry))) ⌝ }
+{
+    let mut i = 0;
+    while i < s.len() {
+        let k = format::class_of(table, s[i]);
+        if k == 4 {
+            return true;
+        }
+        if k != 3 {
+            return false;
+        }
+        i += 1;
+    }
+    true
+}
+
+// The number of bytes of the name that s begins with, 0 where it begins with none.
+pub fn name_len(table: &[u8; 256], s: &[u8]) -> usize
+    requires { ⌜ now table ≡ classTable ⌝ }
+    ensures { λ r. ⌜ r ≡ nameLen (now (s .entry)) ⌝ }
+{
+    if s.len() == 0 {
+        return 0;
+    }
+    if format::is_first(table, s[0]) {
+        let mut i = 1;
+        while i < s.len() {
+            if format::is_later(table, s[i]) {
+                i += 1;
+            } else {
+                return i;
+            }
+        }
+        i
+    } else {
+        0
+    }
+}
+
+// How many bytes a field takes, or that a line is to be taken on and there is none.
+pub enum Extent {
+    Size(usize),
+    Open,
+}
+
+// A field's line, the lines that it takes on, and the plus lines that directly follow.
+pub fn field_extent(s: &[u8]) -> Extent
+    requires { ⌜ isEnded (now s) ≡ true ⌝ }
+    ensures { λ r. ⌜ r ≡ extentOf true 0 (lines (now (s .entry))) ⌝ }
+{
+    let mut i = 0;
+    let mut taken = true;
+    while i < s.len() {
+        if taken {} else {
+            if s[i] != 43 {
+                return Extent::Size(i);
+            }
+        }
+        let l = first_line(&s[i..]);
+        i += l.len + 1;
+        taken = l.joins;
+    }
+    if taken { Extent::Open } else { Extent::Size(i) }
+}
+
+// What a part goes on with: a piece and how many bytes it takes. A field's name has its first bytes, and its value begins at value.
+pub enum Next {
+    End,
+    Fault,
+    Blank {
+        size: usize,
+    },
+    Comment {
+        size: usize,
+    },
+    Field {
+        name: usize,
+        value: usize,
+        size: usize,
+    },
+}
+
+// A line that begins as a name does.
+fn next_field(table: &[u8; 256], s: &[u8]) -> Next
+    requires { ⌜ now table ≡ classTable ⌝ }
+    requires { ⌜ isEnded (now s) ≡ true ⌝ }
+    requires { ⌜ 0 < nameLen (now s) ⌝ }
+    ensures { λ r. ⌜ r ≡ nextOf (now (s .entry)) ⌝ }
+{
+    let name = name_len(table, s);
+    if byte(s, name) != 58 {
+        return Next::Fault;
+    }
+    let b = byte(s, name + 1);
+    let k = format::class_of(table, b);
+    let mut value = name + 2;
+    if k == 4 {
+        value = name + 1;
+    } else {
+        if k != 3 {
+            return Next::Fault;
+        }
+    }
+    let e = field_extent(s);
+    match e {
+        Extent::Size(size) => Next::Field { name, value, size },
+        Extent::Open => Next::Fault,
+    }
+}
+
+// The next piece of a part that begins where a piece may begin.
+pub fn next_piece(table: &[u8; 256], s: &[u8]) -> Next
+    requires { ⌜ now table ≡ classTable ⌝ }
+    requires { ⌜ isEnded (now s) ≡ true ⌝ }
+    ensures { λ r. ⌜ r ≡ nextOf (now (s .entry)) ⌝ }
+{
+    if s.len() == 0 {
+        return Next::End;
+    }
+    let b = s[0];
+    if format::is_first(table, b) {
+        return next_field(table, s);
+    }
+    if b == 35 {
+        let n = line_len(s);
+        return Next::Comment { size: n + 1 };
+    }
+    if blank_line(table, s) {
+        let n = line_len(s);
+        return Next::Blank { size: n + 1 };
+    }
+    Next::Fault
+}
+
+// One byte of a value, and where the next one is looked for; or the value's end.
+pub enum Decoded {
+    End,
+    Byte { byte: u8, next: usize },
+}
+
+// The byte of the value at i, which begins no joined line.
+fn plain_byte(s: &[u8], i: usize) -> Decoded
+    requires { ⌜ i < length (now s) ⌝ }
+    requires { ⌜ (getD (now s) i 0 ≡ 92 → getD (now s) (i + 1) 0 ≡ 10 → ⊥) ⌝ }
+    ensures { λ r. ⌜ Unfolds (now (s .entry)) i r ⌝ }
+{
+    let b = s[i];
+    if b != 10 {
+        return Decoded::Byte {
+            byte: b,
+            next: i + 1,
+        };
+    }
+    if byte(s, i + 1) != 43 {
+        return Decoded::End;
+    }
+    if byte(s, i + 2) == 32 {
+        return Decoded::Byte {
+            byte: 10,
+            next: i + 3,
+        };
+    }
+    Decoded::Byte {
+        byte: 10,
+        next: i + 2,
+    }
+}
+
+// The byte of the value that is looked for at i: a backslash before a newline and that newline are passed over.
+pub fn value_byte(s: &[u8], i: usize) -> Decoded
+    ensures { λ r. ⌜ Unfolds (now (s .entry)) i r ⌝ }
+{
+    let mut at = i;
+    while at < s.len() {
+        if s[at] != 92 {
+            return plain_byte(s, at);
+        }
+        if byte(s, at + 1) != 10 {
+            return plain_byte(s, at);
+        }
+        at += 2;
+    }
+    Decoded::End
+}
+
+// The length of the value that begins where s does.
+pub fn value_len(s: &[u8]) -> usize
+    ensures { λ r. ⌜ r ≡ length (valueFrom (now (s .entry))) ⌝ }
+{
+    let mut i = 0;
+    let mut n = 0;
+    loop {
+        let d = value_byte(s, i);
+        let Decoded::Byte { byte: _, next } = d else {
+            return n;
+        };
+        i = next;
+        n += 1;
+    }
+}
+
+// The value that begins where s does, put into out, which holds it; bytes behind it stay.
+pub fn copy_value(s: &[u8], out: &mut [u8]) -> usize
+    requires { ⌜ length (valueFrom (now s)) ≤ length (now out) ⌝ }
+    ensures { λ r. ⌜ (r ≡ length (valueFrom (now (s .entry)))) × (now (out .exit) ≡ over (valueFrom (now (s .entry))) (now (out .entry))) ⌝ }
+{
+    let mut i = 0;
+    let mut n = 0;
+    loop {
+        let d = value_byte(s, i);
+        let Decoded::Byte { byte, next } = d else {
+            return n;
+        };
+        out[n] = byte;
+        i = next;
+        n += 1;
+    }
+}
+
+// Are two values the same, without decoding them to anywhere?
+pub fn same_value(a: &[u8], b: &[u8]) -> bool
+    ensures { λ r. ⌜ r ≡ same (valueFrom (now (a .entry))) (valueFrom (now (b .entry))) ⌝ }
+{
+    let mut i = 0;
+    let mut j = 0;
+    loop {
+        let x = value_byte(a, i);
+        let y = value_byte(b, j);
+        let Decoded::Byte { byte: c, next: k } = x else {
+            let Decoded::Byte { byte: _, next: _ } = y else {
+                return true;
+            };
+            return false;
+        };
+        let Decoded::Byte { byte: d, next: l } = y else {
+            return false;
+        };
+        if c != d {
+            return false;
+        }
+        i = k;
+        j = l;
+    }
+}
