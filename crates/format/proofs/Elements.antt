@@ -2,7 +2,7 @@
 use Prim.Native.Nat.{ℕ, zero, suc, _<_}
 use native.Mathlib.Omega.{arith}
 use mathlib.Core.Path.{_≡_, refl, sym, ap, _∙_}
-use mathlib.Core.Bool.{Bool, true, false, _||_, and-eq-true-iff, false≢true}
+use mathlib.Core.Bool.{Bool, true, false, _&&_, _||_, and-eq-true-iff, and-false, false≢true}
 use mathlib.Core.List.{List, [], _∷_, _++_, map}
 use lib.ListN.{length}
 use Rattle.format.specs.Bytes.{all, any}
@@ -53,6 +53,24 @@ module _ {A : Type 0} (p : A → Bool) where
   pub none-any : (xs : List A) → Each (λ (x : A). p x ≡ false) xs → any p xs ≡ false
   none-any [] h = refl
   none-any (x ∷ xs) h = ap (λ (b : Bool). b || any p xs) (h .0) ∙ none-any xs (h .1)
+
+-- two tests of all, one that always passes, and two alike
+both-swap : (a b c d : Bool) → (a && b && (c && d)) ≡ (a && c && (b && d))
+both-swap true true c d = refl
+both-swap true false c d = sym (and-false c)
+both-swap false b c d = refl
+
+pub all-both : {A : Type 0} (p q : A → Bool) (xs : List A) → all (λ (x : A). p x && q x) xs ≡ (all p xs && all q xs)
+all-both p q [] = refl
+all-both p q (x ∷ xs) = ap (λ (b : Bool). p x && q x && b) (all-both p q xs) ∙ both-swap (p x) (q x) (all p xs) (all q xs)
+
+pub all-yes : {A : Type 0} (xs : List A) → all (λ (x : A). true) xs ≡ true
+all-yes [] = refl
+all-yes (x ∷ xs) = all-yes xs
+
+pub all-alike : {A : Type 0} (p q : A → Bool) → ((x : A) → p x ≡ q x) → (xs : List A) → all p xs ≡ all q xs
+all-alike p q h [] = refl
+all-alike p q h (x ∷ xs) = (λ i. h x i && all-alike p q h xs i)
 
 abbrev pub Filled : {A : Type 0} → List A → Type 0
 Filled [] = ⊥

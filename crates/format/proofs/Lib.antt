@@ -26,6 +26,10 @@ pub mod Tallying
 pub mod Filling
 pub mod Running
 pub mod Demand
+pub mod Least
+pub mod Judging
+pub mod Listing
+pub mod Walking
 pub mod Table
 pub mod Cases
 pub mod Traps

@@ -1,0 +1,50 @@
+-- The first word of a value, byte by byte: gaps are passed, then the word's bytes are compared with another text's.
+use Prim.Native.Nat.{ℕ, _+_, _≤_, _<_}
+use native.Mathlib.Omega.{arith}
+use mathlib.Core.Path.{_≡_, refl, sym, ap, _∙_}
+use mathlib.Core.Bool.{Bool, true, false, not, _&&_}
+use mathlib.Core.List.{[], _∷_}
+use lib.Dec.{eqb}
+use lib.ListN.{length, drop, getD, drop-of-length-le}
+use borrow.Author.Tests.{eqb-true, eqb-false, eq-eqb, ne-eqb}
+use Rattle.format.specs.Bytes.{Bytes, pick, same}
+use Rattle.format.specs.Words.{isGap, notGap, frontIf, front, behind}
+use Rattle.lines.proofs.Cuts.{at-cons}
+
+-- a text that begins with a gap, and one that begins with another byte
+module _ (v w : Bytes) (b : ℕ) (e : v ≡ b ∷ w) where
+  pub gap-passed : isGap b ≡ true → behind isGap v ≡ behind isGap w
+  gap-passed g = ap (behind isGap) e ∙ ap (λ (t : Bool). pick t (behind isGap w) (b ∷ w)) g
+
+  pub gap-left : isGap b ≡ false → behind isGap v ≡ v
+  gap-left g = ap (behind isGap) e ∙ ap (λ (t : Bool). pick t (behind isGap w) (b ∷ w)) g ∙ sym e
+
+  pub word-ended : isGap b ≡ true → front notGap v ≡ []
+  word-ended g = ap (front notGap) e ∙ ap (λ (t : Bool). frontIf (not t) b (front notGap w)) g
+
+  pub word-on : isGap b ≡ false → front notGap v ≡ b ∷ front notGap w
+  word-on g = ap (front notGap) e ∙ ap (λ (t : Bool). frontIf (not t) b (front notGap w)) g
+
+-- is a text, from its byte n on, the same as another
+drop-none : (w : Bytes) (n : ℕ) → n ≡ length w → drop n w ≡ []
+drop-none w n e = let h : length w ≤ n = omega arith in drop-of-length-le w h
+
+same-none : (w : Bytes) (n : ℕ) → n ≤ length w → same (drop n w) [] ≡ eqb n (length w)
+same-none w n h = go (eqb n (length w)) refl
+  where
+    go : (t : Bool) → eqb n (length w) ≡ t → same (drop n w) [] ≡ t
+    go true e = ap (λ (x : Bytes). same x []) (drop-none w n (eqb-true n (length w) e))
+    go false e = rw (at-cons w n (omega (arith, eqb-false n (length w) e)))
+
+module _ (w : Bytes) (n : ℕ) (u : Bytes) where
+  pub same-ended : n ≤ length w → u ≡ [] → same (drop n w) u ≡ eqb n (length w)
+  same-ended h e = ap (same (drop n w)) e ∙ same-none w n h
+
+  pub same-over : (b : ℕ) (x : Bytes) → n ≡ length w → u ≡ b ∷ x → same (drop n w) u ≡ false
+  same-over b x h e = rw (drop-none w n h, e)
+
+  pub same-other : (b : ℕ) (x : Bytes) → n < length w → u ≡ b ∷ x → (getD w n 0 ≡ b → ⊥) → same (drop n w) u ≡ false
+  same-other b x h e d = rw (at-cons w n h, e, ne-eqb _ _ d)
+
+  pub same-byte : (b : ℕ) (x : Bytes) → n < length w → u ≡ b ∷ x → getD w n 0 ≡ b → same (drop n w) u ≡ same (drop (n + 1) w) x
+  same-byte b x h e d = rw (at-cons w n h, e, eq-eqb _ _ d)

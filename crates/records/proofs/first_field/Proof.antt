@@ -1,0 +1,166 @@
+-- `records::first_field` meets its contract. The invariant: the part from i on is readable, and what stands before its first field is what is left.
+-- The measure is what is left of the length.
+use borrow.Author.Needs.{needs}
+use Prim.Native.Nat.{_+_, _-_, _≤_}
+use native.Mathlib.Omega.{arith}
+use mathlib.Core.Path.{_≡_}
+use mathlib.Core.Bool.{true}
+use lib.ListN.{length, drop}
+use Rattle.records.specs.Places.{isReadable}
+use Rattle.records.specs.Walk.{leadSize}
+use Rattle.records.proofs.Readings.{part-ended}
+use Rattle.records.proofs.Steps.{steps, lead-none, lead-blank, lead-comment, lead-field}
+use Rattle.records.proofs.first_field.Statement.{statement}
+use Rattle.records.proofs.first_field.Tie as tie
+use Rattle.records.proofs.first_field.Reads as reads
+use Rattle.records.proofs.first_field.Lts as lts
+use Rattle.lines.proofs.next_piece.Reads as next-piece-reads
+
+abbrev Inv-loop : tie.InvT-loop
+Inv-loop table s i₀ i = (i ≤ length s) × (isReadable (drop i s) ≡ true) × (leadSize s ≡ i + leadSize (drop i s))
+
+abbrev μ-loop : tie.MeasureT-loop
+μ-loop table s i₀ i = length s - i
+
+loop-holds : tie.Need-loop-holds Inv-loop μ-loop
+loop-holds c =
+    let at-pre = c .before .pre in
+    (omega arith, at-pre .1, omega arith)
+
+sub-next-piece : tie.Need-sub-next-piece Inv-loop μ-loop
+sub-next-piece c = search needs
+
+part-next-piece-start : tie.Need-part-next-piece-start Inv-loop μ-loop
+part-next-piece-start c = search needs
+
+part-next-piece-end : tie.Need-part-next-piece-end Inv-loop μ-loop
+part-next-piece-end c = search needs
+
+next-piece-requires : tie.Need-next-piece-requires Inv-loop μ-loop
+next-piece-requires c κs =
+    let at-pre = c .before .before .before .pre in
+    let at-args = c .before .before .before .args in
+    let at-loop = c .before .loop in
+    (at-pre .0, part-ended (at-args .s .now) (at-loop .i) (at-loop .inv .1))
+
+enum-known-n : tie.Need-enum-known-n Inv-loop μ-loop
+enum-known-n c = search needs
+
+add-i : tie.Need-add-i Inv-loop μ-loop
+add-i c =
+    let at-args = c .before .before .before .before .before .before .before .args in
+    let at-loop = c .before .before .before .before .before .loop in
+    let at-next-piece = c .before .before .before .next-piece in
+    let at-n = c .before .n in
+    let p = steps (at-args .s .now) (at-loop .i) (at-next-piece .result) (at-loop .inv .1) (at-next-piece .ensures) (at-n .given .1) in
+    omega (arith, p .1 .inside)
+
+loop-less : tie.Need-loop-less Inv-loop μ-loop
+loop-less c =
+    let at-args = c .before .before .before .before .before .before .before .args in
+    let at-loop = c .before .before .before .before .before .loop in
+    let at-next-piece = c .before .before .before .next-piece in
+    let at-n = c .before .n in
+    let p = steps (at-args .s .now) (at-loop .i) (at-next-piece .result) (at-loop .inv .1) (at-next-piece .ensures) (at-n .given .1) in
+    omega (arith, p .1 .inside, p .1 .moves)
+
+loop-again : tie.Need-loop-again Inv-loop μ-loop
+loop-again c =
+    let at-args = c .before .before .before .before .before .before .before .args in
+    let at-loop = c .before .before .before .before .before .loop in
+    let at-next-piece = c .before .before .before .next-piece in
+    let at-n = c .before .n in
+    let p = steps (at-args .s .now) (at-loop .i) (at-next-piece .result) (at-loop .inv .1) (at-next-piece .ensures) (at-n .given .1) in
+    (p .1 .inside, p .1 .readable, omega (arith, at-loop .inv .2, lead-blank (at-args .s .now) (at-loop .i) (p .0) (at-n .given .0 .0) (p .1)))
+
+enum-known-n-2 : tie.Need-enum-known-n-2 Inv-loop μ-loop
+enum-known-n-2 c = search needs
+
+add-i-2 : tie.Need-add-i-2 Inv-loop μ-loop
+add-i-2 c =
+    let at-args = c .before .before .before .before .before .before .before .args in
+    let at-loop = c .before .before .before .before .before .loop in
+    let at-next-piece = c .before .before .before .next-piece in
+    let at-n2 = c .before .n2 in
+    let p = steps (at-args .s .now) (at-loop .i) (at-next-piece .result) (at-loop .inv .1) (at-next-piece .ensures) (at-n2 .given .1) in
+    omega (arith, p .1 .inside)
+
+loop-less-2 : tie.Need-loop-less-2 Inv-loop μ-loop
+loop-less-2 c =
+    let at-args = c .before .before .before .before .before .before .before .args in
+    let at-loop = c .before .before .before .before .before .loop in
+    let at-next-piece = c .before .before .before .next-piece in
+    let at-n2 = c .before .n2 in
+    let p = steps (at-args .s .now) (at-loop .i) (at-next-piece .result) (at-loop .inv .1) (at-next-piece .ensures) (at-n2 .given .1) in
+    omega (arith, p .1 .inside, p .1 .moves)
+
+loop-again-2 : tie.Need-loop-again-2 Inv-loop μ-loop
+loop-again-2 c =
+    let at-args = c .before .before .before .before .before .before .before .args in
+    let at-loop = c .before .before .before .before .before .loop in
+    let at-next-piece = c .before .before .before .next-piece in
+    let at-n2 = c .before .n2 in
+    let p = steps (at-args .s .now) (at-loop .i) (at-next-piece .result) (at-loop .inv .1) (at-next-piece .ensures) (at-n2 .given .1) in
+    (p .1 .inside, p .1 .readable, omega (arith, at-loop .inv .2, lead-comment (at-args .s .now) (at-loop .i) (p .0) (at-n2 .given .0 .0) (p .1)))
+
+enum-told : tie.Need-enum-told Inv-loop μ-loop
+enum-told c = search needs
+
+returns : tie.Need-returns Inv-loop μ-loop
+returns c =
+    let at-enum-told = c .enum-told in
+    let at-args = c .before .before .before .before .before .before .args in
+    let at-loop = c .before .before .before .before .loop in
+    let at-next-piece = c .before .before .next-piece in
+    let g = at-enum-told .given in
+    let p = steps (at-args .s .now) (at-loop .i) (at-next-piece .result) (at-loop .inv .1) (at-next-piece .ensures) (g .1) in
+    omega (arith, at-loop .inv .2, lead-field (at-args .s .now) (at-loop .i) (g .0 .0) (g .0 .1 .0) (g .0 .1 .1 .0) p)
+
+enum-told-2 : tie.Need-enum-told-2 Inv-loop μ-loop
+enum-told-2 c = search needs
+
+returns-2 : tie.Need-returns-2 Inv-loop μ-loop
+returns-2 c =
+    let at-args = c .before .before .before .before .before .before .args in
+    let at-loop = c .before .before .before .before .loop in
+    let at-next-piece = c .before .before .next-piece in
+    let at-enum-told2 = c .enum-told2 in
+    let p = steps (at-args .s .now) (at-loop .i) (at-next-piece .result) (at-loop .inv .1) (at-next-piece .ensures) (at-enum-told2 .given .1) in
+    omega (arith, at-loop .inv .2, lead-none (at-args .s .now) (at-loop .i) p)
+
+enum-told-3 : tie.Need-enum-told-3 Inv-loop μ-loop
+enum-told-3 c = search needs
+
+returns-3 : tie.Need-returns-3 Inv-loop μ-loop
+returns-3 c =
+    let at-args = c .before .before .before .before .before .before .args in
+    let at-loop = c .before .before .before .before .loop in
+    let at-next-piece = c .before .before .next-piece in
+    let at-enum-told3 = c .enum-told3 in
+    absurd (steps (at-args .s .now) (at-loop .i) (at-next-piece .result) (at-loop .inv .1) (at-next-piece .ensures) (at-enum-told3 .given .1))
+
+pub first-field-spec : {M : Type 1} → statement M
+first-field-spec =
+    tie.close
+    (tie.spec
+    Inv-loop
+    μ-loop
+    loop-holds
+    sub-next-piece
+    part-next-piece-start
+    part-next-piece-end
+    next-piece-requires
+    enum-known-n
+    add-i
+    loop-less
+    loop-again
+    enum-known-n-2
+    add-i-2
+    loop-less-2
+    loop-again-2
+    enum-told
+    returns
+    enum-told-2
+    returns-2
+    enum-told-3
+    returns-3)

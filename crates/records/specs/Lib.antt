@@ -1,0 +1,3 @@
+-- Where the records and fields of a file stand.
+pub mod Places
+pub mod Walk

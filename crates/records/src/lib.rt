@@ -1,0 +1,397 @@
+// Records: the next one of a part of the file, and the search for a set, a record and an occurrence.
+ghost use mathlib.Core.Path.{_≡_};
+ghost use mathlib.Core.Bool.{true, false};
+ghost use mathlib.Core.List.{[]};
+ghost use Prim.Native.Nat.{ℕ, _+_, _<_, _≤_};
+ghost use lib.ListN.{length, take, drop};
+ghost use Rattle.format.specs.Bytes.{classTable, same};
+ghost use Rattle.format.specs.Words.{isGap, notGap, front, behind, firstWord};
+ghost use Rattle.lines.specs.Value.{valueFrom};
+ghost use Rattle.records.specs.Places.{isReadable, placesOf, firstPlace, setPlace, recordPlace, countBefore, fieldPlace};
+ghost use Rattle.records.specs.Walk.{leadSize, runOf, opensSet};
+use lines::Decoded;
+use lines::Next;
+
+// Is a part empty or ended by a newline, and has every line of it a form?
+pub fn is_readable(table: &[u8; 256], s: &[u8]) -> bool
+    requires { ⌜ now table ≡ classTable ⌝ }
+    ensures { λ r. ⌜ r ≡ isReadable (now (s .entry)) ⌝ }
+{
+    let len = s.len();
+    if len == 0 {
+        return true;
+    }
+    if s[len - 1] != 10 {
+        return false;
+    }
+    let mut i = 0;
+    loop {
+        let n = lines::next_piece(table, &s[i..]);
+        match n {
+            Next::Blank { size } => {
+                i += size;
+            }
+            Next::Comment { size } => {
+                i += size;
+            }
+            Next::Field {
+                name: _,
+                value: _,
+                size,
+            } => {
+                i += size;
+            }
+            Next::End => {
+                return true;
+            }
+            Next::Fault => {
+                return false;
+            }
+        }
+    }
+}
+
+// Where a record stands in a part: its first field's first byte, the byte behind its last field, the byte behind its block.
+pub struct Place {
+    pub start: usize,
+    pub end: usize,
+    pub after: usize,
+    pub descriptor: bool,
+}
+
+pub enum NextRecord {
+    Nothing,
+    At(Place),
+}
+
+// The place of the first field, the length of the part where it has none.
+fn first_field(table: &[u8; 256], s: &[u8]) -> usize
+    requires { ⌜ now table ≡ classTable ⌝ }
+    requires { ⌜ isReadable (now s) ≡ true ⌝ }
+    ensures { λ r. ⌜ r ≡ leadSize (now (s .entry)) ⌝ }
+{
+    let mut i = 0;
+    loop {
+        let n = lines::next_piece(table, &s[i..]);
+        match n {
+            Next::Blank { size } => {
+                i += size;
+            }
+            Next::Comment { size } => {
+                i += size;
+            }
+            Next::Field {
+                name: _,
+                value: _,
+                size: _,
+            } => {
+                return i;
+            }
+            Next::End => {
+                return i;
+            }
+            Next::Fault => {
+                return s.len();
+            }
+        }
+    }
+}
+
+// A record that begins where s does: the byte behind its last field, the byte behind its block, and whether it has a `%rec`.
+struct Run {
+    end: usize,
+    after: usize,
+    descriptor: bool,
+}
+
+fn record_run(table: &[u8; 256], s: &[u8]) -> Run
+    requires { ⌜ now table ≡ classTable ⌝ }
+    requires { ⌜ isReadable (now s) ≡ true ⌝ }
+    ensures { λ r. ⌜ r ≡ runOf (now (s .entry)) ⌝ }
+{
+    let mut end = 0;
+    let mut i = 0;
+    let mut descriptor = false;
+    loop {
+        let n = lines::next_piece(table, &s[i..]);
+        match n {
+            Next::Comment { size } => {
+                i += size;
+            }
+            Next::Field {
+                name,
+                value: _,
+                size,
+            } => {
+                let e = i + name;
+                let here = lines::same_bytes(b"%rec", &s[i..e]);
+                descriptor = descriptor | here;
+                i += size;
+                end = i;
+            }
+            Next::Blank { size: _ } => {
+                return Run {
+                    end,
+                    after: i,
+                    descriptor,
+                };
+            }
+            Next::End => {
+                return Run {
+                    end,
+                    after: i,
+                    descriptor,
+                };
+            }
+            Next::Fault => {
+                return Run {
+                    end,
+                    after: i,
+                    descriptor,
+                };
+            }
+        }
+    }
+}
+
+// The next record of a part.
+pub fn next_record(table: &[u8; 256], s: &[u8]) -> NextRecord
+    requires { ⌜ now table ≡ classTable ⌝ }
+    requires { ⌜ isReadable (now s) ≡ true ⌝ }
+    ensures { λ r. ⌜ r ≡ firstPlace (placesOf (now (s .entry))) ⌝ }
+{
+    let start = first_field(table, s);
+    if start == s.len() {
+        return NextRecord::Nothing;
+    }
+    let r = record_run(table, &s[start..]);
+    NextRecord::At(Place {
+        start,
+        end: start + r.end,
+        after: start + r.after,
+        descriptor: r.descriptor,
+    })
+}
+
+// How many records a part has before any descriptor.
+pub fn count_records(table: &[u8; 256], s: &[u8]) -> usize
+    requires { ⌜ now table ≡ classTable ⌝ }
+    requires { ⌜ isReadable (now s) ≡ true ⌝ }
+    ensures { λ r. ⌜ r ≡ countBefore (placesOf (now (s .entry))) ⌝ }
+{
+    let mut i = 0;
+    let mut n = 0;
+    loop {
+        let r = next_record(table, &s[i..]);
+        let NextRecord::At(p) = r else {
+            return n;
+        };
+        if p.descriptor {
+            return n;
+        }
+        n += 1;
+        i += p.after;
+    }
+}
+
+// Where record k of those before any descriptor stands.
+pub enum FoundRecord {
+    At(Place),
+    Missing,
+}
+
+pub fn find_record(table: &[u8; 256], s: &[u8], k: usize) -> FoundRecord
+    requires { ⌜ now table ≡ classTable ⌝ }
+    requires { ⌜ isReadable (now s) ≡ true ⌝ }
+    ensures { λ r. ⌜ r ≡ recordPlace (placesOf (now (s .entry))) k ⌝ }
+{
+    let mut i = 0;
+    let mut left = k;
+    loop {
+        let r = next_record(table, &s[i..]);
+        let NextRecord::At(p) = r else {
+            return FoundRecord::Missing;
+        };
+        if p.descriptor {
+            return FoundRecord::Missing;
+        }
+        if left == 0 {
+            return FoundRecord::At(Place {
+                start: i + p.start,
+                end: i + p.end,
+                after: i + p.after,
+                descriptor: false,
+            });
+        }
+        left -= 1;
+        i += p.after;
+    }
+}
+
+// Where a field stands: its first byte, its value's first byte, the byte behind it.
+pub enum FoundField {
+    At {
+        start: usize,
+        value: usize,
+        end: usize,
+    },
+    Missing,
+}
+
+// The occurrence o of a name among the fields of a part.
+pub fn find_field(table: &[u8; 256], s: &[u8], name: &[u8], o: usize) -> FoundField
+    requires { ⌜ now table ≡ classTable ⌝ }
+    requires { ⌜ isReadable (now s) ≡ true ⌝ }
+    ensures { λ r. ⌜ r ≡ fieldPlace (now (name .entry)) (now (s .entry)) o ⌝ }
+{
+    let mut i = 0;
+    let mut left = o;
+    loop {
+        let n = lines::next_piece(table, &s[i..]);
+        match n {
+            Next::Blank { size } => {
+                i += size;
+            }
+            Next::Comment { size } => {
+                i += size;
+            }
+            Next::Field {
+                name: len,
+                value,
+                size,
+            } => {
+                let e = i + len;
+                if lines::same_bytes(name, &s[i..e]) {
+                    if left == 0 {
+                        return FoundField::At {
+                            start: i,
+                            value: i + value,
+                            end: i + size,
+                        };
+                    }
+                    left -= 1;
+                }
+                i += size;
+            }
+            Next::End => {
+                return FoundField::Missing;
+            }
+            Next::Fault => {
+                return FoundField::Missing;
+            }
+        }
+    }
+}
+
+// Does a byte divide words?
+fn is_gap(b: u8) -> bool
+    ensures { λ r. ⌜ r ≡ isGap b ⌝ }
+{
+    if b == 32 {
+        return true;
+    }
+    if b == 9 {
+        return true;
+    }
+    b == 10
+}
+
+// The place in a value, which begins where s does, of its first word: the place behind the gaps before it.
+fn word_start(s: &[u8]) -> usize
+    ensures { λ r. ⌜ valueFrom (drop r (now (s .entry))) ≡ behind isGap (valueFrom (now (s .entry))) ⌝ }
+{
+    let mut i = 0;
+    loop {
+        let d = lines::value_byte(s, i);
+        let Decoded::Byte { byte, next } = d else {
+            return i;
+        };
+        if is_gap(byte) {
+            i = next;
+        } else {
+            return i;
+        }
+    }
+}
+
+// Is the word that the value from i on begins with this one?
+fn word_here(s: &[u8], i: usize, word: &[u8]) -> bool
+    ensures { λ r. ⌜ r ≡ same (now (word .entry)) (front notGap (valueFrom (drop i (now (s .entry))))) ⌝ }
+{
+    let mut at = i;
+    let mut n = 0;
+    loop {
+        let d = lines::value_byte(s, at);
+        let Decoded::Byte { byte, next } = d else {
+            return n == word.len();
+        };
+        if is_gap(byte) {
+            return n == word.len();
+        }
+        if n == word.len() {
+            return false;
+        }
+        if word[n] != byte {
+            return false;
+        }
+        n += 1;
+        at = next;
+    }
+}
+
+// Is the first word of the value that begins where s does this one?
+pub fn word_is(s: &[u8], word: &[u8]) -> bool
+    ensures { λ r. ⌜ r ≡ same (now (word .entry)) (firstWord (valueFrom (now (s .entry)))) ⌝ }
+{
+    let i = word_start(s);
+    word_here(s, i, word)
+}
+
+// Does a descriptor, which fills s, open the set of a name?
+fn opens_set(table: &[u8; 256], s: &[u8], name: &[u8]) -> bool
+    requires { ⌜ now table ≡ classTable ⌝ }
+    requires { ⌜ isReadable (now s) ≡ true ⌝ }
+    ensures { λ r. ⌜ r ≡ opensSet (now (name .entry)) (now (s .entry)) ⌝ }
+{
+    let f = find_field(table, s, b"%rec", 0);
+    let FoundField::At {
+        start: _,
+        value,
+        end,
+    } = f
+    else {
+        return false;
+    };
+    word_is(&s[value..end], name)
+}
+
+// Where the records of a set begin.
+pub enum FoundSet {
+    At(usize),
+    Missing,
+}
+
+pub fn find_set(table: &[u8; 256], s: &[u8], name: &[u8]) -> FoundSet
+    requires { ⌜ now table ≡ classTable ⌝ }
+    requires { ⌜ isReadable (now s) ≡ true ⌝ }
+    ensures { λ r. ⌜ r ≡ setPlace (now (name .entry)) (placesOf (now (s .entry))) ⌝ }
+{
+    if name.len() == 0 {
+        return FoundSet::At(0);
+    }
+    let mut i = 0;
+    loop {
+        let r = next_record(table, &s[i..]);
+        let NextRecord::At(p) = r else {
+            return FoundSet::Missing;
+        };
+        if p.descriptor {
+            let a = i + p.start;
+            let e = i + p.end;
+            if opens_set(table, &s[a..e], name) {
+                return FoundSet::At(i + p.after);
+            }
+        }
+        i += p.after;
+    }
+}
