@@ -21,7 +21,7 @@ use Rattle.lines.specs.Piece.{valueAt}
 use Rattle.lines.specs.Value.{valueFrom}
 use Rattle.lines.proofs.Shapes.{value-inside}
 use Rattle.lines.proofs.Values.{field-value as decoded}
-use Rattle.records.specs.Places.{isReadable, sizeIn, namesSet, headLine, fieldBy, fieldIn, fieldFrom, fieldPlace}
+use Rattle.records.specs.Places.{isReadable, namesSet, headLine, fieldBy, fieldIn, fieldFrom, fieldPlace}
 use Rattle.records.specs.Walk.{readIn, readOf, opensSet}
 use Rattle.records.specs.declared.FoundField.{FoundField}
 use Rattle.records.proofs.Walks.{size-piece, size-none}
@@ -40,11 +40,10 @@ module _ (name s : Bytes) (i o : ℕ) where
   pub field-none : readOf (drop i s) ≡ [] → fieldIn name (readOf (drop i s)) i o ≡ FoundField.Missing
   field-none e = ap (λ (ps : List Piece). fieldIn name ps i o) e
 
-  pub field-blank : (l : Line) (k : ℕ) → Passed s i (Piece.blank l) k → fieldIn name (readOf (drop i s)) i o ≡ fieldIn name (readOf (drop (i + k) s)) (i + k) o
-  field-blank l k p = ap (λ (ps : List Piece). fieldIn name ps i o) (p .reads) ∙ ap (λ (j : ℕ). fieldIn name (readOf (drop (i + k) s)) (i + j) o) (p .size)
-
-  pub field-comment : (l : Line) (k : ℕ) → Passed s i (Piece.comment l) k → fieldIn name (readOf (drop i s)) i o ≡ fieldIn name (readOf (drop (i + k) s)) (i + k) o
-  field-comment l k p = ap (λ (ps : List Piece). fieldIn name ps i o) (p .reads) ∙ ap (λ (j : ℕ). fieldIn name (readOf (drop (i + k) s)) (i + j) o) (p .size)
+  pub field-loose : (p : Piece) (k : ℕ) → ((ps : List Piece) → fieldIn name (p ∷ ps) i o ≡ fieldIn name ps (i + countOf (linesOf p)) o) → Passed s i p k → fieldIn name (readOf (drop i s)) i o ≡ fieldIn name (readOf (drop (i + k) s)) (i + k) o
+  field-loose p k h f =
+      let ps = readOf (drop (i + k) s) in
+      ap (λ (qs : List Piece). fieldIn name qs i o) (f .reads) ∙ h ps ∙ ap (λ (j : ℕ). fieldIn name ps (i + j) o) (f .size)
 
   module _ (n v k : ℕ) (t : Bool) (f : FieldAt s i n v k) (e : t ≡ same name (take ((i + n) - i) (drop i s))) where
     field-by : fieldIn name (readOf (drop i s)) i o ≡ fieldBy t o i (f .name) (f .own) (λ (j : ℕ). fieldIn name (readOf (drop (i + k) s)) (i + k) j)

@@ -1,5 +1,5 @@
 -- The first record of a readable part: where it stands, what its own part reads as, and the places behind it, which are those of the rest.
-use Prim.Native.Nat.{ℕ, suc, _+_, _-_, _≤_, _<_}
+use Prim.Native.Nat.{ℕ, _+_, _-_, _≤_, _<_}
 use native.Mathlib.Omega.{arith}
 use mathlib.Core.Path.{_≡_, refl, sym, ap, _∙_, subst}
 use mathlib.Core.Bool.{Bool, true, false}
@@ -9,7 +9,7 @@ use lib.Seq.{drop-drop}
 use Rattle.format.specs.Bytes.{Bytes, pick}
 use Rattle.format.specs.Lines.{Line, bytes}
 use Rattle.format.specs.Pieces.{Piece}
-use Rattle.format.specs.Records.{Field, Record, Block, blocks, countOf, fieldsOf}
+use Rattle.format.specs.Records.{Record, Block, blocks, countOf, fieldsOf}
 use Rattle.format.specs.Edits.{isRecord}
 use Rattle.format.specs.Calls.{lead, fromFirst, toLast}
 use Rattle.format.proofs.Whole.{Sound}
@@ -20,8 +20,8 @@ use Rattle.records.specs.Walk.{readOf, leadSize, untilBlank, fromBlank, 
 use Rattle.records.specs.declared.Run.{Run}
 use Rattle.records.specs.declared.Place.{Place}
 use Rattle.records.specs.declared.NextRecord.{NextRecord}
-use Rattle.records.proofs.Walks.{size-append, size-field, placesRun, places-walk, run-told}
-use Rattle.records.proofs.Shifts.{raise, raise-twice, places-raised}
+use Rattle.records.proofs.Walks.{size-append, size-piece, placesRun, places-walk, run-told}
+use Rattle.records.proofs.Shifts.{raise, places-raised}
 use Rattle.records.proofs.Readings.{Reads, reads-readable, reads-of, reads-length, readable-reads, reads-take, reads-drop, places-read, reads-places}
 
 -- pieces in two parts
@@ -43,7 +43,7 @@ last-on : (t : Bool) (p : Piece) (b : Block) → (c : Block) × (toLast b ++ c �
 last-on true p b h = (h .0, ap {B = Block} (λ x. p ∷ x) (h .1))
 last-on false p b h = (p ∷ b, refl)
 
-to-last : (b : Block) → (c : Block) × (toLast b ++ c ≡ b)
+pub to-last : (b : Block) → (c : Block) × (toLast b ++ c ≡ b)
 to-last [] = ([], refl)
 to-last (p ∷ b) = last-on (isRecord (fieldsOf (p ∷ b))) p b (to-last b)
 
@@ -119,7 +119,7 @@ first-by s a (Piece.field n v ls ∷ ps) k e f h r =
       ends = omega (arith, ap (λ z. z .end) run);
       closes = omega (arith, ap (λ z. z .after) run);
       describes = ap (λ z. z .descriptor) run;
-      filled = omega (arith, size-field n v ls (toLast (untilBlank ps)), some);
+      filled = omega (arith, size-piece (Piece.field n v ls) (toLast (untilBlank ps)), some);
       within = omega (arith, ap sizeIn (c .1), size-append (toLast u) (c .0));
       inside = omega (arith, reads-length r, size-append a q, ap sizeIn (until-from q), size-append u w);
       own = toLast u;
@@ -136,6 +136,10 @@ first-place s e =
     let k : ℕ = 0 + sizeIn (lead ps) in
     subst (First s) (sym (places-read s ∙ places-walk 0 ps))
     (first-by s (lead ps) (fromFirst ps) k (omega arith) (omega arith) (first-starts ps) (subst (Reads s) (sym (lead-first ps)) (readable-reads s e)))
+
+-- A law for walks over records: behind the first record stand the records of the part behind its block.
+pub places-cut : (s : Bytes) (p : Placed) (ps : List Placed) → isReadable s ≡ true → placesOf s ≡ p ∷ ps → FirstAt s p ps
+places-cut s p ps e q = subst (First s) q (first-place s e)
 
 -- The part from the first field on.
 lead-reads : (s : Bytes) → isReadable s ≡ true → Reads (drop (leadSize s) s) (fromFirst (readOf s))

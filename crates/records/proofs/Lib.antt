@@ -8,3 +8,5 @@ pub mod Looks
 pub mod Fields
 pub mod Words
 pub mod Searches
+pub mod Members
+pub mod Views

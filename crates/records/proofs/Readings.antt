@@ -1,11 +1,10 @@
 -- A readable part and its pieces: the pieces are sound, and their bytes, one after another, are the part. So a part of the pieces is a readable part of the bytes.
 use Prim.Native.Nat.{ℕ, _-_}
-use native.Mathlib.Omega.{arith}
 use mathlib.Core.Path.{_≡_, refl, sym, ap, _∙_, subst}
-use mathlib.Core.Bool.{Bool, true, false, _&&_, and-eq-true-iff, false≢true}
-use mathlib.Core.List.{List, [], _∷_, _++_}
+use mathlib.Core.Bool.{true, and-eq-true-iff, false≢true}
+use mathlib.Core.List.{List, _++_}
 use mathlib.Core.Option.{Option, none, some}
-use lib.ListN.{length, take, drop, length-append}
+use lib.ListN.{length, take, drop}
 use lib.Seq.{take-at, drop-at}
 use Rattle.format.proofs.Elements.{Each, each-parts}
 use Rattle.format.specs.Bytes.{Bytes}
@@ -18,7 +17,6 @@ use Rattle.format.proofs.Whole.{pieces-sound, sound-pieces, bytesOf-append, Sou
 use Rattle.lines.proofs.Cuts.{rest}
 use Rattle.records.specs.Places.{isReadable, sizeIn, placesIn, placesFrom, placesOf}
 use Rattle.records.specs.Walk.{readIn, readOf}
-use Rattle.records.proofs.Walks.{size-append}
 
 -- a part reads as pieces
 pub record Reads (s : Bytes) (ps : List Piece) : Type 0 where

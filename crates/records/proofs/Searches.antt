@@ -1,5 +1,5 @@
 -- Searches among the records of a readable part, record by record.
-use Prim.Native.Nat.{ℕ, zero, suc, _+_, _-_, _≤_, _<_}
+use Prim.Native.Nat.{ℕ, suc, _+_, _-_, _≤_, _<_}
 use native.Mathlib.Omega.{arith}
 use mathlib.Core.Path.{_≡_, refl, sym, ap, _∙_, subst}
 use mathlib.Core.Bool.{Bool, true, false, false≢true}
@@ -8,11 +8,11 @@ use lib.ListN.{length, take, drop, length-drop}
 use lib.Seq.{drop-drop}
 use Rattle.format.specs.Bytes.{Bytes, text, pick}
 use Rattle.format.specs.Pieces.{Piece}
-use Rattle.format.specs.Records.{fieldsOf}
+use Rattle.format.specs.Records.{Record, fieldsOf}
 use Rattle.format.specs.Sets.{valuesOf}
 use Rattle.lines.proofs.Cuts.{rest}
 use Rattle.records.specs.Places.{isReadable, Placed, placesOf, isThere, isDescriptor, placeOf, firstPlace, namesSet, descriptorPlace, setPlace, recordBy, recordPlace, countBefore}
-use Rattle.records.specs.Walk.{readOf, opensSet}
+use Rattle.records.specs.Walk.{opensSet}
 use Rattle.records.specs.declared.Place.{Place}
 use Rattle.records.specs.declared.NextRecord.{NextRecord}
 use Rattle.records.specs.declared.FoundSet.{FoundSet}
@@ -39,18 +39,22 @@ placesAt s i = map (raise i) (placesOf (drop i s))
 pub places-all : (s : Bytes) → placesOf s ≡ placesAt s 0
 places-all s = sym (raise-none (placesOf s))
 
+-- what is known of a record's place: its own part reads as its fields, and the part behind its block is readable
+pub record Stand (s : Bytes) (start end after : ℕ) (fields : Record) : Type 0 where
+  pub filled : start < end
+  pub within : end ≤ after
+  pub inside : after ≤ length s
+  pub own : List Piece
+  pub own-reads : Reads (take (end - start) (drop start s)) own
+  pub own-fields : fieldsOf own ≡ fields
+  pub readable : isReadable (drop after s) ≡ true
+
 -- a place q, found from byte i on
 pub record Met (s : Bytes) (i : ℕ) (q : Place) : Type 0 where
   pub here : Placed
   pub is : placeOf here ≡ q
   pub places : placesAt s i ≡ raise i here ∷ placesAt s (i + q .after)
-  pub filled : q .start < q .end
-  pub within : q .end ≤ q .after
-  pub inside : i + q .after ≤ length s
-  pub readable : isReadable (drop (i + q .after) s) ≡ true
-  pub own : List Piece
-  pub own-reads : Reads (take ((i + q .end) - (i + q .start)) (drop (i + q .start) s)) own
-  pub own-fields : fieldsOf own ≡ here .fields
+  pub stand : Stand s (i + q .start) (i + q .end) (i + q .after) (here .fields)
 
 abbrev pub Meets : Bytes → ℕ → NextRecord → Type 0
 Meets s i NextRecord.Nothing = placesAt s i ≡ []
@@ -66,19 +70,24 @@ meets-by s i h (p ∷ ps) e f =
       here = p;
       is = refl;
       places = ap (map (raise i)) (e ∙ ap {B = List Placed} (λ xs. p ∷ xs) (f .behind)) ∙ ap {B = List Placed} (λ xs. raise i p ∷ xs) (raise-twice i a (placesOf (drop a (drop i s))) ∙ ap (λ (x : Bytes). map (raise (i + a)) (placesOf x)) d);
-      filled = f .filled;
-      within = f .within;
-      inside = omega (arith, f .inside, length-drop i s);
-      readable = subst (λ (x : Bytes). isReadable x ≡ true) d (f .readable);
-      own = f .own;
-      own-reads = subst (λ (x : Bytes). Reads x (f .own)) (ap (λ (m : ℕ). take m (drop (p .start) (drop i s))) n ∙ ap (take ((i + p .end) - (i + p .start))) (drop-drop (p .start) i s)) (f .own-reads);
-      own-fields = f .own-fields;
+      stand = record {
+        filled = omega (arith, f .filled);
+        within = omega (arith, f .within);
+        inside = omega (arith, f .inside, length-drop i s);
+        own = f .own;
+        own-reads = subst (λ (x : Bytes). Reads x (f .own)) (ap (λ (m : ℕ). take m (drop (p .start) (drop i s))) n ∙ ap (take ((i + p .end) - (i + p .start))) (drop-drop (p .start) i s)) (f .own-reads);
+        own-fields = f .own-fields;
+        readable = subst (λ (x : Bytes). isReadable x ≡ true) d (f .readable);
+      };
     }
+
+pub meets-first : (s : Bytes) (i : ℕ) → i ≤ length s → isReadable (drop i s) ≡ true → Meets s i (firstPlace (placesOf (drop i s)))
+meets-first s i h e = meets-by s i h (placesOf (drop i s)) refl (first-place (drop i s) e)
 
 -- what an answer about the part from byte i on says, once its form is known
 pub meets : (s : Bytes) (i : ℕ) (x : NextRecord) {y : NextRecord} → i ≤ length s → isReadable (drop i s) ≡ true → x ≡ firstPlace (placesOf (take (length s - i) (drop i s))) → x ≡ y → Meets s i y
 meets s i x {y} h e f g =
-    subst (Meets s i) (ap (λ (t : Bytes). firstPlace (placesOf t)) (sym (rest s i)) ∙ sym f ∙ g) (meets-by s i h (placesOf (drop i s)) refl (first-place (drop i s) e))
+    subst (Meets s i) (ap (λ (t : Bytes). firstPlace (placesOf t)) (sym (rest s i)) ∙ sym f ∙ g) (meets-first s i h e)
 
 module _ (s : Bytes) (i : ℕ) where
   pub count-end : placesAt s i ≡ [] → countBefore (placesAt s i) ≡ 0
@@ -147,7 +156,7 @@ module _ (s : Bytes) (i : ℕ) where
     -- the descriptor's own part tells which set it opens
     opened : (n : Bytes) → opensSet n (take ((i + q .end) - (i + q .start)) (drop (i + q .start) s)) ≡ namesSet n (valuesOf (text "%rec") (m .here .fields))
     unfolding opensSet
-    opened n = ap (λ (ps : List Piece). namesSet n (valuesOf (text "%rec") (fieldsOf ps))) (reads-of (m .own-reads)) ∙ ap (λ r. namesSet n (valuesOf (text "%rec") r)) (m .own-fields)
+    opened n = ap (λ (ps : List Piece). namesSet n (valuesOf (text "%rec") (fieldsOf ps))) (reads-of (m .stand .own-reads)) ∙ ap (λ r. namesSet n (valuesOf (text "%rec") r)) (m .stand .own-fields)
 
     pub set-here : (n : Bytes) (t : Bool) → t ≡ opensSet n (take ((i + q .end) - (i + q .start)) (drop (i + q .start) s)) → t ≡ true → descriptorPlace n (placesAt s i) ≡ FoundSet.At (i + q .after)
     set-here n t e d = set-on n ∙ ap (λ (b : Bool). pick b (FoundSet.At (i + q .after)) (descriptorPlace n later)) (sym (opened n) ∙ sym e ∙ d)

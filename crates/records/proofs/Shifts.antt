@@ -1,13 +1,12 @@
--- Places raised by a number of bytes: those of the same blocks further on. The searches find in raised places what they find in the places, raised.
-use Prim.Native.Nat.{ℕ, zero, suc, _+_}
+-- Places raised by a number of bytes: those of the same blocks further on.
+use Prim.Native.Nat.{ℕ, _+_}
 use native.Mathlib.Omega.{arith}
 use mathlib.Core.Path.{_≡_, refl, sym, ap, _∙_}
 use mathlib.Core.Bool.{Bool, true, false}
 use mathlib.Core.List.{List, [], _∷_, map}
-use Rattle.format.specs.Bytes.{pick}
 use Rattle.format.specs.Records.{Record, Block, fieldsOf}
 use Rattle.format.specs.Edits.{isRecord}
-use Rattle.records.specs.Places.{Placed, sizeIn, placedAt, placeOn, placesIn, isDescriptor, countBefore}
+use Rattle.records.specs.Places.{Placed, sizeIn, placedAt, placeOn, placesIn}
 use Rattle.records.proofs.Walks.{placed-path}
 
 abbrev pub raise : ℕ → Placed → Placed
@@ -42,8 +41,3 @@ raise-twice j k (p ∷ ps) = λ i. placed-path (raise j (raise k p)) (raise (j +
 pub raise-fields : (k : ℕ) (ps : List Placed) → fieldsIn (map (raise k) ps) ≡ fieldsIn ps
 raise-fields k [] = refl
 raise-fields k (p ∷ ps) = ap {B = List Record} (λ rs. p .fields ∷ rs) (raise-fields k ps)
-
-pub count-raised : (k : ℕ) (ps : List Placed) → countBefore (map (raise k) ps) ≡ countBefore ps
-unfolding countBefore
-count-raised k [] = refl
-count-raised k (p ∷ ps) = ap (λ (n : ℕ). pick (isDescriptor p) 0 (suc n)) (count-raised k ps)

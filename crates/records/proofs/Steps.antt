@@ -2,20 +2,19 @@
 use Prim.Native.Nat.{ℕ, suc, _+_, _-_, _≤_, _<_}
 use native.Mathlib.Omega.{arith}
 use mathlib.Core.Path.{_≡_, refl, sym, ap, _∙_, subst}
-use mathlib.Core.Bool.{Bool, true, false, _&&_, _||_}
+use mathlib.Core.Bool.{Bool, true, _||_}
 use mathlib.Core.List.{List, [], _∷_, _++_}
 use mathlib.Core.Option.{Option, none, some, Option·none-ne-some, Option·some-injective}
 use lib.ListN.{length, take, drop, length-drop}
 use lib.Seq.{drop-drop, length-take-le}
+use Rattle.format.proofs.Whole.{Sound}
 use Rattle.format.proofs.Elements.{Each, each-append}
 use Rattle.format.specs.Bytes.{Bytes, text, same}
-use Rattle.format.specs.Lines.{Line, lines, bytes, isEnded, Form, form}
+use Rattle.format.specs.Lines.{Line, lines, Form, form}
 use Rattle.format.specs.Pieces.{Piece, linesOf, allLines, bytesOf, pieces}
 use Rattle.format.specs.Records.{countOf}
 use Rattle.format.specs.Calls.{lead}
-use Rattle.format.specs.Questions.{isSome}
 use Rattle.format.proofs.Lines.{lines-bytes, Clean}
-use Rattle.format.proofs.Whole.{Sound}
 use Rattle.format.proofs.Renaming.{sound-starts}
 use Rattle.lines.specs.Line.{lineLen, firstLine}
 use Rattle.lines.specs.Piece.{valueAt, fieldNext, extentOf, nextBy, nextOf, sizeOf, pieceOf, onPiece}
@@ -28,7 +27,7 @@ use Rattle.lines.proofs.Pieces.{next-cut, no-pieces}
 use Rattle.lines.proofs.Inside.{Inside, next-inside}
 use Rattle.records.specs.Places.{isReadable, sizeIn, headLine}
 use Rattle.records.specs.Walk.{readIn, readOf, leadSize, runFrom}
-use Rattle.records.proofs.Walks.{size-piece, size-none, size-blank, size-comment}
+use Rattle.records.proofs.Walks.{size-piece, size-none, Loose}
 use Rattle.records.proofs.Readings.{Reads, reads-length, readable-ended, readable-pieces, readable-reads}
 
 -- a piece of k bytes from byte i on, and the part behind it
@@ -163,13 +162,11 @@ module _ (s : Bytes) (i : ℕ) where
   unfolding leadSize
   lead-none e = rw e size-none
 
-  pub lead-blank : (l : Line) (k : ℕ) → Passed s i (Piece.blank l) k → leadSize (drop i s) ≡ k + leadSize (drop (i + k) s)
+  pub lead-loose : (p : Piece) (k : ℕ) → Loose p → Passed s i p k → leadSize (drop i s) ≡ k + leadSize (drop (i + k) s)
   unfolding leadSize
-  lead-blank l k p = rw (p .reads) (omega (arith, size-blank l (lead (readOf (drop (i + k) s))), p .size))
-
-  pub lead-comment : (l : Line) (k : ℕ) → Passed s i (Piece.comment l) k → leadSize (drop i s) ≡ k + leadSize (drop (i + k) s)
-  unfolding leadSize
-  lead-comment l k p = rw (p .reads) (omega (arith, size-comment l (lead (readOf (drop (i + k) s))), p .size))
+  lead-loose p k h f =
+      let ps = readOf (drop (i + k) s) in
+      ap (λ (qs : List Piece). sizeIn (lead qs)) (f .reads) ∙ ap sizeIn (h ps .1) ∙ size-piece p (lead ps) ∙ ap (λ (j : ℕ). j + sizeIn (lead ps)) (f .size)
 
   pub lead-field : (n v k : ℕ) → FieldAt s i n v k → leadSize (drop i s) ≡ 0
   unfolding leadSize

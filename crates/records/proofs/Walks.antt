@@ -1,15 +1,14 @@
 -- A walk over the pieces finds the places of the records: past what stands before the first field, then to the first blank line behind it.
 use Prim.Native.Nat.{ℕ, _+_}
-use native.Mathlib.Nat.{add-zero}
 use native.Mathlib.Omega.{arith}
 use mathlib.Core.Path.{_≡_, refl, sym, ap, _∙_}
 use mathlib.Core.Bool.{Bool, true, false, _||_, or-assoc, or-false}
 use mathlib.Core.List.{List, [], _∷_, _++_, append-nil, map}
 use lib.ListN.{length, length-append}
 use Rattle.format.specs.Bytes.{Bytes, text, pick, same}
-use Rattle.format.specs.Lines.{Line, bytes}
+use Rattle.format.specs.Lines.{Line}
 use Rattle.format.specs.Pieces.{Piece, linesOf, bytesOf}
-use Rattle.format.specs.Records.{Record, Block, onto, place, blocks, countOf, fieldsOf, close, recordsIn, records}
+use Rattle.format.specs.Records.{Record, Block, onto, blocks, countOf, fieldsOf, close, recordsIn, records}
 use Rattle.format.specs.Sets.{keepIf, valuesOf}
 use Rattle.format.specs.Edits.{isRecord}
 use Rattle.format.specs.Calls.{lead, fromFirst, toLast}
@@ -31,50 +30,42 @@ pub size-none : sizeIn [] ≡ 0
 unfolding bytesOf
 size-none = refl
 
-pub size-blank : (l : Line) (ps : List Piece) → sizeIn (Piece.blank l ∷ ps) ≡ countOf (l ∷ []) + sizeIn ps
-size-blank l ps = size-piece (Piece.blank l) ps
-
-pub size-comment : (l : Line) (ps : List Piece) → sizeIn (Piece.comment l ∷ ps) ≡ countOf (l ∷ []) + sizeIn ps
-size-comment l ps = size-piece (Piece.comment l) ps
-
-pub size-field : (n v : Bytes) (ls : List Line) (ps : List Piece) → sizeIn (Piece.field n v ls ∷ ps) ≡ countOf ls + sizeIn ps
-size-field n v ls ps = size-piece (Piece.field n v ls) ps
-
 -- places with the same parts are the same
 pub placed-path : (p q : Placed) → p .start ≡ q .start → p .end ≡ q .end → p .after ≡ q .after → p .fields ≡ q .fields → p ≡ q
 placed-path p q a b c d = λ i. record { start = a i; end = b i; after = c i; fields = d i }
 
--- a blank line or a comment in front of blocks moves them on
-module _ (at : ℕ) (l : Line) where
-  onto-blank : (bs : List Block) → placesIn at (onto (Piece.blank l) bs) ≡ placesIn (at + countOf (l ∷ [])) bs
-  onto-blank [] = refl
-  onto-blank (b ∷ bs) =
-      let k : ℕ = at + countOf (l ∷ []) in
-      let x = size-blank l (lead b) in
-      let y = size-blank l b in
-      let p : placedAt at (Piece.blank l ∷ b) ≡ placedAt k b = placed-path (placedAt at (Piece.blank l ∷ b)) (placedAt k b) (omega arith) (omega arith) (omega arith) refl in
-      let e : at + sizeIn (Piece.blank l ∷ b) ≡ k + sizeIn b = omega arith in
-      ap (λ (q : Placed). placeOn (isRecord (fieldsOf b)) q (placesIn (at + sizeIn (Piece.blank l ∷ b)) bs)) p ∙ ap (λ (n : ℕ). placeOn (isRecord (fieldsOf b)) (placedAt k b) (placesIn n bs)) e
+-- a piece that is no field
+abbrev pub Loose : Piece → Type 0
+Loose p = (b : Block) → (fieldsOf (p ∷ b) ≡ fieldsOf b) × (lead (p ∷ b) ≡ p ∷ lead b) × (fromFirst (p ∷ b) ≡ fromFirst b)
 
-  onto-comment : (bs : List Block) → placesIn at (onto (Piece.comment l) bs) ≡ placesIn (at + countOf (l ∷ [])) bs
-  onto-comment [] = refl
-  onto-comment (b ∷ bs) =
-      let k : ℕ = at + countOf (l ∷ []) in
-      let x = size-comment l (lead b) in
-      let y = size-comment l b in
-      let p : placedAt at (Piece.comment l ∷ b) ≡ placedAt k b = placed-path (placedAt at (Piece.comment l ∷ b)) (placedAt k b) (omega arith) (omega arith) (omega arith) refl in
-      let e : at + sizeIn (Piece.comment l ∷ b) ≡ k + sizeIn b = omega arith in
-      ap (λ (q : Placed). placeOn (isRecord (fieldsOf b)) q (placesIn (at + sizeIn (Piece.comment l ∷ b)) bs)) p ∙ ap (λ (n : ℕ). placeOn (isRecord (fieldsOf b)) (placedAt k b) (placesIn n bs)) e
+pub blank-loose : (l : Line) → Loose (Piece.blank l)
+blank-loose l b = (refl, refl, refl)
+
+pub comment-loose : (l : Line) → Loose (Piece.comment l)
+comment-loose l b = (refl, refl, refl)
+
+-- in front of blocks it moves them on
+onto-loose : (at : ℕ) (p : Piece) (bs : List Block) → Loose p → placesIn at (onto p bs) ≡ placesIn (at + countOf (linesOf p)) bs
+onto-loose at p [] h = ap (λ (r : Record). placeOn (isRecord r) (placedAt at (p ∷ [])) []) (h [] .0)
+onto-loose at p (b ∷ bs) h =
+    let k : ℕ = at + countOf (linesOf p) in
+    let x = size-piece p (lead b) in
+    let y = size-piece p b in
+    let z = ap sizeIn (h b .1) in
+    let w = ap (λ (c : Block). sizeIn (toLast c)) (h b .2) in
+    let q : placedAt at (p ∷ b) ≡ placedAt k b = placed-path (placedAt at (p ∷ b)) (placedAt k b) (omega arith) (omega arith) (omega arith) (h b .0) in
+    let e : at + sizeIn (p ∷ b) ≡ k + sizeIn b = omega arith in
+    λ i. placeOn (isRecord (h b .0 i)) (q i) (placesIn (e i) bs)
 
 -- an empty block has no place
 places-empty : (at : ℕ) (bs : List Block) → placesIn at ([] ∷ bs) ≡ placesIn at bs
 places-empty at bs = ap (λ (n : ℕ). placesIn n bs) (omega (arith, size-none))
 
 pub places-blank : (at : ℕ) (l : Line) (ps : List Piece) → placesIn at (blocks (Piece.blank l ∷ ps)) ≡ placesIn (at + countOf (l ∷ [])) (blocks ps)
-places-blank at l ps = places-empty at (onto (Piece.blank l) (blocks ps)) ∙ onto-blank at l (blocks ps)
+places-blank at l ps = places-empty at (onto (Piece.blank l) (blocks ps)) ∙ onto-loose at (Piece.blank l) (blocks ps) (blank-loose l)
 
 pub places-comment : (at : ℕ) (l : Line) (ps : List Piece) → placesIn at (blocks (Piece.comment l ∷ ps)) ≡ placesIn (at + countOf (l ∷ [])) (blocks ps)
-places-comment at l ps = onto-comment at l (blocks ps)
+places-comment at l ps = onto-loose at (Piece.comment l) (blocks ps) (comment-loose l)
 
 -- the first block goes to the first blank line, and the others begin there
 run-blocks : (ps : List Piece) → (bs : List Block) × (blocks ps ≡ untilBlank ps ∷ bs) × (blocks (fromBlank ps) ≡ [] ∷ bs)
@@ -105,9 +96,9 @@ places-field at n v ls ps =
 pub places-walk : (at : ℕ) (ps : List Piece) → placesIn at (blocks ps) ≡ placesRun (at + sizeIn (lead ps)) (fromFirst ps)
 places-walk at [] = refl
 places-walk at (Piece.blank l ∷ ps) =
-    places-blank at l ps ∙ places-walk (at + countOf (l ∷ [])) ps ∙ ap (λ (k : ℕ). placesRun k (fromFirst ps)) (omega (arith, size-blank l (lead ps)))
+    places-blank at l ps ∙ places-walk (at + countOf (l ∷ [])) ps ∙ ap (λ (k : ℕ). placesRun k (fromFirst ps)) (omega (arith, size-piece (Piece.blank l) (lead ps)))
 places-walk at (Piece.comment l ∷ ps) =
-    places-comment at l ps ∙ places-walk (at + countOf (l ∷ [])) ps ∙ ap (λ (k : ℕ). placesRun k (fromFirst ps)) (omega (arith, size-comment l (lead ps)))
+    places-comment at l ps ∙ places-walk (at + countOf (l ∷ [])) ps ∙ ap (λ (k : ℕ). placesRun k (fromFirst ps)) (omega (arith, size-piece (Piece.comment l) (lead ps)))
 places-walk at (Piece.field n v ls ∷ ps) =
     places-field at n v ls ps ∙ ap (λ (k : ℕ). placesRun k (Piece.field n v ls ∷ ps)) (omega (arith, size-none))
 
@@ -146,7 +137,7 @@ end-comment : (at end : ℕ) (l : Line) (b : Block) → endFrom (at + countOf (l
 end-comment at end l b = go (isRecord (fieldsOf b))
   where
     go : (t : Bool) → pick t (at + countOf (l ∷ []) + sizeIn (toLast b)) end ≡ pick t (at + sizeIn (pick t (Piece.comment l ∷ toLast b) [])) end
-    go true = omega (arith, size-comment l (toLast b))
+    go true = omega (arith, size-piece (Piece.comment l) (toLast b))
     go false = refl
 
 to-none : (b : Block) → isRecord (fieldsOf b) ≡ false → toLast b ≡ []
@@ -157,8 +148,8 @@ end-field : (at end : ℕ) (n v : Bytes) (ls : List Line) (b : Block) → endFro
 end-field at end n v ls b = go (isRecord (fieldsOf b)) refl
   where
     go : (t : Bool) → isRecord (fieldsOf b) ≡ t → pick t (at + countOf ls + sizeIn (toLast b)) (at + countOf ls) ≡ at + sizeIn (Piece.field n v ls ∷ toLast b)
-    go true e = omega (arith, size-field n v ls (toLast b))
-    go false e = omega (arith, size-field n v ls (toLast b), ap (λ (x : Block). sizeIn x) (to-none b e), size-none)
+    go true e = omega (arith, size-piece (Piece.field n v ls) (toLast b))
+    go false e = omega (arith, size-piece (Piece.field n v ls) (toLast b), ap (λ (x : Block). sizeIn x) (to-none b e), size-none)
 
 pub run-told : (at end : ℕ) (d : Bool) (ps : List Piece) → runFrom at end d ps ≡ runTold at end d (untilBlank ps)
 unfolding runFrom
@@ -166,9 +157,9 @@ run-told at end d [] = run-path _ _ refl (omega (arith, size-none)) (sym (or-fal
 run-told at end d (Piece.blank l ∷ ps) = run-path _ _ refl (omega (arith, size-none)) (sym (or-false d))
 run-told at end d (Piece.comment l ∷ ps) =
     let b : Block = untilBlank ps in
-    run-told (at + countOf (l ∷ [])) end d ps ∙ run-path (runTold (at + countOf (l ∷ [])) end d b) (runTold at end d (Piece.comment l ∷ b)) (end-comment at end l b) (omega (arith, size-comment l b)) refl
+    run-told (at + countOf (l ∷ [])) end d ps ∙ run-path (runTold (at + countOf (l ∷ [])) end d b) (runTold at end d (Piece.comment l ∷ b)) (end-comment at end l b) (omega (arith, size-piece (Piece.comment l) b)) refl
 run-told at end d (Piece.field n v ls ∷ ps) =
     let b : Block = untilBlank ps in
     let k : ℕ = at + countOf ls in
     let t : Bool = same (text "%rec") n in
-    run-told k k (d || t) ps ∙ run-path (runTold k k (d || t) b) (runTold at end d (Piece.field n v ls ∷ b)) (end-field at end n v ls b) (omega (arith, size-field n v ls b)) (or-assoc d t (hasRec b) ∙ ap (λ (x : Bool). d || x) (sym (there-on t v (valuesOf (text "%rec") (fieldsOf b)))))
+    run-told k k (d || t) ps ∙ run-path (runTold k k (d || t) b) (runTold at end d (Piece.field n v ls ∷ b)) (end-field at end n v ls b) (omega (arith, size-piece (Piece.field n v ls) b)) (or-assoc d t (hasRec b) ∙ ap (λ (x : Bool). d || x) (sym (there-on t v (valuesOf (text "%rec") (fieldsOf b)))))

@@ -1,13 +1,12 @@
 -- The places of records, and the searches among them.
 use Prim.Native.Nat.{ℕ, zero, suc, _+_}
-use mathlib.Core.Bool.{Bool, true, false, _&&_, _||_}
+use mathlib.Core.Bool.{Bool, true, false, _&&_}
 use mathlib.Core.List.{List, [], _∷_}
 use mathlib.Core.Option.{Option, none, some}
-use lib.Dec.{eqb}
 use lib.ListN.{length}
 use Rattle.format.specs.Bytes.{Bytes, text, pick, same}
-use Rattle.format.specs.Lines.{Line, bytes, isEnded}
-use Rattle.format.specs.Pieces.{Piece, linesOf, pieces, bytesOf}
+use Rattle.format.specs.Lines.{Line, isEnded}
+use Rattle.format.specs.Pieces.{Piece, pieces, bytesOf}
 use Rattle.format.specs.Records.{Record, Block, blocks, countOf, fieldsOf}
 use Rattle.format.specs.Sets.{valuesOf}
 use Rattle.format.specs.Words.{firstWord}

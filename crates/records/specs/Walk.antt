@@ -1,6 +1,6 @@
 -- What a walk over the pieces finds: the first field, and how far its record goes.
 use Prim.Native.Nat.{ℕ, _+_}
-use mathlib.Core.Bool.{Bool, true, false, _||_}
+use mathlib.Core.Bool.{Bool, false, _||_}
 use mathlib.Core.List.{List, [], _∷_}
 use mathlib.Core.Option.{Option, none, some}
 use Rattle.format.specs.Bytes.{Bytes, text, same}

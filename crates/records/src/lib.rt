@@ -1,9 +1,7 @@
 // Records: the next one of a part of the file, and the search for a set, a record and an occurrence.
 ghost use mathlib.Core.Path.{_≡_};
-ghost use mathlib.Core.Bool.{true, false};
-ghost use mathlib.Core.List.{[]};
-ghost use Prim.Native.Nat.{ℕ, _+_, _<_, _≤_};
-ghost use lib.ListN.{length, take, drop};
+ghost use mathlib.Core.Bool.{true};
+ghost use lib.ListN.{drop};
 ghost use Rattle.format.specs.Bytes.{classTable, same};
 ghost use Rattle.format.specs.Words.{isGap, notGap, front, behind, firstWord};
 ghost use Rattle.lines.specs.Value.{valueFrom};

@@ -55,7 +55,7 @@ add-a c =
     let at-loop = c .before .before .before .before .before .before .loop in
     let at-next-record = c .before .before .before .before .next-record in
     let at-r = c .before .before .r in
-    let m = meets (at-args .s .now) (at-loop .i) (at-next-record .result) (at-loop .inv .0) (at-loop .inv .1) (at-next-record .ensures) (at-r .given .1) in omega (arith, m .filled, m .within, m .inside)
+    let m = meets (at-args .s .now) (at-loop .i) (at-next-record .result) (at-loop .inv .0) (at-loop .inv .1) (at-next-record .ensures) (at-r .given .1) in omega (arith, m .stand .filled, m .stand .within, m .stand .inside)
 
 add-e : tie.Need-add-e Inv-loop μ-loop
 add-e c =
@@ -63,7 +63,7 @@ add-e c =
     let at-loop = c .before .before .before .before .before .before .before .loop in
     let at-next-record = c .before .before .before .before .before .next-record in
     let at-r = c .before .before .before .r in
-    let m = meets (at-args .s .now) (at-loop .i) (at-next-record .result) (at-loop .inv .0) (at-loop .inv .1) (at-next-record .ensures) (at-r .given .1) in omega (arith, m .filled, m .within, m .inside)
+    let m = meets (at-args .s .now) (at-loop .i) (at-next-record .result) (at-loop .inv .0) (at-loop .inv .1) (at-next-record .ensures) (at-r .given .1) in omega (arith, m .stand .filled, m .stand .within, m .stand .inside)
 
 sub-dump-record : tie.Need-sub-dump-record Inv-loop μ-loop
 sub-dump-record c =
@@ -71,7 +71,7 @@ sub-dump-record c =
     let at-loop = c .before .before .before .before .before .before .before .loop in
     let at-next-record = c .before .before .before .before .before .next-record in
     let at-r = c .before .before .before .r in
-    let m = meets (at-args .s .now) (at-loop .i) (at-next-record .result) (at-loop .inv .0) (at-loop .inv .1) (at-next-record .ensures) (at-r .given .1) in omega (arith, m .filled, m .within, m .inside)
+    let m = meets (at-args .s .now) (at-loop .i) (at-next-record .result) (at-loop .inv .0) (at-loop .inv .1) (at-next-record .ensures) (at-r .given .1) in omega (arith, m .stand .filled, m .stand .within, m .stand .inside)
 
 part-dump-record-start : tie.Need-part-dump-record-start Inv-loop μ-loop
 part-dump-record-start c =
@@ -79,7 +79,7 @@ part-dump-record-start c =
     let at-loop = c .before .before .before .before .before .before .before .loop in
     let at-next-record = c .before .before .before .before .before .next-record in
     let at-r = c .before .before .before .r in
-    let m = meets (at-args .s .now) (at-loop .i) (at-next-record .result) (at-loop .inv .0) (at-loop .inv .1) (at-next-record .ensures) (at-r .given .1) in omega (arith, m .filled, m .within, m .inside)
+    let m = meets (at-args .s .now) (at-loop .i) (at-next-record .result) (at-loop .inv .0) (at-loop .inv .1) (at-next-record .ensures) (at-r .given .1) in omega (arith, m .stand .filled, m .stand .within, m .stand .inside)
 
 part-dump-record-end : tie.Need-part-dump-record-end Inv-loop μ-loop
 part-dump-record-end c =
@@ -87,7 +87,7 @@ part-dump-record-end c =
     let at-loop = c .before .before .before .before .before .before .before .loop in
     let at-next-record = c .before .before .before .before .before .next-record in
     let at-r = c .before .before .before .r in
-    let m = meets (at-args .s .now) (at-loop .i) (at-next-record .result) (at-loop .inv .0) (at-loop .inv .1) (at-next-record .ensures) (at-r .given .1) in omega (arith, m .filled, m .within, m .inside)
+    let m = meets (at-args .s .now) (at-loop .i) (at-next-record .result) (at-loop .inv .0) (at-loop .inv .1) (at-next-record .ensures) (at-r .given .1) in omega (arith, m .stand .filled, m .stand .within, m .stand .inside)
 
 dump-record-requires : tie.Need-dump-record-requires Inv-loop μ-loop
 dump-record-requires c κs =
@@ -96,7 +96,7 @@ dump-record-requires c κs =
     let at-next-record = c .before .before .before .before .before .before .next-record in
     let at-r = c .before .before .before .before .r in
     let at-pre = c .before .before .before .before .before .before .before .before .before .before .pre in
-    let m = meets (at-args .s .now) (at-loop .i) (at-next-record .result) (at-loop .inv .0) (at-loop .inv .1) (at-next-record .ensures) (at-r .given .1) in (at-pre .0, reads-readable (m .own-reads))
+    let m = meets (at-args .s .now) (at-loop .i) (at-next-record .result) (at-loop .inv .0) (at-loop .inv .1) (at-next-record .ensures) (at-r .given .1) in (at-pre .0, reads-readable (m .stand .own-reads))
 
 add-i : tie.Need-add-i Inv-loop μ-loop
 add-i c =
@@ -104,7 +104,7 @@ add-i c =
     let at-loop = c .before .before .before .before .before .before .before .before .before .before .loop in
     let at-next-record = c .before .before .before .before .before .before .before .before .next-record in
     let at-r = c .before .before .before .before .before .before .r in
-    let m = meets (at-args .s .now) (at-loop .i) (at-next-record .result) (at-loop .inv .0) (at-loop .inv .1) (at-next-record .ensures) (at-r .given .1) in omega (arith, m .filled, m .within, m .inside)
+    let m = meets (at-args .s .now) (at-loop .i) (at-next-record .result) (at-loop .inv .0) (at-loop .inv .1) (at-next-record .ensures) (at-r .given .1) in omega (arith, m .stand .filled, m .stand .within, m .stand .inside)
 
 loop-less : tie.Need-loop-less Inv-loop μ-loop
 loop-less c =
@@ -112,7 +112,7 @@ loop-less c =
     let at-loop = c .before .before .before .before .before .before .before .before .before .before .loop in
     let at-next-record = c .before .before .before .before .before .before .before .before .next-record in
     let at-r = c .before .before .before .before .before .before .r in
-    let m = meets (at-args .s .now) (at-loop .i) (at-next-record .result) (at-loop .inv .0) (at-loop .inv .1) (at-next-record .ensures) (at-r .given .1) in omega (arith, m .filled, m .within, m .inside)
+    let m = meets (at-args .s .now) (at-loop .i) (at-next-record .result) (at-loop .inv .0) (at-loop .inv .1) (at-next-record .ensures) (at-r .given .1) in omega (arith, m .stand .filled, m .stand .within, m .stand .inside)
 
 loop-again : tie.Need-loop-again Inv-loop μ-loop
 loop-again c =
@@ -120,7 +120,7 @@ loop-again c =
     let at-loop = c .before .before .before .before .before .before .before .before .before .before .loop in
     let at-next-record = c .before .before .before .before .before .before .before .before .next-record in
     let at-r = c .before .before .before .before .before .before .r in
-    let m = meets (at-args .s .now) (at-loop .i) (at-next-record .result) (at-loop .inv .0) (at-loop .inv .1) (at-next-record .ensures) (at-r .given .1) in (m .inside, m .readable)
+    let m = meets (at-args .s .now) (at-loop .i) (at-next-record .result) (at-loop .inv .0) (at-loop .inv .1) (at-next-record .ensures) (at-r .given .1) in (m .stand .inside, m .stand .readable)
 
 pub dump-records-spec : {M : Type 1} → statement M
 dump-records-spec =

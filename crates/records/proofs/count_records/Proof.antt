@@ -3,7 +3,7 @@
 use borrow.Author.Needs.{needs}
 use Prim.Native.Nat.{_+_, _-_, _≤_}
 use native.Mathlib.Omega.{arith}
-use mathlib.Core.Path.{_≡_, refl, sym, ap, _∙_}
+use mathlib.Core.Path.{_≡_, ap}
 use mathlib.Core.Bool.{true}
 use lib.ListN.{length, drop}
 use Rattle.records.specs.Places.{isReadable, placesOf, countBefore}
@@ -75,7 +75,7 @@ add-n c =
     let at-next-record = c .before .before .before .before .next-record in
     let at-r = c .before .before .r in
     let m = meets (at-args .s .now) (at-loop .i) (at-next-record .result) (at-loop .inv .0) (at-loop .inv .1) (at-next-record .ensures) (at-r .given .1) in
-    omega (arith, at-loop .inv .2, m .filled, m .within, m .inside)
+    omega (arith, at-loop .inv .2, m .stand .filled, m .stand .within, m .stand .inside)
 
 add-i : tie.Need-add-i Inv-loop μ-loop
 add-i c =
@@ -84,7 +84,7 @@ add-i c =
     let at-next-record = c .before .before .before .before .before .next-record in
     let at-r = c .before .before .before .r in
     let m = meets (at-args .s .now) (at-loop .i) (at-next-record .result) (at-loop .inv .0) (at-loop .inv .1) (at-next-record .ensures) (at-r .given .1) in
-    omega (arith, m .inside)
+    omega (arith, m .stand .inside)
 
 loop-less : tie.Need-loop-less Inv-loop μ-loop
 loop-less c =
@@ -93,7 +93,7 @@ loop-less c =
     let at-next-record = c .before .before .before .before .before .next-record in
     let at-r = c .before .before .before .r in
     let m = meets (at-args .s .now) (at-loop .i) (at-next-record .result) (at-loop .inv .0) (at-loop .inv .1) (at-next-record .ensures) (at-r .given .1) in
-    omega (arith, m .filled, m .within, m .inside)
+    omega (arith, m .stand .filled, m .stand .within, m .stand .inside)
 
 loop-again : tie.Need-loop-again Inv-loop μ-loop
 loop-again c =
@@ -103,7 +103,7 @@ loop-again c =
     let at-r = c .before .before .before .r in
     let at-if1 = c .before .if1 in
     let m = meets (at-args .s .now) (at-loop .i) (at-next-record .result) (at-loop .inv .0) (at-loop .inv .1) (at-next-record .ensures) (at-r .given .1) in
-    (m .inside, m .readable, omega (arith, at-loop .inv .2, m .filled, m .within), omega (arith, at-loop .inv .3, count-more (at-args .s .now) (at-loop .i) (at-r .given .0 .0) m (at-if1 .left)))
+    (m .stand .inside, m .stand .readable, omega (arith, at-loop .inv .2, m .stand .filled, m .stand .within), omega (arith, at-loop .inv .3, count-more (at-args .s .now) (at-loop .i) (at-r .given .0 .0) m (at-if1 .left)))
 
 pub count-records-spec : {M : Type 1} → statement M
 count-records-spec =

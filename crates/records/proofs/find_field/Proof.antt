@@ -1,17 +1,18 @@
 -- `records::find_field` meets its contract. The invariant: the part from i on is readable, and the search goes on there with what is left to be passed.
 -- The measure is what is left of the length.
 use borrow.Author.Needs.{needs}
-use Prim.Native.Nat.{_+_, _-_, _≤_}
+use Prim.Native.Nat.{_-_, _≤_}
 use native.Mathlib.Omega.{arith}
 use mathlib.Core.Path.{_≡_, refl, sym, _∙_}
 use mathlib.Core.Logic.{⊎-elim}
 use mathlib.Core.Bool.{true}
 use lib.ListN.{length, drop}
+use Rattle.format.specs.Pieces.{Piece}
 use Rattle.records.specs.Places.{isReadable, fieldIn, fieldPlace}
 use Rattle.records.specs.Walk.{readOf}
 use Rattle.records.proofs.Readings.{part-ended}
 use Rattle.records.proofs.Steps.{steps}
-use Rattle.records.proofs.Fields.{field-read, field-none, field-blank, field-comment, field-other, field-here, field-later}
+use Rattle.records.proofs.Fields.{field-read, field-none, field-loose, field-other, field-here, field-later}
 use Rattle.records.proofs.find_field.Statement.{statement}
 use Rattle.records.proofs.find_field.Tie as tie
 use Rattle.records.proofs.find_field.Reads as reads
@@ -75,7 +76,7 @@ loop-again c =
     let at-next-piece = c .before .before .before .next-piece in
     let at-n = c .before .n in
     let p = steps (at-args .s .now) (at-loop .i) (at-next-piece .result) (at-loop .inv .1) (at-next-piece .ensures) (at-n .given .1) in
-    (p .1 .inside, p .1 .readable, at-loop .inv .2 ∙ field-blank (at-args .name .now) (at-args .s .now) (at-loop .i) (at-loop .left) (p .0) (at-n .given .0 .0) (p .1))
+    (p .1 .inside, p .1 .readable, at-loop .inv .2 ∙ field-loose (at-args .name .now) (at-args .s .now) (at-loop .i) (at-loop .left) (Piece.blank (p .0)) (at-n .given .0 .0) (λ ps. refl) (p .1))
 
 enum-known-n-2 : tie.Need-enum-known-n-2 Inv-loop μ-loop
 enum-known-n-2 c = search needs
@@ -105,7 +106,7 @@ loop-again-2 c =
     let at-next-piece = c .before .before .before .next-piece in
     let at-n2 = c .before .n2 in
     let p = steps (at-args .s .now) (at-loop .i) (at-next-piece .result) (at-loop .inv .1) (at-next-piece .ensures) (at-n2 .given .1) in
-    (p .1 .inside, p .1 .readable, at-loop .inv .2 ∙ field-comment (at-args .name .now) (at-args .s .now) (at-loop .i) (at-loop .left) (p .0) (at-n2 .given .0 .0) (p .1))
+    (p .1 .inside, p .1 .readable, at-loop .inv .2 ∙ field-loose (at-args .name .now) (at-args .s .now) (at-loop .i) (at-loop .left) (Piece.comment (p .0)) (at-n2 .given .0 .0) (λ ps. refl) (p .1))
 
 enum-known-n-3 : tie.Need-enum-known-n-3 Inv-loop μ-loop
 enum-known-n-3 c = search needs

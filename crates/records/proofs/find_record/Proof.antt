@@ -1,9 +1,9 @@
 -- `records::find_record` meets its contract. The invariant: the part from i on is readable, and the search goes on there with the records left to be passed.
 -- The measure is what is left of the length.
 use borrow.Author.Needs.{needs}
-use Prim.Native.Nat.{_+_, _-_, _≤_}
+use Prim.Native.Nat.{_-_, _≤_}
 use native.Mathlib.Omega.{arith}
-use mathlib.Core.Path.{_≡_, refl, sym, ap, _∙_}
+use mathlib.Core.Path.{_≡_, sym, ap, _∙_}
 use mathlib.Core.Bool.{true}
 use lib.ListN.{length, drop}
 use Rattle.records.specs.Places.{isReadable, placesOf, recordPlace}
@@ -74,7 +74,7 @@ add-t13 c =
     let at-next-record = c .before .before .before .before .before .before .next-record in
     let at-r = c .before .before .before .before .r in
     let m = meets (at-args .s .now) (at-loop .i) (at-next-record .result) (at-loop .inv .0) (at-loop .inv .1) (at-next-record .ensures) (at-r .given .1) in
-    omega (arith, m .filled, m .within, m .inside)
+    omega (arith, m .stand .filled, m .stand .within, m .stand .inside)
 
 add-t14 : tie.Need-add-t14 Inv-loop μ-loop
 add-t14 c =
@@ -83,7 +83,7 @@ add-t14 c =
     let at-next-record = c .before .before .before .before .before .before .before .next-record in
     let at-r = c .before .before .before .before .before .r in
     let m = meets (at-args .s .now) (at-loop .i) (at-next-record .result) (at-loop .inv .0) (at-loop .inv .1) (at-next-record .ensures) (at-r .given .1) in
-    omega (arith, m .filled, m .within, m .inside)
+    omega (arith, m .stand .filled, m .stand .within, m .stand .inside)
 
 add-t15 : tie.Need-add-t15 Inv-loop μ-loop
 add-t15 c =
@@ -92,7 +92,7 @@ add-t15 c =
     let at-next-record = c .before .before .before .before .before .before .before .before .next-record in
     let at-r = c .before .before .before .before .before .before .r in
     let m = meets (at-args .s .now) (at-loop .i) (at-next-record .result) (at-loop .inv .0) (at-loop .inv .1) (at-next-record .ensures) (at-r .given .1) in
-    omega (arith, m .inside)
+    omega (arith, m .stand .inside)
 
 returns-3 : tie.Need-returns-3 Inv-loop μ-loop
 returns-3 c =
@@ -115,7 +115,7 @@ add-i c =
     let at-next-record = c .before .before .before .before .before .before .next-record in
     let at-r = c .before .before .before .before .r in
     let m = meets (at-args .s .now) (at-loop .i) (at-next-record .result) (at-loop .inv .0) (at-loop .inv .1) (at-next-record .ensures) (at-r .given .1) in
-    omega (arith, m .inside)
+    omega (arith, m .stand .inside)
 
 loop-less : tie.Need-loop-less Inv-loop μ-loop
 loop-less c =
@@ -124,7 +124,7 @@ loop-less c =
     let at-next-record = c .before .before .before .before .before .before .next-record in
     let at-r = c .before .before .before .before .r in
     let m = meets (at-args .s .now) (at-loop .i) (at-next-record .result) (at-loop .inv .0) (at-loop .inv .1) (at-next-record .ensures) (at-r .given .1) in
-    omega (arith, m .filled, m .within, m .inside)
+    omega (arith, m .stand .filled, m .stand .within, m .stand .inside)
 
 loop-again : tie.Need-loop-again Inv-loop μ-loop
 loop-again c =
@@ -135,7 +135,7 @@ loop-again c =
     let at-if1 = c .before .before .if1 in
     let at-if2 = c .before .if2 in
     let m = meets (at-args .s .now) (at-loop .i) (at-next-record .result) (at-loop .inv .0) (at-loop .inv .1) (at-next-record .ensures) (at-r .given .1) in
-    (m .inside, m .readable, at-loop .inv .2 ∙ record-later (at-args .s .now) (at-loop .i) (at-r .given .0 .0) m (at-loop .left) (at-loop .left - 1) (at-if1 .left) (omega (arith, at-if2 .left)))
+    (m .stand .inside, m .stand .readable, at-loop .inv .2 ∙ record-later (at-args .s .now) (at-loop .i) (at-r .given .0 .0) m (at-loop .left) (at-loop .left - 1) (at-if1 .left) (omega (arith, at-if2 .left)))
 
 pub find-record-spec : {M : Type 1} → statement M
 find-record-spec =

@@ -1,9 +1,9 @@
 -- `records::find_set` meets its contract. The invariant: the part from i on is readable, and the search for the descriptor goes on there.
 -- The measure is what is left of the length.
 use borrow.Author.Needs.{needs}
-use Prim.Native.Nat.{_+_, _-_, _≤_}
+use Prim.Native.Nat.{_-_, _≤_}
 use native.Mathlib.Omega.{arith}
-use mathlib.Core.Path.{_≡_, refl, sym, ap, _∙_}
+use mathlib.Core.Path.{_≡_, sym, ap, _∙_}
 use mathlib.Core.Logic.{⊎-elim}
 use mathlib.Core.Bool.{true}
 use lib.ListN.{length, drop}
@@ -73,7 +73,7 @@ add-a c =
     let at-next-record = c .before .before .before .before .before .next-record in
     let at-r = c .before .before .before .r in
     let m = meets (at-args .s .now) (at-loop .i) (at-next-record .result) (at-loop .inv .0) (at-loop .inv .1) (at-next-record .ensures) (at-r .given .1) in
-    omega (arith, m .filled, m .within, m .inside)
+    omega (arith, m .stand .filled, m .stand .within, m .stand .inside)
 
 add-e : tie.Need-add-e Inv-loop μ-loop
 add-e c =
@@ -82,7 +82,7 @@ add-e c =
     let at-next-record = c .before .before .before .before .before .before .next-record in
     let at-r = c .before .before .before .before .r in
     let m = meets (at-args .s .now) (at-loop .i) (at-next-record .result) (at-loop .inv .0) (at-loop .inv .1) (at-next-record .ensures) (at-r .given .1) in
-    omega (arith, m .within, m .inside)
+    omega (arith, m .stand .within, m .stand .inside)
 
 sub-opens-set : tie.Need-sub-opens-set Inv-loop μ-loop
 sub-opens-set c =
@@ -91,7 +91,7 @@ sub-opens-set c =
     let at-next-record = c .before .before .before .before .before .before .next-record in
     let at-r = c .before .before .before .before .r in
     let m = meets (at-args .s .now) (at-loop .i) (at-next-record .result) (at-loop .inv .0) (at-loop .inv .1) (at-next-record .ensures) (at-r .given .1) in
-    omega (arith, m .filled)
+    omega (arith, m .stand .filled)
 
 part-opens-set-start : tie.Need-part-opens-set-start Inv-loop μ-loop
 part-opens-set-start c =
@@ -100,7 +100,7 @@ part-opens-set-start c =
     let at-next-record = c .before .before .before .before .before .before .next-record in
     let at-r = c .before .before .before .before .r in
     let m = meets (at-args .s .now) (at-loop .i) (at-next-record .result) (at-loop .inv .0) (at-loop .inv .1) (at-next-record .ensures) (at-r .given .1) in
-    omega (arith, m .filled)
+    omega (arith, m .stand .filled)
 
 part-opens-set-end : tie.Need-part-opens-set-end Inv-loop μ-loop
 part-opens-set-end c =
@@ -109,7 +109,7 @@ part-opens-set-end c =
     let at-next-record = c .before .before .before .before .before .before .next-record in
     let at-r = c .before .before .before .before .r in
     let m = meets (at-args .s .now) (at-loop .i) (at-next-record .result) (at-loop .inv .0) (at-loop .inv .1) (at-next-record .ensures) (at-r .given .1) in
-    omega (arith, m .within, m .inside)
+    omega (arith, m .stand .within, m .stand .inside)
 
 opens-set-requires : tie.Need-opens-set-requires Inv-loop μ-loop
 opens-set-requires c κs =
@@ -119,7 +119,7 @@ opens-set-requires c κs =
     let at-r = c .before .before .before .before .before .r in
     let at-pre = c .before .before .before .before .before .before .before .before .before .before .before .before .before .pre in
     let m = meets (at-args .s .now) (at-loop .i) (at-next-record .result) (at-loop .inv .0) (at-loop .inv .1) (at-next-record .ensures) (at-r .given .1) in
-    (at-pre .0, reads-readable (m .own-reads))
+    (at-pre .0, reads-readable (m .stand .own-reads))
 
 add-t21 : tie.Need-add-t21 Inv-loop μ-loop
 add-t21 c =
@@ -129,7 +129,7 @@ add-t21 c =
     let at-r = c .before .before .before .before .before .before .before .before .r in
     let at-good = c .before .before .before .before .before .before .before .before .before .before .before .before .before .before .before .before .good in
     let m = meets (at-args .s .now) (at-loop .i) (at-next-record .result) (at-loop .inv .0) (at-loop .inv .1) (at-next-record .ensures) (at-r .given .1) in
-    omega (arith, m .inside, at-good .1 .0 .0)
+    omega (arith, m .stand .inside, at-good .1 .0 .0)
 
 returns-3 : tie.Need-returns-3 Inv-loop μ-loop
 returns-3 c =
@@ -149,7 +149,7 @@ add-i c =
     let at-next-record = c .before .before .before .before .before .next-record in
     let at-r = c .before .before .before .r in
     let m = meets (at-args .s .now) (at-loop .i) (at-next-record .result) (at-loop .inv .0) (at-loop .inv .1) (at-next-record .ensures) (at-r .given .1) in
-    omega (arith, m .inside)
+    omega (arith, m .stand .inside)
 
 loop-less : tie.Need-loop-less Inv-loop μ-loop
 loop-less c =
@@ -158,7 +158,7 @@ loop-less c =
     let at-next-record = c .before .before .before .before .before .next-record in
     let at-r = c .before .before .before .r in
     let m = meets (at-args .s .now) (at-loop .i) (at-next-record .result) (at-loop .inv .0) (at-loop .inv .1) (at-next-record .ensures) (at-r .given .1) in
-    omega (arith, m .filled, m .within, m .inside)
+    omega (arith, m .stand .filled, m .stand .within, m .stand .inside)
 
 loop-again : tie.Need-loop-again Inv-loop μ-loop
 loop-again c =
@@ -168,7 +168,7 @@ loop-again c =
     let at-r = c .before .before .before .r in
     let at-if2 = c .before .if2 in
     let m = meets (at-args .s .now) (at-loop .i) (at-next-record .result) (at-loop .inv .0) (at-loop .inv .1) (at-next-record .ensures) (at-r .given .1) in
-    (m .inside, m .readable, at-loop .inv .2 ∙ ⊎-elim (λ w. set-other (at-args .s .now) (at-loop .i) (at-r .given .0 .0) m (at-args .name .now) (w .4 .result) (w .4 .ensures) (w .5 .left)) (λ w. set-member (at-args .s .now) (at-loop .i) (at-r .given .0 .0) m (at-args .name .now) (w .left)) (at-if2 .came))
+    (m .stand .inside, m .stand .readable, at-loop .inv .2 ∙ ⊎-elim (λ w. set-other (at-args .s .now) (at-loop .i) (at-r .given .0 .0) m (at-args .name .now) (w .4 .result) (w .4 .ensures) (w .5 .left)) (λ w. set-member (at-args .s .now) (at-loop .i) (at-r .given .0 .0) m (at-args .name .now) (w .left)) (at-if2 .came))
 
 pub find-set-spec : {M : Type 1} → statement M
 find-set-spec =

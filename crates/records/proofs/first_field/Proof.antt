@@ -6,10 +6,12 @@ use native.Mathlib.Omega.{arith}
 use mathlib.Core.Path.{_≡_}
 use mathlib.Core.Bool.{true}
 use lib.ListN.{length, drop}
+use Rattle.format.specs.Pieces.{Piece}
 use Rattle.records.specs.Places.{isReadable}
 use Rattle.records.specs.Walk.{leadSize}
+use Rattle.records.proofs.Walks.{blank-loose, comment-loose}
 use Rattle.records.proofs.Readings.{part-ended}
-use Rattle.records.proofs.Steps.{steps, lead-none, lead-blank, lead-comment, lead-field}
+use Rattle.records.proofs.Steps.{steps, lead-none, lead-loose, lead-field}
 use Rattle.records.proofs.first_field.Statement.{statement}
 use Rattle.records.proofs.first_field.Tie as tie
 use Rattle.records.proofs.first_field.Reads as reads
@@ -71,7 +73,7 @@ loop-again c =
     let at-next-piece = c .before .before .before .next-piece in
     let at-n = c .before .n in
     let p = steps (at-args .s .now) (at-loop .i) (at-next-piece .result) (at-loop .inv .1) (at-next-piece .ensures) (at-n .given .1) in
-    (p .1 .inside, p .1 .readable, omega (arith, at-loop .inv .2, lead-blank (at-args .s .now) (at-loop .i) (p .0) (at-n .given .0 .0) (p .1)))
+    (p .1 .inside, p .1 .readable, omega (arith, at-loop .inv .2, lead-loose (at-args .s .now) (at-loop .i) (Piece.blank (p .0)) (at-n .given .0 .0) (blank-loose (p .0)) (p .1)))
 
 enum-known-n-2 : tie.Need-enum-known-n-2 Inv-loop μ-loop
 enum-known-n-2 c = search needs
@@ -101,7 +103,7 @@ loop-again-2 c =
     let at-next-piece = c .before .before .before .next-piece in
     let at-n2 = c .before .n2 in
     let p = steps (at-args .s .now) (at-loop .i) (at-next-piece .result) (at-loop .inv .1) (at-next-piece .ensures) (at-n2 .given .1) in
-    (p .1 .inside, p .1 .readable, omega (arith, at-loop .inv .2, lead-comment (at-args .s .now) (at-loop .i) (p .0) (at-n2 .given .0 .0) (p .1)))
+    (p .1 .inside, p .1 .readable, omega (arith, at-loop .inv .2, lead-loose (at-args .s .now) (at-loop .i) (Piece.comment (p .0)) (at-n2 .given .0 .0) (comment-loose (p .0)) (p .1)))
 
 enum-told : tie.Need-enum-told Inv-loop μ-loop
 enum-told c = search needs

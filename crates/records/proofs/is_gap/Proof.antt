@@ -1,6 +1,4 @@
 -- `records::is_gap` meets its contract, byte by byte of the three.
-use borrow.Author.Needs.{needs}
-use mathlib.Core.Path.{_≡_}
 use borrow.Author.Tests.{eq-eqb, ne-eqb}
 use Rattle.records.proofs.is_gap.Statement.{statement}
 use Rattle.records.proofs.is_gap.Tie as tie

@@ -1,9 +1,6 @@
 -- `records::next_record` meets its contract: the first field and the run behind it give the first place.
 use native.Mathlib.Omega.{arith}
-use mathlib.Core.Path.{_≡_, sym, ap, _∙_}
-use lib.ListN.{length, drop}
-use Rattle.records.specs.Places.{isReadable}
-use Rattle.records.specs.Walk.{leadSize}
+use mathlib.Core.Path.{sym, _∙_}
 use Rattle.records.proofs.Readings.{part-readable}
 use Rattle.records.proofs.Firsts.{lead-inside, lead-readable, next-nothing, next-found}
 use borrow.Author.Needs.{needs}

@@ -1,6 +1,6 @@
 -- `records::opens_set` meets its contract: the first word of the first `%rec` value is compared.
 use native.Mathlib.Omega.{arith}
-use mathlib.Core.Path.{_≡_, sym, _∙_}
+use mathlib.Core.Path.{sym, _∙_}
 use Rattle.format.specs.Bytes.{text}
 use Rattle.records.proofs.Fields.{field-told, opens-none, opens-first}
 use borrow.Author.Needs.{needs}

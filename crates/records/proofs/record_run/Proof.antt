@@ -1,7 +1,7 @@
 -- `records::record_run` meets its contract. The invariant: the part from i on is readable, and the run goes on there with what was found so far.
 -- The measure is what is left of the length.
 use borrow.Author.Needs.{needs}
-use Prim.Native.Nat.{_+_, _-_, _≤_}
+use Prim.Native.Nat.{_-_, _≤_}
 use native.Mathlib.Omega.{arith}
 use mathlib.Core.Path.{_≡_, refl, sym, _∙_}
 use mathlib.Core.Bool.{true}

@@ -1,0 +1,205 @@
+-- What the searches find, by the sets of the part: the count of the default set, the record of a number, the records of a set.
+use Prim.Native.Nat.{ℕ, zero, suc, _+_, _≤_, _<_}
+use native.Mathlib.Omega.{arith}
+use mathlib.Core.Path.{_≡_, refl, sym, ap, _∙_, subst}
+use mathlib.Core.Bool.{Bool, true, false}
+use mathlib.Core.List.{List, [], _∷_}
+use mathlib.Core.Option.{Option, none, some}
+use lib.ListN.{length, drop}
+use Rattle.format.specs.Bytes.{Bytes, text, pick, same}
+use Rattle.format.specs.Records.{Record}
+use Rattle.format.specs.Sets.{valuesOf, RecSet, enters, sets, setsOf}
+use Rattle.format.specs.Words.{firstWord}
+use Rattle.format.specs.Plain.{stepOn, indexBy, indexOf, membersAt, membersIn, membersOf, recordAt}
+use Rattle.format.proofs.Sets.{GoodSets, good-sets}
+use Rattle.records.specs.Places.{isReadable, Placed, placesOf, isThere, isDescriptor, firstPlace, namesSet, descriptorPlace, setPlace, recordBy, recordPlace, countBefore}
+use Rattle.records.specs.Walk.{readOf}
+use Rattle.records.specs.declared.Place.{Place}
+use Rattle.records.specs.declared.NextRecord.{NextRecord}
+use Rattle.records.specs.declared.FoundSet.{FoundSet}
+use Rattle.records.specs.declared.FoundRecord.{FoundRecord}
+use Rattle.records.proofs.Walks.{places-records}
+use Rattle.records.proofs.Shifts.{raise, fieldsIn, raise-fields}
+use Rattle.records.proofs.Readings.{places-read}
+use Rattle.records.proofs.Searches.{placesAt, places-all, Stand, Meets, meets-first, set-default, set-named}
+
+-- the sets of a part, by the places of its records
+pub sets-places : (s : Bytes) → setsOf (readOf s) ≡ sets (fieldsIn (placesOf s))
+unfolding setsOf
+sets-places s = ap sets (sym (ap (λ (ps : List Placed). fieldsIn ps) (places-read s) ∙ places-records 0 (readOf s)))
+
+sets-at : (s : Bytes) (i : ℕ) → sets (fieldsIn (placesAt s i)) ≡ setsOf (readOf (drop i s))
+sets-at s i = ap sets (raise-fields i (placesOf (drop i s))) ∙ sym (sets-places (drop i s))
+
+-- Each place of a part stands where it says, and the places behind it are those of the part behind its block.
+abbrev pub Stands : Bytes → List Placed → Type 0
+Stands s [] = Unit {0}
+Stands s (p ∷ ps) = Stand s (p .start) (p .end) (p .after) (p .fields) × (ps ≡ placesAt s (p .after)) × Stands s ps
+
+stand-on : (s : Bytes) (i : ℕ) (p : Placed) (ps : List Placed) (x : NextRecord) → ((j : ℕ) → j ≤ length s → isReadable (drop j s) ≡ true → placesAt s j ≡ ps → Stands s ps) → placesAt s i ≡ p ∷ ps → Meets s i x → Stands s (p ∷ ps)
+stand-on s i p ps NextRecord.Nothing ih e m = absurd (let z : _≡_ {A = ℕ} 0 1 = cc in omega arith)
+stand-on s i p ps (NextRecord.At q) ih e m =
+    let y : Placed = raise i (m .here) in
+    let z : p ∷ ps ≡ y ∷ placesAt s (i + q .after) = sym e ∙ m .places in
+    let a : y ≡ p = cc in
+    let b : placesAt s (i + q .after) ≡ ps = cc in
+    let d : Stand s (y .start) (y .end) (y .after) (y .fields) = subst (λ (x : Place). Stand s (i + x .start) (i + x .end) (i + x .after) (m .here .fields)) (sym (m .is)) (m .stand) in
+    let f : i + q .after ≡ p .after = ap (λ (x : Place). i + x .after) (sym (m .is)) ∙ ap (λ (x : Placed). x .after) a in
+    (subst (λ (x : Placed). Stand s (x .start) (x .end) (x .after) (x .fields)) a d, sym b ∙ ap (placesAt s) f, ih (i + q .after) (m .stand .inside) (m .stand .readable) b)
+
+stands-at : (s : Bytes) (xs : List Placed) (i : ℕ) → i ≤ length s → isReadable (drop i s) ≡ true → placesAt s i ≡ xs → Stands s xs
+stands-at s [] i h e q = tt
+stands-at s (p ∷ ps) i h e q = stand-on s i p ps (firstPlace (placesOf (drop i s))) (stands-at s ps) q (meets-first s i h e)
+
+pub stands : (s : Bytes) → isReadable s ≡ true → Stands s (placesOf s)
+stands s e = stands-at s (placesOf s) 0 (omega arith) e (sym (places-all s))
+
+-- The first set of records: none behind a descriptor.
+members-enter : (vs : List Bytes) (r : Record) (ss : List RecSet) → membersAt 0 (enters vs r ss) ≡ pick (isThere vs) [] (r ∷ membersAt 0 ss)
+members-enter [] r [] = refl
+members-enter [] r (s ∷ ss) = refl
+members-enter (v ∷ vs) r [] = refl
+members-enter (v ∷ vs) r (s ∷ ss) = refl
+
+abbrev pub firstMembers : List Placed → List Record
+firstMembers ps = membersAt 0 (sets (fieldsIn ps))
+
+pub members-on : (p : Placed) (ps : List Placed) → firstMembers (p ∷ ps) ≡ pick (isDescriptor p) [] (p .fields ∷ firstMembers ps)
+members-on p ps = members-enter (valuesOf (text "%rec") (p .fields)) (p .fields) (sets (fieldsIn ps))
+
+count-on : (t : Bool) (n : ℕ) (r : Record) (rs : List Record) → n ≡ length rs → pick t 0 (suc n) ≡ length (pick t [] (r ∷ rs))
+count-on true n r rs e = refl
+count-on false n r rs e = ap suc e
+
+count-in : (ps : List Placed) → countBefore ps ≡ length (firstMembers ps)
+unfolding countBefore
+count-in [] = refl
+count-in (p ∷ ps) = count-on (isDescriptor p) (countBefore ps) (p .fields) (firstMembers ps) (count-in ps) ∙ sym (ap (λ (rs : List Record). length rs) (members-on p ps))
+
+pub count-sets : (s : Bytes) → countBefore (placesOf s) ≡ length (membersAt 0 (setsOf (readOf s)))
+count-sets s = count-in (placesOf s) ∙ sym (ap (λ (ss : List RecSet). length (membersAt 0 ss)) (sets-places s))
+
+-- The record of a number is that member of the first set, and there is none where the set has not so many.
+pub record RecordFound (s : Bytes) (rs : List Record) (k : ℕ) (q : Place) : Type 0 where
+  pub there : k < length rs
+  pub stand : Stand s (q .start) (q .end) (q .after) (recordAt k rs)
+
+abbrev pub RecordTold : Bytes → List Record → ℕ → FoundRecord → Type 0
+RecordTold s rs k FoundRecord.Missing = length rs ≤ k
+RecordTold s rs k (FoundRecord.At q) = RecordFound s rs k q
+
+record-on : (s : Bytes) (r : Record) (rs : List Record) (k : ℕ) (x : FoundRecord) → RecordTold s rs k x → RecordTold s (r ∷ rs) (suc k) x
+record-on s r rs k FoundRecord.Missing h = omega arith
+record-on s r rs k (FoundRecord.At q) h = record { there = omega (arith, h .there); stand = h .stand }
+
+record-by : (s : Bytes) (t : Bool) (p : Placed) (rs : List Record) (k : ℕ) (later : ℕ → FoundRecord) → Stand s (p .start) (p .end) (p .after) (p .fields) → ((j : ℕ) → RecordTold s rs j (later j)) → RecordTold s (pick t [] (p .fields ∷ rs)) k (recordBy t k p later)
+record-by s true p rs k later h ih = omega arith
+record-by s false p rs zero later h ih = record { there = omega arith; stand = h }
+record-by s false p rs (suc k) later h ih = record-on s (p .fields) rs k (later k) (ih k)
+
+record-in : (s : Bytes) (ps : List Placed) (k : ℕ) → Stands s ps → RecordTold s (firstMembers ps) k (recordPlace ps k)
+unfolding recordPlace
+record-in s [] k h = omega arith
+record-in s (p ∷ ps) k h =
+    subst (λ (rs : List Record). RecordTold s rs k (recordBy (isDescriptor p) k p (λ (j : ℕ). recordPlace ps j))) (sym (members-on p ps))
+    (record-by s (isDescriptor p) p (firstMembers ps) k (λ (j : ℕ). recordPlace ps j) (h .0) (λ j. record-in s ps j (h .2)))
+
+pub record-member : (s : Bytes) (k : ℕ) → isReadable s ≡ true → RecordTold s (membersAt 0 (setsOf (readOf s))) k (recordPlace (placesOf s) k)
+record-member s k e = subst (λ (ss : List RecSet). RecordTold s (membersAt 0 ss) k (recordPlace (placesOf s) k)) (sym (sets-places s)) (record-in s (placesOf s) k (stands s e))
+
+-- the same of an answer, once its form is known
+pub record-told : (s : Bytes) (k : ℕ) (x : FoundRecord) {y : FoundRecord} → isReadable s ≡ true → x ≡ recordPlace (placesOf s) k → x ≡ y → RecordTold s (membersAt 0 (setsOf (readOf s))) k y
+record-told s k x {y} e f g = subst (RecordTold s (membersAt 0 (setsOf (readOf s))) k) (sym f ∙ g) (record-member s k e)
+
+-- The records of the set of a name begin where its descriptor's block ends: they are the first set of the part from there on.
+pub record SetFound (s n : Bytes) (ss : List RecSet) (a : ℕ) : Type 0 where
+  pub index : ℕ
+  pub there : indexOf n ss ≡ some index
+  pub inside : a ≤ length s
+  pub readable : isReadable (drop a s) ≡ true
+  pub members : membersOf n ss ≡ membersAt 0 (setsOf (readOf (drop a s)))
+
+abbrev pub SetTold : Bytes → Bytes → List RecSet → FoundSet → Type 0
+SetTold s n ss FoundSet.Missing = indexOf n ss ≡ none
+SetTold s n ss (FoundSet.At a) = SetFound s n ss a
+
+-- a set of another name in front
+pub other-index : (n : Bytes) (d : RecSet) (ds : List RecSet) → same n (d .name) ≡ false → indexOf n (d ∷ ds) ≡ stepOn (indexOf n ds)
+other-index n d ds e = ap (λ (b : Bool). indexBy b (indexOf n ds)) e
+
+members-step : (d : RecSet) (ds : List RecSet) (x : Option ℕ) → membersIn (d ∷ ds) (stepOn x) ≡ membersIn ds x
+members-step d ds none = refl
+members-step d ds (some i) = refl
+
+set-on : (s n : Bytes) (d : RecSet) (ds : List RecSet) (x : FoundSet) → same n (d .name) ≡ false → SetTold s n ds x → SetTold s n (d ∷ ds) x
+set-on s n d ds FoundSet.Missing e h = other-index n d ds e ∙ ap stepOn h
+set-on s n d ds (FoundSet.At a) e h =
+    record {
+      index = suc (h .index);
+      there = other-index n d ds e ∙ ap stepOn (h .there);
+      inside = h .inside;
+      readable = h .readable;
+      members = ap (membersIn (d ∷ ds)) (other-index n d ds e) ∙ members-step d ds (indexOf n ds) ∙ h .members;
+    }
+
+-- the sets but the default one, by the next record
+abbrev pub others : List RecSet → List RecSet
+others [] = []
+others (s ∷ ss) = ss
+
+abbrev pub othersBy : List Bytes → Record → List RecSet → List RecSet
+othersBy [] r ss = others ss
+othersBy (v ∷ vs) r ss = record { name = firstWord v; rules = r; members = membersAt 0 ss } ∷ others ss
+
+pub others-enter : (vs : List Bytes) (r : Record) (ss : List RecSet) → others (enters vs r ss) ≡ othersBy vs r ss
+others-enter [] r [] = refl
+others-enter [] r (s ∷ ss) = refl
+others-enter (v ∷ vs) r [] = refl
+others-enter (v ∷ vs) r (s ∷ ss) = refl
+
+module _ (s n : Bytes) where
+  named-by : (t : Bool) (d : RecSet) (ds : List RecSet) (a : ℕ) (x : FoundSet) → same n (d .name) ≡ t → a ≤ length s → isReadable (drop a s) ≡ true → d .members ≡ membersAt 0 (setsOf (readOf (drop a s))) → SetTold s n ds x → SetTold s n (d ∷ ds) (pick t (FoundSet.At a) x)
+  named-by true d ds a x e h r m ih =
+      let f : indexOf n (d ∷ ds) ≡ some 0 = ap (λ (b : Bool). indexBy b (indexOf n ds)) e in
+      record { index = 0; there = f; inside = h; readable = r; members = ap (membersIn (d ∷ ds)) f ∙ m }
+  named-by false d ds a x e h r m ih = set-on s n d ds x e ih
+
+  others-by : (vs : List Bytes) (p : Placed) (ss : List RecSet) (x : FoundSet) → p .after ≤ length s → isReadable (drop (p .after) s) ≡ true → membersAt 0 ss ≡ membersAt 0 (setsOf (readOf (drop (p .after) s))) → SetTold s n (others ss) x → SetTold s n (othersBy vs (p .fields) ss) (pick (namesSet n vs) (FoundSet.At (p .after)) x)
+  others-by [] p ss x h r m ih = ih
+  others-by (v ∷ vs) p ss x h r m ih = named-by (same n (firstWord v)) (record { name = firstWord v; rules = p .fields; members = membersAt 0 ss }) (others ss) (p .after) x refl h r m ih
+
+  others-in : (ps : List Placed) → Stands s ps → SetTold s n (others (sets (fieldsIn ps))) (descriptorPlace n ps)
+  others-in [] h = refl
+  others-in (p ∷ ps) h =
+      let vs : List Bytes = valuesOf (text "%rec") (p .fields) in
+      let ss : List RecSet = sets (fieldsIn ps) in
+      let m : membersAt 0 ss ≡ membersAt 0 (setsOf (readOf (drop (p .after) s))) = ap (λ (xs : List Placed). firstMembers xs) (h .1) ∙ ap (membersAt 0) (sets-at s (p .after)) in
+      subst (λ (ds : List RecSet). SetTold s n ds (descriptorPlace n (p ∷ ps))) (sym (others-enter vs (p .fields) ss))
+      (others-by vs p ss (descriptorPlace n ps) (h .0 .inside) (h .0 .readable) m (others-in ps (h .2)))
+
+  named-in : (ss : List RecSet) (x : FoundSet) → GoodSets ss → same n [] ≡ false → SetTold s n (others ss) x → SetTold s n ss x
+  named-in [] x g e h = absurd g
+  named-in (d ∷ ds) x g e h = set-on s n d ds x (ap (same n) (g .0) ∙ e) h
+
+default-in : (s : Bytes) (ss : List RecSet) → GoodSets ss → isReadable s ≡ true → ss ≡ setsOf (readOf s) → SetFound s [] ss 0
+default-in s [] g r e = absurd g
+default-in s (d ∷ ds) g r e =
+    let f : indexOf [] (d ∷ ds) ≡ some 0 = ap (λ (m : Bytes). indexBy (same [] m) (indexOf [] ds)) (g .0) in
+    record { index = 0; there = f; inside = omega arith; readable = r; members = ap (membersIn (d ∷ ds)) f ∙ ap (membersAt 0) e }
+
+set-in : (s n : Bytes) → isReadable s ≡ true → SetTold s n (sets (fieldsIn (placesOf s))) (setPlace n (placesOf s))
+set-in s [] e =
+    let ss : List RecSet = sets (fieldsIn (placesOf s)) in
+    subst (SetTold s [] ss) (sym (set-default [] (placesOf s) refl)) (default-in s ss (good-sets (fieldsIn (placesOf s))) e (sym (sets-places s)))
+set-in s (c ∷ n) e =
+    let m : Bytes = c ∷ n in
+    let ss : List RecSet = sets (fieldsIn (placesOf s)) in
+    subst (SetTold s m ss) (sym (set-named m (placesOf s) (λ q. omega arith)))
+    (named-in s m ss (descriptorPlace m (placesOf s)) (good-sets (fieldsIn (placesOf s))) refl (others-in s m (placesOf s) (stands s e)))
+
+pub set-members : (s n : Bytes) → isReadable s ≡ true → SetTold s n (setsOf (readOf s)) (setPlace n (placesOf s))
+set-members s n e = subst (λ (ss : List RecSet). SetTold s n ss (setPlace n (placesOf s))) (sym (sets-places s)) (set-in s n e)
+
+-- the same of an answer, once its form is known
+pub set-told : (s n : Bytes) (x : FoundSet) {y : FoundSet} → isReadable s ≡ true → x ≡ setPlace n (placesOf s) → x ≡ y → SetTold s n (setsOf (readOf s)) y
+set-told s n x {y} e f g = subst (SetTold s n (setsOf (readOf s))) (sym f ∙ g) (set-members s n e)

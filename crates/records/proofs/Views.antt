@@ -1,0 +1,167 @@
+-- The part that view shows is the place that the searches find: the definitions count the records of the whole file, the searches those of the part behind a descriptor.
+use Prim.Native.Nat.{ℕ, zero, suc, _+_, _-_}
+use native.Mathlib.Omega.{arith}
+use mathlib.Core.Path.{_≡_, refl, sym, ap, _∙_, subst}
+use mathlib.Core.Bool.{Bool, true, false}
+use mathlib.Core.List.{List, [], _∷_, _++_, append-assoc, map}
+use mathlib.Core.Option.{Option, none, some, Option·none-ne-some, Option·some-injective}
+use lib.ListN.{take, drop, getElem?}
+use lib.Seq.{drop-drop, take-at, drop-at}
+use Rattle.format.specs.Bytes.{Bytes, text, pick, same}
+use Rattle.format.specs.Pieces.{Piece, bytesOf, pieces}
+use Rattle.format.specs.Records.{Record, Block, blocks, fieldsOf, close}
+use Rattle.format.specs.Sets.{valuesOf, RecSet, sets, setsOf}
+use Rattle.format.specs.Words.{firstWord}
+use Rattle.format.specs.Edits.{isRecord, flat, past, ordinal}
+use Rattle.format.specs.Plain.{indexBy, indexOf, stepOn, membersAt}
+use Rattle.format.specs.Calls.{lead, fromFirst, toLast, Part, noPart, blockPart, partBy, partAt, partIn}
+use Rattle.format.proofs.Whole.{bytesOf-append}
+use Rattle.format.proofs.Blocks.{flat-blocks}
+use Rattle.format.proofs.Sets.{GoodSets, good-sets}
+use Rattle.records.specs.Places.{isReadable, Placed, sizeIn, placedAt, placeOn, placesIn, placesOf, isThere, isDescriptor, placeOf, namesSet, descriptorPlace, setPlace, recordBy, recordPlace}
+use Rattle.records.specs.Walk.{readOf}
+use Rattle.records.specs.declared.Place.{Place}
+use Rattle.records.specs.declared.FoundSet.{FoundSet}
+use Rattle.records.specs.declared.FoundRecord.{FoundRecord}
+use Rattle.records.proofs.Shifts.{raise, fieldsIn}
+use Rattle.records.proofs.Readings.{readable-pieces, readable-reads, places-read}
+use Rattle.records.proofs.Firsts.{lead-first, to-last}
+use Rattle.records.proofs.Searches.{placesAt, places-all, set-default, set-named}
+use Rattle.records.proofs.Members.{Stands, stands, others, othersBy, others-enter, members-on, firstMembers, other-index, sets-places}
+
+-- the bytes at a place
+abbrev pub partOf : Bytes → ℕ → ℕ → Part
+partOf s start end = record { start = start; bytes = take (end - start) (drop start s) }
+
+abbrev partFrom : Bytes → Option Placed → Part
+partFrom s none = noPart
+partFrom s (some p) = partOf s (p .start) (p .end)
+
+-- the definitions' part of a block, and the blocks behind it
+module _ (s : Bytes) (at : ℕ) (b : Block) (ps : List Piece) (e : drop at s ≡ bytesOf (b ++ ps)) where
+  behind-block : drop (at + sizeIn b) s ≡ bytesOf ps
+  behind-block = sym (drop-drop (sizeIn b) at s) ∙ ap (drop (sizeIn b)) (e ∙ bytesOf-append b ps) ∙ drop-at (bytesOf b) (bytesOf ps) (sizeIn b) refl
+
+  block-part : blockPart at b ≡ partOf s (placedAt at b .start) (placedAt at b .end)
+  block-part =
+      let f : Block = fromFirst b in
+      let c = to-last f in
+      let k : ℕ = at + sizeIn (lead b) in
+      let m : ℕ = (k + sizeIn (toLast f)) - k in
+      let x : drop at s ≡ bytesOf (lead b) ++ bytesOf (f ++ ps) = e ∙ ap (λ (z : Block). bytesOf (z ++ ps)) (sym (lead-first b)) ∙ ap bytesOf (append-assoc (lead b) f ps) ∙ bytesOf-append (lead b) (f ++ ps) in
+      let y : drop k s ≡ bytesOf (f ++ ps) = sym (drop-drop (sizeIn (lead b)) at s) ∙ ap (drop (sizeIn (lead b))) x ∙ drop-at (bytesOf (lead b)) (bytesOf (f ++ ps)) (sizeIn (lead b)) refl in
+      let z : drop k s ≡ bytesOf (toLast f) ++ bytesOf (c .0 ++ ps) = y ∙ ap (λ (w : Block). bytesOf (w ++ ps)) (sym (c .1)) ∙ ap bytesOf (append-assoc (toLast f) (c .0) ps) ∙ bytesOf-append (toLast f) (c .0 ++ ps) in
+      let n : sizeIn (toLast f) ≡ m = omega arith in
+      λ i. record { start = k; bytes = sym (ap (take m) z ∙ take-at (bytesOf (toLast f)) (bytesOf (c .0 ++ ps)) m n) i }
+
+part-by : (s : Bytes) (t : Bool) (k : ℕ) (p : Placed) (here : Part) (later : ℕ → Part) (ps : List Placed) → here ≡ partOf s (p .start) (p .end) → ((j : ℕ) → later j ≡ partFrom s (getElem? ps j)) → partBy t k here later ≡ partFrom s (getElem? (placeOn t p ps) k)
+part-by s false k p here later ps e h = h k
+part-by s true zero p here later ps e h = e
+part-by s true (suc k) p here later ps e h = h k
+
+part-in : (s : Bytes) (bs : List Block) (at k : ℕ) → drop at s ≡ bytesOf (flat bs) → partAt bs at k ≡ partFrom s (getElem? (placesIn at bs) k)
+part-in s [] at k e = refl
+part-in s (b ∷ bs) at k e =
+    part-by s (isRecord (fieldsOf b)) k (placedAt at b) (blockPart at b) (λ (j : ℕ). partAt bs (at + sizeIn b) j) (placesIn (at + sizeIn b) bs) (block-part s at b (flat bs) e) (λ j. part-in s bs (at + sizeIn b) j (behind-block s at b (flat bs) e))
+
+part-read : (s : Bytes) (k : ℕ) → isReadable s ≡ true → partAt (blocks (readOf s)) 0 k ≡ partFrom s (getElem? (placesOf s) k)
+part-read s k e =
+    part-in s (blocks (readOf s)) 0 k (sym (readable-reads s e .all) ∙ ap bytesOf (sym (flat-blocks (readOf s)))) ∙ ap (λ (ps : List Placed). partFrom s (getElem? ps k)) (sym (places-read s))
+
+-- A record's number in the whole file, by its number in the part where its set begins: ms are the records before the sets ds.
+abbrev Ranked : Bytes → Bytes → List Placed → List Record → List RecSet → FoundSet → Type 0
+Ranked s n ps ms ds FoundSet.Missing = Unit {0}
+Ranked s n ps ms ds (FoundSet.At a) = (i : ℕ) × (indexOf n ds ≡ some i) × ((j : ℕ) → getElem? ps (past ms (ordinal ds i j)) ≡ getElem? (placesAt s a) j)
+
+-- a descriptor is one record
+past-descriptor : (r : Record) (v : Bytes) (vs : List Bytes) (k : ℕ) → valuesOf (text "%rec") r ≡ v ∷ vs → past (close r []) k ≡ suc k
+past-descriptor [] v vs k e = absurd (let z : _≡_ {A = ℕ} 0 1 = cc in omega arith)
+past-descriptor (f ∷ fs) v vs k e = refl
+
+module _ (s n : Bytes) where
+  ranked-member : (p : Placed) (ps : List Placed) (ms : List Record) (ds : List RecSet) (x : FoundSet) → Ranked s n ps ms ds x → Ranked s n (p ∷ ps) (p .fields ∷ ms) ds x
+  ranked-member p ps ms ds FoundSet.Missing h = tt
+  ranked-member p ps ms ds (FoundSet.At a) h = h
+
+  module _ (p : Placed) (ps : List Placed) (v : Bytes) (vs : List Bytes) (is : valuesOf (text "%rec") (p .fields) ≡ v ∷ vs) (behind : ps ≡ placesAt s (p .after)) (d : RecSet) (rules : d .rules ≡ p .fields) (ds : List RecSet) where
+    one : (k : ℕ) → past (close (d .rules) []) k ≡ suc k
+    one k = past-descriptor (d .rules) v vs k (ap (valuesOf (text "%rec")) rules ∙ is)
+
+    ranked-other : (x : FoundSet) → same n (d .name) ≡ false → Ranked s n ps (d .members) ds x → Ranked s n (p ∷ ps) [] (d ∷ ds) x
+    ranked-other FoundSet.Missing e h = tt
+    ranked-other (FoundSet.At a) e h = (suc (h .0), other-index n d ds e ∙ ap stepOn (h .1), λ j. ap (getElem? (p ∷ ps)) (one (past (d .members) (ordinal ds (h .0) j))) ∙ h .2 j)
+
+    ranked-named : (t : Bool) (x : FoundSet) → same n (d .name) ≡ t → Ranked s n ps (d .members) ds x → Ranked s n (p ∷ ps) [] (d ∷ ds) (pick t (FoundSet.At (p .after)) x)
+    ranked-named true x e h = (0, ap (λ (b : Bool). indexBy b (indexOf n ds)) e, λ j. ap (getElem? (p ∷ ps)) (one j) ∙ ap (λ (qs : List Placed). getElem? qs j) behind)
+    ranked-named false x e h = ranked-other x e h
+
+  ranked-by : (vs : List Bytes) (p : Placed) (ps : List Placed) (ss : List RecSet) (x : FoundSet) → valuesOf (text "%rec") (p .fields) ≡ vs → ps ≡ placesAt s (p .after) → Ranked s n ps (membersAt 0 ss) (others ss) x
+      → Ranked s n (p ∷ ps) (pick (isThere vs) [] (p .fields ∷ membersAt 0 ss)) (othersBy vs (p .fields) ss) (pick (namesSet n vs) (FoundSet.At (p .after)) x)
+  ranked-by [] p ps ss x e b h = ranked-member p ps (membersAt 0 ss) (others ss) x h
+  ranked-by (v ∷ vs) p ps ss x e b h = ranked-named p ps v vs e b (record { name = firstWord v; rules = p .fields; members = membersAt 0 ss }) refl (others ss) (same n (firstWord v)) x refl h
+
+  ranked : (ps : List Placed) → Stands s ps → Ranked s n ps (firstMembers ps) (others (sets (fieldsIn ps))) (descriptorPlace n ps)
+  ranked [] h = tt
+  ranked (p ∷ ps) h =
+      let vs : List Bytes = valuesOf (text "%rec") (p .fields) in
+      let ss : List RecSet = sets (fieldsIn ps) in
+      let x : FoundSet = descriptorPlace n (p ∷ ps) in
+      subst (λ (ds : List RecSet). Ranked s n (p ∷ ps) (firstMembers (p ∷ ps)) ds x) (sym (others-enter vs (p .fields) ss))
+      (subst (λ (ms : List Record). Ranked s n (p ∷ ps) ms (othersBy vs (p .fields) ss) x) (sym (members-on p ps)) (ranked-by vs p ps ss (descriptorPlace n ps) refl (h .1) (ranked ps (h .2))))
+
+  -- the default set in front
+  ranked-all : (ps : List Placed) (ss : List RecSet) (x : FoundSet) → GoodSets ss → same n [] ≡ false → Ranked s n ps (membersAt 0 ss) (others ss) x → Ranked s n ps [] ss x
+  ranked-all ps [] x g e h = absurd g
+  ranked-all ps (d ∷ ds) FoundSet.Missing g e h = tt
+  ranked-all ps (d ∷ ds) (FoundSet.At a) g e h =
+      (suc (h .0), other-index n d ds (ap (same n) (g .0) ∙ e) ∙ ap stepOn (h .1), λ j. ap (λ (r : Record). getElem? ps (past (close r []) (past (d .members) (ordinal ds (h .0) j)))) (g .1) ∙ h .2 j)
+
+default-ranked : (s : Bytes) (ss : List RecSet) → GoodSets ss → Ranked s [] (placesOf s) [] ss (FoundSet.At 0)
+default-ranked s [] g = absurd g
+default-ranked s (d ∷ ds) g =
+    (0, ap (λ (m : Bytes). indexBy (same [] m) (indexOf [] ds)) (g .0), λ j. ap (λ (r : Record). getElem? (placesOf s) (past (close r []) j)) (g .1) ∙ ap (λ (ps : List Placed). getElem? ps j) (places-all s))
+
+set-ranked : (s n : Bytes) → isReadable s ≡ true → Ranked s n (placesOf s) [] (sets (fieldsIn (placesOf s))) (setPlace n (placesOf s))
+set-ranked s [] e =
+    let ss : List RecSet = sets (fieldsIn (placesOf s)) in
+    subst (Ranked s [] (placesOf s) [] ss) (sym (set-default [] (placesOf s) refl)) (default-ranked s ss (good-sets (fieldsIn (placesOf s))))
+set-ranked s (c ∷ n) e =
+    let m : Bytes = c ∷ n in
+    let ss : List RecSet = sets (fieldsIn (placesOf s)) in
+    subst (Ranked s m (placesOf s) [] ss) (sym (set-named m (placesOf s) (λ q. omega arith)))
+    (ranked-all s m (placesOf s) ss (descriptorPlace m (placesOf s)) (good-sets (fieldsIn (placesOf s))) refl (ranked s m (placesOf s) (stands s e)))
+
+-- a record that is found by its number is the one of that number among all of the part
+abbrev Nth : List Placed → ℕ → FoundRecord → Type 0
+Nth ps k FoundRecord.Missing = Unit {0}
+Nth ps k (FoundRecord.At q) = (p : Placed) × (placeOf p ≡ q) × (getElem? ps k ≡ some p)
+
+nth-on : (p : Placed) (ps : List Placed) (k : ℕ) (x : FoundRecord) → Nth ps k x → Nth (p ∷ ps) (suc k) x
+nth-on p ps k FoundRecord.Missing h = tt
+nth-on p ps k (FoundRecord.At q) h = h
+
+nth-by : (t : Bool) (p : Placed) (ps : List Placed) (k : ℕ) (later : ℕ → FoundRecord) → ((j : ℕ) → Nth ps j (later j)) → Nth (p ∷ ps) k (recordBy t k p later)
+nth-by true p ps k later h = tt
+nth-by false p ps zero later h = (p, refl, refl)
+nth-by false p ps (suc k) later h = nth-on p ps k (later k) (h k)
+
+nth : (ps : List Placed) (k : ℕ) → Nth ps k (recordPlace ps k)
+unfolding recordPlace
+nth [] k = tt
+nth (p ∷ ps) k = nth-by (isDescriptor p) p ps k (λ (j : ℕ). recordPlace ps j) (λ j. nth ps j)
+
+nth-raised : (a : ℕ) (ps : List Placed) (k : ℕ) (p : Placed) → getElem? ps k ≡ some p → getElem? (map (raise a) ps) k ≡ some (raise a p)
+nth-raised a [] k p e = absurd (Option·none-ne-some p e)
+nth-raised a (q ∷ ps) zero p e = ap {B = Option Placed} (λ x. some (raise a x)) (Option·some-injective q p e)
+nth-raised a (q ∷ ps) (suc k) p e = nth-raised a ps k p e
+
+pub view-part : (s n : Bytes) (a k : ℕ) (q : Place) → isReadable s ≡ true → setPlace n (placesOf s) ≡ FoundSet.At a → recordPlace (placesOf (drop a s)) k ≡ FoundRecord.At q → partIn (setsOf (readOf s)) (pieces s) k (indexOf n (setsOf (readOf s))) ≡ partOf s (a + q .start) (a + q .end)
+view-part s n a k q e f g =
+    let ss : List RecSet = setsOf (readOf s) in
+    let r : Ranked s n (placesOf s) [] ss (FoundSet.At a) = subst (Ranked s n (placesOf s) [] ss) f (subst (λ (ds : List RecSet). Ranked s n (placesOf s) [] ds (setPlace n (placesOf s))) (sym (sets-places s)) (set-ranked s n e)) in
+    let m : Nth (placesOf (drop a s)) k (FoundRecord.At q) = subst (Nth (placesOf (drop a s)) k) g (nth (placesOf (drop a s)) k) in
+    ap (λ (x : Option (List Piece)). partIn ss x k (indexOf n ss)) (readable-pieces s e)
+    ∙ ap (partIn ss (some (readOf s)) k) (r .1)
+    ∙ part-read s (ordinal ss (r .0) k) e
+    ∙ ap (partFrom s) (r .2 k ∙ nth-raised a (placesOf (drop a s)) k (m .0) (m .2))
+    ∙ ap (λ (x : Place). partOf s (a + x .start) (a + x .end)) (m .1)
