@@ -1,0 +1,3 @@
+-- The laws of digits up to a limit, of signs and of reals.
+pub mod Reading
+pub mod Decimals

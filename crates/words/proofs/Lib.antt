@@ -1,0 +1,5 @@
+-- The laws of words, of parts, of trimming and of names, by index.
+pub mod Finding
+pub mod Splitting
+pub mod Trimming
+pub mod Naming

@@ -1,0 +1,76 @@
+-- `words::word_end` meets its contract. The invariant: the run ends where the run of the rest from e on does.
+use borrow.Author.Needs.{needs}
+use mathlib.Core.Path.{_≡_, refl, sym, ap, _∙_}
+use mathlib.Core.Bool.{not}
+use Prim.Native.Nat.{_≤_, _+_, _-_}
+use native.Mathlib.Omega.{arith}
+use lib.ListN.{length, drop}
+use Rattle.format.specs.Words.{notGap}
+use Rattle.lines.proofs.Heads.{run-more, run-stop, run-end}
+use Rattle.words.specs.Spans.{runEnd}
+use Rattle.words.proofs.word_end.Statement.{statement}
+use Rattle.words.proofs.word_end.Tie as tie
+use Rattle.words.proofs.word_end.Reads as reads
+use Rattle.words.proofs.word_end.Lts as lts
+use Rattle.words.proofs.is_gap.Reads as is-gap-reads
+
+abbrev Inv-loop : tie.InvT-loop
+Inv-loop s i e₀ e = (e ≤ length s) × (runEnd notGap s i ≡ runEnd notGap s e)
+
+abbrev μ-loop : tie.MeasureT-loop
+μ-loop s i e₀ e = length s - e
+
+loop-holds : tie.Need-loop-holds Inv-loop μ-loop
+loop-holds c = (omega arith, refl)
+
+shared-slice-read-is-gap : tie.Need-shared-slice-read-is-gap Inv-loop μ-loop
+shared-slice-read-is-gap c = search needs
+
+is-gap-requires : tie.Need-is-gap-requires Inv-loop μ-loop
+is-gap-requires c κs = search needs
+
+returns : tie.Need-returns Inv-loop μ-loop
+returns c = 
+    let at-args = c .before .before .before .before .before .before .args in
+    let at-loop = c .before .before .before .before .loop in
+    let at-loop-test = c .before .before .before .loop-test in
+    let at-is-gap = c .before .is-gap in
+    let at-if1 = c .if1 in
+    omega (arith, run-stop notGap (at-args .s .now) (at-loop .e) (at-loop-test .taken) (ap not (sym (at-is-gap .ensures) ∙ at-if1 .taken)))
+
+add-e : tie.Need-add-e Inv-loop μ-loop
+add-e c = search needs
+
+loop-less : tie.Need-loop-less Inv-loop μ-loop
+loop-less c = search needs
+
+loop-again : tie.Need-loop-again Inv-loop μ-loop
+loop-again c = 
+    let at-args = c .before .before .before .before .before .before .args in
+    let at-loop = c .before .before .before .before .loop in
+    let at-loop-test = c .before .before .before .loop-test in
+    let at-is-gap = c .before .is-gap in
+    let at-if1 = c .if1 in
+    omega (arith, run-more notGap (at-args .s .now) (at-loop .e) (at-loop-test .taken) (ap not (sym (at-is-gap .ensures) ∙ at-if1 .left)))
+
+returns-2 : tie.Need-returns-2 Inv-loop μ-loop
+returns-2 c = 
+    let at-args = c .before .before .before .args in
+    let at-loop = c .before .loop in
+    let at-loop-test = c .loop-test in
+    omega (arith, run-end notGap (at-args .s .now) (at-loop .e) (at-loop-test .left))
+
+pub word-end-spec : {M : Type 1} → statement M
+word-end-spec =
+    tie.close
+    (tie.spec
+    Inv-loop
+    μ-loop
+    loop-holds
+    shared-slice-read-is-gap
+    is-gap-requires
+    returns
+    add-e
+    loop-less
+    loop-again
+    returns-2)

@@ -1,0 +1,2 @@
+-- Words, by index.
+pub mod Spans

@@ -1,0 +1,29 @@
+-- Where words stand in a text.
+use Prim.Native.Nat.{ℕ, _+_, _-_, _≤_}
+use mathlib.Core.Path.{_≡_}
+use mathlib.Core.Bool.{Bool, true, false, not}
+use lib.Dec.{eqb, ltb}
+use lib.ListN.{length, take, drop}
+use Rattle.format.specs.Bytes.{Bytes, pick}
+use Rattle.format.specs.Words.{isGap, notGap}
+use Rattle.lines.specs.Line.{run}
+use Rattle.words.specs.declared.Word.{Word}
+
+-- the bytes from one place to another
+abbrev pub span : ℕ → ℕ → Bytes → Bytes
+span a e s = take (e - a) (drop a s)
+
+-- the end of the run of bytes that pass a test, from i on
+abbrev pub runEnd : (ℕ → Bool) → Bytes → ℕ → ℕ
+runEnd p s i = i + run p (drop i s)
+
+-- is a byte another than d
+abbrev pub notByte : ℕ → ℕ → Bool
+notByte d c = not (eqb c d)
+
+abbrev pub wordFrom : Bytes → ℕ → Word
+wordFrom s a = pick (ltb a (length s)) (Word.At a (runEnd notGap s a)) Word.Nothing
+
+-- the first word from i on
+unfoldable pub wordAt : Bytes → ℕ → Word
+wordAt s i = wordFrom s (runEnd isGap s i)
