@@ -1,15 +1,13 @@
 -- A real without its sign, by the bytes before its first dot and those behind it.
-use Prim.Native.Nat.{ℕ, zero, suc, _+_, _-_, _≤_, _<_}
-use native.Mathlib.Nat.{not-suc-le-zero}
-use native.Mathlib.Omega.{arith}
+use Prim.Native.Nat.{ℕ, _+_, _≤_, _<_}
 use mathlib.Core.Path.{_≡_, refl, sym, ap, _∙_}
-use mathlib.Core.Bool.{Bool, true, false, _&&_, not, and-true, and-false}
+use mathlib.Core.Bool.{Bool, true, false, _&&_, and-true, and-false}
 use mathlib.Core.List.{List, [], _∷_}
 use borrow.Author.Tests.{eqb-true, eq-eqb, ne-eqb}
 use lib.Dec.{eqb}
-use lib.ListN.{length, take, drop, getD, drop-of-length-le}
-use Rattle.format.specs.Bytes.{Bytes, pick, all}
-use Rattle.format.specs.Words.{Parts, partBy, partsBy, split}
+use lib.ListN.{length, drop, getD, drop-of-length-le}
+use Rattle.format.specs.Bytes.{Bytes, all}
+use Rattle.format.specs.Words.{partBy, partsBy, split}
 use Rattle.format.specs.Numbers.{isDigitOf, areDigits, isDecimal, isReal}
 use Rattle.lines.proofs.Cuts.{at-cons}
 use Rattle.words.specs.Spans.{span, runEnd, notByte}

@@ -1,15 +1,15 @@
 -- Numbers, digit by digit from an index on, and up to a limit: what is told of the digits that are left, behind those that stand for m.
-use Prim.Native.Nat.{ℕ, zero, suc, _+_, _-_, _*_, _/_, _≤_, _<_}
+use Prim.Native.Nat.{ℕ, _+_, _*_, _/_, _≤_, _<_}
 use native.Mathlib.Nat.{le-mul-of-pos-right, div-lt-iff-lt-mul, le-div-iff-mul-le}
 use native.Mathlib.Omega.{arith}
-use mathlib.Core.Path.{_≡_, refl, sym, ap, _∙_}
+use mathlib.Core.Path.{_≡_, refl}
 use mathlib.Core.Bool.{Bool, true, false, _&&_}
-use mathlib.Core.List.{List, [], _∷_}
+use mathlib.Core.List.{[], _∷_}
 use mathlib.Core.Option.{Option, none, some}
 use borrow.Author.Tests.{lt-ltb, le-ltb, lt-leb, le-leb, leb-true, eq-eqb, ne-eqb}
-use lib.Dec.{leb, ltb}
+use lib.Dec.{leb}
 use lib.ListN.{length, drop, getD, drop-of-length-le}
-use Rattle.format.specs.Bytes.{Bytes, pick, within, all}
+use Rattle.format.specs.Bytes.{Bytes, within, all}
 use Rattle.format.specs.Numbers.{Int, minus, plus, Bounds, intOf, unsigned, digit, isDigitOf, numeral, areDigits, natural, onlyIf, upTo}
 use Rattle.lines.proofs.Cuts.{at-cons}
 use Rattle.numbers.specs.Meaning.{upToLimit}

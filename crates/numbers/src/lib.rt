@@ -1,7 +1,7 @@
 // Ints and reals, over decoded text.
 ghost use mathlib.Core.Path.{_≡_};
 ghost use mathlib.Core.Bool.{true, false};
-ghost use Prim.Native.Nat.{ℕ, _<_, _≤_};
+ghost use Prim.Native.Nat.{_<_, _≤_};
 ghost use lib.ListN.{drop};
 ghost use Rattle.format.specs.Bytes.{within};
 ghost use Rattle.format.specs.Words.{split};
@@ -23,6 +23,7 @@ pub struct Ends {
 impl Ends {
     // This is the one place.
     pub const LEAST: u64 = 2147483648;
+
     pub const GREATEST: u64 = 2147483647;
 }
 
@@ -141,7 +142,13 @@ fn int_within(s: &[u8], ends: Ends) -> IntOf
 pub fn int_of(s: &[u8]) -> IntOf
     ensures { λ r. ⌜ intAnswer r ≡ intOf bits32 (now (s .entry)) ⌝ }
 {
-    int_within(s, Ends { least: Ends::LEAST, greatest: Ends::GREATEST })
+    int_within(
+        s,
+        Ends {
+            least: Ends::LEAST,
+            greatest: Ends::GREATEST,
+        },
+    )
 }
 
 // The int of at least 0 that a text stands for.
@@ -180,7 +187,11 @@ fn is_decimal(s: &[u8]) -> bool
 {
     let e = words::part_end(s, 0, 46);
     if are_digits(&s[0..e], 10) {
-        if e < s.len() { are_digits(&s[e + 1..], 10) } else { true }
+        if e < s.len() {
+            are_digits(&s[e + 1..], 10)
+        } else {
+            true
+        }
     } else {
         false
     }
@@ -190,5 +201,9 @@ fn is_decimal(s: &[u8]) -> bool
 pub fn is_real(s: &[u8]) -> bool
     ensures { λ r. ⌜ r ≡ isReal (now (s .entry)) ⌝ }
 {
-    if lines::byte(s, 0) == 45 { is_decimal(&s[1..]) } else { is_decimal(s) }
+    if lines::byte(s, 0) == 45 {
+        is_decimal(&s[1..])
+    } else {
+        is_decimal(s)
+    }
 }

@@ -1,9 +1,9 @@
 -- The words of a text from an index on, told by the word that is found there: where it stands, what stands behind it, and that it holds no gap.
-use Prim.Native.Nat.{ℕ, zero, suc, _+_, _-_, _≤_, _<_}
+use Prim.Native.Nat.{ℕ, zero, suc, _+_, _≤_, _<_}
 use native.Mathlib.Nat.{add-sub-cancel-left}
 use native.Mathlib.Omega.{arith}
 use mathlib.Core.Path.{_≡_, refl, sym, ap, _∙_, subst}
-use mathlib.Core.Bool.{Bool, true, false, _&&_, not}
+use mathlib.Core.Bool.{Bool, true, false, not}
 use mathlib.Core.List.{List, [], _∷_}
 use borrow.Author.Tests.{ltb-true, ltb-false}
 use lib.Dec.{ltb}
@@ -14,7 +14,7 @@ use Rattle.format.specs.Words.{isGap, notGap, frontIf, front, behind, firstWord
 use Rattle.lines.specs.Line.{run}
 use Rattle.lines.proofs.Cuts.{at-cons}
 use Rattle.lines.proofs.Heads.{run-more}
-use Rattle.words.specs.Spans.{span, runEnd, wordFrom, wordAt}
+use Rattle.words.specs.Spans.{span, runEnd, wordAt}
 use Rattle.words.specs.declared.Word.{Word}
 
 -- a run is within its text

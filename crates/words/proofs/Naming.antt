@@ -1,10 +1,10 @@
 -- Names and type names, by the first byte and the later ones.
-use Prim.Native.Nat.{ℕ, _<_}
+use Prim.Native.Nat.{_<_}
 use native.Mathlib.Nat.{not-suc-le-zero}
 use native.Mathlib.Omega.{arith}
 use mathlib.Core.Path.{_≡_, refl}
-use mathlib.Core.Bool.{Bool, true, false, _&&_}
-use mathlib.Core.List.{List, [], _∷_}
+use mathlib.Core.Bool.{false, _&&_}
+use mathlib.Core.List.{[], _∷_}
 use lib.ListN.{length, drop, getD}
 use Rattle.format.specs.Bytes.{Bytes, isLetter, all}
 use Rattle.format.specs.Lines.{isFirst, isLater, isName}

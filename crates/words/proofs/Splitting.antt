@@ -1,14 +1,14 @@
 -- The parts of a text between bytes d: the bytes before the first d, and the parts behind it.
-use Prim.Native.Nat.{ℕ, zero, suc, _+_}
+use Prim.Native.Nat.{ℕ, suc}
 use mathlib.Core.Path.{_≡_, refl, ap, _∙_}
 use mathlib.Core.Bool.{Bool, true, false, not}
 use mathlib.Core.List.{List, [], _∷_}
 use native.Mathlib.Nat.{add-sub-cancel-left}
 use lib.Dec.{eqb}
-use lib.ListN.{length, take, drop}
+use lib.ListN.{take, drop}
 use lib.Seq.{drop-drop}
 use Rattle.format.specs.Bytes.{Bytes, pick}
-use Rattle.format.specs.Words.{Parts, partBy, partsBy, split}
+use Rattle.format.specs.Words.{partBy, partsBy, split}
 use Rattle.lines.specs.Line.{run}
 use Rattle.words.specs.Spans.{span, runEnd, notByte}
 

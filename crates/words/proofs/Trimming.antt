@@ -1,12 +1,12 @@
 -- Trimming at the end, byte by byte: a gap at the end goes, any other byte stays and all before it with it.
-use Prim.Native.Nat.{ℕ, zero, suc, _+_, _-_, _≤_, _<_}
+use Prim.Native.Nat.{ℕ, suc, _-_, _≤_, _<_}
 use native.Mathlib.Omega.{arith}
-use mathlib.Core.Path.{_≡_, refl, sym, ap, _∙_}
-use mathlib.Core.Bool.{Bool, true, false}
-use mathlib.Core.List.{List, [], _∷_, _++_, reverse, reverse-append, reverse-reverse}
+use mathlib.Core.Path.{_≡_, ap, _∙_}
+use mathlib.Core.Bool.{true, false}
+use mathlib.Core.List.{_∷_, reverse, reverse-append, reverse-reverse}
 use lib.ListN.{length, take, drop, getD, length-drop}
-use lib.Seq.{take-suc, getD-drop, take-all}
-use Rattle.format.specs.Bytes.{Bytes, pick}
+use lib.Seq.{take-suc, getD-drop}
+use Rattle.format.specs.Bytes.{Bytes}
 use Rattle.format.specs.Words.{isGap, behind, trim}
 use Rattle.words.specs.Spans.{span, runEnd}
 use Rattle.words.proofs.Finding.{behind-at}

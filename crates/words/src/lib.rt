@@ -1,8 +1,8 @@
 // Words, names and trimming, over decoded text.
 ghost use mathlib.Core.Path.{_≡_};
 ghost use mathlib.Core.Bool.{true, false};
-ghost use Prim.Native.Nat.{ℕ, _+_, _<_, _≤_};
-ghost use lib.ListN.{length, take, drop};
+ghost use Prim.Native.Nat.{_<_, _≤_};
+ghost use lib.ListN.{length, drop};
 ghost use Rattle.format.specs.Bytes.{classTable, all};
 ghost use Rattle.format.specs.Lines.{isLater, isName};
 ghost use Rattle.format.specs.Words.{isGap, notGap, trim, isTypeName};

@@ -1,7 +1,7 @@
 -- `numbers::are_digits` meets its contract. The invariant: all bytes are digits if those from i on are.
 use borrow.Author.Needs.{needs}
-use mathlib.Core.Path.{_≡_, refl, sym}
-use Prim.Native.Nat.{_≤_, _+_, _-_}
+use mathlib.Core.Path.{_≡_, sym}
+use Prim.Native.Nat.{_≤_, _-_}
 use native.Mathlib.Omega.{arith}
 use borrow.Author.Tests.{lt-ltb, le-ltb}
 use lib.ListN.{length, drop, drop-of-length-le}
@@ -22,13 +22,13 @@ abbrev μ-loop : tie.MeasureT-loop
 μ-loop s base i₀ i = length s - i
 
 returns : tie.Need-returns Inv-loop μ-loop
-returns c = 
+returns c =
     let at-args = c .before .before .args in
     let at-if1 = c .if1 in
     sym (digits-none (at-args .base) (at-args .s .now) (at-if1 .taken))
 
 loop-holds : tie.Need-loop-holds Inv-loop μ-loop
-loop-holds c = 
+loop-holds c =
     let at-args = c .before .before .args in
     let at-if1 = c .if1 in
     (omega arith, digits-some (at-args .base) (at-args .s .now) (at-if1 .left))
@@ -40,7 +40,7 @@ digit-of-requires : tie.Need-digit-of-requires Inv-loop μ-loop
 digit-of-requires c κs = search needs
 
 returns-2 : tie.Need-returns-2 Inv-loop μ-loop
-returns-2 c = 
+returns-2 c =
     let at-loop = c .before .before .before .before .loop in
     let at-args = c .before .before .before .before .before .before .before .args in
     let at-loop-test = c .before .before .before .loop-test in
@@ -55,7 +55,7 @@ loop-less : tie.Need-loop-less Inv-loop μ-loop
 loop-less c = search needs
 
 loop-again : tie.Need-loop-again Inv-loop μ-loop
-loop-again c = 
+loop-again c =
     let at-loop = c .before .before .before .before .loop in
     let at-args = c .before .before .before .before .before .before .before .args in
     let at-loop-test = c .before .before .before .loop-test in
@@ -64,7 +64,7 @@ loop-again c =
     (omega arith, rw (at-loop .inv .1, at-cons (at-args .s .now) (at-loop .i) (at-loop-test .taken), ← at-digit-of .ensures, lt-ltb _ _ (at-if2 .left)))
 
 returns-3 : tie.Need-returns-3 Inv-loop μ-loop
-returns-3 c = 
+returns-3 c =
     let at-loop = c .before .loop in
     let at-args = c .before .before .before .before .args in
     let at-loop-test = c .loop-test in

@@ -25,33 +25,33 @@ enum-known-b-3 : tie.Need-enum-known-b-3
 enum-known-b-3 c = search needs
 
 returns : tie.Need-returns
-returns c = 
+returns c =
     let at-a = c .before .before .before .before .a in
     let at-b = c .before .b in
     rw (at-a .given .1, at-b .given .1)
 
 returns-2 : tie.Need-returns-2
-returns-2 c = 
+returns-2 c =
     let at-a = c .before .before .before .a in
     let at-enum-told = c .enum-told in
     rw (at-a .given .1, at-enum-told .given .1)
 
 returns-3 : tie.Need-returns-3
-returns-3 c = 
+returns-3 c =
     let at-a2 = c .before .before .before .before .before .a2 in
     let at-b2 = c .before .before .b2 in
     let at-if1 = c .if1 in
     rw (at-a2 .given .1, at-b2 .given .1, eq-eqb _ _ (at-if1 .taken))
 
 returns-4 : tie.Need-returns-4
-returns-4 c = 
+returns-4 c =
     let at-a2 = c .before .before .before .before .before .a2 in
     let at-b2 = c .before .before .b2 in
     let at-if1 = c .if1 in
     rw (at-a2 .given .1, at-b2 .given .1, ne-eqb _ _ (at-if1 .left))
 
 returns-5 : tie.Need-returns-5
-returns-5 c = 
+returns-5 c =
     let at-a2 = c .before .before .before .before .a2 in
     let at-b3 = c .before .b3 in
     rw (at-a2 .given .1, at-b3 .given .1)

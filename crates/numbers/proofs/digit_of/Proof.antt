@@ -13,14 +13,14 @@ is-within-requires : tie.Need-is-within-requires
 is-within-requires c κs = search needs
 
 sub-result : tie.Need-sub-result
-sub-result c = 
+sub-result c =
     let at-args = c .before .before .args in
     let at-is-within = c .before .is-within in
     let at-if1 = c .if1 in
     omega (arith, within-low 48 57 (at-args .b) (sym (at-is-within .ensures) ∙ at-if1 .taken))
 
 returns : tie.Need-returns
-returns c = 
+returns c =
     let at-is-within = c .before .is-within in
     let at-if1 = c .if1 in
     rw (← at-is-within .ensures, at-if1 .taken)
@@ -29,14 +29,14 @@ is-within-requires-2 : tie.Need-is-within-requires-2
 is-within-requires-2 c κs = search needs
 
 sub-result-2 : tie.Need-sub-result-2
-sub-result-2 c = 
+sub-result-2 c =
     let at-args = c .before .before .before .before .args in
     let at-is-within2 = c .before .is-within2 in
     let at-if2 = c .if2 in
     omega (arith, within-low 65 70 (at-args .b) (sym (at-is-within2 .ensures) ∙ at-if2 .taken))
 
 returns-2 : tie.Need-returns-2
-returns-2 c = 
+returns-2 c =
     let at-is-within = c .before .before .before .is-within in
     let at-if1 = c .before .before .if1 in
     let at-is-within2 = c .before .is-within2 in
@@ -47,14 +47,14 @@ is-within-requires-3 : tie.Need-is-within-requires-3
 is-within-requires-3 c κs = search needs
 
 sub-result-3 : tie.Need-sub-result-3
-sub-result-3 c = 
+sub-result-3 c =
     let at-args = c .before .before .before .before .before .before .args in
     let at-is-within3 = c .before .is-within3 in
     let at-if3 = c .if3 in
     omega (arith, within-low 97 102 (at-args .b) (sym (at-is-within3 .ensures) ∙ at-if3 .taken))
 
 returns-3 : tie.Need-returns-3
-returns-3 c = 
+returns-3 c =
     let at-is-within = c .before .before .before .before .before .is-within in
     let at-if1 = c .before .before .before .before .if1 in
     let at-is-within2 = c .before .before .before .is-within2 in
@@ -64,7 +64,7 @@ returns-3 c =
     rw (← at-is-within .ensures, at-if1 .left, ← at-is-within2 .ensures, at-if2 .left, ← at-is-within3 .ensures, at-if3 .taken)
 
 returns-4 : tie.Need-returns-4
-returns-4 c = 
+returns-4 c =
     let at-is-within = c .before .before .before .before .before .is-within in
     let at-if1 = c .before .before .before .before .if1 in
     let at-is-within2 = c .before .before .before .is-within2 in

@@ -1,6 +1,5 @@
 -- `numbers::int_within` meets its contract.
-use mathlib.Core.Path.{_≡_, refl, sym, ap, _∙_}
-use native.Mathlib.Omega.{arith}
+use mathlib.Core.Path.{sym, ap, _∙_}
 use Rattle.format.specs.Numbers.{plus, minus}
 use Rattle.numbers.specs.Meaning.{naturalAnswer, boundsIn}
 use Rattle.numbers.proofs.Reading.{signed, int-minus, int-plus}
@@ -34,7 +33,7 @@ enum-told-2 : tie.Need-enum-told-2
 enum-told-2 c = search needs
 
 returns : tie.Need-returns
-returns c = 
+returns c =
     let at-args = c .before .before .before .before .before .before .before .args in
     let at-byte = c .before .before .before .before .before .byte in
     let at-if1 = c .before .before .before .before .if1 in
@@ -43,7 +42,7 @@ returns c =
     sym (int-minus (boundsIn (at-args .ends)) (at-args .s .now) (sym (at-byte .ensures) ∙ at-if1 .taken) ∙ ap (signed minus) (sym (at-unsigned-of .ensures) ∙ ap naturalAnswer (at-m .given .1)))
 
 returns-2 : tie.Need-returns-2
-returns-2 c = 
+returns-2 c =
     let at-args = c .before .before .before .before .before .before .args in
     let at-byte = c .before .before .before .before .byte in
     let at-if1 = c .before .before .before .if1 in
@@ -52,7 +51,7 @@ returns-2 c =
     sym (int-minus (boundsIn (at-args .ends)) (at-args .s .now) (sym (at-byte .ensures) ∙ at-if1 .taken) ∙ ap (signed minus) (sym (at-unsigned-of .ensures) ∙ ap naturalAnswer (at-enum-told .given .1)))
 
 returns-3 : tie.Need-returns-3
-returns-3 c = 
+returns-3 c =
     let at-args = c .before .before .before .before .before .before .before .args in
     let at-if1 = c .before .before .before .before .if1 in
     let at-byte = c .before .before .before .before .before .byte in
@@ -61,7 +60,7 @@ returns-3 c =
     sym (int-plus (boundsIn (at-args .ends)) (at-args .s .now) (λ e. at-if1 .left (at-byte .ensures ∙ e)) ∙ ap (signed plus) (sym (at-unsigned-of2 .ensures) ∙ ap naturalAnswer (at-m2 .given .1)))
 
 returns-4 : tie.Need-returns-4
-returns-4 c = 
+returns-4 c =
     let at-args = c .before .before .before .before .before .before .args in
     let at-if1 = c .before .before .before .if1 in
     let at-byte = c .before .before .before .before .byte in

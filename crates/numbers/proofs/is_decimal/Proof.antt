@@ -1,8 +1,7 @@
 -- `numbers::is_decimal` meets its contract.
-use mathlib.Core.Path.{_≡_, refl, sym, _∙_}
+use mathlib.Core.Path.{sym, _∙_}
 use Prim.Native.Nat.{_+_}
 use native.Mathlib.Omega.{arith}
-use lib.ListN.{length, drop}
 use Rattle.lines.proofs.Cuts.{rest}
 use Rattle.words.specs.Spans.{notByte}
 use Rattle.words.proofs.Finding.{run-end-le}
@@ -19,19 +18,19 @@ part-end-requires : tie.Need-part-end-requires
 part-end-requires c κs = search needs
 
 sub-are-digits : tie.Need-sub-are-digits
-sub-are-digits c = 
+sub-are-digits c =
     let at-part-end = c .part-end in
     let at-args = c .before .before .args in
     omega (arith, at-part-end .ensures, run-end-le (notByte 46) (at-args .s .now) 0 (omega arith))
 
 part-are-digits-start : tie.Need-part-are-digits-start
-part-are-digits-start c = 
+part-are-digits-start c =
     let at-part-end = c .part-end in
     let at-args = c .before .before .args in
     omega (arith, at-part-end .ensures, run-end-le (notByte 46) (at-args .s .now) 0 (omega arith))
 
 part-are-digits-end : tie.Need-part-are-digits-end
-part-are-digits-end c = 
+part-are-digits-end c =
     let at-part-end = c .part-end in
     let at-args = c .before .before .args in
     omega (arith, at-part-end .ensures, run-end-le (notByte 46) (at-args .s .now) 0 (omega arith))
@@ -55,7 +54,7 @@ are-digits-requires-2 : tie.Need-are-digits-requires-2
 are-digits-requires-2 c κs = search needs
 
 returns : tie.Need-returns
-returns c = 
+returns c =
     let at-args = c .before .before .before .before .before .before .before .before .args in
     let at-part-end = c .before .before .before .before .before .before .part-end in
     let at-if2 = c .before .before .if2 in
@@ -67,7 +66,7 @@ returns c =
     sym (d ∙ rw (← at-are-digits .ensures, at-if1 .taken, ← rest s (at-part-end .result + 1)) (sym (at-are-digits2 .ensures)))
 
 returns-2 : tie.Need-returns-2
-returns-2 c = 
+returns-2 c =
     let at-args = c .before .before .before .before .before .before .args in
     let at-part-end = c .before .before .before .before .part-end in
     let at-if2 = c .if2 in
@@ -78,7 +77,7 @@ returns-2 c =
     sym (d ∙ rw (← at-are-digits .ensures, at-if1 .taken))
 
 returns-3 : tie.Need-returns-3
-returns-3 c = 
+returns-3 c =
     let at-args = c .before .before .before .before .before .args in
     let at-part-end = c .before .before .before .part-end in
     let at-are-digits = c .before .are-digits in

@@ -1,5 +1,5 @@
 -- `numbers::is_real` meets its contract.
-use mathlib.Core.Path.{_≡_, refl, sym, ap, _∙_}
+use mathlib.Core.Path.{sym, ap, _∙_}
 use native.Mathlib.Omega.{arith}
 use Rattle.format.specs.Bytes.{Bytes}
 use Rattle.format.specs.Words.{split}
@@ -19,14 +19,14 @@ byte-requires : tie.Need-byte-requires
 byte-requires c κs = search needs
 
 sub-is-decimal : tie.Need-sub-is-decimal
-sub-is-decimal c = 
+sub-is-decimal c =
     let at-args = c .before .before .before .args in
     let at-byte = c .before .byte in
     let at-if1 = c .if1 in
     byte-inside (at-args .s .now) 0 (omega (arith, at-byte .ensures, at-if1 .taken))
 
 part-is-decimal-start : tie.Need-part-is-decimal-start
-part-is-decimal-start c = 
+part-is-decimal-start c =
     let at-args = c .before .before .before .args in
     let at-byte = c .before .byte in
     let at-if1 = c .if1 in
@@ -42,7 +42,7 @@ is-decimal-requires-2 : tie.Need-is-decimal-requires-2
 is-decimal-requires-2 c κs = search needs
 
 returns : tie.Need-returns
-returns c = 
+returns c =
     let at-args = c .before .before .before .before .before .args in
     let at-is-decimal = c .is-decimal in
     let at-byte = c .before .before .before .byte in
@@ -51,7 +51,7 @@ returns c =
     at-is-decimal .ensures ∙ (ap (λ (t : Bytes). isDecimal (split 46 t)) (rest s 1) ∙ sym (real-minus s (sym (at-byte .ensures) ∙ at-if1 .taken)))
 
 returns-2 : tie.Need-returns-2
-returns-2 c = 
+returns-2 c =
     let at-is-decimal2 = c .is-decimal2 in
     let at-args = c .before .before .before .before .args in
     let at-if1 = c .before .if1 in

@@ -1,6 +1,6 @@
 -- `numbers::natural_of` meets its contract. The invariant: the digits from i on, behind those that stand for m, give the answer, and m is at most the limit.
 use borrow.Author.Needs.{needs}
-use mathlib.Core.Path.{_≡_, refl, sym, _∙_}
+use mathlib.Core.Path.{_≡_, sym, _∙_}
 use Prim.Native.Nat.{_≤_, _<_, _+_, _-_, _*_}
 use native.Mathlib.Omega.{arith}
 use lib.ListN.{length, drop, getD, length-drop}
@@ -20,7 +20,7 @@ abbrev μ-loop : tie.MeasureT-loop
 μ-loop s from base limit most i₀ m₀ i m = length s - i
 
 returns : tie.Need-returns Inv-loop μ-loop
-returns c = 
+returns c =
     let at-args = c .before .before .args in
     let at-if1 = c .if1 in
     sym (natural-empty (at-args .limit) (at-args .base) (at-args .s .now) (at-args .from) (at-if1 .taken))
@@ -29,7 +29,7 @@ div-most : tie.Need-div-most Inv-loop μ-loop
 div-most c = search needs
 
 loop-holds : tie.Need-loop-holds Inv-loop μ-loop
-loop-holds c = 
+loop-holds c =
     let at-args = c .before .before .args in
     (omega arith, omega arith, natural-start (at-args .limit) (at-args .base) (drop (at-args .from) (at-args .s .now)) (simp length-drop (omega arith)))
 
@@ -40,7 +40,7 @@ digit-of-requires : tie.Need-digit-of-requires Inv-loop μ-loop
 digit-of-requires c κs = search needs
 
 returns-2 : tie.Need-returns-2 Inv-loop μ-loop
-returns-2 c = 
+returns-2 c =
     let at-loop = c .before .before .before .before .loop in
     let at-args = c .before .before .before .before .before .before .before .args in
     let at-loop-test = c .before .before .before .loop-test in
@@ -48,7 +48,7 @@ returns-2 c =
     sym (at-loop .inv .2 ∙ natural-bad (at-args .limit) (at-args .base) (at-loop .m) (at-args .s .now) (at-loop .i) (at-loop-test .taken) (omega (arith, at-digit-of .ensures)))
 
 returns-3 : tie.Need-returns-3 Inv-loop μ-loop
-returns-3 c = 
+returns-3 c =
     let at-args = c .before .before .before .before .before .before .before .before .args in
     let at-loop = c .before .before .before .before .before .loop in
     let at-digit-of = c .before .before .digit-of in
@@ -65,7 +65,7 @@ returns-3 c =
     sym (at-loop .inv .2 ∙ (natural-more limit base m s i (at-loop-test .taken) q ∙ natural-over limit base (m * base + d) (drop (i + 1) s) at-pre (omega (arith, product-passes limit base m at-pre (at-if3 .taken)))))
 
 mul-if4 : tie.Need-mul-if4 Inv-loop μ-loop
-mul-if4 c = 
+mul-if4 c =
     let at-args = c .before .before .before .before .before .before .before .before .args in
     let at-loop = c .before .before .before .before .before .loop in
     let at-pre = c .before .before .before .before .before .before .before .before .pre in
@@ -73,7 +73,7 @@ mul-if4 c =
     omega (arith, product-fits (at-args .limit) (at-args .base) (at-loop .m) at-pre (at-if3 .left))
 
 sub-if4 : tie.Need-sub-if4 Inv-loop μ-loop
-sub-if4 c = 
+sub-if4 c =
     let at-args = c .before .before .before .before .before .before .before .before .args in
     let at-loop = c .before .before .before .before .before .loop in
     let at-pre = c .before .before .before .before .before .before .before .before .pre in
@@ -81,7 +81,7 @@ sub-if4 c =
     product-fits (at-args .limit) (at-args .base) (at-loop .m) at-pre (at-if3 .left)
 
 returns-4 : tie.Need-returns-4 Inv-loop μ-loop
-returns-4 c = 
+returns-4 c =
     let at-args = c .before .before .before .before .before .before .before .before .before .args in
     let at-loop = c .before .before .before .before .before .before .loop in
     let at-digit-of = c .before .before .before .digit-of in
@@ -99,7 +99,7 @@ returns-4 c =
     sym (at-loop .inv .2 ∙ (natural-more limit base m s i (at-loop-test .taken) q ∙ natural-over limit base (m * base + d) (drop (i + 1) s) at-pre (omega (arith, at-digit-of .ensures, at-if4 .taken, product-fits (at-args .limit) (at-args .base) (at-loop .m) at-pre (at-if3 .left)))))
 
 mul-m : tie.Need-mul-m Inv-loop μ-loop
-mul-m c = 
+mul-m c =
     let at-args = c .before .before .before .before .before .before .before .before .before .args in
     let at-loop = c .before .before .before .before .before .before .loop in
     let at-pre = c .before .before .before .before .before .before .before .before .before .pre in
@@ -107,7 +107,7 @@ mul-m c =
     omega (arith, product-fits (at-args .limit) (at-args .base) (at-loop .m) at-pre (at-if3 .left))
 
 add-m : tie.Need-add-m Inv-loop μ-loop
-add-m c = 
+add-m c =
     let at-args = c .before .before .before .before .before .before .before .before .before .args in
     let at-loop = c .before .before .before .before .before .before .loop in
     let at-pre = c .before .before .before .before .before .before .before .before .before .pre in
@@ -122,7 +122,7 @@ loop-less : tie.Need-loop-less Inv-loop μ-loop
 loop-less c = search needs
 
 loop-again : tie.Need-loop-again Inv-loop μ-loop
-loop-again c = 
+loop-again c =
     let at-args = c .before .before .before .before .before .before .before .before .before .args in
     let at-loop = c .before .before .before .before .before .before .loop in
     let at-digit-of = c .before .before .before .digit-of in
@@ -140,7 +140,7 @@ loop-again c =
     (omega arith, omega (arith, at-if4 .left, product-fits (at-args .limit) (at-args .base) (at-loop .m) at-pre (at-if3 .left)), at-loop .inv .2 ∙ (natural-more limit base m s i (at-loop-test .taken) q ∙ rw (← at-digit-of .ensures)))
 
 returns-5 : tie.Need-returns-5 Inv-loop μ-loop
-returns-5 c = 
+returns-5 c =
     let at-loop = c .before .loop in
     let at-args = c .before .before .before .before .args in
     let at-loop-test = c .loop-test in

@@ -1,5 +1,5 @@
 -- `numbers::number_of` meets its contract.
-use mathlib.Core.Path.{_≡_, refl, sym, ap, _∙_}
+use mathlib.Core.Path.{sym, ap, _∙_}
 use mathlib.Core.Option.{some}
 use borrow.Author.Tests.{eq-eqb, ne-eqb}
 use Rattle.format.specs.Numbers.{notBelow0}
@@ -22,7 +22,7 @@ enum-told : tie.Need-enum-told
 enum-told c = search needs
 
 returns : tie.Need-returns
-returns c = 
+returns c =
     let at-int-of = c .before .before .int-of in
     let at-enum-told = c .enum-told in
     sym (ap notBelow0 (sym (at-int-of .ensures) ∙ ap intAnswer (at-enum-told .given .1)))
@@ -34,14 +34,14 @@ enum-known-w-2 : tie.Need-enum-known-w-2
 enum-known-w-2 c = search needs
 
 returns-2 : tie.Need-returns-2
-returns-2 c = 
+returns-2 c =
     let at-int-of = c .before .before .before .before .before .before .int-of in
     let at-x = c .before .before .before .before .x in
     let at-w = c .before .w in
     sym (ap notBelow0 (sym (at-int-of .ensures) ∙ ap intAnswer (at-x .given .1)) ∙ ap (λ (u : Whole). notBelow0 (some (intIn u))) (at-w .given .1))
 
 returns-3 : tie.Need-returns-3
-returns-3 c = 
+returns-3 c =
     let at-int-of = c .before .before .before .before .before .before .before .int-of in
     let at-x = c .before .before .before .before .before .x in
     let at-w2 = c .before .before .w2 in
@@ -49,7 +49,7 @@ returns-3 c =
     sym (ap notBelow0 (sym (at-int-of .ensures) ∙ ap intAnswer (at-x .given .1)) ∙ (ap (λ (u : Whole). notBelow0 (some (intIn u))) (at-w2 .given .1) ∙ rw (eq-eqb _ _ (at-if1 .taken))))
 
 returns-4 : tie.Need-returns-4
-returns-4 c = 
+returns-4 c =
     let at-int-of = c .before .before .before .before .before .before .before .int-of in
     let at-x = c .before .before .before .before .before .x in
     let at-w2 = c .before .before .w2 in

@@ -1,5 +1,4 @@
 -- `numbers::unsigned_of` meets its contract.
-use native.Mathlib.Omega.{arith}
 use native.Mathlib.Nat.{add-zero}
 use borrow.Author.Tests.{eq-eqb, ne-eqb}
 use lib.Seq.{getD-drop, drop-drop}
@@ -27,7 +26,7 @@ natural-of-requires : tie.Need-natural-of-requires
 natural-of-requires c κs = search needs
 
 returns : tie.Need-returns
-returns c = 
+returns c =
     let at-args = c .before .before .before .before .before .before .args in
     let at-byte = c .before .before .before .before .byte in
     let at-if1 = c .before .before .before .if1 in
@@ -40,7 +39,7 @@ natural-of-requires-2 : tie.Need-natural-of-requires-2
 natural-of-requires-2 c κs = search needs
 
 returns-2 : tie.Need-returns-2
-returns-2 c = 
+returns-2 c =
     let at-byte = c .before .before .before .before .byte in
     let at-if1 = c .before .before .before .if1 in
     let at-byte2 = c .before .before .byte2 in
@@ -52,7 +51,7 @@ natural-of-requires-3 : tie.Need-natural-of-requires-3
 natural-of-requires-3 c κs = search needs
 
 returns-3 : tie.Need-returns-3
-returns-3 c = 
+returns-3 c =
     let at-byte = c .before .before .byte in
     let at-if1 = c .before .if1 in
     let at-natural-of3 = c .natural-of3 in

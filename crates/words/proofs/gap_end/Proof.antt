@@ -1,9 +1,9 @@
 -- `words::gap_end` meets its contract. The invariant: the run ends where the run of the rest from e on does.
 use borrow.Author.Needs.{needs}
 use mathlib.Core.Path.{_≡_, refl, sym, _∙_}
-use Prim.Native.Nat.{_≤_, _+_, _-_}
+use Prim.Native.Nat.{_≤_, _-_}
 use native.Mathlib.Omega.{arith}
-use lib.ListN.{length, drop}
+use lib.ListN.{length}
 use Rattle.format.specs.Words.{isGap}
 use Rattle.lines.proofs.Heads.{run-more, run-stop, run-end}
 use Rattle.words.specs.Spans.{runEnd}
@@ -35,7 +35,7 @@ loop-less : tie.Need-loop-less Inv-loop μ-loop
 loop-less c = search needs
 
 loop-again : tie.Need-loop-again Inv-loop μ-loop
-loop-again c = 
+loop-again c =
     let at-args = c .before .before .before .before .before .before .args in
     let at-loop = c .before .before .before .before .loop in
     let at-loop-test = c .before .before .before .loop-test in
@@ -44,7 +44,7 @@ loop-again c =
     omega (arith, run-more isGap (at-args .s .now) (at-loop .e) (at-loop-test .taken) (sym (at-is-gap .ensures) ∙ at-if1 .taken))
 
 returns : tie.Need-returns Inv-loop μ-loop
-returns c = 
+returns c =
     let at-args = c .before .before .before .before .before .before .args in
     let at-loop = c .before .before .before .before .loop in
     let at-loop-test = c .before .before .before .loop-test in
@@ -53,7 +53,7 @@ returns c =
     omega (arith, run-stop isGap (at-args .s .now) (at-loop .e) (at-loop-test .taken) (sym (at-is-gap .ensures) ∙ at-if1 .left))
 
 returns-2 : tie.Need-returns-2 Inv-loop μ-loop
-returns-2 c = 
+returns-2 c =
     let at-args = c .before .before .before .args in
     let at-loop = c .before .loop in
     let at-loop-test = c .loop-test in

@@ -1,5 +1,4 @@
 -- `words::is_gap` meets its contract.
-use borrow.Author.Needs.{needs}
 use borrow.Author.Tests.{eq-eqb, ne-eqb}
 use Rattle.words.proofs.is_gap.Statement.{statement}
 use Rattle.words.proofs.is_gap.Tie as tie
@@ -7,18 +6,18 @@ use Rattle.words.proofs.is_gap.Reads as reads
 use Rattle.words.proofs.is_gap.Lts as lts
 
 returns : tie.Need-returns
-returns c = 
+returns c =
     let at-if1 = c .if1 in
     rw (eq-eqb _ _ (at-if1 .taken))
 
 returns-2 : tie.Need-returns-2
-returns-2 c = 
+returns-2 c =
     let at-if1 = c .before .if1 in
     let at-if2 = c .if2 in
     rw (ne-eqb _ _ (at-if1 .left), eq-eqb _ _ (at-if2 .taken))
 
 returns-3 : tie.Need-returns-3
-returns-3 c = 
+returns-3 c =
     let at-if1 = c .before .if1 in
     let at-if2 = c .if2 in
     rw (ne-eqb _ _ (at-if1 .left), ne-eqb _ _ (at-if2 .left))

@@ -1,5 +1,5 @@
 -- `words::is_name` meets its contract.
-use mathlib.Core.Path.{_≡_, refl, sym, _∙_}
+use mathlib.Core.Path.{sym}
 use native.Mathlib.Omega.{arith}
 use Rattle.words.proofs.Naming.{name-by, name-not-empty}
 use borrow.Author.Needs.{needs}
@@ -11,7 +11,7 @@ use Rattle.format.proofs.is_first.Reads as is-first-reads
 use Rattle.words.proofs.later_bytes.Reads as later-bytes-reads
 
 returns : tie.Need-returns
-returns c = 
+returns c =
     let at-args = c .before .before .args in
     let at-if1 = c .if1 in
     sym (name-not-empty (at-args .s .now) (at-if1 .taken))
@@ -26,7 +26,7 @@ later-bytes-requires : tie.Need-later-bytes-requires
 later-bytes-requires c κs = search needs
 
 returns-2 : tie.Need-returns-2
-returns-2 c = 
+returns-2 c =
     let at-args = c .before .before .before .before .before .before .args in
     let at-is-first = c .before .before .is-first in
     let at-if2 = c .before .if2 in
@@ -34,7 +34,7 @@ returns-2 c =
     rw (name-by (at-args .s .now) (omega arith), ← at-is-first .ensures, at-if2 .taken, ← at-later-bytes .ensures)
 
 returns-3 : tie.Need-returns-3
-returns-3 c = 
+returns-3 c =
     let at-args = c .before .before .before .before .before .args in
     let at-is-first = c .before .is-first in
     let at-if2 = c .if2 in

@@ -1,5 +1,5 @@
 -- `words::is_type_name` meets its contract.
-use mathlib.Core.Path.{_≡_, refl, sym, ap, _∙_}
+use mathlib.Core.Path.{sym}
 use native.Mathlib.Omega.{arith}
 use borrow.Author.Tests.{eq-eqb, ne-eqb}
 use lib.ListN.{getD}
@@ -14,7 +14,7 @@ use Rattle.format.proofs.class_of.Reads as class-of-reads
 use Rattle.words.proofs.later_bytes.Reads as later-bytes-reads
 
 returns : tie.Need-returns
-returns c = 
+returns c =
     let at-args = c .before .before .args in
     let at-if1 = c .if1 in
     sym (type-name-not-empty (at-args .s .now) (at-if1 .taken))
@@ -29,21 +29,23 @@ later-bytes-requires : tie.Need-later-bytes-requires
 later-bytes-requires c κs = search needs
 
 returns-2 : tie.Need-returns-2
-returns-2 c = 
+returns-2 c =
     let at-args = c .before .before .before .before .before .before .args in
     let at-shared-slice-known2 = c .before .before .before .shared-slice-known2 in
     let at-class-of = c .before .before .class-of in
     let at-if2 = c .before .if2 in
     let at-later-bytes = c .later-bytes in
-    let s = at-args .s .now in rw (type-name-by s (omega arith), letter-class (getD s 0 0) (omega (arith, at-shared-slice-known2 .given 0)), ← at-class-of .ensures, eq-eqb _ _ (at-if2 .taken), ← at-later-bytes .ensures)
+    let s = at-args .s .now in
+    rw (type-name-by s (omega arith), letter-class (getD s 0 0) (omega (arith, at-shared-slice-known2 .given 0)), ← at-class-of .ensures, eq-eqb _ _ (at-if2 .taken), ← at-later-bytes .ensures)
 
 returns-3 : tie.Need-returns-3
-returns-3 c = 
+returns-3 c =
     let at-args = c .before .before .before .before .before .args in
     let at-shared-slice-known2 = c .before .before .shared-slice-known2 in
     let at-class-of = c .before .class-of in
     let at-if2 = c .if2 in
-    let s = at-args .s .now in rw (type-name-by s (omega arith), letter-class (getD s 0 0) (omega (arith, at-shared-slice-known2 .given 0)), ← at-class-of .ensures, ne-eqb _ _ (at-if2 .left))
+    let s = at-args .s .now in
+    rw (type-name-by s (omega arith), letter-class (getD s 0 0) (omega (arith, at-shared-slice-known2 .given 0)), ← at-class-of .ensures, ne-eqb _ _ (at-if2 .left))
 
 pub is-type-name-spec : {M : Type 1} → statement M
 is-type-name-spec =

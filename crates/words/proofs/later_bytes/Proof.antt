@@ -1,7 +1,7 @@
 -- `words::later_bytes` meets its contract. The invariant: all bytes from the start on go on a name if all from i on do.
 use borrow.Author.Needs.{needs}
-use mathlib.Core.Path.{_≡_, refl, sym}
-use Prim.Native.Nat.{_≤_, _+_, _-_}
+use mathlib.Core.Path.{_≡_, refl}
+use Prim.Native.Nat.{_≤_, _-_}
 use native.Mathlib.Omega.{arith}
 use lib.ListN.{length, drop, drop-of-length-le}
 use Rattle.format.specs.Bytes.{all}
@@ -35,7 +35,7 @@ loop-less : tie.Need-loop-less Inv-loop μ-loop
 loop-less c = search needs
 
 loop-again : tie.Need-loop-again Inv-loop μ-loop
-loop-again c = 
+loop-again c =
     let at-loop = c .before .before .before .before .loop in
     let at-args = c .before .before .before .before .before .before .args in
     let at-loop-test = c .before .before .before .loop-test in
@@ -44,7 +44,7 @@ loop-again c =
     (omega arith, rw (at-loop .inv .1, at-cons (at-args .s .now) (at-loop .i) (at-loop-test .taken), ← at-is-later .ensures, at-if1 .taken))
 
 returns : tie.Need-returns Inv-loop μ-loop
-returns c = 
+returns c =
     let at-loop = c .before .before .before .before .loop in
     let at-args = c .before .before .before .before .before .before .args in
     let at-loop-test = c .before .before .before .loop-test in
@@ -53,7 +53,7 @@ returns c =
     rw (at-loop .inv .1, at-cons (at-args .s .now) (at-loop .i) (at-loop-test .taken), ← at-is-later .ensures, at-if1 .left)
 
 returns-2 : tie.Need-returns-2 Inv-loop μ-loop
-returns-2 c = 
+returns-2 c =
     let at-loop = c .before .loop in
     let at-args = c .before .before .before .args in
     let at-loop-test = c .loop-test in

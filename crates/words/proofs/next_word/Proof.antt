@@ -1,5 +1,4 @@
 -- `words::next_word` meets its contract.
-use native.Mathlib.Omega.{arith}
 use borrow.Author.Tests.{lt-ltb, le-ltb}
 use Rattle.words.specs.Spans.{wordAt}
 use borrow.Author.Needs.{needs}
@@ -18,7 +17,7 @@ word-end-requires c κs = search needs
 
 returns : tie.Need-returns
 unfolding wordAt
-returns c = 
+returns c =
     let at-gap-end = c .before .before .gap-end in
     let at-if1 = c .before .if1 in
     let at-word-end = c .word-end in
@@ -26,7 +25,7 @@ returns c =
 
 returns-2 : tie.Need-returns-2
 unfolding wordAt
-returns-2 c = 
+returns-2 c =
     let at-gap-end = c .before .gap-end in
     let at-if1 = c .if1 in
     rw (← at-gap-end .ensures, le-ltb _ _ (at-if1 .left))

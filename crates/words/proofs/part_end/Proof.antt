@@ -1,11 +1,11 @@
 -- `words::part_end` meets its contract. The invariant: the run ends where the run of the rest from e on does.
 use borrow.Author.Needs.{needs}
-use mathlib.Core.Path.{_≡_, refl, sym, ap, _∙_}
+use mathlib.Core.Path.{_≡_, refl, ap}
 use mathlib.Core.Bool.{not}
 use borrow.Author.Tests.{eq-eqb, ne-eqb}
-use Prim.Native.Nat.{_≤_, _+_, _-_}
+use Prim.Native.Nat.{_≤_, _-_}
 use native.Mathlib.Omega.{arith}
-use lib.ListN.{length, drop}
+use lib.ListN.{length}
 use Rattle.lines.proofs.Heads.{run-more, run-stop, run-end}
 use Rattle.words.specs.Spans.{runEnd, notByte}
 use Rattle.words.proofs.part_end.Statement.{statement}
@@ -26,7 +26,7 @@ shared-slice-read-if1 : tie.Need-shared-slice-read-if1 Inv-loop μ-loop
 shared-slice-read-if1 c = search needs
 
 returns : tie.Need-returns Inv-loop μ-loop
-returns c = 
+returns c =
     let at-args = c .before .before .before .before .args in
     let at-loop = c .before .before .before .loop in
     let at-loop-test = c .before .before .loop-test in
@@ -40,7 +40,7 @@ loop-less : tie.Need-loop-less Inv-loop μ-loop
 loop-less c = search needs
 
 loop-again : tie.Need-loop-again Inv-loop μ-loop
-loop-again c = 
+loop-again c =
     let at-args = c .before .before .before .before .args in
     let at-loop = c .before .before .before .loop in
     let at-loop-test = c .before .before .loop-test in
@@ -48,7 +48,7 @@ loop-again c =
     omega (arith, run-more (notByte (at-args .d)) (at-args .s .now) (at-loop .e) (at-loop-test .taken) (ap not (ne-eqb _ _ (at-if1 .left))))
 
 returns-2 : tie.Need-returns-2 Inv-loop μ-loop
-returns-2 c = 
+returns-2 c =
     let at-args = c .before .before .args in
     let at-loop = c .before .loop in
     let at-loop-test = c .loop-test in

@@ -1,7 +1,7 @@
 -- `words::trimmed` meets its contract. The invariant: the text from start to end, without the gaps at its end, is the trimmed text.
 use borrow.Author.Needs.{needs}
-use mathlib.Core.Path.{_≡_, refl, sym, _∙_}
-use Prim.Native.Nat.{_≤_, _+_, _-_}
+use mathlib.Core.Path.{_≡_, sym, _∙_}
+use Prim.Native.Nat.{_≤_, _-_}
 use native.Mathlib.Omega.{arith}
 use lib.ListN.{length}
 use Rattle.format.specs.Words.{isGap, trim}
@@ -25,10 +25,11 @@ gap-end-requires : tie.Need-gap-end-requires Inv-loop μ-loop
 gap-end-requires c κs = search needs
 
 loop-holds : tie.Need-loop-holds Inv-loop μ-loop
-loop-holds c = 
+loop-holds c =
     let at-args = c .before .before .args in
     let at-gap-end = c .gap-end in
-    let s = at-args .s .now in (omega (arith, run-end-le isGap s 0 (omega arith), at-gap-end .ensures), omega arith, rw (at-gap-end .ensures) (trim-from s))
+    let s = at-args .s .now in
+    (omega (arith, run-end-le isGap s 0 (omega arith), at-gap-end .ensures), omega arith, rw (at-gap-end .ensures) (trim-from s))
 
 sub-is-gap : tie.Need-sub-is-gap Inv-loop μ-loop
 sub-is-gap c = search needs
@@ -46,7 +47,7 @@ loop-less : tie.Need-loop-less Inv-loop μ-loop
 loop-less c = search needs
 
 loop-again : tie.Need-loop-again Inv-loop μ-loop
-loop-again c = 
+loop-again c =
     let at-loop = c .before .before .before .before .loop in
     let at-args = c .before .before .before .before .before .before .before .args in
     let at-gap-end = c .before .before .before .before .before .gap-end in
@@ -56,7 +57,7 @@ loop-again c =
     (omega arith, omega arith, at-loop .inv .2 ∙ trim-more (at-args .s .now) (at-gap-end .result) (at-loop .end) (at-loop-test .taken) (at-loop .inv .1) (sym (at-is-gap .ensures) ∙ at-if1 .taken))
 
 returns : tie.Need-returns Inv-loop μ-loop
-returns c = 
+returns c =
     let at-loop = c .before .before .before .before .loop in
     let at-args = c .before .before .before .before .before .before .before .args in
     let at-gap-end = c .before .before .before .before .before .gap-end in
@@ -66,7 +67,7 @@ returns c =
     (omega arith, omega arith, sym (at-loop .inv .2 ∙ trim-stop (at-args .s .now) (at-gap-end .result) (at-loop .end) (at-loop-test .taken) (at-loop .inv .1) (sym (at-is-gap .ensures) ∙ at-if1 .left)))
 
 returns-2 : tie.Need-returns-2 Inv-loop μ-loop
-returns-2 c = 
+returns-2 c =
     let at-loop = c .before .loop in
     let at-args = c .before .before .before .before .args in
     let at-gap-end = c .before .before .gap-end in

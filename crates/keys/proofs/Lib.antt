@@ -1,0 +1,6 @@
+-- Laws of keys and their entries.
+pub mod Prints
+pub mod Order
+pub mod Apart
+pub mod Moves
+pub mod Pairs

@@ -1,0 +1,62 @@
+-- A fingerprint is below 65536, so an entry can be taken apart into its place and its fingerprint; the entries of a part of a list, and of a list
+-- with one more.
+use Prim.Native.Nat.{ℕ, _+_, _-_, _*_, _/_, _%_, _<_, _≤_}
+use native.Mathlib.Numerals.{add-one}
+use native.Mathlib.Omega.{arith}
+use mathlib.Core.Path.{_≡_, sym, ap, _∙_, subst}
+use mathlib.Core.List.{List, [], _∷_, _++_, map-append}
+use borrow.Author.Count.{below-more}
+use lib.ListN.{length, getD, set, take, drop, length-drop}
+use lib.Seq.{getD-set-same, getD-set-other, take-suc-set, getD-take, getD-drop, length-take-le}
+use Rattle.format.specs.Bytes.{Bytes}
+use Rattle.lines.specs.Value.{valueFrom}
+use Rattle.lines.proofs.Cuts.{rest}
+use Rattle.keys.specs.Keys.{mixed, printOf, entryOf, keyAt, keysOf, IsEntry, Entries}
+
+mixed-below : (v : Bytes) (h : ℕ) → h < 4294967296 → mixed h v < 4294967296
+unfolding mixed
+mixed-below [] h l = l
+mixed-below (b ∷ v) h l = mixed-below v ((h + b) * 2654435761 % 4294967296) (omega arith)
+
+pub print-below : (v : Bytes) → printOf v < 65536
+unfolding printOf
+print-below v = omega (arith, mixed-below v 2166136261 (omega arith))
+
+-- the entry of the key at a place
+module _ (s : Bytes) (at : ℕ) (low : at < 65536) where
+  pub entry-place : entryOf at (valueFrom (drop at s)) % 65536 ≡ at
+  entry-place = omega arith
+
+  pub entry-key : keyAt s (entryOf at (valueFrom (drop at s))) ≡ valueFrom (drop at s)
+  entry-key = ap (λ (k : ℕ). valueFrom (drop k s)) entry-place
+
+  pub entry-is : at ≤ length s → IsEntry s (entryOf at (valueFrom (drop at s)))
+  entry-is h = record {
+    inside = omega arith;
+    print = (let p : entryOf at (valueFrom (drop at s)) / 65536 ≡ printOf (valueFrom (drop at s)) = omega arith in p) ∙ ap printOf (sym entry-key);
+  }
+
+-- what a part that begins at an entry's place holds
+pub key-part : (s : Bytes) (a e : ℕ) → a ≡ e % 65536 → valueFrom (take (length s - a) (drop a s)) ≡ keyAt s e
+key-part s a e q = ap valueFrom (rest s a) ∙ ap (λ (k : ℕ). valueFrom (drop k s)) q
+
+-- entries up to a place, and from a place on
+pub entries-front : (s : Bytes) (l : List ℕ) (n : ℕ) → n ≤ length l → Entries s n l → Entries s (length (take n l)) (take n l)
+entries-front s l n h e = rw (length-take-le n l h) (λ i g. rw getD-take (e i g))
+
+pub entries-rest : (s : Bytes) (l : List ℕ) (i : ℕ) → Entries s (length l) l → Entries s (length (take (length l - i) (drop i l))) (take (length l - i) (drop i l))
+entries-rest s l i h = rw (rest l i) (λ p g. rw getD-drop (h (i + p) (omega (arith, length-drop i l))))
+
+-- no entries yet, and one more, stored behind the first n
+pub entries-none : (s : Bytes) (l : List ℕ) → Entries s 0 l
+entries-none s l i h = absurd (omega arith)
+
+module _ (s : Bytes) (l : List ℕ) (n e : ℕ) (room : n < length l) where
+  pub entries-more : Entries s n l → IsEntry s e → Entries s (n + 1) (set l n e)
+  entries-more h k =
+      below-more (λ (i : ℕ). IsEntry s (getD (set l n e) i 0)) n
+      (λ i g. subst (IsEntry s) (sym (getD-set-other l n i e 0 (omega arith))) (h i g))
+      (subst (IsEntry s) (sym (getD-set-same l n e 0 room)) k)
+
+  pub keys-more : keysOf s (take (n + 1) (set l n e)) ≡ keysOf s (take n l) ++ (keyAt s e ∷ [])
+  keys-more = ap (λ (k : ℕ). keysOf s (take k (set l n e))) (add-one n) ∙ ap (keysOf s) (take-suc-set l n e room) ∙ map-append (keyAt s) (take n l) (e ∷ [])

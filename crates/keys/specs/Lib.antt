@@ -1,0 +1,3 @@
+-- Keys, their entries, and the order that they are sorted by.
+pub mod Keys
+pub mod Order

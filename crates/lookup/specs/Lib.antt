@@ -1,0 +1,2 @@
+-- What the answers of the lookups stand for.
+pub mod Answers

@@ -1,0 +1,6 @@
+-- The laws of symbols, of comments, of uuids, of types by their first word, and of values.
+pub mod Symbols
+pub mod Comments
+pub mod Uuids
+pub mod Firsts
+pub mod Meeting
