@@ -1,12 +1,12 @@
 -- The marked cases (a) to (l) of document 01, as one table about the definitions.
 use Prim.Native.Nat.{ℕ, _/_, _%_}
 use mathlib.Core.Path.{_≡_, refl}
-use mathlib.Core.Bool.{Bool, true, false, _&&_}
-use mathlib.Core.List.{List, [], _∷_, _++_, map}
+use mathlib.Core.Bool.{Bool, true, _&&_}
+use mathlib.Core.List.{List, [], _∷_, _++_}
 use Prim.Native.String.{String}
 use lib.Dec.{eqb}
 use lib.ListN.{length, replicate}
-use Rattle.format.specs.Bytes.{Bytes, text, classOf, all, same}
+use Rattle.format.specs.Bytes.{Bytes, text, classOf, all}
 use Rattle.format.specs.Pieces.{bytesOf, pieces}
 use Rattle.format.specs.Records.{records}
 use Rattle.format.specs.Sets.{setsOf}

@@ -12,6 +12,7 @@ pub mod Editing
 pub mod Named
 pub mod Sets
 pub mod Inserting
+pub mod Splices
 pub mod Counting
 pub mod Rest
 pub mod Members

@@ -3,8 +3,8 @@ use Prim.Native.Nat.{ℕ, zero, suc, _+_, _<_}
 use native.Mathlib.Nat.{add-zero, zero-add}
 use native.Mathlib.Omega.{arith}
 use mathlib.Core.Path.{_≡_, refl, sym, ap, _∙_, subst}
-use mathlib.Core.Bool.{Bool, true, false, _&&_, _||_, not, Bool·beq, and-eq-true-iff}
-use mathlib.Core.List.{List, [], _∷_, map}
+use mathlib.Core.Bool.{Bool, true, false, _||_, not, Bool·beq, and-eq-true-iff}
+use mathlib.Core.List.{map}
 use lib.Dec.{eqb}
 use lib.ListN.{getD}
 use Rattle.format.specs.Bytes.{all, upFrom, classOf, classTable, isLetter, isDigit, isBlank, isNewline, isAllowed}

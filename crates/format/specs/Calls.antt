@@ -1,13 +1,13 @@
 -- The answer of each call: its result and every buffer after it.
 use Prim.Native.Nat.{ℕ, zero, suc, _+_, _-_, max}
-use mathlib.Core.Bool.{Bool, true, false, _&&_}
-use mathlib.Core.List.{List, [], _∷_, _++_, map}
+use mathlib.Core.Bool.{Bool, true, false}
+use mathlib.Core.List.{List, [], _∷_, _++_}
 use mathlib.Core.Option.{Option, none, some}
-use lib.Dec.{leb, eqb}
+use lib.Dec.{leb}
 use lib.ListN.{length, take, drop, replicate}
 use Rattle.format.specs.Bytes.{Bytes, pick, all}
 use Rattle.format.specs.Pieces.{Piece, pieces, bytesOf}
-use Rattle.format.specs.Records.{Field, Record, Block, blocks, fieldsOf}
+use Rattle.format.specs.Records.{Block, blocks, fieldsOf}
 use Rattle.format.specs.Sets.{RecSet, valuesOf}
 use Rattle.format.specs.Limits.{fileBytes, recordFields}
 use Rattle.format.specs.Numbers.{onward}
@@ -15,7 +15,7 @@ use Rattle.format.specs.Written.{Pair, writtenAll, isLegalPair}
 use Rattle.format.specs.Edits.{Edit, isRecord, ordinal}
 use Rattle.format.specs.Questions.{Row, firstNo, setsIn, verdict}
 use Rattle.format.specs.Requests.{Request, requestOf}
-use Rattle.format.specs.Plain.{Plain, plainOf, size, indexOf, membersOf, recordOf, hasSet, hasRecord, hasOccurrence, Step, step}
+use Rattle.format.specs.Plain.{plainOf, indexOf, membersOf, recordOf, hasSet, hasRecord, hasOccurrence, Step, step}
 
 -- a number, "marked as no refusal", or a refusal's number
 pub data Answer : Type 0 where

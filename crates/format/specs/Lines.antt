@@ -3,7 +3,7 @@ use Prim.Native.Nat.{ℕ}
 use mathlib.Core.Bool.{Bool, true, false, _&&_, _||_}
 use mathlib.Core.List.{List, [], _∷_, _++_}
 use lib.Dec.{eqb}
-use Rattle.format.specs.Bytes.{Bytes, pick, isLetter, isDigit, isBlank, isNewline, isAllowed, all}
+use Rattle.format.specs.Bytes.{Bytes, isLetter, isDigit, isBlank, isNewline, all}
 
 -- a physical line, without its newline
 abbrev pub Line : Type 0

@@ -1,9 +1,8 @@
 -- The pieces of a file: each field with its lines, each comment, each blank line. (Document 01's term.)
-use Prim.Native.Nat.{ℕ, _+_}
+use Prim.Native.Nat.{_+_}
 use mathlib.Core.Bool.{Bool, true, false}
 use mathlib.Core.List.{List, [], _∷_, _++_}
 use mathlib.Core.Option.{Option, none, some}
-use lib.ListN.{length}
 use Rattle.format.specs.Bytes.{Bytes}
 use Rattle.format.specs.Lines.{Line, lines, bytes, Form, form, joins, cut}
 

@@ -1,16 +1,16 @@
 -- The plain file (document 01's term): what a file reads as, and what an edit makes of it.
 use Prim.Native.Nat.{ℕ, zero, suc, _+_}
-use mathlib.Core.Bool.{Bool, true, false, _&&_, _||_}
+use mathlib.Core.Bool.{Bool, true, false, _&&_}
 use mathlib.Core.List.{List, [], _∷_, _++_, map}
 use mathlib.Core.Option.{Option, none, some}
-use lib.Dec.{leb, ltb, eqb}
+use lib.Dec.{leb, ltb}
 use lib.ListN.{length}
-use Rattle.format.specs.Bytes.{Bytes, pick, all, same}
+use Rattle.format.specs.Bytes.{Bytes, all, same}
 use Rattle.format.specs.Pieces.{Piece}
 use Rattle.format.specs.Records.{Field, Record, countOf}
 use Rattle.format.specs.Sets.{RecSet, setsOf}
 use Rattle.format.specs.Limits.{fileBytes}
-use Rattle.format.specs.Numbers.{Bounds, bits32, onward}
+use Rattle.format.specs.Numbers.{Bounds, bits32}
 use Rattle.format.specs.Written.{Pair, newField, isLegalName, isLegalValue, isLegalPair}
 use Rattle.format.specs.Edits.{Change, Edit, onPieces, onRecords, ordinal, lastOf, onSet, inFront}
 use Rattle.format.specs.Questions.{Row, firstNo, askOf, occurrences, limitRows, ruleRows}

@@ -7,7 +7,7 @@ use lib.Dec.{leb, eqb}
 use lib.ListN.{length}
 use Rattle.format.specs.Bytes.{Bytes, pick, same}
 use Rattle.format.specs.Limits.{fileBytes}
-use Rattle.format.specs.Numbers.{onlyIf, onward}
+use Rattle.format.specs.Numbers.{onward}
 use Rattle.format.specs.Written.{Pair}
 use Rattle.format.specs.Edits.{Edit, Change}
 

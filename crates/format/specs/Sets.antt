@@ -1,12 +1,11 @@
 -- Descriptors and sets, the default set first.
-use Prim.Native.Nat.{ℕ}
 use mathlib.Core.Bool.{Bool, true, false}
-use mathlib.Core.List.{List, [], _∷_, _++_}
-use mathlib.Core.Option.{Option, none, some}
+use mathlib.Core.List.{List, [], _∷_}
+use mathlib.Core.Option.{none}
 use Rattle.format.specs.Bytes.{Bytes, text, same}
 use Rattle.format.specs.Words.{firstWord}
 use Rattle.format.specs.Pieces.{Piece}
-use Rattle.format.specs.Records.{Field, Record, records}
+use Rattle.format.specs.Records.{Record, records}
 
 -- the values of a record's fields of one name
 abbrev pub keepIf : {A : Type 0} → Bool → A → List A → List A

@@ -1,7 +1,7 @@
 -- Words and other parts of a value.
 use Prim.Native.Nat.{ℕ}
 use mathlib.Core.Bool.{Bool, true, false, _&&_, _||_, not}
-use mathlib.Core.List.{List, [], _∷_, _++_, reverse}
+use mathlib.Core.List.{List, [], _∷_, reverse}
 use lib.Dec.{eqb}
 use Rattle.format.specs.Bytes.{Bytes, pick, isBlank, isNewline, isLetter, all}
 use Rattle.format.specs.Lines.{isLater}

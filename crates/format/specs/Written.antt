@@ -1,13 +1,13 @@
 -- How a field and a record are written.
 use Prim.Native.Nat.{ℕ}
 use mathlib.Core.Bool.{Bool, true, false, _&&_, not}
-use mathlib.Core.List.{List, [], _∷_, _++_, map}
+use mathlib.Core.List.{List, [], _∷_, _++_}
 use lib.Dec.{eqb, leb}
 use lib.ListN.{length, getD}
 use Rattle.format.specs.Bytes.{Bytes, isNewline, isAllowed, all}
 use Rattle.format.specs.Lines.{Line, lines, isName, joins}
 use Rattle.format.specs.Pieces.{Piece}
-use Rattle.format.specs.Records.{Field, Record, Block}
+use Rattle.format.specs.Records.{Field}
 use Rattle.format.specs.Words.{split}
 use Rattle.format.specs.Limits.{nameBytes, valueBytes}
 

@@ -10,3 +10,10 @@ pub mod Words
 pub mod Searches
 pub mod Members
 pub mod Views
+pub mod Parting
+pub mod Unfielding
+pub mod Splicing
+pub mod RecordEdits
+pub mod SetEnds
+pub mod SetInserts
+pub mod Applied

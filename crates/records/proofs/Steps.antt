@@ -1,18 +1,18 @@
 -- One step of a walk over a readable part: the piece that the part goes on with, its size, and the readable rest behind it.
-use Prim.Native.Nat.{ℕ, suc, _+_, _-_, _≤_, _<_}
+use Prim.Native.Nat.{ℕ, zero, suc, _+_, _-_, _≤_, _<_}
 use native.Mathlib.Omega.{arith}
 use mathlib.Core.Path.{_≡_, refl, sym, ap, _∙_, subst}
 use mathlib.Core.Bool.{Bool, true, _||_}
 use mathlib.Core.List.{List, [], _∷_, _++_}
 use mathlib.Core.Option.{Option, none, some, Option·none-ne-some, Option·some-injective}
 use lib.ListN.{length, take, drop, length-drop}
-use lib.Seq.{drop-drop, length-take-le}
+use lib.Seq.{drop-drop, take-nil, length-take-le}
 use Rattle.format.proofs.Whole.{Sound}
 use Rattle.format.proofs.Elements.{Each, each-append}
 use Rattle.format.specs.Bytes.{Bytes, text, same}
 use Rattle.format.specs.Lines.{Line, lines, Form, form}
 use Rattle.format.specs.Pieces.{Piece, linesOf, allLines, bytesOf, pieces}
-use Rattle.format.specs.Records.{countOf}
+use Rattle.format.specs.Records.{Field, countOf, fieldsOf}
 use Rattle.format.specs.Calls.{lead}
 use Rattle.format.proofs.Lines.{lines-bytes, Clean}
 use Rattle.format.proofs.Renaming.{sound-starts}
@@ -26,7 +26,7 @@ use Rattle.lines.proofs.Nexts.{next-first}
 use Rattle.lines.proofs.Pieces.{next-cut, no-pieces}
 use Rattle.lines.proofs.Inside.{Inside, next-inside}
 use Rattle.records.specs.Places.{isReadable, sizeIn, headLine}
-use Rattle.records.specs.Walk.{readIn, readOf, leadSize, runFrom}
+use Rattle.records.specs.Walk.{readIn, readOf, recordIn, leadSize, runFrom}
 use Rattle.records.proofs.Walks.{size-piece, size-none, Loose}
 use Rattle.records.proofs.Readings.{Reads, reads-length, readable-ended, readable-pieces, readable-reads}
 
@@ -46,6 +46,7 @@ pub record FieldAt (s : Bytes) (i n v k : ℕ) : Type 0 where
   pub passed : Passed s i (Piece.field name value own) k
   pub named : take ((i + n) - i) (drop i s) ≡ name
   pub begins : v ≡ valueAt (length name) (headLine own)
+  pub decodes : valueFrom (take ((i + k) - (i + v)) (drop (i + v) s)) ≡ value
   pub name-inside : n ≤ k
   pub value-inside : v ≤ k
 
@@ -117,6 +118,18 @@ value-form Form.fault l ls = tt
 value-next : (s : Bytes) → 0 < length s → ValueBy (firstLine s) (nextOf s)
 value-next s h = subst (ValueBy (firstLine s)) (sym (next-first s h)) (value-form (form (firstLine s)) (firstLine s) (lines (drop (suc (lineLen s)) s)))
 
+-- a part of a part: behind the first a of k bytes
+pub drop-take : (a k : ℕ) (s : Bytes) → drop a (take k s) ≡ take (k - a) (drop a s)
+drop-take zero k s = ap (λ (j : ℕ). take j s) (let e : k ≡ k - 0 = omega arith in e)
+drop-take (suc a) zero s = ap (λ (j : ℕ). take j (drop (suc a) s)) (let e : 0 ≡ 0 - suc a = omega arith in e)
+drop-take (suc a) (suc k) [] = sym (take-nil (suc k - suc a))
+drop-take (suc a) (suc k) (c ∷ s) = drop-take a k s ∙ ap (λ (j : ℕ). take j (drop a s)) (let e : k - a ≡ suc k - suc a = omega arith in e)
+
+part-inside : (i a k : ℕ) (s : Bytes) → take ((i + k) - (i + a)) (drop (i + a) s) ≡ drop a (take k (drop i s))
+part-inside i a k s =
+    let e : (i + k) - (i + a) ≡ k - a = omega arith in
+    ap (λ (j : ℕ). take j (drop (i + a) s)) e ∙ ap (take (k - a)) (sym (drop-drop a i s)) ∙ sym (drop-take a k (drop i s))
+
 module _ (s : Bytes) (i : ℕ) (e : isReadable (drop i s) ≡ true) (h : 0 < length (drop i s)) where
   step-by : (x : Next) → Inside (length (drop i s)) x → ValueBy (firstLine (drop i s)) x → some (readOf (drop i s)) ≡ onPiece (pieceOf x (drop i s)) (pieces (drop (sizeOf x) (drop i s))) → Steps s i x
   step-by Next.End f v q = absurd f
@@ -140,6 +153,7 @@ module _ (s : Bytes) (i : ℕ) (e : isReadable (drop i s) ≡ true) (h : 0 < len
         passed = d;
         named = ap (λ (j : ℕ). take j t) z;
         begins = v ∙ ap (λ (j : ℕ). valueAt j (firstLine t)) (sym m) ∙ ap (valueAt (length (take n t))) g;
+        decodes = ap valueFrom (part-inside i a k s);
         name-inside = omega arith;
         value-inside = omega arith;
       }
@@ -193,3 +207,20 @@ module _ (s : Bytes) (i end : ℕ) (d : Bool) where
       ap (runFrom i end d) (f .passed .reads)
       ∙ ap (λ (j : ℕ). runFrom (i + j) (i + j) (d || same (text "%rec") (f .name)) ps) (f .passed .size)
       ∙ ap (λ (b : Bool). runFrom (i + k) (i + k) (d || b) ps) (ap (same (text "%rec")) (sym (f .named)) ∙ sym e)
+
+-- The fields of a part, step by step.
+module _ (s : Bytes) (i : ℕ) where
+  pub record-none : readOf (drop i s) ≡ [] → recordIn (drop i s) ≡ []
+  record-none e = ap fieldsOf e
+
+  pub record-blank : (l : Line) (k : ℕ) → Passed s i (Piece.blank l) k → recordIn (drop i s) ≡ recordIn (drop (i + k) s)
+  record-blank l k p = ap fieldsOf (p .reads)
+
+  pub record-comment : (l : Line) (k : ℕ) → Passed s i (Piece.comment l) k → recordIn (drop i s) ≡ recordIn (drop (i + k) s)
+  record-comment l k p = ap fieldsOf (p .reads)
+
+  pub record-field : (n v k : ℕ) → FieldAt s i n v k
+      → recordIn (drop i s) ≡ record { name = take ((i + n) - i) (drop i s); value = valueFrom (take ((i + k) - (i + v)) (drop (i + v) s)); count = k } ∷ recordIn (drop (i + k) s)
+  record-field n v k f =
+      ap fieldsOf (f .passed .reads)
+      ∙ (λ d. record { name = sym (f .named) d; value = sym (f .decodes) d; count = f .passed .size d } ∷ recordIn (drop (i + k) s))

@@ -1,8 +1,8 @@
--- The first word of a value, byte by byte: gaps are passed, then the word's bytes are compared with another text's.
+-- The words of a value, byte by byte: gaps are passed, or bytes that are none, and a word's bytes are compared with another text's.
 use Prim.Native.Nat.{ℕ, _+_, _≤_, _<_}
 use native.Mathlib.Omega.{arith}
 use mathlib.Core.Path.{_≡_, refl, sym, ap, _∙_}
-use mathlib.Core.Bool.{Bool, true, false, not}
+use mathlib.Core.Bool.{Bool, true, false, not, Bool·beq}
 use mathlib.Core.List.{[], _∷_}
 use lib.Dec.{eqb}
 use lib.ListN.{length, drop, getD, drop-of-length-le}
@@ -10,15 +10,31 @@ use borrow.Author.Tests.{eqb-true, eqb-false, eq-eqb, ne-eqb}
 use Rattle.format.specs.Bytes.{Bytes, pick, same}
 use Rattle.format.specs.Words.{isGap, notGap, frontIf, front, behind}
 use Rattle.lines.proofs.Cuts.{at-cons}
+use Rattle.records.specs.Gaps.{gapIs}
+
+-- what the test of a byte says
+pub gap-is : (t : Bool) (c : ℕ) → gapIs t c ≡ Bool·beq (isGap c) t
+gap-is true c = go (isGap c)
+  where
+    go : (b : Bool) → b ≡ Bool·beq b true
+    go true = refl
+    go false = refl
+gap-is false c = go (isGap c)
+  where
+    go : (b : Bool) → not b ≡ Bool·beq b false
+    go true = refl
+    go false = refl
+
+-- a text that begins with a byte that is passed, or with another
+module _ (p : ℕ → Bool) (v w : Bytes) (b : ℕ) (e : v ≡ b ∷ w) where
+  pub byte-passed : p b ≡ true → behind p v ≡ behind p w
+  byte-passed g = ap (behind p) e ∙ ap (λ (t : Bool). pick t (behind p w) (b ∷ w)) g
+
+  pub byte-left : p b ≡ false → behind p v ≡ v
+  byte-left g = ap (behind p) e ∙ ap (λ (t : Bool). pick t (behind p w) (b ∷ w)) g ∙ sym e
 
 -- a text that begins with a gap, and one that begins with another byte
 module _ (v w : Bytes) (b : ℕ) (e : v ≡ b ∷ w) where
-  pub gap-passed : isGap b ≡ true → behind isGap v ≡ behind isGap w
-  gap-passed g = ap (behind isGap) e ∙ ap (λ (t : Bool). pick t (behind isGap w) (b ∷ w)) g
-
-  pub gap-left : isGap b ≡ false → behind isGap v ≡ v
-  gap-left g = ap (behind isGap) e ∙ ap (λ (t : Bool). pick t (behind isGap w) (b ∷ w)) g ∙ sym e
-
   pub word-ended : isGap b ≡ true → front notGap v ≡ []
   word-ended g = ap (front notGap) e ∙ ap (λ (t : Bool). frontIf (not t) b (front notGap w)) g
 

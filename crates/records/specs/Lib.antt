@@ -1,3 +1,4 @@
 -- Where the records and fields of a file stand.
 pub mod Places
 pub mod Walk
+pub mod Gaps

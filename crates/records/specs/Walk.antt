@@ -5,7 +5,7 @@ use mathlib.Core.List.{List, [], _∷_}
 use mathlib.Core.Option.{Option, none, some}
 use Rattle.format.specs.Bytes.{Bytes, text, same}
 use Rattle.format.specs.Pieces.{Piece, pieces}
-use Rattle.format.specs.Records.{Block, countOf, fieldsOf}
+use Rattle.format.specs.Records.{Record, Block, countOf, fieldsOf}
 use Rattle.format.specs.Sets.{valuesOf}
 use Rattle.format.specs.Calls.{lead}
 use Rattle.records.specs.Places.{sizeIn, namesSet}
@@ -18,6 +18,10 @@ readIn (some ps) = ps
 
 unfoldable pub readOf : Bytes → List Piece
 readOf s = readIn (pieces s)
+
+-- the fields of a part, in order
+abbrev pub recordIn : Bytes → Record
+recordIn s = fieldsOf (readOf s)
 
 -- the number of bytes before the first field
 unfoldable pub leadSize : Bytes → ℕ
@@ -48,4 +52,4 @@ runOf s = runFrom 0 0 false (readOf s)
 
 -- do the fields of a part open the set of a name
 unfoldable pub opensSet : Bytes → Bytes → Bool
-opensSet n s = namesSet n (valuesOf (text "%rec") (fieldsOf (readOf s)))
+opensSet n s = namesSet n (valuesOf (text "%rec") (recordIn s))

@@ -1,12 +1,14 @@
 // Records: the next one of a part of the file, and the search for a set, a record and an occurrence.
 ghost use mathlib.Core.Path.{_≡_};
 ghost use mathlib.Core.Bool.{true};
-ghost use lib.ListN.{drop};
+ghost use Prim.Native.Nat.{ℕ, _+_, _<_, _≤_};
+ghost use lib.ListN.{length, take, drop};
 ghost use Rattle.format.specs.Bytes.{classTable, same};
 ghost use Rattle.format.specs.Words.{isGap, notGap, front, behind, firstWord};
 ghost use Rattle.lines.specs.Value.{valueFrom};
 ghost use Rattle.records.specs.Places.{isReadable, placesOf, firstPlace, setPlace, recordPlace, countBefore, fieldPlace};
 ghost use Rattle.records.specs.Walk.{leadSize, runOf, opensSet};
+ghost use Rattle.records.specs.Gaps.{gapIs};
 use lines::Decoded;
 use lines::Next;
 
@@ -294,26 +296,27 @@ fn is_gap(b: u8) -> bool
     b == 10
 }
 
-// The place in a value, which begins where s does, of its first word: the place behind the gaps before it.
-fn word_start(s: &[u8]) -> usize
-    ensures { λ r. ⌜ valueFrom (drop r (now (s .entry))) ≡ behind isGap (valueFrom (now (s .entry))) ⌝ }
+// Where the gaps that the value from i on begins with have been passed, or the bytes that are no gaps.
+pub fn pass(s: &[u8], i: usize, gaps: bool) -> usize
+    requires { ⌜ i ≤ length (now s) ⌝ }
+    ensures { λ r. ⌜ (valueFrom (drop r (now (s .entry))) ≡ behind (gapIs gaps) (valueFrom (drop i (now (s .entry))))) × (i ≤ r) × (r ≤ length (now (s .entry))) ⌝ }
 {
-    let mut i = 0;
+    let mut at = i;
     loop {
-        let d = lines::value_byte(s, i);
+        let d = lines::value_byte(s, at);
         let Decoded::Byte { byte, next } = d else {
-            return i;
+            return at;
         };
-        if is_gap(byte) {
-            i = next;
+        if is_gap(byte) == gaps {
+            at = next;
         } else {
-            return i;
+            return at;
         }
     }
 }
 
 // Is the word that the value from i on begins with this one?
-fn word_here(s: &[u8], i: usize, word: &[u8]) -> bool
+pub fn word_here(s: &[u8], i: usize, word: &[u8]) -> bool
     ensures { λ r. ⌜ r ≡ same (now (word .entry)) (front notGap (valueFrom (drop i (now (s .entry))))) ⌝ }
 {
     let mut at = i;
@@ -341,7 +344,7 @@ fn word_here(s: &[u8], i: usize, word: &[u8]) -> bool
 pub fn word_is(s: &[u8], word: &[u8]) -> bool
     ensures { λ r. ⌜ r ≡ same (now (word .entry)) (firstWord (valueFrom (now (s .entry)))) ⌝ }
 {
-    let i = word_start(s);
+    let i = pass(s, 0, true);
     word_here(s, i, word)
 }
 

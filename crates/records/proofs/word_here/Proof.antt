@@ -1,7 +1,7 @@
 -- `records::word_here` meets its contract. The invariant: the word from n on is the same as the first word of the value from at on if the whole ones are, and only then.
 -- The measure is what is left of the length.
 use borrow.Author.Needs.{needs}
-use Prim.Native.Nat.{_-_, _≤_}
+use Prim.Native.Nat.{_+_, _-_, _≤_}
 use native.Mathlib.Omega.{arith}
 use mathlib.Core.Path.{_≡_, refl, sym, ap, _∙_}
 use lib.ListN.{length, drop}

@@ -1,5 +1,5 @@
 -- `records::word_is` meets its contract: behind the gaps the first word is compared.
-use mathlib.Core.Path.{ap, _∙_}
+use mathlib.Core.Path.{_≡_, ap, _∙_}
 use Rattle.format.specs.Bytes.{same}
 use Rattle.format.specs.Words.{notGap, front}
 use borrow.Author.Needs.{needs}
@@ -7,11 +7,11 @@ use Rattle.records.proofs.word_is.Statement.{statement}
 use Rattle.records.proofs.word_is.Tie as tie
 use Rattle.records.proofs.word_is.Reads as reads
 use Rattle.records.proofs.word_is.Lts as lts
+use Rattle.records.proofs.pass.Reads as pass-reads
 use Rattle.records.proofs.word_here.Reads as word-here-reads
-use Rattle.records.proofs.word_start.Reads as word-start-reads
 
-word-start-requires : tie.Need-word-start-requires
-word-start-requires c κs = search needs
+pass-requires : tie.Need-pass-requires
+pass-requires c κs = search needs
 
 word-here-requires : tie.Need-word-here-requires
 word-here-requires c κs = search needs
@@ -20,8 +20,8 @@ returns : tie.Need-returns
 returns c =
     let at-word-here = c .word-here in
     let at-args = c .before .before .before .before .args in
-    let at-word-start = c .before .word-start in
-    at-word-here .ensures ∙ ap (λ v. same (at-args .word .now) (front notGap v)) (at-word-start .ensures)
+    let at-pass = c .before .pass in
+    at-word-here .ensures ∙ ap (λ v. same (at-args .word .now) (front notGap v)) (at-pass .ensures .0)
 
 pub word-is-spec : {M : Type 1} → statement M
-word-is-spec = tie.close (tie.spec word-start-requires word-here-requires returns)
+word-is-spec = tie.close (tie.spec pass-requires word-here-requires returns)

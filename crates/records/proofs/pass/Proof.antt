@@ -1,29 +1,31 @@
--- `records::word_start` meets its contract. The invariant: behind its gaps the value from i on is what the whole value is.
+-- `records::pass` meets its contract. The invariant: what is behind the passed bytes of the value from at on is behind those of the value from i on.
 -- The measure is what is left of the length.
 use borrow.Author.Needs.{needs}
-use Prim.Native.Nat.{_-_}
+use Prim.Native.Nat.{_-_, _≤_}
 use native.Mathlib.Omega.{arith}
 use mathlib.Core.Path.{_≡_, refl, sym, ap, _∙_}
+use mathlib.Core.Bool.{Bool·beq}
 use lib.ListN.{length, drop}
-use Rattle.format.specs.Words.{isGap, behind}
+use Rattle.format.specs.Words.{behind}
 use Rattle.lines.specs.Value.{valueFrom}
 use Rattle.lines.proofs.Decoding.{ended, goes-on}
-use Rattle.records.proofs.Words.{gap-passed, gap-left}
-use Rattle.records.proofs.word_start.Statement.{statement}
-use Rattle.records.proofs.word_start.Tie as tie
-use Rattle.records.proofs.word_start.Reads as reads
-use Rattle.records.proofs.word_start.Lts as lts
+use Rattle.records.specs.Gaps.{gapIs}
+use Rattle.records.proofs.Words.{gap-is, byte-passed, byte-left}
+use Rattle.records.proofs.pass.Statement.{statement}
+use Rattle.records.proofs.pass.Tie as tie
+use Rattle.records.proofs.pass.Reads as reads
+use Rattle.records.proofs.pass.Lts as lts
 use Rattle.lines.proofs.value_byte.Reads as value-byte-reads
 use Rattle.records.proofs.is_gap.Reads as is-gap-reads
 
 abbrev Inv-loop : tie.InvT-loop
-Inv-loop s i₀ i = behind isGap (valueFrom (drop i s)) ≡ behind isGap (valueFrom s)
+Inv-loop s i gaps at₀ at = (i ≤ at) × (at ≤ length s) × (behind (gapIs gaps) (valueFrom (drop at s)) ≡ behind (gapIs gaps) (valueFrom (drop i s)))
 
 abbrev μ-loop : tie.MeasureT-loop
-μ-loop s i₀ i = length s - i
+μ-loop s i gaps at₀ at = length s - at
 
 loop-holds : tie.Need-loop-holds Inv-loop μ-loop
-loop-holds c = refl
+loop-holds c = (omega arith, omega arith, refl)
 
 value-byte-requires : tie.Need-value-byte-requires Inv-loop μ-loop
 value-byte-requires c κs = search needs
@@ -40,8 +42,8 @@ returns c =
     let at-loop = c .before .before .before .loop in
     let at-value-byte = c .before .before .value-byte in
     let at-enum-told = c .enum-told in
-    let e = ended (at-args .s .now) (at-loop .i) (at-value-byte .result) (at-value-byte .ensures) (at-enum-told .given .1) in
-    e ∙ sym (ap (behind isGap) e) ∙ at-loop .inv
+    let e = ended (at-args .s .now) (at-loop .at) (at-value-byte .result) (at-value-byte .ensures) (at-enum-told .given .1) in
+    (e ∙ sym (ap (behind (gapIs (at-args .gaps))) e) ∙ at-loop .inv .2, at-loop .inv .0, at-loop .inv .1)
 
 is-gap-requires : tie.Need-is-gap-requires Inv-loop μ-loop
 is-gap-requires c κs = search needs
@@ -52,7 +54,7 @@ loop-less c =
     let at-loop = c .before .before .before .before .before .before .loop in
     let at-value-byte = c .before .before .before .before .before .value-byte in
     let at-d = c .before .before .before .d in
-    let e = goes-on (at-args .s .now) (at-loop .i) (at-value-byte .result) (at-value-byte .ensures) (at-d .given .1) in
+    let e = goes-on (at-args .s .now) (at-loop .at) (at-value-byte .result) (at-value-byte .ensures) (at-d .given .1) in
     omega (arith, e .1, e .2)
 
 loop-again : tie.Need-loop-again Inv-loop μ-loop
@@ -63,8 +65,9 @@ loop-again c =
     let at-d = c .before .before .before .d in
     let at-is-gap = c .before .is-gap in
     let at-if1 = c .if1 in
-    let e = goes-on (at-args .s .now) (at-loop .i) (at-value-byte .result) (at-value-byte .ensures) (at-d .given .1) in
-    sym (gap-passed (valueFrom (drop (at-loop .i) (at-args .s .now))) (valueFrom (drop (at-d .given .0 .1 .0) (at-args .s .now))) (at-d .given .0 .0) (e .0) (sym (at-is-gap .ensures) ∙ at-if1 .taken)) ∙ at-loop .inv
+    let e = goes-on (at-args .s .now) (at-loop .at) (at-value-byte .result) (at-value-byte .ensures) (at-d .given .1) in
+    let g = gap-is (at-args .gaps) (at-d .given .0 .0) ∙ ap (λ t. Bool·beq t (at-args .gaps)) (sym (at-is-gap .ensures)) ∙ at-if1 .taken in
+    (omega (arith, e .1), e .2, sym (byte-passed (gapIs (at-args .gaps)) (valueFrom (drop (at-loop .at) (at-args .s .now))) (valueFrom (drop (at-d .given .0 .1 .0) (at-args .s .now))) (at-d .given .0 .0) (e .0) g) ∙ at-loop .inv .2)
 
 returns-2 : tie.Need-returns-2 Inv-loop μ-loop
 returns-2 c =
@@ -74,11 +77,12 @@ returns-2 c =
     let at-d = c .before .before .before .d in
     let at-is-gap = c .before .is-gap in
     let at-if1 = c .if1 in
-    let e = goes-on (at-args .s .now) (at-loop .i) (at-value-byte .result) (at-value-byte .ensures) (at-d .given .1) in
-    sym (gap-left (valueFrom (drop (at-loop .i) (at-args .s .now))) (valueFrom (drop (at-d .given .0 .1 .0) (at-args .s .now))) (at-d .given .0 .0) (e .0) (sym (at-is-gap .ensures) ∙ at-if1 .left)) ∙ at-loop .inv
+    let e = goes-on (at-args .s .now) (at-loop .at) (at-value-byte .result) (at-value-byte .ensures) (at-d .given .1) in
+    let g = gap-is (at-args .gaps) (at-d .given .0 .0) ∙ ap (λ t. Bool·beq t (at-args .gaps)) (sym (at-is-gap .ensures)) ∙ at-if1 .left in
+    (sym (byte-left (gapIs (at-args .gaps)) (valueFrom (drop (at-loop .at) (at-args .s .now))) (valueFrom (drop (at-d .given .0 .1 .0) (at-args .s .now))) (at-d .given .0 .0) (e .0) g) ∙ at-loop .inv .2, at-loop .inv .0, at-loop .inv .1)
 
-pub word-start-spec : {M : Type 1} → statement M
-word-start-spec =
+pub pass-spec : {M : Type 1} → statement M
+pass-spec =
     tie.close
     (tie.spec
     Inv-loop

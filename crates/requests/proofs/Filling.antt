@@ -1,0 +1,137 @@
+-- Writing a record: the answer of each case, and that what is written reads back.
+use Prim.Native.Nat.{ℕ, zero, suc, _≤_}
+use native.Mathlib.Omega.{arith}
+use mathlib.Core.Path.{_≡_, refl, sym, ap, _∙_, subst}
+use mathlib.Core.Bool.{Bool, true, false}
+use mathlib.Core.List.{List, [], _∷_, map}
+use mathlib.Core.Option.{Option, none, some, Option·none-ne-some}
+use lib.Dec.{leb}
+use lib.ListN.{length, take, drop}
+use lib.Seq.{take-append-seam}
+use borrow.Author.Tests.{leb-true, leb-false}
+use types.Run.{OneOf, miss}
+use denote.Enum.Declared.{tagOf}
+use Rattle.format.specs.Bytes.{Bytes, all}
+use Rattle.format.specs.Limits.{fileBytes}
+use Rattle.format.specs.Numbers.{onward}
+use Rattle.format.specs.Pieces.{Piece, pieces}
+use Rattle.format.specs.Sets.{default, setsOf}
+use Rattle.format.specs.Questions.{firstNo}
+use Rattle.format.specs.Requests.{Request as Asked, requestOf}
+use Rattle.format.specs.Written.{Pair, writtenAll, newField, isLegalPair}
+use Rattle.format.specs.Edits.{Edit}
+use Rattle.format.specs.Calls.{Answer, over, Filled, filled, writeRows, insertOf, writeBy, writeAnswer}
+use Rattle.format.proofs.Inserting.{set-reads-back}
+use Rattle.format.proofs.Requested.{HasPairs, request-pairs}
+use Rattle.requests.proofs.Action.{the-type}
+use Rattle.requests.specs.declared.Action.{Action}
+use Rattle.requests.specs.declared.Request.{Request}
+use Rattle.requests.specs.declared.RequestOf.{RequestOf}
+use Rattle.requests.specs.declared.Written.{Written}
+use Rattle.requests.specs.Pairs.{pairsAt}
+use Rattle.requests.specs.Kinds.{editOf, requestAnswer, InAction, Inside}
+use Rattle.requests.proofs.Kinding.{request-long}
+use Rattle.requests.proofs.Weighing.{asked-illegal}
+use Rattle.requests.specs.Writes.{filledBy, writing}
+
+-- a number or a refusal
+pub filled-refused : (n : ℕ) (text out : Bytes) → (n ≡ 0 → ⊥) → filledBy (Written.Refused n) out ≡ filled n text out
+filled-refused zero text out h = absurd (h refl)
+filled-refused (suc n) text out h = refl
+
+pub filled-written : (n k : ℕ) (text out after : Bytes) → k ≡ length text → after ≡ over text out → n ≡ 0 → filledBy (Written.Len k) after ≡ filled n text out
+filled-written n k text out after l a e = rw (l, a, e)
+
+module _ (s out : Bytes) where
+  -- no request, and a request of another kind
+  pub write-fault : requestAnswer s RequestOf.Fault ≡ requestOf s → filledBy (Written.Refused 20) out ≡ writeAnswer s out
+  unfolding writeAnswer
+  write-fault e = ap (λ (x : Option Asked). writeBy (onward (λ (q : Asked). insertOf (q .edit)) x) out) e
+
+  module _ (q : Request) (e : requestAnswer s (RequestOf.Is q) ≡ requestOf s) where
+    by-action : writeBy (insertOf (editOf s (q .action))) out ≡ writeAnswer s out
+    unfolding writeAnswer
+    by-action = ap (λ (x : Option Asked). writeBy (onward (λ (y : Asked). insertOf (y .edit)) x) out) e
+
+    pub write-other : OneOf (1 ∷ 2 ∷ 3 ∷ 4 ∷ 5 ∷ []) (tagOf the-type (q .action)) → filledBy (Written.Refused 20) out ≡ writeAnswer s out
+    write-other h = go (q .action) h ∙ by-action
+      where
+        go : (a : Action) → OneOf (1 ∷ 2 ∷ 3 ∷ 4 ∷ 5 ∷ []) (tagOf the-type a) → filledBy (Written.Refused 20) out ≡ writeBy (insertOf (editOf s a)) out
+        go (Action.Insert i) k = absurd (miss (1 ∷ 2 ∷ 3 ∷ 4 ∷ 5 ∷ []) 0 tt k)
+        go Action.Delete k = refl
+        go (Action.Add n v) k = refl
+        go (Action.Set n o v) k = refl
+        go (Action.Drop n o) k = refl
+        go (Action.Rename n o m) k = refl
+
+    pub write-insert : (i : ℕ) → q .action ≡ Action.Insert i → filled (firstNo writeRows (writing (pairsAt s i) (length out))) (writtenAll (pairsAt s i)) out ≡ writeAnswer s out
+    write-insert i a = ap (λ (x : Action). writeBy (insertOf (editOf s x)) out) (sym a) ∙ by-action
+
+-- a request that was read, and the pairs of an insert
+pub request-found : (s : Bytes) (r : RequestOf) (q : Request) → requestAnswer s r ≡ requestOf s → r ≡ RequestOf.Is q → requestAnswer s (RequestOf.Is q) ≡ requestOf s
+request-found s r q h e = subst (λ (x : RequestOf). requestAnswer s x ≡ requestOf s) e h
+
+pub request-missed : (s : Bytes) (r : RequestOf) → requestAnswer s r ≡ requestOf s → r ≡ RequestOf.Fault → requestAnswer s RequestOf.Fault ≡ requestOf s
+request-missed s r h e = subst (λ (x : RequestOf). requestAnswer s x ≡ requestOf s) e h
+
+pub insert-inside : (s : Bytes) (r : RequestOf) (q : Request) (i : ℕ) → Inside s r → r ≡ RequestOf.Is q → q .action ≡ Action.Insert i → InAction s (Action.Insert i)
+insert-inside s r q i h e a = subst (InAction s) a (subst (Inside s) e h .1)
+
+-- it is not too long
+pub request-bytes : (s : Bytes) (q : Request) → requestAnswer s (RequestOf.Is q) ≡ requestOf s → length s ≤ fileBytes
+request-bytes s q e = go (leb (length s) fileBytes) refl
+  where
+    go : (t : Bool) → leb (length s) fileBytes ≡ t → length s ≤ fileBytes
+    go true h = leb-true (length s) fileBytes h
+    go false h = absurd (Option·none-ne-some _ (request-long s (leb-false (length s) fileBytes h) .0 ∙ sym e))
+
+-- What is written reads back as one record: the pairs of the request, with their names and values, in the default set.
+pub record ReadsBack (s text : Bytes) : Type 0 where
+  pub asked : Asked
+  pub first : Pair
+  pub others : List Pair
+  pub request : requestOf s ≡ some asked
+  pub pairs : asked .edit ≡ Edit.insert (first ∷ others)
+  pub lines : List Piece
+  pub reads : pieces text ≡ some lines
+  pub sets : setsOf lines ≡ default (map newField (first ∷ others) ∷ []) ∷ []
+
+-- an answer that is a length has no refusal, and the text stands at the front
+filled-value : (k : ℕ) (text out after : Bytes) (n : ℕ) → Answer.value n ≡ filled k text out .result → after ≡ filled k text out .out → (k ≡ 0) × (take n after ≡ text)
+filled-value zero text out after n v o =
+    let l : n ≡ length text = cc in
+    (refl, rw (l, o) (take-append-seam text (drop (length text) out)))
+filled-value (suc k) text out after n v o = let z : _≡_ {A = ℕ} 0 1 = cc in absurd (omega arith)
+
+asked-legal : (ps : List Pair) (room : ℕ) → firstNo writeRows (writing ps room) ≡ 0 → all isLegalPair ps ≡ true
+asked-legal ps room e = go (all isLegalPair ps) refl
+  where
+    go : (t : Bool) → all isLegalPair ps ≡ t → all isLegalPair ps ≡ true
+    go true h = h
+    go false h = absurd (omega (arith, asked-illegal ps room h))
+
+module _ (s out after : Bytes) (n : ℕ) (e : record { result = Answer.value n; out = after } ≡ writeAnswer s out) where
+  asked-value : (x : Option Asked) → requestOf s ≡ x → record { result = Answer.value n; out = after } ≡ writeBy (onward (λ (q : Asked). insertOf (q .edit)) x) out
+  unfolding writeAnswer
+  asked-value x h = e ∙ ap (λ (y : Option Asked). writeBy (onward (λ (q : Asked). insertOf (q .edit)) y) out) h
+
+  refused : record { result = Answer.value n; out = after } ≡ filled 20 [] out → ⊥
+  refused h = omega (arith, filled-value 20 [] out after n (ap (λ (f : Filled). f .result) h) (ap (λ (f : Filled). f .out) h) .0)
+
+  by-edit : (q : Asked) (d : Edit) → requestOf s ≡ some q → q .edit ≡ d → HasPairs d → record { result = Answer.value n; out = after } ≡ writeBy (insertOf d) out → ReadsBack s (take n after)
+  by-edit q (Edit.insert []) h k m v = absurd m
+  by-edit q (Edit.insert (p ∷ ps)) h k m v =
+      let w = filled-value (firstNo writeRows (writing (p ∷ ps) (length out))) (writtenAll (p ∷ ps)) out after n (ap (λ (f : Filled). f .result) v) (ap (λ (f : Filled). f .out) v) in
+      let b = set-reads-back p ps (asked-legal (p ∷ ps) (length out) (w .0)) in
+      record { asked = q; first = p; others = ps; request = h; pairs = k; lines = b .0; reads = ap pieces (w .1) ∙ b .1; sets = b .2 }
+  by-edit q Edit.delete h k m v = absurd (refused v)
+  by-edit q (Edit.add p) h k m v = absurd (refused v)
+  by-edit q (Edit.change name o c) h k m v = absurd (refused v)
+
+  by-request : (x : Option Asked) → requestOf s ≡ x → ReadsBack s (take n after)
+  by-request none h = absurd (refused (asked-value none h))
+  by-request (some q) h = by-edit q (q .edit) h refl (request-pairs s q h) (asked-value (some q) h)
+
+-- where the answer of `write_record` is a length
+pub write-reads-back : (s out after : Bytes) (r : Written) (n : ℕ) → filledBy r after ≡ writeAnswer s out → r ≡ Written.Len n → ReadsBack s (take n after)
+write-reads-back s out after r n e l = by-request s out after n (ap (λ (x : Written). filledBy x after) (sym l) ∙ e) (requestOf s) refl

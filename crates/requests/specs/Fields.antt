@@ -1,0 +1,59 @@
+-- Tagged fields from a place of a request on.
+use Prim.Native.Nat.{ℕ, _-_, _≤_, _<_}
+use mathlib.Core.Path.{_≡_}
+use mathlib.Core.Bool.{false}
+use mathlib.Core.List.{List, [], _∷_}
+use mathlib.Core.Option.{Option, none, some}
+use lib.Dec.{eqb}
+use lib.ListN.{length, take, drop}
+use Rattle.format.specs.Bytes.{Bytes}
+use Rattle.format.specs.Numbers.{onward}
+use Rattle.format.specs.Requests.{Tagged as Field, tagged, Request, withNumber, changes}
+use Rattle.requests.specs.declared.Span.{Span}
+use Rattle.requests.specs.declared.Tagged.{Tagged}
+use Rattle.requests.specs.declared.Text.{Text}
+use Rattle.requests.specs.declared.Number.{Number}
+use Rattle.requests.specs.declared.Place.{Place}
+
+-- the bytes from one place to another
+abbrev pub part : Bytes → ℕ → ℕ → Bytes
+part s a b = take (b - a) (drop a s)
+
+abbrev pub bytesOf : Bytes → Span → Bytes
+bytesOf s p = part s (p .start) (p .end)
+
+abbrev pub InSpan : Bytes → Span → Type 0
+InSpan s p = (p .start ≤ p .end) × (p .end ≤ length s)
+
+-- the fields from a place on, and a field in front of fields where they are
+abbrev pub fieldsFrom : Bytes → ℕ → Option (List Field)
+fieldsFrom s i = tagged (drop i s)
+
+abbrev pub inFront : ℕ → Bytes → Option (List Field) → Option (List Field)
+inFront t c none = none
+inFront t c (some fs) = some (record { tag = t; contents = c } ∷ fs)
+
+-- what the field at i says of the fields from i on
+abbrev pub FieldAt : Bytes → ℕ → Tagged → Type 0
+FieldAt s i (Tagged.At t a b) = (fieldsFrom s i ≡ inFront t (part s a b) (fieldsFrom s b)) × (i < a) × (a ≤ b) × (b ≤ length s)
+FieldAt s i Tagged.End = (fieldsFrom s i ≡ some []) × (length s ≤ i)
+FieldAt s i Tagged.Fault = (fieldsFrom s i ≡ none) × (i < length s)
+
+-- fields that do not begin with one of a tag
+abbrev pub NoText : ℕ → Option (List Field) → Type 0
+NoText t none = Unit {0}
+NoText t (some []) = Unit {0}
+NoText t (some (f ∷ fs)) = eqb t (f .tag) ≡ false
+
+abbrev pub TextAt : Bytes → ℕ → ℕ → Text → Type 0
+TextAt s i t (Text.At p) = (fieldsFrom s i ≡ inFront t (bytesOf s p) (fieldsFrom s (p .end))) × (i < p .start) × InSpan s p
+TextAt s i t Text.Fault = NoText t (fieldsFrom s i)
+
+-- whatever follows from a number, and from the place of a field, follows from what is read
+abbrev pub NumberAt : Bytes → ℕ → ℕ → Number → Type 0
+NumberAt s i t (Number.Is n k) = ((f : ℕ → List Field → Option Request) → onward (withNumber t f) (fieldsFrom s i) ≡ onward (f n) (fieldsFrom s k)) × (k ≤ length s)
+NumberAt s i t Number.Fault = (f : ℕ → List Field → Option Request) → onward (withNumber t f) (fieldsFrom s i) ≡ none
+
+abbrev pub PlaceAt : Bytes → ℕ → Place → Type 0
+PlaceAt s i (Place.At r n o k) = ((b : Bytes) (f : Bytes → ℕ → ℕ → List Field → Option Request) → onward (changes b f) (fieldsFrom s i) ≡ onward (f (bytesOf s n) r o) (fieldsFrom s k)) × InSpan s n × (k ≤ length s)
+PlaceAt s i Place.Fault = (b : Bytes) (f : Bytes → ℕ → ℕ → List Field → Option Request) → onward (changes b f) (fieldsFrom s i) ≡ none

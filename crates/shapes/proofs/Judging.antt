@@ -1,0 +1,156 @@
+-- When a descriptor is well formed; and question 6 as a walk that keeps the names it has met: each new descriptor is well formed and called like none before it.
+use Prim.Native.Nat.{suc, _≤_}
+use mathlib.Core.Path.{_≡_, refl, sym, ap, _∙_}
+use mathlib.Core.Bool.{Bool, true, false, _&&_, _||_, not, and-eq-true-iff}
+use mathlib.Core.List.{List, [], _∷_, _++_, map}
+use borrow.Author.Tests.{leb-true}
+use lib.Dec.{leb}
+use lib.ListN.{length}
+use Rattle.format.specs.Bytes.{Bytes, text, pick, all, same, among}
+use Rattle.format.specs.Limits.{descriptors}
+use Rattle.format.specs.Numbers.{bits32}
+use Rattle.format.specs.Questions.{fitsRecord, fitsRules}
+use Rattle.format.specs.Records.{Record}
+use Rattle.format.specs.Rules.{isShaped, isWellFormed, distinct}
+use Rattle.format.specs.Sets.{valuesOf}
+use Rattle.format.proofs.Elements.{all-alike, all-both}
+use Rattle.format.proofs.Listing.{same-swap}
+use Rattle.format.proofs.Walking.{isHead, headName, heads, headNames, walkFits, walkWell}
+use Rattle.shapes.specs.Names.{passes}
+
+-- does a name occur at most once
+abbrev pub isOnce : Bytes → Record → Bool
+isOnce n r = leb (length (valuesOf n r)) 1
+
+module _ (r : Record) where
+  pub formed : all (isShaped bits32) r ≡ true → isOnce (text "%key") r ≡ true → isWellFormed bits32 r ≡ isOnce (text "%size") r
+  formed p q = λ i. (p i && q i) && isOnce (text "%size") r
+
+  pub keys-twice : isOnce (text "%key") r ≡ false → isWellFormed bits32 r ≡ false
+  keys-twice q = go (all (isShaped bits32) r)
+    where
+      go : (b : Bool) → ((b && isOnce (text "%key") r) && isOnce (text "%size") r) ≡ false
+      go true = ap (λ (x : Bool). x && isOnce (text "%size") r) q
+      go false = refl
+
+  pub not-shaped : all (isShaped bits32) r ≡ false → isWellFormed bits32 r ≡ false
+  not-shaped p = ap (λ (b : Bool). (b && isOnce (text "%key") r) && isOnce (text "%size") r) p
+
+-- what is found of a descriptor tells whether it passes behind others: w that it is well formed, t that its name m is taken
+module _ (r : Record) (seen : List Bytes) (w : Bool) (e : w ≡ isWellFormed bits32 r) where
+  pub fault-told : w ≡ false → passes r seen ≡ false
+  fault-told h = ap (λ (b : Bool). b && not (among (headName r) seen)) (sym e ∙ h)
+
+  module _ (t : Bool) (m : Bytes) (f : t ≡ among m seen) (g : m ≡ headName r) (h : w ≡ true) where
+    taken-by : among (headName r) seen ≡ t
+    taken-by = ap (λ (x : Bytes). among x seen) (sym g) ∙ sym f
+
+    pub taken-told : t ≡ true → passes r seen ≡ false
+    taken-told k = λ i. (sym e ∙ h) i && not ((taken-by ∙ k) i)
+
+    pub new-told : t ≡ false → passes r seen ≡ true
+    new-told k = λ i. (sym e ∙ h) i && not ((taken-by ∙ k) i)
+
+-- names that are none of those seen, and distinct
+abbrev pub isNew : List Bytes → Bytes → Bool
+isNew seen n = not (among n seen)
+
+abbrev pub newNames : List Bytes → List Bytes → Bool
+newNames seen ns = all (isNew seen) ns && distinct ns
+
+-- one more name is seen
+not-or : (a b : Bool) → not (a || b) ≡ (not a && not b)
+not-or true b = refl
+not-or false b = refl
+
+among-last : (n x : Bytes) (seen : List Bytes) → among n (seen ++ (x ∷ [])) ≡ (among n seen || same n x)
+among-last n x [] = go (same n x)
+  where
+    go : (b : Bool) → (b || false) ≡ b
+    go true = refl
+    go false = refl
+among-last n x (y ∷ seen) = ap (λ (b : Bool). same n y || b) (among-last n x seen) ∙ go (same n y) (among n seen) (same n x)
+  where
+    go : (a b c : Bool) → (a || (b || c)) ≡ ((a || b) || c)
+    go true b c = refl
+    go false b c = refl
+
+none-same : (x : Bytes) (ns : List Bytes) → all (λ (n : Bytes). not (same n x)) ns ≡ not (among x ns)
+none-same x [] = refl
+none-same x (n ∷ ns) = (λ i. not (same-swap n x i) && none-same x ns i) ∙ sym (not-or (same x n) (among x ns))
+
+seen-more : (seen : List Bytes) (x : Bytes) (ns : List Bytes) → all (isNew (seen ++ (x ∷ []))) ns ≡ (all (isNew seen) ns && not (among x ns))
+seen-more seen x ns =
+    all-alike (isNew (seen ++ (x ∷ []))) (λ (n : Bytes). isNew seen n && not (same n x)) (λ n. ap not (among-last n x seen) ∙ not-or (among n seen) (same n x)) ns
+    ∙ all-both (isNew seen) (λ (n : Bytes). not (same n x)) ns
+    ∙ ap (λ (b : Bool). all (isNew seen) ns && b) (none-same x ns)
+
+new-by : (a b c d : Bool) → ((a && b) && (c && d)) ≡ (a && ((b && c) && d))
+new-by true true c d = refl
+new-by true false c d = refl
+new-by false b c d = refl
+
+pub new-more : (seen : List Bytes) (x : Bytes) (ns : List Bytes) → newNames seen (x ∷ ns) ≡ (isNew seen x && newNames (seen ++ (x ∷ [])) ns)
+new-more seen x ns =
+    new-by (isNew seen x) (all (isNew seen) ns) (not (among x ns)) (distinct ns)
+    ∙ ap (λ (b : Bool). isNew seen x && (b && distinct ns)) (sym (seen-more seen x ns))
+
+none-seen : (ns : List Bytes) → all (isNew []) ns ≡ true
+none-seen [] = refl
+none-seen (n ∷ ns) = none-seen ns
+
+-- a walk that has seen some names
+abbrev pub isWell : Record → Bool
+isWell r = not (isHead r) || isWellFormed bits32 r
+
+abbrev pub wellFrom : List Bytes → List Record → Bool
+wellFrom seen rs = all isWell rs && newNames seen (headNames rs)
+
+pub well-start : (rs : List Record) → walkWell bits32 rs ≡ wellFrom [] rs
+well-start rs = ap (λ (b : Bool). all isWell rs && (b && distinct (headNames rs))) (sym (none-seen (headNames rs)))
+
+module _ (seen : List Bytes) (qs : List Record) (r : Record) (rs : List Record) (e : qs ≡ r ∷ rs) where
+  -- a member adds nothing
+  pub well-member : isHead r ≡ false → wellFrom seen qs ≡ wellFrom seen rs
+  well-member h =
+      ap (wellFrom seen) e
+      ∙ ap (λ (b : Bool). ((not b || isWellFormed bits32 r) && all isWell rs) && newNames seen (map headName (pick b (r ∷ heads rs) (heads rs)))) h
+
+  judged-by : (a b c d : Bool) → ((a && b) && (c && d)) ≡ ((a && c) && (b && d))
+  judged-by true true c d = refl
+  judged-by true false true d = refl
+  judged-by true false false d = refl
+  judged-by false b c d = refl
+
+  head-on : isHead r ≡ true → wellFrom seen qs ≡ (passes r seen && wellFrom (seen ++ (headName r ∷ [])) rs)
+  head-on h =
+      ap (wellFrom seen) e
+      ∙ ap (λ (b : Bool). ((not b || isWellFormed bits32 r) && all isWell rs) && newNames seen (map headName (pick b (r ∷ heads rs) (heads rs)))) h
+      ∙ ap (λ (b : Bool). (isWellFormed bits32 r && all isWell rs) && b) (new-more seen (headName r) (headNames rs))
+      ∙ judged-by (isWellFormed bits32 r) (all isWell rs) (isNew seen (headName r)) (newNames (seen ++ (headName r ∷ [])) (headNames rs))
+
+  -- a descriptor passes, or the walk ends
+  pub well-stop : isHead r ≡ true → passes r seen ≡ false → wellFrom seen qs ≡ false
+  well-stop h p = head-on h ∙ ap (λ (b : Bool). b && wellFrom (seen ++ (headName r ∷ [])) rs) p
+
+  pub well-more : (n : Bytes) → isHead r ≡ true → passes r seen ≡ true → n ≡ headName r → wellFrom seen qs ≡ wellFrom (seen ++ (n ∷ [])) rs
+  well-more n h p q = head-on h ∙ ap (λ (b : Bool). b && wellFrom (seen ++ (headName r ∷ [])) rs) p ∙ ap (λ (x : Bytes). wellFrom (seen ++ (x ∷ [])) rs) (sym q)
+
+-- the limits: each record fits, and so many descriptors are left
+
+abbrev pub isFitting : Record → Bool
+isFitting r = fitsRecord r && (not (isHead r) || fitsRules r)
+
+pub fitting-record : (r : Record) → isFitting r ≡ true → fitsRecord r ≡ true
+fitting-record r e = and-eq-true-iff (fitsRecord r) (not (isHead r) || fitsRules r) .0 e .0
+
+pub walk-fitting : (rs : List Record) → walkFits rs ≡ true → (all isFitting rs ≡ true) × (length (heads rs) ≤ descriptors)
+walk-fitting rs e =
+    let h = and-eq-true-iff (all isFitting rs) (leb (length (heads rs)) descriptors) .0 e in
+    (h .0, leb-true (length (heads rs)) descriptors (h .1))
+
+pub heads-member : (qs : List Record) (r : Record) (rs : List Record) → qs ≡ r ∷ rs → isHead r ≡ false → length (heads qs) ≡ length (heads rs)
+heads-member qs r rs e h = ap (λ (x : List Record). length (heads x)) e ∙ ap (λ (b : Bool). length (pick b (r ∷ heads rs) (heads rs))) h
+
+pub heads-more : (qs : List Record) (r : Record) (rs : List Record) → qs ≡ r ∷ rs → isHead r ≡ true → length (heads qs) ≡ suc (length (heads rs))
+heads-more qs r rs e h = ap (λ (x : List Record). length (heads x)) e ∙ ap (λ (b : Bool). length (pick b (r ∷ heads rs) (heads rs))) h

@@ -1,0 +1,116 @@
+-- The walk of question 6 over the records of a file, record by record: what holds at byte i when n names were met, which stand where starts and ends say.
+use Prim.Native.Nat.{ℕ, _+_, _≤_, _<_}
+use native.Mathlib.Omega.{arith}
+use mathlib.Core.Path.{_≡_, sym, ap, _∙_, subst}
+use mathlib.Core.Bool.{true, false}
+use mathlib.Core.List.{List, []}
+use lib.ListN.{length, take, drop, set, length-set}
+use Rattle.format.specs.Bytes.{Bytes, all}
+use Rattle.format.specs.Limits.{descriptors}
+use Rattle.format.specs.Numbers.{bits32}
+use Rattle.format.specs.Questions.{fitsRecord}
+use Rattle.format.specs.Records.{Record, records, fieldsOf}
+use Rattle.format.proofs.Walking.{isHead, heads, walkFits, walkWell}
+use Rattle.records.specs.Places.{isReadable}
+use Rattle.records.specs.Walk.{readOf}
+use Rattle.records.specs.declared.Place.{Place}
+use Rattle.records.proofs.Readings.{reads-readable}
+use Rattle.records.proofs.Searches.{placesAt, Met}
+use Rattle.words.specs.Spans.{span}
+use Rattle.shapes.specs.Names.{nameAt, namesAt, Inside, Told}
+use Rattle.shapes.specs.declared.Head.{Head}
+use Rattle.shapes.proofs.Folds.{all-both}
+use Rattle.shapes.proofs.Naming.{inside-more, names-more}
+use Rattle.shapes.proofs.Meeting.{recordsAt, records-end, records-met, part-fields, head-met}
+use Rattle.shapes.proofs.Judging.{wellFrom, well-start, well-member, well-stop, well-more, isFitting, fitting-record, walk-fitting, heads-member, heads-more}
+
+pub record WalkAt (s : Bytes) (i n : ℕ) (starts ends : List ℕ) : Type 0 where
+  pub inside : i ≤ length s
+  pub readable : isReadable (drop i s) ≡ true
+  pub fitting : all isFitting (recordsAt s i) ≡ true
+  pub left : n + length (heads (recordsAt s i)) ≤ descriptors
+  pub room : length starts ≡ descriptors
+  pub room-beside : length ends ≡ descriptors
+  pub places : Inside s (take n starts) (take n ends)
+  pub judged : walkWell bits32 (records (readOf s)) ≡ wellFrom (namesAt s (take n starts) (take n ends)) (recordsAt s i)
+
+pub walk-starts : (s : Bytes) (starts ends : List ℕ) → length starts ≡ descriptors → length ends ≡ descriptors → isReadable s ≡ true → walkFits (records (readOf s)) ≡ true → WalkAt s 0 0 starts ends
+walk-starts s starts ends h k e f =
+    let w = walk-fitting (records (readOf s)) f in
+    record {
+      inside = omega arith;
+      readable = e;
+      fitting = w .0;
+      left = omega (arith, w .1);
+      room = h;
+      room-beside = k;
+      places = tt;
+      judged = well-start (records (readOf s));
+    }
+
+-- the same at equal numbers and arrays
+pub walk-same : (s : Bytes) (i n : ℕ) (starts ends : List ℕ) {m : ℕ} {bs es : List ℕ} → n ≡ m → starts ≡ bs → ends ≡ es → WalkAt s i m bs es → WalkAt s i n starts ends
+walk-same s i n starts ends {m} {bs} {es} p q r w =
+    subst (λ (x : ℕ). WalkAt s i x starts ends) (sym p) (subst (λ (x : List ℕ). WalkAt s i m x ends) (sym q) (subst (λ (x : List ℕ). WalkAt s i m bs x) (sym r) w))
+
+module _ (s : Bytes) (i n : ℕ) (starts ends : List ℕ) (w : WalkAt s i n starts ends) where
+  pub walk-ends : placesAt s i ≡ [] → walkWell bits32 (records (readOf s)) ≡ true
+  walk-ends e = w .judged ∙ ap (wellFrom (namesAt s (take n starts) (take n ends))) (records-end s i e)
+
+  module _ (q : Place) (m : Met s i q) where
+    both : (isFitting (m .here .fields) ≡ true) × (all isFitting (recordsAt s (i + q .after)) ≡ true)
+    both = all-both isFitting (recordsAt s i) (m .here .fields) (recordsAt s (i + q .after)) (records-met s i q m) (w .fitting)
+
+    pub part-fits : fitsRecord (fieldsOf (readOf (span (i + q .start) (i + q .end) s))) ≡ true
+    part-fits = ap fitsRecord (part-fields s i q m) ∙ fitting-record (m .here .fields) (both .0)
+
+    pub part-reads : isReadable (span (i + q .start) (i + q .end) s) ≡ true
+    part-reads = reads-readable (m .stand .own-reads)
+
+    pub walk-member : q .descriptor ≡ false → WalkAt s (i + q .after) n starts ends
+    walk-member d =
+        let h : isHead (m .here .fields) ≡ false = head-met s i q m ∙ d in
+        let e = records-met s i q m in
+        record {
+          inside = m .stand .inside;
+          readable = m .stand .readable;
+          fitting = both .1;
+          left = omega (arith, w .left, heads-member (recordsAt s i) (m .here .fields) (recordsAt s (i + q .after)) e h);
+          room = w .room;
+          room-beside = w .room-beside;
+          places = w .places;
+          judged = w .judged ∙ well-member (namesAt s (take n starts) (take n ends)) (recordsAt s i) (m .here .fields) (recordsAt s (i + q .after)) e h;
+        }
+
+    module _ (d : q .descriptor ≡ true) where
+      head : isHead (m .here .fields) ≡ true
+      head = head-met s i q m ∙ d
+
+      pub one-left : n < descriptors
+      one-left = omega (arith, w .left, heads-more (recordsAt s i) (m .here .fields) (recordsAt s (i + q .after)) (records-met s i q m) head)
+
+      module _ (x : Head) (t : Told s (fieldsOf (readOf (span (i + q .start) (i + q .end) s))) (namesAt s (take n starts) (take n ends)) x) where
+        told : {y : Head} → x ≡ y → Told s (m .here .fields) (namesAt s (take n starts) (take n ends)) y
+        told {y} e = subst (Told s (m .here .fields) (namesAt s (take n starts) (take n ends))) e (subst (λ (r : Record). Told s r (namesAt s (take n starts) (take n ends)) x) (part-fields s i q m) t)
+
+        pub walk-stops : x ≡ Head.Fault → walkWell bits32 (records (readOf s)) ≡ false
+        walk-stops e = w .judged ∙ well-stop (namesAt s (take n starts) (take n ends)) (recordsAt s i) (m .here .fields) (recordsAt s (i + q .after)) (records-met s i q m) head (told e)
+
+        pub walk-head : (a b : ℕ) → x ≡ Head.Named a b → WalkAt s (i + q .after) (n + 1) (set starts n a) (set ends n b)
+        walk-head a b e =
+            let f = told e in
+            let h : n < length starts = omega (arith, one-left, w .room) in
+            let k : n < length ends = omega (arith, one-left, w .room-beside) in
+            record {
+              inside = m .stand .inside;
+              readable = m .stand .readable;
+              fitting = both .1;
+              left = omega (arith, w .left, heads-more (recordsAt s i) (m .here .fields) (recordsAt s (i + q .after)) (records-met s i q m) head);
+              room = length-set starts n a ∙ w .room;
+              room-beside = length-set ends n b ∙ w .room-beside;
+              places = inside-more s starts ends n a b h k (w .places) (f .1) (f .2);
+              judged =
+                  w .judged
+                  ∙ well-more (namesAt s (take n starts) (take n ends)) (recordsAt s i) (m .here .fields) (recordsAt s (i + q .after)) (records-met s i q m) (nameAt s a b) head (f .0) (f .3)
+                  ∙ ap (λ (ns : List Bytes). wellFrom ns (recordsAt s (i + q .after))) (sym (names-more s starts ends n a b h k (w .places)));
+            }

@@ -1,0 +1,3 @@
+-- What the code's answers say of a descriptor.
+pub mod Contents
+pub mod Names

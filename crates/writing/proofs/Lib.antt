@@ -1,0 +1,4 @@
+-- Laws of legal names and values and of a field's text.
+pub mod Naming
+pub mod Plain
+pub mod Texts

@@ -1,0 +1,2 @@
+-- What a walk over a value finds.
+pub mod Value
