@@ -1,0 +1,112 @@
+"""Random recfiles and requests, near enough to valid ones that every question is reached. Seeded: the same numbers give the same samples."""
+import random
+
+NAMES = ['A', 'B', 'Id', 'Page', 'C']
+VALUES = ['1', '2', 'x', '-5', '0x1F', '08', 'yes', 'a b', '', 'front', '3.5', 'T', '  7 ']
+KINDS = ['int', 'real', 'bool', 'line', 'size 3', 'range 5', 'range -1 3', 'enum a b x', 'enum(c) x 1', 'field', 'uuid', 'T1', 'U', 'range MIN MAX', 'size', 'enum', 'int 3', '%x']
+
+
+def tagged(tag, contents):
+    return bytes([tag, len(contents) // 256, len(contents) % 256]) + contents
+
+
+def number(n):
+    return bytes([n // 256, n % 256])
+
+
+class Samples:
+    def __init__(self, seed):
+        self.random = random.Random(seed)
+
+    def descriptor(self):
+        r = self.random
+        good = r.random() < .85
+        words = ['A', 'B', 'Id', 'Page', 'C', 'A B', 'Id A'] + ([] if good else ['Zz', '%q', '1x', '', 'A\n+ B'])
+        rules = [
+            lambda: '%key: ' + r.choice(['Id', 'A'] if good else words),
+            lambda: '%mandatory: ' + r.choice(words),
+            lambda: '%prohibit: ' + r.choice(['Zz', 'C', 'Q R']),
+            lambda: '%allowed: ' + r.choice(['A B Id Page C', 'A B Id', 'A Page Id']),
+            lambda: '%unique: ' + r.choice(words),
+            lambda: '%size: ' + r.choice(['<= 3', '< 9', '>= 0', '<= 2'] if good else ['1', '< 2', '> 0', '0', '-0', '<1', 'x']),
+            lambda: '%typedef: T1 ' + r.choice(KINDS[:8] if good else KINDS),
+            lambda: '%typedef: ' + r.choice(['U', 'W']) + ' ' + r.choice(['T1', 'int', 'U', 'W', 'enum a x 1']),
+            lambda: '%type: ' + r.choice(['A', 'A,B', 'Id', 'C'] + ([] if good else ['Page,'])) + ' ' + r.choice(KINDS[:9] if good else KINDS),
+            lambda: '%type: Page ' + r.choice(['line', 'size 5', 'enum front x']),
+            lambda: '%doc: any \\\nthing',
+            lambda: 'Foo: x',
+        ]
+        name = r.choice(['S', 'T', 'U', 'V'] if r.random() < .9 else ['S', 'S T', ''])
+        return ['%rec: ' + name] + [r.choice(rules)() for _ in range(r.randint(0, 4))]
+
+    def record(self, key):
+        r, out = self.random, []
+        for _ in range(r.randint(1, 4)):
+            name = r.choice(NAMES if r.random() < .97 else NAMES + ['%rec'])
+            value = str(key) if name == 'Id' and r.random() < .5 else r.choice(VALUES)
+            out.append(name + (r.choice([': ', ':\t']) if value else r.choice([':', ': '])) + value)
+            turn = r.random()
+            if turn < .08:
+                out.append('+ ' + r.choice(VALUES))
+            elif turn < .11:
+                out.append('+' + r.choice(VALUES))
+            elif turn < .14:
+                out[-1] = name + ': ' + value + '\\'
+                out.append(r.choice(['x', '', '# y', '+ z', 'B: q']))
+            elif turn < .2:
+                out.append('# c' + r.choice(['', '\\']))
+        if r.random() < .6 and not any(line.startswith('Id') for line in out):
+            out.insert(0, 'Id: %d' % key)
+        return out
+
+    def file(self):
+        r, blocks, key = self.random, [], 0
+        if r.random() < .3:
+            blocks.append(self.record(0))
+        for _ in range(r.randint(0, 3)):
+            blocks.append(self.descriptor())
+            for _ in range(r.randint(0, 3)):
+                key += 1
+                blocks.append(self.record(key))
+            if r.random() < .1:
+                blocks.append(['# lone'])
+        text = ''.join('\n'.join(b) + '\n' + r.choice(['\n', '\n', '\n\n', ' \n', '\t \n']) for b in blocks)
+        if r.random() < .5 and text.strip():
+            text = text.rstrip('\n \t') + '\n'
+        if r.random() < .1 and text:
+            at = r.randrange(len(text))
+            text = text[:at] + r.choice('\\\n+#:% aA0\x01\xe9') + text[at + 1:]
+        if r.random() < .05:
+            text = text[:-1]
+        return text.encode('latin-1')
+
+    def request(self, sets):
+        r = self.random
+        kind = r.randint(1, 6)
+        out = tagged(1, bytes([kind])) + tagged(2, r.choice(sets if r.random() < .93 else [b'X', b'\x00S']))
+        value = r.choice([v.encode() for v in VALUES] + [b'a\nb', b'x\\\ny', b'\n', b'\x01', b'a\\', b'11'])
+        name = r.choice(NAMES).encode()
+        new = r.choice([b'A', b'B', b'Id', b'C', b'Q', b'%x', b'1', b'', b'L' * 65])
+        if kind == 1:
+            pairs = [(b'Id', b'%d' % r.randint(1, 20))] if r.random() < .6 else []
+            pairs += [(r.choice([b'A', b'B', b'Page']), value)] + [(r.choice(NAMES[:2]).encode(), b'x')] * r.randint(0, 1)
+            out += b''.join(tagged(4, n) + tagged(6, v) for n, v in pairs)
+        else:
+            out += tagged(3, number(r.choice([0, 0, 0, 0, 1, 1, 2, 300])))
+            if kind == 3:
+                out += tagged(4, r.choice([name, name, new])) + tagged(6, value)
+            if kind >= 4:
+                out += tagged(4, name) + tagged(5, number(r.choice([0, 0, 0, 1, 2])))
+            if kind == 4:
+                out += tagged(6, value)
+            if kind == 6:
+                out += tagged(7, new)
+        turn = r.random()
+        if turn < .03:
+            out = out[:-1]
+        elif turn < .05:
+            out += b'\x00'
+        elif turn < .08:
+            at = r.randrange(len(out))
+            out = out[:at] + bytes([r.randrange(256)]) + out[at + 1:]
+        return out
