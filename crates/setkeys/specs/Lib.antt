@@ -1,0 +1,2 @@
+-- The keys of a set's members.
+pub mod Keyed
