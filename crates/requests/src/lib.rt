@@ -522,7 +522,7 @@ fn refusal(table: &[u8; 256], req: &[u8], from: usize, room: usize) -> u32
 }
 
 // The text of pairs at the front of out, which holds it.
-fn put_pairs(req: &[u8], from: usize, out: &mut [u8]) -> usize
+pub fn put_pairs(req: &[u8], from: usize, out: &mut [u8]) -> usize
     requires { ⌜ isSome (pairsFrom (now req) from) ≡ true ⌝ }
     requires { ⌜ length (writtenAll (pairsAt (now req) from)) ≤ length (now out) ⌝ }
     ensures { λ r. ⌜ (r ≡ length (writtenAll (pairsAt (now (req .entry)) from))) × (now (out .exit) ≡ over (writtenAll (pairsAt (now (req .entry)) from)) (now (out .entry))) ⌝ }

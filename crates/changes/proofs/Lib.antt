@@ -1,0 +1,4 @@
+-- Laws of texts that are edited in a buffer.
+pub mod Buffers
+pub mod Inserts
+pub mod Cuts

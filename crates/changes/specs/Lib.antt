@@ -1,0 +1,2 @@
+-- The texts that edits leave.
+pub mod Texts
