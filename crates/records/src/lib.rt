@@ -340,6 +340,13 @@ pub fn word_here(s: &[u8], i: usize, word: &[u8]) -> bool
     }
 }
 
+// The place in a value, which begins where s does, of its first word: the place behind the gaps before it.
+pub fn word_start(s: &[u8]) -> usize
+    ensures { λ r. ⌜ valueFrom (drop r (now (s .entry))) ≡ behind isGap (valueFrom (now (s .entry))) ⌝ }
+{
+    pass(s, 0, true)
+}
+
 // Is the first word of the value that begins where s does this one?
 pub fn word_is(s: &[u8], word: &[u8]) -> bool
     ensures { λ r. ⌜ r ≡ same (now (word .entry)) (firstWord (valueFrom (now (s .entry)))) ⌝ }

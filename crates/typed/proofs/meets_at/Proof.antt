@@ -1,0 +1,100 @@
+-- `typed::meets_at` meets its contract.
+use mathlib.Core.Path.{_≡_, sym, ap, _∙_}
+use native.Mathlib.Omega.{arith}
+use Rattle.format.specs.Bytes.{Bytes}
+use Rattle.format.specs.Numbers.{bits32}
+use Rattle.format.specs.Types.{typeOf}
+use Rattle.lines.specs.Value.{valueFrom}
+use Rattle.words.specs.Spans.{span}
+use Rattle.typed.specs.Meets.{meetsText}
+use Rattle.typedefs.proofs.Chains.{decoded-length, decoded-after}
+use borrow.Author.Needs.{needs}
+use Rattle.typed.proofs.meets_at.Statement.{statement}
+use Rattle.typed.proofs.meets_at.Tie as tie
+use Rattle.typed.proofs.meets_at.Reads as reads
+use Rattle.typed.proofs.meets_at.Lts as lts
+use Rattle.lines.proofs.copy_value.Reads as copy-value-reads
+use Rattle.typed.proofs.meets_text.Reads as meets-text-reads
+use Rattle.typedefs.proofs.behind_word.Reads as behind-word-reads
+
+sub-copy-value : tie.Need-sub-copy-value
+sub-copy-value c = search needs
+
+part-copy-value-start : tie.Need-part-copy-value-start
+part-copy-value-start c = search needs
+
+part-copy-value-end : tie.Need-part-copy-value-end
+part-copy-value-end c = search needs
+
+copy-value-requires : tie.Need-copy-value-requires
+copy-value-requires c κs =
+    let at-pre = c .before .before .before .before .before .pre in
+    at-pre .1 .2
+
+slice-reshare-prefix-behind-word : tie.Need-slice-reshare-prefix-behind-word
+slice-reshare-prefix-behind-word c = search needs
+
+slice-aggregate-behind-word : tie.Need-slice-aggregate-behind-word
+slice-aggregate-behind-word c =
+    let at-args = c .before .before .before .before .before .before .before .before .before .args in
+    let at-copy-value = c .before .before .before .copy-value in
+    decoded-length (valueFrom (span (at-args .value) (at-args .end) (at-args .d .now))) (at-args .scratch .now) _ (at-copy-value .result) (at-copy-value .ensures .0) (at-copy-value .ensures .1)
+
+behind-word-requires : tie.Need-behind-word-requires
+behind-word-requires c κs = search needs
+
+sub-meets-text : tie.Need-sub-meets-text
+sub-meets-text c =
+    let at-args = c .before .before .before .before .before .before .before .before .before .before .args in
+    let at-copy-value = c .before .before .before .before .copy-value in
+    let at-behind-word = c .behind-word in
+    let l = decoded-length (valueFrom (span (at-args .value) (at-args .end) (at-args .d .now))) (at-args .scratch .now) _ (at-copy-value .result) (at-copy-value .ensures .0) (at-copy-value .ensures .1) in
+    omega (arith, l, at-behind-word .ensures .0)
+
+part-meets-text-start : tie.Need-part-meets-text-start
+part-meets-text-start c =
+    let at-args = c .before .before .before .before .before .before .before .before .before .before .before .args in
+    let at-copy-value = c .before .before .before .before .before .copy-value in
+    let at-behind-word = c .before .behind-word in
+    let l = decoded-length (valueFrom (span (at-args .value) (at-args .end) (at-args .d .now))) (at-args .scratch .now) _ (at-copy-value .result) (at-copy-value .ensures .0) (at-copy-value .ensures .1) in
+    omega (arith, l, at-behind-word .ensures .0)
+
+part-meets-text-end : tie.Need-part-meets-text-end
+part-meets-text-end c = search needs
+
+meets-text-requires : tie.Need-meets-text-requires
+meets-text-requires c κs =
+    let at-pre = c .before .before .before .before .before .before .before .before .before .before .before .before .pre in
+    at-pre .0
+
+same-length : tie.Need-same-length
+same-length c = search needs
+
+returns : tie.Need-returns
+returns c =
+    let at-args = c .before .before .before .before .before .before .before .before .before .before .before .before .before .args in
+    let at-copy-value = c .before .before .before .before .before .before .before .copy-value in
+    let at-behind-word = c .before .before .before .behind-word in
+    let at-meets-text = c .meets-text in
+    let v = valueFrom (span (at-args .value) (at-args .end) (at-args .d .now)) in
+    let l = decoded-length v (at-args .scratch .now) _ (at-copy-value .result) (at-copy-value .ensures .0) (at-copy-value .ensures .1) in
+    let g = decoded-after v (at-args .scratch .now) _ (at-copy-value .result) (at-copy-value .ensures .0) (at-copy-value .ensures .1) (at-behind-word .result) (omega (arith, l, at-behind-word .ensures .0)) (at-behind-word .ensures .1) in
+    at-meets-text .ensures ∙ ap (λ (u : Bytes). meetsText (typeOf bits32 u) (at-args .v .now)) g
+
+pub meets-at-spec : {M : Type 1} → statement M
+meets-at-spec =
+    tie.close
+    (tie.spec
+    sub-copy-value
+    part-copy-value-start
+    part-copy-value-end
+    copy-value-requires
+    slice-reshare-prefix-behind-word
+    slice-aggregate-behind-word
+    behind-word-requires
+    sub-meets-text
+    part-meets-text-start
+    part-meets-text-end
+    meets-text-requires
+    same-length
+    returns)

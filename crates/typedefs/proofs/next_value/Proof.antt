@@ -1,0 +1,130 @@
+-- `typedefs::next_value` meets its contract. The invariant: the values of the name from at on are those from i on, and that part is readable.
+-- The measure is what is left of the length.
+use borrow.Author.Needs.{needs}
+use Prim.Native.Nat.{_-_, _≤_}
+use native.Mathlib.Omega.{arith}
+use mathlib.Core.Path.{_≡_, refl, sym, _∙_}
+use mathlib.Core.Bool.{true}
+use lib.ListN.{length, drop}
+use Rattle.records.specs.Places.{isReadable}
+use Rattle.typedefs.specs.Walks.{valuesFrom}
+use Rattle.typedefs.proofs.Walking.{field-told, values-none, values-other, value-here}
+use Rattle.typedefs.proofs.next_value.Statement.{statement}
+use Rattle.typedefs.proofs.next_value.Tie as tie
+use Rattle.typedefs.proofs.next_value.Reads as reads
+use Rattle.typedefs.proofs.next_value.Lts as lts
+use Rattle.lines.proofs.same_bytes.Reads as same-bytes-reads
+use Rattle.typedefs.proofs.next_field.Reads as next-field-reads
+
+abbrev Inv-loop : tie.InvT-loop
+Inv-loop table s name i at₀ at = (i ≤ at) × (at ≤ length s) × (isReadable (drop at s) ≡ true) × (valuesFrom s name i ≡ valuesFrom s name at)
+
+abbrev μ-loop : tie.MeasureT-loop
+μ-loop table s name i at₀ at = length s - at
+
+loop-holds : tie.Need-loop-holds Inv-loop μ-loop
+loop-holds c =
+    let at-pre = c .before .before .pre in
+    (omega arith, at-pre .1 .0, at-pre .1 .1, refl)
+
+next-field-requires : tie.Need-next-field-requires Inv-loop μ-loop
+next-field-requires c κs =
+    let at-pre = c .before .before .before .pre in
+    let at-loop = c .loop in
+    (at-pre .0, (at-loop .inv .1, at-loop .inv .2))
+
+enum-known-f : tie.Need-enum-known-f Inv-loop μ-loop
+enum-known-f c = search needs
+
+enum-told : tie.Need-enum-told Inv-loop μ-loop
+enum-told c = search needs
+
+returns : tie.Need-returns Inv-loop μ-loop
+returns c =
+    let at-loop = c .before .before .before .loop in
+    let at-args = c .before .before .before .before .before .before .args in
+    let at-next-field = c .before .before .next-field in
+    let at-enum-told = c .enum-told in
+    at-loop .inv .3 ∙ values-none (at-args .s .now) (at-args .name .now) (at-loop .at) (field-told (at-args .s .now) (at-loop .at) (at-next-field .result) (at-next-field .ensures) (at-enum-told .given .1))
+
+sub-same-bytes : tie.Need-sub-same-bytes Inv-loop μ-loop
+sub-same-bytes c =
+    let at-args = c .before .before .before .before .before .before .before .args in
+    let at-loop = c .before .before .before .before .loop in
+    let at-next-field = c .before .before .before .next-field in
+    let at-f = c .before .f in
+    let h = field-told (at-args .s .now) (at-loop .at) (at-next-field .result) (at-next-field .ensures) (at-f .given .1) in
+    omega (arith, h .named)
+
+part-same-bytes-start : tie.Need-part-same-bytes-start Inv-loop μ-loop
+part-same-bytes-start c =
+    let at-args = c .before .before .before .before .before .before .before .args in
+    let at-loop = c .before .before .before .before .loop in
+    let at-next-field = c .before .before .before .next-field in
+    let at-f = c .before .f in
+    let h = field-told (at-args .s .now) (at-loop .at) (at-next-field .result) (at-next-field .ensures) (at-f .given .1) in
+    omega (arith, h .named, h .name-inside, h .inside)
+
+part-same-bytes-end : tie.Need-part-same-bytes-end Inv-loop μ-loop
+part-same-bytes-end c =
+    let at-args = c .before .before .before .before .before .before .before .args in
+    let at-loop = c .before .before .before .before .loop in
+    let at-next-field = c .before .before .before .next-field in
+    let at-f = c .before .f in
+    let h = field-told (at-args .s .now) (at-loop .at) (at-next-field .result) (at-next-field .ensures) (at-f .given .1) in
+    omega (arith, h .named, h .name-inside, h .inside)
+
+same-bytes-requires : tie.Need-same-bytes-requires Inv-loop μ-loop
+same-bytes-requires c κs = search needs
+
+returns-2 : tie.Need-returns-2 Inv-loop μ-loop
+returns-2 c =
+    let at-f = c .before .before .before .before .f in
+    let at-args = c .before .before .before .before .before .before .before .before .before .before .args in
+    let at-loop = c .before .before .before .before .before .before .before .loop in
+    let at-next-field = c .before .before .before .before .before .before .next-field in
+    let at-same-bytes = c .before .same-bytes in
+    let at-if1 = c .if1 in
+    let g = at-f .given in
+    let h = field-told (at-args .s .now) (at-loop .at) (at-next-field .result) (at-next-field .ensures) (g .1) in
+    value-here (at-args .s .now) (at-args .name .now) (at-loop .at) (g .0 .0) (g .0 .1 .0) (g .0 .1 .1 .0) (g .0 .1 .1 .1 .0) h (at-args .i) (at-loop .inv .0) (at-loop .inv .3) (sym (at-same-bytes .ensures) ∙ at-if1 .taken)
+
+loop-less : tie.Need-loop-less Inv-loop μ-loop
+loop-less c =
+    let at-args = c .before .before .before .before .before .before .before .before .before .before .args in
+    let at-loop = c .before .before .before .before .before .before .before .loop in
+    let at-next-field = c .before .before .before .before .before .before .next-field in
+    let at-f = c .before .before .before .before .f in
+    let h = field-told (at-args .s .now) (at-loop .at) (at-next-field .result) (at-next-field .ensures) (at-f .given .1) in
+    omega (arith, h .begins, h .moves, h .inside)
+
+loop-again : tie.Need-loop-again Inv-loop μ-loop
+loop-again c =
+    let at-f = c .before .before .before .before .f in
+    let at-args = c .before .before .before .before .before .before .before .before .before .before .args in
+    let at-loop = c .before .before .before .before .before .before .before .loop in
+    let at-next-field = c .before .before .before .before .before .before .next-field in
+    let at-same-bytes = c .before .same-bytes in
+    let at-if1 = c .if1 in
+    let g = at-f .given in
+    let h = field-told (at-args .s .now) (at-loop .at) (at-next-field .result) (at-next-field .ensures) (g .1) in
+    (omega (arith, at-loop .inv .0, h .begins, h .moves), h .inside, h .readable, at-loop .inv .3 ∙ values-other (at-args .s .now) (at-args .name .now) (at-loop .at) (g .0 .0) (g .0 .1 .0) (g .0 .1 .1 .0) (g .0 .1 .1 .1 .0) h (sym (at-same-bytes .ensures) ∙ at-if1 .left))
+
+pub next-value-spec : {M : Type 1} → statement M
+next-value-spec =
+    tie.close
+    (tie.spec
+    Inv-loop
+    μ-loop
+    loop-holds
+    next-field-requires
+    enum-known-f
+    enum-told
+    returns
+    sub-same-bytes
+    part-same-bytes-start
+    part-same-bytes-end
+    same-bytes-requires
+    returns-2
+    loop-less
+    loop-again)

@@ -1,0 +1,107 @@
+-- `typedefs::target_in` meets its contract.
+use mathlib.Core.Path.{sym, ap, _∙_}
+use mathlib.Core.Option.{some}
+use native.Mathlib.Omega.{arith}
+use Rattle.format.specs.Numbers.{bits32}
+use Rattle.format.specs.Types.{typeOf}
+use Rattle.types.specs.Meaning.{typedIn}
+use Rattle.types.specs.declared.Shape.{Shape}
+use Rattle.types.proofs.Meeting.{sound-shape}
+use Rattle.typedefs.specs.Walks.{namesFrom}
+use Rattle.typedefs.specs.Targets.{targetBy}
+use Rattle.typedefs.proofs.Chains.{told-none, told-some, told-sound, target-kind}
+use borrow.Author.Needs.{needs}
+use Rattle.typedefs.proofs.target_in.Statement.{statement}
+use Rattle.typedefs.proofs.target_in.Tie as tie
+use Rattle.typedefs.proofs.target_in.Reads as reads
+use Rattle.typedefs.proofs.target_in.Lts as lts
+use Rattle.typedefs.proofs.typedef_index.Reads as typedef-index-reads
+use Rattle.types.proofs.type_of.Reads as type-of-reads
+
+type-of-requires : tie.Need-type-of-requires
+type-of-requires c κs =
+    let at-pre = c .before .before .pre in
+    at-pre .0
+
+enum-known-t : tie.Need-enum-known-t
+enum-known-t c = search needs
+
+enum-told : tie.Need-enum-told
+enum-told c = search needs
+
+returns : tie.Need-returns
+returns c =
+    let at-args = c .before .before .before .before .before .args in
+    let at-type-of = c .before .before .type-of in
+    let at-enum-told = c .enum-told in
+    sym (ap (targetBy (namesFrom (at-args .d .now) 0)) (told-none (at-args .s .now) (typeOf bits32 (at-args .s .now)) (at-type-of .result) (at-type-of .ensures) (at-enum-told .given .1)))
+
+enum-known-k : tie.Need-enum-known-k
+enum-known-k c = search needs
+
+sub-typedef-index : tie.Need-sub-typedef-index
+sub-typedef-index c =
+    let at-args = c .before .before .before .before .before .before .before .before .before .args in
+    let at-k = c .before .k in
+    let at-type-of = c .before .before .before .before .before .before .type-of in
+    let at-t = c .before .before .before .before .t in
+    let h = sound-shape (at-args .s .now) (at-k .given .1) (told-sound (at-args .s .now) (typeOf bits32 (at-args .s .now)) (at-type-of .result) (at-t .given .0 .0) (at-type-of .ensures) (at-t .given .1)) in
+    omega (arith, h .0, h .1)
+
+part-typedef-index-start : tie.Need-part-typedef-index-start
+part-typedef-index-start c =
+    let at-args = c .before .before .before .before .before .before .before .before .before .args in
+    let at-k = c .before .k in
+    let at-type-of = c .before .before .before .before .before .before .type-of in
+    let at-t = c .before .before .before .before .t in
+    let h = sound-shape (at-args .s .now) (at-k .given .1) (told-sound (at-args .s .now) (typeOf bits32 (at-args .s .now)) (at-type-of .result) (at-t .given .0 .0) (at-type-of .ensures) (at-t .given .1)) in
+    omega (arith, h .0, h .1)
+
+part-typedef-index-end : tie.Need-part-typedef-index-end
+part-typedef-index-end c =
+    let at-args = c .before .before .before .before .before .before .before .before .before .args in
+    let at-k = c .before .k in
+    let at-type-of = c .before .before .before .before .before .before .type-of in
+    let at-t = c .before .before .before .before .t in
+    let h = sound-shape (at-args .s .now) (at-k .given .1) (told-sound (at-args .s .now) (typeOf bits32 (at-args .s .now)) (at-type-of .result) (at-t .given .0 .0) (at-type-of .ensures) (at-t .given .1)) in
+    omega (arith, h .0, h .1)
+
+typedef-index-requires : tie.Need-typedef-index-requires
+typedef-index-requires c κs =
+    let at-pre = c .before .before .before .before .before .before .before .before .before .before .pre in
+    (at-pre .0, (omega arith, at-pre .1))
+
+returns-2 : tie.Need-returns-2
+returns-2 c =
+    let at-args = c .before .before .before .before .before .before .before .before .before .before .before .args in
+    let at-type-of = c .before .before .before .before .before .before .before .before .type-of in
+    let at-t = c .before .before .before .before .before .before .t in
+    let at-typedef-index = c .typedef-index in
+    let at-k = c .before .before .before .k in
+    let e = told-some (at-args .s .now) (typeOf bits32 (at-args .s .now)) (at-type-of .result) (at-t .given .0 .0) (at-type-of .ensures) (at-t .given .1) in
+    at-typedef-index .ensures ∙ sym (ap (targetBy (namesFrom (at-args .d .now) 0)) (e ∙ ap (λ (k : Shape). some (typedIn (at-args .s .now) k)) (at-k .given .1)))
+
+returns-3 : tie.Need-returns-3
+returns-3 c =
+    let at-args = c .before .before .before .before .before .before .before .args in
+    let at-type-of = c .before .before .before .before .type-of in
+    let at-t = c .before .before .t in
+    let at-match2 = c .match2 in
+    let e = told-some (at-args .s .now) (typeOf bits32 (at-args .s .now)) (at-type-of .result) (at-t .given .0 .0) (at-type-of .ensures) (at-t .given .1) in
+    sym (ap (targetBy (namesFrom (at-args .d .now) 0)) e ∙ target-kind (namesFrom (at-args .d .now) 0) (at-args .s .now) (at-t .given .0 .0) (at-match2 .keys2))
+
+pub target-in-spec : {M : Type 1} → statement M
+target-in-spec =
+    tie.close
+    (tie.spec
+    type-of-requires
+    enum-known-t
+    enum-told
+    returns
+    enum-known-k
+    sub-typedef-index
+    part-typedef-index-start
+    part-typedef-index-end
+    typedef-index-requires
+    returns-2
+    returns-3)

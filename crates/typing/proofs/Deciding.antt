@@ -1,0 +1,96 @@
+-- Question 7 by the code's numbers: the typedefs are well formed, and each `%type` field has names and ends in a kind.
+use Prim.Native.Nat.{ℕ, zero, suc, _+_, _-_, _≤_, _<_}
+use native.Mathlib.Omega.{arith}
+use mathlib.Core.Path.{_≡_, refl, sym, ap, _∙_}
+use mathlib.Core.Bool.{Bool, true, false, _&&_}
+use mathlib.Core.List.{List, [], _∷_, map}
+use borrow.Author.Tests.{le-leb, lt-leb, eq-eqb, ne-eqb}
+use lib.Dec.{leb, eqb}
+use lib.ListN.{length, take, drop, drop-of-length-le}
+use Rattle.format.specs.Bytes.{Bytes, text, pick, all}
+use Rattle.format.specs.Lines.{isName}
+use Rattle.format.specs.Words.{firstWord, split}
+use Rattle.format.specs.Numbers.{bits32}
+use Rattle.format.specs.Records.{Record}
+use Rattle.format.specs.Sets.{valuesOf}
+use Rattle.format.specs.Rules.{joinAll, typedefOf, typedNames, endKind, isTypedefName, isDefined, distinct, isTypedWell}
+use Rattle.lines.specs.Value.{valueFrom}
+use Rattle.lines.proofs.Cuts.{at-cons}
+use Rattle.words.specs.Spans.{span, runEnd, notByte, wordAt}
+use Rattle.words.proofs.Splitting.{splitBehind, split-at}
+use Rattle.typedefs.specs.Walks.{valuesFrom, ValueHere}
+use Rattle.typedefs.specs.Targets.{targetIn, followOf, isEnd, leads, areDefined}
+use Rattle.typedefs.specs.declared.Followed.{Followed}
+use Rattle.typedefs.proofs.Filling.{both-true}
+use Rattle.typedefs.proofs.Defined.{swap, defsOf, type-leads}
+use Rattle.typing.specs.Ends.{wellBy}
+
+-- five tests, the first three apart
+five : (a b c d e : Bool) → (a && b && c && d && e) ≡ (((a && c) && b) && (d && e))
+five true true true d e = refl
+five true true false d e = refl
+five true false true d e = refl
+five true false false d e = refl
+five false b c d e = refl
+
+-- both tests of every value
+both-all : (p q f : Bytes → Bool) → ((v : Bytes) → q v ≡ f v) → (vs : List Bytes) → (all p vs && all q vs) ≡ all (λ (v : Bytes). p v && f v) vs
+both-all p q f h [] = refl
+both-all p q f h (v ∷ vs) =
+    swap (p v) (all p vs) (q v) (all q vs) ∙ ap (λ (t : Bool). (p v && q v) && t) (both-all p q f h vs)
+    ∙ ap (λ (t : Bool). (p v && t) && all (λ (w : Bytes). p w && f w) vs) (h v)
+
+module _ (r : Record) where
+  abbrev defs : List Bytes
+  defs = valuesOf (text "%typedef") r
+
+  abbrev uses : List Bytes
+  uses = valuesOf (text "%type") r
+
+  well-by : isTypedWell bits32 r
+      ≡ (areDefined defs && (all (λ (v : Bytes). all isName (typedNames v)) uses && all (λ (v : Bytes). isDefined (endKind bits32 (defsOf defs) v)) uses))
+  well-by =
+      five (all (λ (v : Bytes). isTypedefName (firstWord v)) defs) (all (λ (v : Bytes). isDefined (endKind bits32 (defsOf defs) v)) defs) (distinct (map firstWord defs))
+      (all (λ (v : Bytes). all isName (typedNames v)) uses) (all (λ (v : Bytes). isDefined (endKind bits32 (defsOf defs) v)) uses)
+
+  pub not-defined : areDefined defs ≡ false → isTypedWell bits32 r ≡ false
+  not-defined e = well-by ∙ ap (λ (t : Bool). t && (all (λ (v : Bytes). all isName (typedNames v)) uses && all (λ (v : Bytes). isDefined (endKind bits32 (defsOf defs) v)) uses)) e
+
+  pub well-types : length defs ≤ 32 → areDefined defs ≡ true → isTypedWell bits32 r ≡ all (wellBy (map firstWord defs) (map (targetIn (map firstWord defs)) defs)) uses
+  well-types few e =
+      let b = both-true (all (λ (v : Bytes). isTypedefName (firstWord v)) defs && distinct (map firstWord defs)) (all (λ (v : Bytes). isDefined (endKind bits32 (defsOf defs) v)) defs) e in
+      well-by ∙ ap (λ (t : Bool). t && (all (λ (v : Bytes). all isName (typedNames v)) uses && all (λ (v : Bytes). isDefined (endKind bits32 (defsOf defs) v)) uses)) e
+      ∙ both-all (λ (v : Bytes). all isName (typedNames v)) (λ (v : Bytes). isDefined (endKind bits32 (defsOf defs) v))
+      (λ (v : Bytes). leads (map (targetIn (map firstWord defs)) defs) (targetIn (map firstWord defs) v)) (type-leads defs few (b .1)) uses
+
+-- where a target leads
+module _ (ts : List ℕ) (t : ℕ) where
+  pub leads-kind : t ≡ 33 → leads ts t ≡ true
+  leads-kind e = rw (eq-eqb t 33 e)
+
+  pub leads-nowhere : (t ≡ 33 → ⊥) → length ts ≤ t → leads ts t ≡ false
+  leads-nowhere n h = rw (ne-eqb t 33 n, le-leb (length ts) t h)
+
+  pub leads-there : (f : Followed) → (t ≡ 33 → ⊥) → t < length ts → f ≡ followOf (length ts - 1) ts t → leads ts t ≡ isEnd f
+  leads-there f n h q = rw (ne-eqb t 33 n, lt-leb (length ts) t h, q)
+
+-- one field more
+pub all-cut : (p : Bytes → Bool) (d name : Bytes) (i v e : ℕ) (t : Bool) → ValueHere d name i v e → t ≡ p (valueFrom (span v e d)) → all p (valuesFrom d name i) ≡ (t && all p (valuesFrom d name e))
+all-cut p d name i v e t h q = ap (all p) (h .values) ∙ ap (λ (b : Bool). b && all p (valuesFrom d name e)) (sym q)
+
+-- the parts of a word from i on
+module _ (s : Bytes) (i e : ℕ) (q : e ≡ runEnd (notByte 44) s i) where
+  parts-cut : split 44 (drop i s) ≡ span i e s ∷ splitBehind 44 (drop e s)
+  parts-cut = split-at 44 s i ∙ ap (λ (m : ℕ). span i m s ∷ splitBehind 44 (drop m s)) (sym q)
+
+  pub part-bad : isName (span i e s) ≡ false → all isName (split 44 (drop i s)) ≡ false
+  part-bad b = ap (all isName) parts-cut ∙ ap (λ (t : Bool). t && all isName (splitBehind 44 (drop e s))) b
+
+  part-good : isName (span i e s) ≡ true → all isName (split 44 (drop i s)) ≡ all isName (splitBehind 44 (drop e s))
+  part-good b = ap (all isName) parts-cut ∙ ap (λ (t : Bool). t && all isName (splitBehind 44 (drop e s))) b
+
+  pub part-last : isName (span i e s) ≡ true → e ≡ length s → all isName (split 44 (drop i s)) ≡ true
+  part-last b h = let l : length s ≤ e = omega arith in part-good b ∙ ap (λ (x : Bytes). all isName (splitBehind 44 x)) (drop-of-length-le s l)
+
+  pub part-more : isName (span i e s) ≡ true → e < length s → all isName (split 44 (drop i s)) ≡ all isName (split 44 (drop (e + 1) s))
+  part-more b h = part-good b ∙ ap (λ (x : Bytes). all isName (splitBehind 44 x)) (at-cons s e h)

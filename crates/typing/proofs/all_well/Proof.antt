@@ -1,0 +1,134 @@
+-- `typing::all_well` meets its contract. The invariant: all fields are well formed if those from i on are, and only then. The measure is what is left of the length.
+use borrow.Author.Needs.{needs}
+use Prim.Native.Nat.{_-_, _≤_}
+use native.Mathlib.Omega.{arith}
+use mathlib.Core.Path.{_≡_, refl, sym, ap, _∙_}
+use mathlib.Core.Bool.{Bool, true, _&&_}
+use lib.ListN.{length, drop}
+use Rattle.format.specs.Bytes.{Bytes, text, all}
+use Rattle.lines.specs.Value.{valueFrom}
+use Rattle.words.specs.Spans.{span}
+use Rattle.records.specs.Places.{isReadable}
+use Rattle.typedefs.specs.Walks.{valuesFrom, namesFrom, fitFrom}
+use Rattle.typedefs.proofs.Walking.{value-told}
+use Rattle.typedefs.proofs.Filling.{fit-here}
+use Rattle.typing.specs.Ends.{wellBy}
+use Rattle.typing.proofs.Deciding.{all-cut}
+use Rattle.typing.proofs.all_well.Statement.{statement}
+use Rattle.typing.proofs.all_well.Tie as tie
+use Rattle.typing.proofs.all_well.Reads as reads
+use Rattle.typing.proofs.all_well.Lts as lts
+use Rattle.typedefs.proofs.next_value.Reads as next-value-reads
+use Rattle.typing.proofs.type_well.Reads as type-well-reads
+
+abbrev Inv-loop : tie.InvT-loop
+Inv-loop table d targets scratch₀ i₀ t9 scratch i = (i ≤ length d) × (isReadable (drop i d) ≡ true) × (length scratch ≡ length scratch₀) × (fitFrom (length scratch₀) d (text "%type") i ≡ true) × (all (wellBy (namesFrom d 0) targets) (valuesFrom d (text "%type") 0) ≡ all (wellBy (namesFrom d 0) targets) (valuesFrom d (text "%type") i))
+
+abbrev μ-loop : tie.MeasureT-loop
+μ-loop table d targets scratch₀ i₀ t9 scratch i = length d - i
+
+loop-holds : tie.Need-loop-holds Inv-loop μ-loop
+loop-holds c =
+    let at-pre = c .before .before .before .pre in
+    (omega arith, at-pre .1 .0, refl, at-pre .1 .1, refl)
+
+slice-aggregate-next-value : tie.Need-slice-aggregate-next-value Inv-loop μ-loop
+slice-aggregate-next-value c = search needs
+
+next-value-requires : tie.Need-next-value-requires Inv-loop μ-loop
+next-value-requires c κs =
+    let at-pre = c .before .before .before .before .before .pre in
+    let at-loop = c .before .loop in
+    (at-pre .0, (at-loop .inv .0, at-loop .inv .1))
+
+enum-known-v : tie.Need-enum-known-v Inv-loop μ-loop
+enum-known-v c = search needs
+
+enum-told : tie.Need-enum-told Inv-loop μ-loop
+enum-told c = search needs
+
+same-length : tie.Need-same-length Inv-loop μ-loop
+same-length c = search needs
+
+returns : tie.Need-returns Inv-loop μ-loop
+returns c =
+    let at-args = c .before .before .before .before .before .before .before .before .args in
+    let at-loop = c .before .before .before .before .loop in
+    let at-next-value = c .before .before .next-value in
+    let at-enum-told = c .enum-told in
+    let h = value-told (at-args .d .now) (text "%type") (at-loop .i) (at-next-value .result) (at-next-value .ensures) (at-enum-told .given .1) in
+    sym (at-loop .inv .4 ∙ ap (all (wellBy (namesFrom (at-args .d .now) 0) (at-args .targets .now))) h)
+
+type-well-requires : tie.Need-type-well-requires Inv-loop μ-loop
+type-well-requires c κs =
+    let at-args = c .before .before .before .before .before .before .before .before .before .before .args in
+    let at-v = c .before .before .v in
+    let at-loop = c .before .before .before .before .before .before .loop in
+    let at-next-value = c .before .before .before .before .next-value in
+    let at-pre = c .before .before .before .before .before .before .before .before .before .before .pre in
+    let d = at-args .d .now in
+    let g = at-v .given in
+    let h = value-told d (text "%type") (at-loop .i) (at-next-value .result) (at-next-value .ensures) (g .1) in
+    let f = fit-here (length (at-args .scratch .now)) (valuesFrom d (text "%type") (at-loop .i)) (valueFrom (span (g .0 .0) (g .0 .1 .0) d)) (valuesFrom d (text "%type") (g .0 .1 .0)) (at-loop .inv .3) (h .values) in
+    (at-pre .0, (at-pre .1 .0, (h .within, h .inside, omega (arith, f .0, at-loop .inv .2))))
+
+same-length-2 : tie.Need-same-length-2 Inv-loop μ-loop
+same-length-2 c = search needs
+
+returns-2 : tie.Need-returns-2 Inv-loop μ-loop
+returns-2 c =
+    let at-args = c .before .before .before .before .before .before .before .before .before .before .before .before .before .before .args in
+    let at-v = c .before .before .before .before .before .before .v in
+    let at-loop = c .before .before .before .before .before .before .before .before .before .before .loop in
+    let at-next-value = c .before .before .before .before .before .before .before .before .next-value in
+    let at-type-well = c .before .before .before .type-well in
+    let at-if1 = c .if1 in
+    let d = at-args .d .now in
+    let g = at-v .given in
+    let p = wellBy (namesFrom d 0) (at-args .targets .now) in
+    let h = value-told d (text "%type") (at-loop .i) (at-next-value .result) (at-next-value .ensures) (g .1) in
+    sym (at-loop .inv .4 ∙ all-cut p d (text "%type") (at-loop .i) (g .0 .0) (g .0 .1 .0) (at-type-well .result) h (at-type-well .ensures) ∙ ap (λ (b : Bool). b && all p (valuesFrom d (text "%type") (g .0 .1 .0))) (at-if1 .left))
+
+loop-less : tie.Need-loop-less Inv-loop μ-loop
+loop-less c =
+    let at-args = c .before .before .before .before .before .before .before .before .before .before .before .before .before .before .args in
+    let at-loop = c .before .before .before .before .before .before .before .before .before .before .loop in
+    let at-next-value = c .before .before .before .before .before .before .before .before .next-value in
+    let at-v = c .before .before .before .before .before .before .v in
+    let h = value-told (at-args .d .now) (text "%type") (at-loop .i) (at-next-value .result) (at-next-value .ensures) (at-v .given .1) in
+    omega (arith, h .moves, h .inside)
+
+loop-again : tie.Need-loop-again Inv-loop μ-loop
+loop-again c =
+    let at-args = c .before .before .before .before .before .before .before .before .before .before .before .before .before .before .args in
+    let at-v = c .before .before .before .before .before .before .v in
+    let at-loop = c .before .before .before .before .before .before .before .before .before .before .loop in
+    let at-next-value = c .before .before .before .before .before .before .before .before .next-value in
+    let at-scratch = c .before .before .scratch in
+    let at-type-well = c .before .before .before .type-well in
+    let at-if1 = c .if1 in
+    let d = at-args .d .now in
+    let g = at-v .given in
+    let p = wellBy (namesFrom d 0) (at-args .targets .now) in
+    let h = value-told d (text "%type") (at-loop .i) (at-next-value .result) (at-next-value .ensures) (g .1) in
+    let f = fit-here (length (at-args .scratch .now)) (valuesFrom d (text "%type") (at-loop .i)) (valueFrom (span (g .0 .0) (g .0 .1 .0) d)) (valuesFrom d (text "%type") (g .0 .1 .0)) (at-loop .inv .3) (h .values) in
+    (h .inside, h .readable, omega (arith, at-scratch .given, at-loop .inv .2), f .1, at-loop .inv .4 ∙ all-cut p d (text "%type") (at-loop .i) (g .0 .0) (g .0 .1 .0) (at-type-well .result) h (at-type-well .ensures) ∙ ap (λ (b : Bool). b && all p (valuesFrom d (text "%type") (g .0 .1 .0))) (at-if1 .taken))
+
+pub all-well-spec : {M : Type 1} → statement M
+all-well-spec =
+    tie.close
+    (tie.spec
+    Inv-loop
+    μ-loop
+    loop-holds
+    slice-aggregate-next-value
+    next-value-requires
+    enum-known-v
+    enum-told
+    same-length
+    returns
+    type-well-requires
+    same-length-2
+    returns-2
+    loop-less
+    loop-again)

@@ -1,0 +1,3 @@
+-- What the rules of a descriptor's types stand for.
+pub mod Names
+pub mod Ends
