@@ -25,7 +25,7 @@ least-min zero b h k = absurd (h refl)
 least-min (suc a) zero h k = absurd (k refl)
 least-min (suc a) (suc b) h k = omega arith
 
-least-assoc : (a b c : ℕ) → least a (least b c) ≡ least (least a b) c
+pub least-assoc : (a b c : ℕ) → least a (least b c) ≡ least (least a b) c
 least-assoc zero b c = refl
 least-assoc (suc a) zero c = refl
 least-assoc (suc a) (suc b) zero = refl

@@ -278,7 +278,7 @@ fn entry_no(only: bool, list: u8, seen: u8) -> u32
 }
 
 // The lesser of two numbers of questions, 0 being none.
-fn lesser(a: u32, b: u32) -> u32
+pub fn lesser(a: u32, b: u32) -> u32
     ensures { λ r. ⌜ r ≡ least a b ⌝ }
 {
     if a == 0 {

@@ -1,0 +1,2 @@
+-- The questions in stages.
+pub mod Stages

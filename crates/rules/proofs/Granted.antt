@@ -1,0 +1,51 @@
+-- What the limits and the forms of a descriptor grant: values that fit a scratch, tables that hold its rules, at most one key.
+use Prim.Native.Nat.{ℕ, _≤_}
+use native.Mathlib.Omega.{arith}
+use mathlib.Core.Path.{_≡_, refl, sym, ap, _∙_, subst}
+use mathlib.Core.Bool.{Bool, true, false, _&&_, and-eq-true-iff}
+use mathlib.Core.List.{List, [], _∷_}
+use lib.Dec.{leb}
+use lib.ListN.{length}
+use borrow.Author.Tests.{leb-true, le-leb}
+use Rattle.format.specs.Bytes.{Bytes, text, all, same}
+use Rattle.format.specs.Records.{Field, Record}
+use Rattle.format.specs.Sets.{keepIf, valuesOf}
+use Rattle.format.specs.Limits.{valueBytes, typedefs, typeFields, listWords}
+use Rattle.format.specs.Rules.{mandatory, prohibited, allowed, unique}
+use Rattle.format.specs.Questions.{fitsField, fitsRecord, fitsRules}
+use Rattle.format.proofs.Elements.{Each, each-all, each-imp, all-each}
+use Rattle.shapes.proofs.Scratch.{fits-fields, fits-value}
+use Rattle.typedefs.specs.Walks.{fits}
+use Rattle.typed.specs.Meets.{fieldFits}
+
+module _ (m : ℕ) (room : valueBytes ≤ m) where
+  -- every value of a record that holds its limits fits
+  value-short : (f : Field) → fitsField f ≡ true → leb (length (f .value)) m ≡ true
+  value-short f e = le-leb (length (f .value)) m (omega (arith, fits-value f e))
+
+  pub fields-fit : (r : Record) → fitsRecord r ≡ true → all (fieldFits m) r ≡ true
+  fields-fit r e =
+      each-all (fieldFits m) r (each-imp (λ (f : Field). fitsField f ≡ true) (λ (f : Field). fieldFits m f ≡ true) (λ f h. value-short f h) r (all-each fitsField r (fits-fields r e)))
+
+  keep-fit : (b : Bool) (v : Bytes) (vs : List Bytes) → fits m v ≡ true → all (fits m) vs ≡ true → all (fits m) (keepIf b v vs) ≡ true
+  keep-fit true v vs h k = and-eq-true-iff (fits m v) (all (fits m) vs) .1 (h, k)
+  keep-fit false v vs h k = k
+
+  each-fit : (n : Bytes) (r : Record) → Each (λ (f : Field). fitsField f ≡ true) r → all (fits m) (valuesOf n r) ≡ true
+  each-fit n [] h = refl
+  each-fit n (f ∷ fs) h = keep-fit (same n (f .name)) (f .value) (valuesOf n fs) (value-short f (h .0)) (each-fit n fs (h .1))
+
+  pub values-fit : (n : Bytes) (r : Record) → fitsRecord r ≡ true → all (fits m) (valuesOf n r) ≡ true
+  values-fit n r e = each-fit n r (all-each fitsField r (fits-fields r e))
+
+-- the limits of a descriptor
+pub few-typedefs : (r : Record) → fitsRules r ≡ true → length (valuesOf (text "%typedef") r) ≤ 32
+few-typedefs r e =
+    let a : Bool = leb (length (valuesOf (text "%typedef") r)) typedefs in
+    let b : Bool = leb (length (valuesOf (text "%type") r)) typeFields in
+    let c : Bool = leb (length (mandatory r)) listWords in
+    let d : Bool = leb (length (prohibited r)) listWords in
+    let f : Bool = leb (length (allowed r)) listWords in
+    let g : Bool = leb (length (unique r)) listWords in
+    leb-true (length (valuesOf (text "%typedef") r)) typedefs
+    (and-eq-true-iff a b .0 (and-eq-true-iff (a && b) c .0 (and-eq-true-iff (a && b && c) d .0 (and-eq-true-iff (a && b && c && d) f .0 (and-eq-true-iff (a && b && c && d && f) g .0 e .0) .0) .0) .0) .0)

@@ -1,0 +1,3 @@
+-- What a descriptor's granted questions mean for the walks, and a set's number from its records'.
+pub mod Granted
+pub mod Members
