@@ -29,7 +29,7 @@ use Rattle.records.proofs.Views.{partOf, view-part}
 use Rattle.lookup.specs.Answers.{partsIn, soughtField, countIn, fetchIn, viewIn}
 
 -- a part of a part
-part-part : (j k m : ℕ) (l : Bytes) → j + k ≤ m → take k (drop j (take m l)) ≡ take k (drop j l)
+pub part-part : (j k m : ℕ) (l : Bytes) → j + k ≤ m → take k (drop j (take m l)) ≡ take k (drop j l)
 part-part zero zero m l h = refl
 part-part zero (suc k) zero l h = absurd (omega arith)
 part-part zero (suc k) (suc m) [] h = refl

@@ -1,5 +1,5 @@
 -- The paper's number and values for each answer, and what is asked of the sets of a file.
-use Prim.Native.Nat.{ℕ, _+_, _-_}
+use Prim.Native.Nat.{ℕ, _+_, _-_, _≤_}
 use mathlib.Core.List.{List, [], _∷_}
 use lib.ListN.{length, take, drop}
 use Rattle.format.specs.Bytes.{Bytes}
@@ -25,6 +25,11 @@ fetchedAnswer (Fetched.Refused k) = Answer.refusal k
 abbrev pub seenAnswer : Bytes → Seen → Viewed
 seenAnswer s (Seen.At a e) = record { number = 0; part = record { start = a; bytes = take (e - a) (drop a s) } }
 seenAnswer s (Seen.Refused k) = record { number = k; part = noPart }
+
+-- a view lies in the text
+abbrev pub SeenInside : Bytes → Seen → Type 0
+SeenInside b (Seen.At a e) = (a ≤ e) × (e ≤ length b)
+SeenInside b (Seen.Refused k) = Unit {0}
 
 -- the sets of a text
 abbrev pub partsIn : Bytes → List RecSet

@@ -31,7 +31,7 @@ returns c =
     let at-find-set = c .before .before .find-set in
     let at-pre = c .before .before .before .before .before .pre in
     let at-enum-told = c .enum-told in
-    sym (view-missing (at-args .s .now) (at-args .set .now) (at-args .row) (set-told (at-args .s .now) (at-args .set .now) (at-find-set .result) (at-pre .1) (at-find-set .ensures) (at-enum-told .given .1)))
+    (sym (view-missing (at-args .s .now) (at-args .set .now) (at-args .row) (set-told (at-args .s .now) (at-args .set .now) (at-find-set .result) (at-pre .1) (at-find-set .ensures) (at-enum-told .given .1))), tt)
 
 sub-find-record : tie.Need-sub-find-record
 sub-find-record c =
@@ -74,7 +74,7 @@ returns-2 c =
     let at-f = c .before .before .before .before .before .f in
     let at-find-record = c .before .before .find-record in
     let at-enum-told2 = c .enum-told2 in
-    let t = set-told (at-args .s .now) (at-args .set .now) (at-find-set .result) (at-pre .1) (at-find-set .ensures) (at-f .given .1) in let x = at-find-record .ensures ∙ ap (λ (y : Bytes). recordPlace (placesOf y) (at-args .row)) (rest (at-args .s .now) (at-f .given .0 .0)) in let r = record-told (drop (at-f .given .0 .0) (at-args .s .now)) (at-args .row) (at-find-record .result) (t .readable) x (at-enum-told2 .given .1) in sym (view-past (at-args .s .now) (at-args .set .now) (at-args .row) (at-f .given .0 .0) t r)
+    let t = set-told (at-args .s .now) (at-args .set .now) (at-find-set .result) (at-pre .1) (at-find-set .ensures) (at-f .given .1) in let x = at-find-record .ensures ∙ ap (λ (y : Bytes). recordPlace (placesOf y) (at-args .row)) (rest (at-args .s .now) (at-f .given .0 .0)) in let r = record-told (drop (at-f .given .0 .0) (at-args .s .now)) (at-args .row) (at-find-record .result) (t .readable) x (at-enum-told2 .given .1) in (sym (view-past (at-args .s .now) (at-args .set .now) (at-args .row) (at-f .given .0 .0) t r), tt)
 
 add-start : tie.Need-add-start
 add-start c =
@@ -106,7 +106,7 @@ returns-3 c =
     let at-f = c .before .before .before .before .before .before .before .before .f in
     let at-find-record = c .before .before .before .before .before .find-record in
     let at-g = c .before .before .before .g in
-    let t = set-told (at-args .s .now) (at-args .set .now) (at-find-set .result) (at-pre .1) (at-find-set .ensures) (at-f .given .1) in let x = at-find-record .ensures ∙ ap (λ (y : Bytes). recordPlace (placesOf y) (at-args .row)) (rest (at-args .s .now) (at-f .given .0 .0)) in let r = record-told (drop (at-f .given .0 .0) (at-args .s .now)) (at-args .row) (at-find-record .result) (t .readable) x (at-g .given .1) in sym (view-found (at-args .s .now) (at-args .set .now) (at-args .row) (at-f .given .0 .0) t (at-g .given .0 .0) (at-pre .1) (sym (at-find-set .ensures) ∙ at-f .given .1) (sym x ∙ at-g .given .1) r)
+    let t = set-told (at-args .s .now) (at-args .set .now) (at-find-set .result) (at-pre .1) (at-find-set .ensures) (at-f .given .1) in let x = at-find-record .ensures ∙ ap (λ (y : Bytes). recordPlace (placesOf y) (at-args .row)) (rest (at-args .s .now) (at-f .given .0 .0)) in let r = record-told (drop (at-f .given .0 .0) (at-args .s .now)) (at-args .row) (at-find-record .result) (t .readable) x (at-g .given .1) in (sym (view-found (at-args .s .now) (at-args .set .now) (at-args .row) (at-f .given .0 .0) t (at-g .given .0 .0) (at-pre .1) (sym (at-find-set .ensures) ∙ at-f .given .1) (sym x ∙ at-g .given .1) r), (omega (arith, r .stand .filled), omega (arith, t .inside, r .stand .within, r .stand .inside, length-drop (at-f .given .0 .0) (at-args .s .now))))
 
 pub view-in-spec : {M : Type 1} → statement M
 view-in-spec =
