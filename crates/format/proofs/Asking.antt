@@ -29,7 +29,7 @@ picked-yes true others number h e = (refl, e)
 picked-yes false others number h e = absurd (omega (arith, ltb-true 0 number h))
 
 module _ {A : Type 0} where
-  first-yes : (rs : List (Row A)) (a : A) → all isNumbered rs ≡ true → firstNo rs a ≡ 0 → Each (Yes a) rs
+  pub first-yes : (rs : List (Row A)) (a : A) → all isNumbered rs ≡ true → firstNo rs a ≡ 0 → Each (Yes a) rs
   first-yes [] a h e = tt
   first-yes (r ∷ rs) a h e =
       let n = and-eq-true-iff (isNumbered r) (all isNumbered rs) .0 h in

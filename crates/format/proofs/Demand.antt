@@ -15,56 +15,16 @@ use Rattle.format.specs.Numbers.{bits32}
 use Rattle.format.specs.Edits.{Edit}
 use Rattle.format.specs.Questions.{nameOf, verdict}
 use Rattle.format.specs.Requests.{Request, requestOf}
-use Rattle.format.specs.Plain.{Plain, plainOf, size, indexBy, indexOf, membersAt, apply, Asked, Step, step}
+use Rattle.format.specs.Plain.{Plain, plainOf, size, indexBy, indexOf, apply, Asked, Step, step}
 use Rattle.format.specs.Calls.{Edited, editAnswer}
-use Rattle.format.specs.Runs.{Told, Ran, run, PlainRan, plainRun}
+use Rattle.format.specs.Runs.{Told, run, plainRun}
+use Rattle.format.specs.Demand.{inserts, deletes, recordsHeld, ifAccepted, ofSet, asksOf, tally, Demand}
 use Rattle.format.proofs.Describing.{apply-names}
 use Rattle.format.proofs.Applying.{Agrees, Granted, granted-set}
 use Rattle.format.proofs.Asking.{yes-granted, asked, Accepted, step-accepted, step-refused}
 use Rattle.format.proofs.Passing.{holds-agrees, holds-start}
-use Rattle.format.proofs.Tallying.{inserts, deletes, apply-number, apply-others}
+use Rattle.format.proofs.Tallying.{apply-number, apply-others}
 use Rattle.format.proofs.Running.{Stands, stands-start, stands-room, stands-size, edit-stands, answer-number}
-
--- the number of records of set i
-abbrev pub recordsHeld : ℕ → Plain → ℕ
-recordsHeld i p = length (membersAt i (p .parts))
-
--- what accepted requests do to set i, in all: a refused one counts nothing, nor does one of another set, nor bytes that are no request
-abbrev pub ifAccepted : ℕ → ℕ → ℕ
-ifAccepted zero n = n
-ifAccepted (suc k) n = 0
-
-abbrev pub ofSet : ℕ → Option ℕ → ℕ → ℕ
-ofSet i none n = 0
-ofSet i (some k) n = pick (eqb k i) n 0
-
-abbrev pub asksOf : (Edit → ℕ) → List RecSet → ℕ → Option Request → ℕ
-asksOf f ss i none = 0
-asksOf f ss i (some q) = ofSet i (indexOf (q .set) ss) (f (q .edit))
-
-abbrev pub tally : (Edit → ℕ) → List RecSet → ℕ → List Bytes → List Told → ℕ
-tally f ss i [] ts = 0
-tally f ss i (q ∷ qs) [] = 0
-tally f ss i (q ∷ qs) (t ∷ ts) = ifAccepted (t .number) (asksOf f ss i (requestOf q)) + tally f ss i qs ts
-
--- What a list of requests leaves, given the buffer and the plain file at its start.
-pub record Demand (start : Bytes) (first : Plain) (requests : List Bytes) (r : Ran) (p : PlainRan) : Type 0 where
-  -- each edit's number and length is the plain file's
-  pub told : r .told ≡ p .told
-  -- the buffer has as many bytes as at the start
-  pub room : length (r .buffer) ≡ length start
-  -- the length at the end is the plain file's
-  pub length : r .length ≡ size (p .file)
-  -- the file's bytes are the pieces', behind them zeros up to the largest length so far, and from there on what was there at the start
-  pub bytes : r .buffer ≡ bytesOf (p .file .pieces) ++ (replicate (p .most - size (p .file)) 0 ++ drop (p .most) start)
-  -- the file passes
-  pub passes : verdict (r .buffer) (r .length) ≡ 0
-  -- it reads as the plain file's pieces
-  pub reads : pieces (take (r .length) (r .buffer)) ≡ some (p .file .pieces)
-  -- which read as the plain file
-  pub plain : plainOf (p .file .pieces) ≡ p .file
-  -- each set has as many records as at the start, more by the accepted inserts and less by the accepted deletes
-  pub counts : (i : ℕ) → recordsHeld i (p .file) + tally deletes (first .parts) i requests (r .told) ≡ recordsHeld i first + tally inserts (first .parts) i requests (r .told)
 
 -- the names of sets stay, and a set is found by its name
 

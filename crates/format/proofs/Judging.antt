@@ -22,7 +22,7 @@ use Rattle.format.proofs.Least.{leasts, eachOf, Rise, first-leasts, fir
 abbrev pub setQuestions : Bounds → List (Row (List RecSet))
 setQuestions b = limitRows ++ descriptorRows b ++ ruleRows b
 
-first-ask : {A B : Type 0} (f : A → B) (rs : List (Row B)) (a : A) → firstNo (askOf f rs) a ≡ firstNo rs (f a)
+pub first-ask : {A B : Type 0} (f : A → B) (rs : List (Row B)) (a : A) → firstNo (askOf f rs) a ≡ firstNo rs (f a)
 first-ask f [] a = refl
 first-ask f (r ∷ rs) a = ap (λ (n : ℕ). pick (r .asks (f a)) n (r .number)) (first-ask f rs a)
 

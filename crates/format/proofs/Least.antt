@@ -89,7 +89,7 @@ pub first-leasts : {A : Type 0} (rs : List (Row A)) → Rise 0 rs → (xs : List
 first-leasts rs h [] = first-none rs
 first-leasts rs h (x ∷ xs) = first-cons rs 0 h x xs ∙ ap (least (firstNo rs x)) (first-leasts rs h xs)
 
-rise-less : {A : Type 0} (rs : List (Row A)) (k : ℕ) → Rise k rs → Rise 0 rs
+pub rise-less : {A : Type 0} (rs : List (Row A)) (k : ℕ) → Rise k rs → Rise 0 rs
 rise-less [] k h = tt
 rise-less (r ∷ rs) k h = (omega (arith, h .0), h .1)
 

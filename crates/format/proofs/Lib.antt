@@ -31,6 +31,8 @@ pub mod Least
 pub mod Judging
 pub mod Listing
 pub mod Walking
+pub mod Results
+pub mod Answers
 pub mod Table
 pub mod Cases
 pub mod Traps

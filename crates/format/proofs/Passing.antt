@@ -66,7 +66,7 @@ passes-verdict buffer used ps h =
     let sets = subst (λ (x : Option (List Piece)). SetsPass (setsIn x)) (sym (h .reads)) (h .sets) in
     yes-verdict buffer used (inside, (clear, (ap isSome (h .reads), sets)))
 
-bytes-ended : (ps : List Piece) → isEnded (bytesOf ps) ≡ true
+pub bytes-ended : (ps : List Piece) → isEnded (bytesOf ps) ≡ true
 unfolding bytesOf
 bytes-ended ps = ended-bytes (allLines ps)
 

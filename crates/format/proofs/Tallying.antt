@@ -17,25 +17,13 @@ use Rattle.format.specs.Edits.{Change, Edit}
 use Rattle.format.specs.Questions.{occurrences}
 use Rattle.format.specs.Plain.{Plain, indexOf, membersAt, membersIn, recordAt, apply, Asked, occurrenceThere, leavesField, anotherLeft}
 use Rattle.format.specs.Requests.{Request}
+use Rattle.format.specs.Demand.{inserts, deletes}
 use Rattle.format.proofs.Elements.{Each, Filled}
 use Rattle.format.proofs.Blocks.{records-filled}
 use Rattle.format.proofs.Sets.{recValues}
 use Rattle.format.proofs.Members.{delete-number, add-number, changed, change-number, changed-filled, changed-left, members-here, members-other, append-number}
 use Rattle.format.proofs.Staying.{onMembers, apply-parts}
 use Rattle.format.proofs.Applying.{Agrees, agrees-parts, Granted, index-has, HasRow, row-has}
-
--- how many records an edit inserts, and how many it deletes
-abbrev pub inserts : Edit → ℕ
-inserts (Edit.insert new) = 1
-inserts Edit.delete = 0
-inserts (Edit.add q) = 0
-inserts (Edit.change n o c) = 0
-
-abbrev pub deletes : Edit → ℕ
-deletes (Edit.insert new) = 0
-deletes Edit.delete = 1
-deletes (Edit.add q) = 0
-deletes (Edit.change n o c) = 0
 
 -- the records of each set have a field
 

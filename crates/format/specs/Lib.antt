@@ -16,3 +16,4 @@ pub mod Edits
 pub mod Plain
 pub mod Calls
 pub mod Runs
+pub mod Demand

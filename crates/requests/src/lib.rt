@@ -470,12 +470,12 @@ fn put_pair(out: &mut [u8], at: usize, req: &[u8], name: Span, value: Span) -> u
 }
 
 // The length of the text of pairs and their number, or that one of them is not legal.
-enum Weighed {
+pub enum Weighed {
     Illegal,
     Sums { len: usize, count: usize },
 }
 
-fn weigh(table: &[u8; 256], req: &[u8], from: usize) -> Weighed
+pub fn weigh(table: &[u8; 256], req: &[u8], from: usize) -> Weighed
     requires { ⌜ now table ≡ classTable ⌝ }
     requires { ⌜ (length (now req) ≤ fileBytes) × (from ≤ length (now req)) ⌝ }
     requires { ⌜ isSome (pairsFrom (now req) from) ≡ true ⌝ }

@@ -39,13 +39,25 @@ module _ (m : ℕ) (room : valueBytes ≤ m) where
   values-fit n r e = each-fit n r (all-each fitsField r (fits-fields r e))
 
 -- the limits of a descriptor
-pub few-typedefs : (r : Record) → fitsRules r ≡ true → length (valuesOf (text "%typedef") r) ≤ 32
-few-typedefs r e =
-    let a : Bool = leb (length (valuesOf (text "%typedef") r)) typedefs in
-    let b : Bool = leb (length (valuesOf (text "%type") r)) typeFields in
-    let c : Bool = leb (length (mandatory r)) listWords in
-    let d : Bool = leb (length (prohibited r)) listWords in
-    let f : Bool = leb (length (allowed r)) listWords in
-    let g : Bool = leb (length (unique r)) listWords in
-    leb-true (length (valuesOf (text "%typedef") r)) typedefs
-    (and-eq-true-iff a b .0 (and-eq-true-iff (a && b) c .0 (and-eq-true-iff (a && b && c) d .0 (and-eq-true-iff (a && b && c && d) f .0 (and-eq-true-iff (a && b && c && d && f) g .0 e .0) .0) .0) .0) .0)
+module _ (r : Record) (e : fitsRules r ≡ true) where
+  abbrev typedefsFit : Bool
+  typedefsFit = leb (length (valuesOf (text "%typedef") r)) typedefs
+
+  abbrev typesFit : Bool
+  typesFit = leb (length (valuesOf (text "%type") r)) typeFields
+
+  both : (typedefsFit ≡ true) × (typesFit ≡ true)
+  both =
+      let c : Bool = leb (length (mandatory r)) listWords in
+      let d : Bool = leb (length (prohibited r)) listWords in
+      let f : Bool = leb (length (allowed r)) listWords in
+      let g : Bool = leb (length (unique r)) listWords in
+      let t : Bool = typedefsFit && typesFit in
+      and-eq-true-iff typedefsFit typesFit .0
+      (and-eq-true-iff t c .0 (and-eq-true-iff (t && c) d .0 (and-eq-true-iff (t && c && d) f .0 (and-eq-true-iff (t && c && d && f) g .0 e .0) .0) .0) .0)
+
+  pub few-typedefs : length (valuesOf (text "%typedef") r) ≤ 32
+  few-typedefs = leb-true (length (valuesOf (text "%typedef") r)) typedefs (both .0)
+
+  pub few-types : length (valuesOf (text "%type") r) ≤ 32
+  few-types = leb-true (length (valuesOf (text "%type") r)) typeFields (both .1)

@@ -16,9 +16,10 @@ ghost use Rattle.records.specs.Places.{isReadable};
 ghost use Rattle.records.specs.Walk.{recordIn};
 ghost use Rattle.lists.specs.Tables.{Lists};
 ghost use Rattle.setkeys.specs.Keyed.{membersIn, HaveKeys};
-ghost use Rattle.typed.specs.Meets.{Ready};
+ghost use Rattle.typed.specs.Rules.{Ruled};
 ghost use Rattle.rules.specs.Described.{IsRules, AllFit};
 use records::NextRecord;
+use typed::Rules;
 
 // Questions 8 to 12 of one record, by its descriptor's tables: the number of the first that says no, else 0.
 fn judge_record(
@@ -28,14 +29,14 @@ fn judge_record(
     end: &[u32],
     list: &[u8],
     count: usize,
-    targets: &[usize],
+    types: Rules,
     r: &[u8],
     seen: &mut [u8],
     scratch: &mut [u8],
     other: &mut [u8],
 ) -> u32
     requires { ⌜ now table ≡ classTable ⌝ }
-    requires { ⌜ IsRules (now d) × Ready (now d) (now targets) ⌝ }
+    requires { ⌜ IsRules (now d) × Ruled (length (now other)) (now d) types ⌝ }
     requires { ⌜ Lists (now d) (now at) (now end) (now list) count × (count ≤ length (now seen)) ⌝ }
     requires { ⌜ (isReadable (now r) ≡ true) × (fitsRecord (recordIn (now r)) ≡ true) ⌝ }
     requires { ⌜ (valueBytes ≤ length (now scratch)) × (valueBytes ≤ length (now other)) ⌝ }
@@ -45,7 +46,7 @@ fn judge_record(
     if n != 0 {
         return n;
     }
-    if typed::record_typed(table, d, targets, r, &mut *scratch, &mut *other) {} else {
+    if typed::record_typed(table, d, types, r, &mut *scratch, &mut *other) {} else {
         return 12;
     }
     0
@@ -59,13 +60,13 @@ fn judge_members(
     end: &[u32],
     list: &[u8],
     count: usize,
-    targets: &[usize],
+    types: Rules,
     rest: &[u8],
     scratch: &mut [u8],
     other: &mut [u8],
 ) -> u32
     requires { ⌜ now table ≡ classTable ⌝ }
-    requires { ⌜ IsRules (now d) × Ready (now d) (now targets) ⌝ }
+    requires { ⌜ IsRules (now d) × Ruled (length (now other)) (now d) types ⌝ }
     requires { ⌜ Lists (now d) (now at) (now end) (now list) count × (count ≤ 257) ⌝ }
     requires { ⌜ (isReadable (now rest) ≡ true) × AllFit (membersIn (now rest)) ⌝ }
     requires { ⌜ (valueBytes ≤ length (now scratch)) × (valueBytes ≤ length (now other)) ⌝ }
@@ -91,7 +92,7 @@ fn judge_members(
             end,
             list,
             count,
-            targets,
+            types,
             &rest[a..e],
             &mut seen,
             &mut *scratch,
@@ -149,9 +150,7 @@ pub fn judge_set(
     let mut end = [0u32; 257];
     let mut list = [0u8; 257];
     let count = lists::read_lists(table, d, &mut at, &mut end, &mut list);
-    let t = typedefs::read_targets(table, d, &mut *scratch);
-    let rows = t.rows;
-    let targets = t.count;
+    let types = typed::read_rules(table, d, &mut *other);
     let k = judge_members(
         table,
         d,
@@ -159,7 +158,7 @@ pub fn judge_set(
         &end,
         &list,
         count,
-        &rows[..targets],
+        types,
         rest,
         &mut *scratch,
         &mut *other,
@@ -167,5 +166,15 @@ pub fn judge_set(
     if k != 0 {
         return k;
     }
-    judge_whole(table, d, &at, &end, &list, count, rest, &mut *scratch, &mut *entries)
+    judge_whole(
+        table,
+        d,
+        &at,
+        &end,
+        &list,
+        count,
+        rest,
+        &mut *scratch,
+        &mut *entries,
+    )
 }

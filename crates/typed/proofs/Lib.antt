@@ -1,4 +1,5 @@
 -- Laws of values against types.
+pub mod Readiness
 pub mod Kinded
 pub mod Ruled
-pub mod Readiness
+pub mod Rows

@@ -1,7 +1,7 @@
--- Values against types: by a type that was read, and by the kind at its end.
+-- Values against the kind at the end of a type.
 use Prim.Native.Nat.{ℕ, zero, suc, _≤_}
 use mathlib.Core.Path.{_≡_}
-use mathlib.Core.Bool.{Bool, true, false, _||_, not}
+use mathlib.Core.Bool.{Bool, true, _||_, not}
 use mathlib.Core.List.{List, [], _∷_, map}
 use mathlib.Core.Option.{Option, none, some}
 use lib.Dec.{leb}
@@ -11,15 +11,9 @@ use Rattle.format.specs.Records.{Field}
 use Rattle.format.specs.Words.{firstWord, afterWord}
 use Rattle.format.specs.Numbers.{bits32}
 use Rattle.format.specs.Types.{Kind, Typed, Typedef, typeOf, meets}
-use Rattle.format.specs.Rules.{joinAll, typedefOf, endKind, isDefined, typedNames, typeRules, isTyped}
-use Rattle.types.specs.Meaning.{meetsTyped}
-use Rattle.typedefs.specs.Walks.{fieldsFrom, valuesFrom}
+use Rattle.format.specs.Rules.{joinAll, typedefOf, endKind, isDefined, typedNames}
+use Rattle.typedefs.specs.Walks.{valuesFrom}
 use Rattle.typedefs.specs.Targets.{targetIn}
-
--- by a type; none is met by none, and an alias neither
-abbrev pub meetsText : Option Typed → Bytes → Bool
-meetsText none v = false
-meetsText (some t) v = meetsTyped t v
 
 -- by a kind, where there is one
 abbrev pub meetsKind : Option Kind → Bytes → Bool
@@ -35,18 +29,23 @@ typeNumber (v ∷ vs) (suc j) = typeNumber vs j
 abbrev pub defsFrom : Bytes → List Typedef
 defsFrom d = joinAll (map (typedefOf bits32) (valuesFrom d (text "%typedef") 0))
 
--- the typedefs of a descriptor are well formed, and these are their targets
+-- the values of the `%type` fields
+abbrev pub typesFrom : Bytes → List Bytes
+typesFrom d = valuesFrom d (text "%type") 0
+
+abbrev pub areKinds : Bytes → List Bytes → Bool
+areKinds d vs = all (λ (v : Bytes). isDefined (endKind bits32 (defsFrom d) v)) vs
+
+-- the typedefs and types of a descriptor all end in a kind, and these are the targets of the typedefs
 pub record Ready (d : Bytes) (targets : List ℕ) : Type 0 where
   pub few : length (valuesFrom d (text "%typedef") 0) ≤ 32
-  pub defined : all (λ (v : Bytes). isDefined (endKind bits32 (defsFrom d) v)) (valuesFrom d (text "%typedef") 0) ≡ true
+  pub defined : areKinds d (valuesFrom d (text "%typedef") 0) ≡ true
+  pub used : areKinds d (typesFrom d) ≡ true
   pub are : targets ≡ map (targetIn (map firstWord (valuesFrom d (text "%typedef") 0))) (valuesFrom d (text "%typedef") 0)
 
--- a value of a field against one `%type` value, and against all of a descriptor
+-- a value of a field against one `%type` value
 abbrev pub ruleMet : List Typedef → Bytes → Bytes → Bytes → Bool
 ruleMet ds name v w = not (among name (typedNames w)) || meetsKind (endKind bits32 ds w) v
-
-abbrev pub typedBy : Bytes → Bytes → Bytes → Bool
-typedBy d name v = isTyped bits32 (typeRules bits32 (fieldsFrom d 0)) (record { name = name; value = v; count = 0 })
 
 abbrev pub fieldFits : ℕ → Field → Bool
 fieldFits m f = leb (length (f .value)) m

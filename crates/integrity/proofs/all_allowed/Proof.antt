@@ -25,12 +25,12 @@ shared-slice-read-class-of : tie.Need-shared-slice-read-class-of Inv-loop μ-loo
 shared-slice-read-class-of c = search needs
 
 class-of-requires : tie.Need-class-of-requires Inv-loop μ-loop
-class-of-requires c κs = 
+class-of-requires c κs =
     let at-pre = c .before .before .before .before .pre in
     at-pre
 
 returns : tie.Need-returns Inv-loop μ-loop
-returns c = 
+returns c =
     let at-args = c .before .before .before .before .before .before .args in
     let at-loop = c .before .before .before .before .loop in
     let at-loop-test = c .before .before .before .loop-test in
@@ -46,7 +46,7 @@ loop-less : tie.Need-loop-less Inv-loop μ-loop
 loop-less c = search needs
 
 loop-again : tie.Need-loop-again Inv-loop μ-loop
-loop-again c = 
+loop-again c =
     let at-args = c .before .before .before .before .before .before .args in
     let at-loop = c .before .before .before .before .loop in
     let at-loop-test = c .before .before .before .loop-test in
@@ -56,7 +56,7 @@ loop-again c =
     (omega arith, allowed-on (at-args .s .now) (at-loop .i) (at-loop .inv .1) (at-loop-test .taken) (omega (arith, at-shared-slice-known2 .given (at-loop .i))) _ (at-class-of .ensures) (at-if1 .left))
 
 returns-2 : tie.Need-returns-2 Inv-loop μ-loop
-returns-2 c = 
+returns-2 c =
     let at-args = c .before .before .before .args in
     let at-loop = c .before .loop in
     let at-loop-test = c .loop-test in

@@ -26,7 +26,7 @@ fits-requires : tie.Need-fits-requires
 fits-requires c κs = search needs
 
 returns : tie.Need-returns
-returns c = 
+returns c =
     let at-args = c .before .before .before .before .args in
     let at-fits2 = c .before .fits2 in
     let at-new = c .before .before .new in
@@ -43,7 +43,7 @@ part-judge-start : tie.Need-part-judge-start
 part-judge-start c = search needs
 
 part-judge-end : tie.Need-part-judge-end
-part-judge-end c = 
+part-judge-end c =
     let at-args = c .before .before .before .before .before .before .args in
     let at-fits2 = c .before .before .before .fits2 in
     let at-new = c .before .before .before .before .new in
@@ -51,7 +51,7 @@ part-judge-end c =
     let u = used-inside (at-args .buf .now) (at-args .used) (sym (at-fits2 .ensures ∙ ap (λ (n : ℕ). leb n (length (at-args .buf .now)) && leb n fileBytes) (at-new .ensures)) ∙ at-if1 .taken) in omega (arith, u .0)
 
 judge-requires : tie.Need-judge-requires
-judge-requires c κs = 
+judge-requires c κs =
     let at-args = c .before .before .before .before .before .before .before .args in
     let at-fits2 = c .before .before .before .before .fits2 in
     let at-new = c .before .before .before .before .before .new in
@@ -60,7 +60,7 @@ judge-requires c κs =
     let u = used-inside (at-args .buf .now) (at-args .used) (sym (at-fits2 .ensures ∙ ap (λ (n : ℕ). leb n (length (at-args .buf .now)) && leb n fileBytes) (at-new .ensures)) ∙ at-if1 .taken) in (at-classes .ensures, omega (arith, u .1, length-take-le (at-args .used - 0) (at-args .buf .now) (omega (arith, u .0))))
 
 returns-2 : tie.Need-returns-2
-returns-2 c = 
+returns-2 c =
     let at-args = c .before .before .before .before .before .before .before .before .args in
     let at-judge = c .judge in
     let at-fits2 = c .before .before .before .before .before .fits2 in

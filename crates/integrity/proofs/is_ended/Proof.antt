@@ -12,7 +12,7 @@ use Rattle.integrity.proofs.is_ended.Reads as reads
 use Rattle.integrity.proofs.is_ended.Lts as lts
 
 returns : tie.Need-returns
-returns c = 
+returns c =
     let at-args = c .before .args in
     let at-if1 = c .if1 in
     none-ended (at-args .s .now) (at-if1 .taken)
@@ -24,7 +24,7 @@ shared-slice-read-result : tie.Need-shared-slice-read-result
 shared-slice-read-result c = search needs
 
 returns-2 : tie.Need-returns-2
-returns-2 c = 
+returns-2 c =
     let at-args = c .before .before .args in
     let at-if1 = c .before .if1 in
     sym (last-ended (at-args .s .now) (length (at-args .s .now) - 1) (omega (arith, at-if1 .left)))

@@ -11,12 +11,12 @@ use Rattle.integrity.proofs.is_ended.Reads as is-ended-reads
 use Rattle.records.proofs.is_readable.Reads as is-readable-reads
 
 all-allowed-requires : tie.Need-all-allowed-requires
-all-allowed-requires c κs = 
+all-allowed-requires c κs =
     let at-pre = c .before .pre in
     at-pre
 
 returns : tie.Need-returns
-returns c = 
+returns c =
     let at-args = c .before .before .before .args in
     let at-all-allowed = c .before .all-allowed in
     let at-if1 = c .if1 in
@@ -26,7 +26,7 @@ is-ended-requires : tie.Need-is-ended-requires
 is-ended-requires c κs = search needs
 
 returns-2 : tie.Need-returns-2
-returns-2 c = 
+returns-2 c =
     let at-args = c .before .before .before .before .before .args in
     let at-all-allowed = c .before .before .before .all-allowed in
     let at-if1 = c .before .before .if1 in
@@ -35,12 +35,12 @@ returns-2 c =
     ended-no (at-args .s .now) (sym (at-all-allowed .ensures) ∙ at-if1 .taken) (sym (at-is-ended .ensures) ∙ at-if2 .left)
 
 is-readable-requires : tie.Need-is-readable-requires
-is-readable-requires c κs = 
+is-readable-requires c κs =
     let at-pre = c .before .before .before .before .before .pre in
     at-pre
 
 returns-3 : tie.Need-returns-3
-returns-3 c = 
+returns-3 c =
     let at-args = c .before .before .before .before .before .before .before .args in
     let at-all-allowed = c .before .before .before .before .before .all-allowed in
     let at-if1 = c .before .before .before .before .if1 in
@@ -51,7 +51,7 @@ returns-3 c =
     lines-no (at-args .s .now) (sym (at-all-allowed .ensures) ∙ at-if1 .taken) (sym (at-is-ended .ensures) ∙ at-if2 .taken) (sym (at-is-readable .ensures) ∙ at-if3 .left)
 
 returns-4 : tie.Need-returns-4
-returns-4 c = 
+returns-4 c =
     let at-args = c .before .before .before .before .before .before .before .args in
     let at-all-allowed = c .before .before .before .before .before .all-allowed in
     let at-if1 = c .before .before .before .before .if1 in

@@ -16,7 +16,7 @@ use Rattle.integrity.proofs.judge_part.Lts as lts
 use Rattle.rules.proofs.judge_set.Reads as judge-set-reads
 
 judge-set-requires : tie.Need-judge-set-requires
-judge-set-requires c κs = 
+judge-set-requires c κs =
     let at-pre = c .before .before .before .before .before .before .before .before .before .pre in
     let at-if1 = c .before .before .before .if1 in
     (at-pre .0, ((at-pre .1 .0 .0 (at-if1 .taken), at-pre .1 .0 .1), (at-pre .1 .1 .0, at-pre .1 .1 .1)))
@@ -31,14 +31,14 @@ same-length-3 : tie.Need-same-length-3
 same-length-3 c = search needs
 
 returns : tie.Need-returns
-returns c = 
+returns c =
     let at-judge-set = c .before .before .before .before .before .before .judge-set in
     let at-args = c .before .before .before .before .before .before .before .before .before .before .before .before .before .before .before .before .args in
     let at-if1 = c .before .before .before .before .before .before .before .before .before .before .if1 in
     at-judge-set .ensures ∙ ap (λ (b : Bool). pick {A = ℕ} b (setNo bits32 (ruled (recordIn (at-args .r .now)) (membersIn (at-args .rest .now)))) 0) (sym (at-if1 .taken))
 
 returns-2 : tie.Need-returns-2
-returns-2 c = 
+returns-2 c =
     let at-args = c .before .before .before .before .before .before .args in
     let at-if1 = c .if1 in
     ap (λ (b : Bool). pick {A = ℕ} b (setNo bits32 (ruled (recordIn (at-args .r .now)) (membersIn (at-args .rest .now)))) 0) (sym (at-if1 .left))

@@ -16,24 +16,24 @@ use Rattle.limits.proofs.limits_held.Reads as limits-held-reads
 use Rattle.shapes.proofs.described_well.Reads as described-well-reads
 
 limits-held-requires : tie.Need-limits-held-requires
-limits-held-requires c κs = 
+limits-held-requires c κs =
     let at-pre = c .before .pre in
     (at-pre .0, (at-pre .1 .0, at-pre .1 .1))
 
 returns : tie.Need-returns
-returns c = 
+returns c =
     let at-args = c .before .before .before .args in
     let at-limits-held = c .before .limits-held in
     let at-if1 = c .if1 in
     limits-no (records (readOf (at-args .s .now))) (sym (at-limits-held .ensures) ∙ at-if1 .left)
 
 described-once-requires : tie.Need-described-once-requires
-described-once-requires c κs = 
+described-once-requires c κs =
     let at-pre = c .before .before .before .pre in
     (at-pre .0, at-pre .1 .0)
 
 returns-2 : tie.Need-returns-2
-returns-2 c = 
+returns-2 c =
     let at-args = c .before .before .before .before .before .args in
     let at-limits-held = c .before .before .before .limits-held in
     let at-if1 = c .before .before .if1 in
@@ -45,14 +45,14 @@ slice-aggregate-described-well : tie.Need-slice-aggregate-described-well
 slice-aggregate-described-well c = search needs
 
 described-well-requires : tie.Need-described-well-requires
-described-well-requires c κs = 
+described-well-requires c κs =
     let at-pre = c .before .before .before .before .before .before .pre in
     let at-limits-held = c .before .before .before .before .limits-held in
     let at-if1 = c .before .before .before .if1 in
     (at-pre .0, (at-pre .1 .0, ((sym (at-limits-held .ensures) ∙ at-if1 .taken), omega arith)))
 
 returns-3 : tie.Need-returns-3
-returns-3 c = 
+returns-3 c =
     let at-args = c .before .before .before .before .before .before .before .before .before .args in
     let at-limits-held = c .before .before .before .before .before .before .before .limits-held in
     let at-if1 = c .before .before .before .before .before .before .if1 in
@@ -66,7 +66,7 @@ slice-aggregate-types-defined : tie.Need-slice-aggregate-types-defined
 slice-aggregate-types-defined c = search needs
 
 types-defined-requires : tie.Need-types-defined-requires
-types-defined-requires c κs = 
+types-defined-requires c κs =
     let at-pre = c .before .before .before .before .before .before .before .before .before .before .pre in
     let at-limits-held = c .before .before .before .before .before .before .before .before .limits-held in
     let at-if1 = c .before .before .before .before .before .before .before .if1 in
@@ -74,7 +74,7 @@ types-defined-requires c κs =
     (at-pre .0, (at-pre .1 .0, ((sym (at-limits-held .ensures) ∙ at-if1 .taken), omega (arith, at-described-well .ensures .1))))
 
 returns-4 : tie.Need-returns-4
-returns-4 c = 
+returns-4 c =
     let at-args = c .before .before .before .before .before .before .before .before .before .before .before .before .before .args in
     let at-limits-held = c .before .before .before .before .before .before .before .before .before .before .before .limits-held in
     let at-if1 = c .before .before .before .before .before .before .before .before .before .before .if1 in
@@ -96,7 +96,7 @@ slice-aggregate-judge-sets-3 : tie.Need-slice-aggregate-judge-sets-3
 slice-aggregate-judge-sets-3 c = search needs
 
 judge-sets-requires : tie.Need-judge-sets-requires
-judge-sets-requires c κs = 
+judge-sets-requires c κs =
     let at-pre = c .before .before .before .before .before .before .before .before .before .before .before .before .before .before .before .before .pre in
     let at-limits-held = c .before .before .before .before .before .before .before .before .before .before .before .before .before .before .limits-held in
     let at-if1 = c .before .before .before .before .before .before .before .before .before .before .before .before .before .if1 in
@@ -107,7 +107,7 @@ judge-sets-requires c κs =
     (at-pre .0, (at-pre .1, (record { fit = (sym (at-limits-held .ensures) ∙ at-if1 .taken); well = (sym (at-described-well .ensures .0) ∙ at-if3 .taken); types = sym (at-types-defined .ensures) ∙ at-if4 .taken }, (omega (arith, at-described-well .ensures .1), omega arith, omega arith))))
 
 returns-5 : tie.Need-returns-5
-returns-5 c = 
+returns-5 c =
     let at-judge-sets = c .before .before .before .judge-sets in
     let at-args = c .before .before .before .before .before .before .before .before .before .before .before .before .before .before .before .before .before .before .before .before .args in
     let at-limits-held = c .before .before .before .before .before .before .before .before .before .before .before .before .before .before .before .before .before .before .limits-held in

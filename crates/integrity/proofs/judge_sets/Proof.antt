@@ -35,7 +35,7 @@ abbrev μ-loop : tie.MeasureT-loop
 μ-loop table s scratch₀ other₀ entries₀ i₀ worst₀ scratch other entries i worst = length s - i
 
 loop-holds : tie.Need-loop-holds Inv-loop μ-loop
-loop-holds c = 
+loop-holds c =
     let at-pre = c .before .before .before .before .pre in
     let at-args = c .before .before .before .before .args in
     (omega arith, at-pre .1 .0 .0, granted-each (records (readOf (at-args .s .now))) (at-pre .1 .1 .0), refl, refl, refl, refl)
@@ -50,7 +50,7 @@ part-next-record-end : tie.Need-part-next-record-end Inv-loop μ-loop
 part-next-record-end c = search needs
 
 next-record-requires : tie.Need-next-record-requires Inv-loop μ-loop
-next-record-requires c κs = 
+next-record-requires c κs =
     let at-pre = c .before .before .before .before .before .before .pre in
     let at-args = c .before .before .before .before .before .before .args in
     let at-loop = c .before .loop in
@@ -63,22 +63,22 @@ enum-told : tie.Need-enum-told Inv-loop μ-loop
 enum-told c = search needs
 
 same-length : tie.Need-same-length Inv-loop μ-loop
-same-length c = 
+same-length c =
     let at-loop = c .before .before .before .before .loop in
     at-loop .inv .4
 
 same-length-2 : tie.Need-same-length-2 Inv-loop μ-loop
-same-length-2 c = 
+same-length-2 c =
     let at-loop = c .before .before .before .before .loop in
     at-loop .inv .5
 
 same-length-3 : tie.Need-same-length-3 Inv-loop μ-loop
-same-length-3 c = 
+same-length-3 c =
     let at-loop = c .before .before .before .before .loop in
     at-loop .inv .6
 
 returns : tie.Need-returns Inv-loop μ-loop
-returns c = 
+returns c =
     let at-args = c .before .before .before .before .before .before .before .before .before .args in
     let at-loop = c .before .before .before .before .loop in
     let at-next-record = c .before .before .next-record in
@@ -86,7 +86,7 @@ returns c =
     let m = meets (at-args .s .now) (at-loop .i) (at-next-record .result) (at-loop .inv .0) (at-loop .inv .1) (at-next-record .ensures) (at-enum-told .given .1) in sets-end (at-args .s .now) (at-loop .i) (at-loop .worst) m ∙ sym (at-loop .inv .3)
 
 add-a : tie.Need-add-a Inv-loop μ-loop
-add-a c = 
+add-a c =
     let at-args = c .before .before .before .before .before .before .before .before .before .before .before .args in
     let at-loop = c .before .before .before .before .before .before .loop in
     let at-next-record = c .before .before .before .before .next-record in
@@ -95,7 +95,7 @@ add-a c =
     let m = meets (at-args .s .now) (at-loop .i) (at-next-record .result) (at-loop .inv .0) (at-loop .inv .1) (at-next-record .ensures) (at-n .given .1) in omega (arith, m .stand .filled, m .stand .within, m .stand .inside, at-good .1 .0 .0)
 
 add-e : tie.Need-add-e Inv-loop μ-loop
-add-e c = 
+add-e c =
     let at-args = c .before .before .before .before .before .before .before .before .before .before .before .before .args in
     let at-loop = c .before .before .before .before .before .before .before .loop in
     let at-next-record = c .before .before .before .before .before .next-record in
@@ -104,7 +104,7 @@ add-e c =
     let m = meets (at-args .s .now) (at-loop .i) (at-next-record .result) (at-loop .inv .0) (at-loop .inv .1) (at-next-record .ensures) (at-n .given .1) in omega (arith, m .stand .filled, m .stand .within, m .stand .inside, at-good .1 .0 .0)
 
 add-i : tie.Need-add-i Inv-loop μ-loop
-add-i c = 
+add-i c =
     let at-args = c .before .before .before .before .before .before .before .before .before .before .before .before .before .args in
     let at-loop = c .before .before .before .before .before .before .before .before .loop in
     let at-next-record = c .before .before .before .before .before .before .next-record in
@@ -113,7 +113,7 @@ add-i c =
     let m = meets (at-args .s .now) (at-loop .i) (at-next-record .result) (at-loop .inv .0) (at-loop .inv .1) (at-next-record .ensures) (at-n .given .1) in omega (arith, m .stand .filled, m .stand .within, m .stand .inside, at-good .1 .0 .0)
 
 sub-judge-part : tie.Need-sub-judge-part Inv-loop μ-loop
-sub-judge-part c = 
+sub-judge-part c =
     let at-args = c .before .before .before .before .before .before .before .before .before .before .before .before .before .args in
     let at-loop = c .before .before .before .before .before .before .before .before .loop in
     let at-next-record = c .before .before .before .before .before .before .next-record in
@@ -122,7 +122,7 @@ sub-judge-part c =
     let m = meets (at-args .s .now) (at-loop .i) (at-next-record .result) (at-loop .inv .0) (at-loop .inv .1) (at-next-record .ensures) (at-n .given .1) in omega (arith, m .stand .filled, m .stand .within, m .stand .inside, at-good .1 .0 .0)
 
 part-judge-part-start : tie.Need-part-judge-part-start Inv-loop μ-loop
-part-judge-part-start c = 
+part-judge-part-start c =
     let at-args = c .before .before .before .before .before .before .before .before .before .before .before .before .before .args in
     let at-loop = c .before .before .before .before .before .before .before .before .loop in
     let at-next-record = c .before .before .before .before .before .before .next-record in
@@ -131,7 +131,7 @@ part-judge-part-start c =
     let m = meets (at-args .s .now) (at-loop .i) (at-next-record .result) (at-loop .inv .0) (at-loop .inv .1) (at-next-record .ensures) (at-n .given .1) in omega (arith, m .stand .filled, m .stand .within, m .stand .inside, at-good .1 .0 .0)
 
 part-judge-part-end : tie.Need-part-judge-part-end Inv-loop μ-loop
-part-judge-part-end c = 
+part-judge-part-end c =
     let at-args = c .before .before .before .before .before .before .before .before .before .before .before .before .before .args in
     let at-loop = c .before .before .before .before .before .before .before .before .loop in
     let at-next-record = c .before .before .before .before .before .before .next-record in
@@ -140,7 +140,7 @@ part-judge-part-end c =
     let m = meets (at-args .s .now) (at-loop .i) (at-next-record .result) (at-loop .inv .0) (at-loop .inv .1) (at-next-record .ensures) (at-n .given .1) in omega (arith, m .stand .filled, m .stand .within, m .stand .inside, at-good .1 .0 .0)
 
 sub-judge-part-2 : tie.Need-sub-judge-part-2 Inv-loop μ-loop
-sub-judge-part-2 c = 
+sub-judge-part-2 c =
     let at-args = c .before .before .before .before .before .before .before .before .before .before .before .before .before .before .args in
     let at-loop = c .before .before .before .before .before .before .before .before .before .loop in
     let at-next-record = c .before .before .before .before .before .before .before .next-record in
@@ -149,7 +149,7 @@ sub-judge-part-2 c =
     let m = meets (at-args .s .now) (at-loop .i) (at-next-record .result) (at-loop .inv .0) (at-loop .inv .1) (at-next-record .ensures) (at-n .given .1) in omega (arith, m .stand .filled, m .stand .within, m .stand .inside, at-good .1 .0 .0)
 
 part-judge-part-start-2 : tie.Need-part-judge-part-start-2 Inv-loop μ-loop
-part-judge-part-start-2 c = 
+part-judge-part-start-2 c =
     let at-args = c .before .before .before .before .before .before .before .before .before .before .before .before .before .before .args in
     let at-loop = c .before .before .before .before .before .before .before .before .before .loop in
     let at-next-record = c .before .before .before .before .before .before .before .next-record in
@@ -158,7 +158,7 @@ part-judge-part-start-2 c =
     let m = meets (at-args .s .now) (at-loop .i) (at-next-record .result) (at-loop .inv .0) (at-loop .inv .1) (at-next-record .ensures) (at-n .given .1) in omega (arith, m .stand .filled, m .stand .within, m .stand .inside, at-good .1 .0 .0)
 
 part-judge-part-end-2 : tie.Need-part-judge-part-end-2 Inv-loop μ-loop
-part-judge-part-end-2 c = 
+part-judge-part-end-2 c =
     let at-args = c .before .before .before .before .before .before .before .before .before .before .before .before .before .before .args in
     let at-loop = c .before .before .before .before .before .before .before .before .before .loop in
     let at-next-record = c .before .before .before .before .before .before .before .next-record in
@@ -167,7 +167,7 @@ part-judge-part-end-2 c =
     let m = meets (at-args .s .now) (at-loop .i) (at-next-record .result) (at-loop .inv .0) (at-loop .inv .1) (at-next-record .ensures) (at-n .given .1) in omega (arith, m .stand .filled, m .stand .within, m .stand .inside, at-good .1 .0 .0)
 
 judge-part-requires : tie.Need-judge-part-requires Inv-loop μ-loop
-judge-part-requires c κs = 
+judge-part-requires c κs =
     let at-args = c .before .before .before .before .before .before .before .before .before .before .before .before .before .before .before .before .before .before .args in
     let at-loop = c .before .before .before .before .before .before .before .before .before .before .before .before .before .loop in
     let at-next-record = c .before .before .before .before .before .before .before .before .before .before .before .next-record in
@@ -179,7 +179,7 @@ lesser-requires : tie.Need-lesser-requires Inv-loop μ-loop
 lesser-requires c κs = search needs
 
 loop-less : tie.Need-loop-less Inv-loop μ-loop
-loop-less c = 
+loop-less c =
     let at-args = c .before .before .before .before .before .before .before .before .before .before .before .before .before .before .before .before .before .before .before .before .before .before .before .before .before .before .args in
     let at-loop = c .before .before .before .before .before .before .before .before .before .before .before .before .before .before .before .before .before .before .before .before .before .loop in
     let at-next-record = c .before .before .before .before .before .before .before .before .before .before .before .before .before .before .before .before .before .before .before .next-record in
@@ -187,7 +187,7 @@ loop-less c =
     let m = meets (at-args .s .now) (at-loop .i) (at-next-record .result) (at-loop .inv .0) (at-loop .inv .1) (at-next-record .ensures) (at-n .given .1) in omega (arith, m .stand .filled, m .stand .within, m .stand .inside)
 
 loop-again : tie.Need-loop-again Inv-loop μ-loop
-loop-again c = 
+loop-again c =
     let at-args = c .before .before .before .before .before .before .before .before .before .before .before .before .before .before .before .before .before .before .before .before .before .before .before .before .before .before .args in
     let at-loop = c .before .before .before .before .before .before .before .before .before .before .before .before .before .before .before .before .before .before .before .before .before .loop in
     let at-next-record = c .before .before .before .before .before .before .before .before .before .before .before .before .before .before .before .before .before .before .before .next-record in

@@ -15,7 +15,7 @@ use Rattle.integrity.proofs.part_typed.Lts as lts
 use Rattle.typing.proofs.types_well.Reads as types-well-reads
 
 types-well-requires : tie.Need-types-well-requires
-types-well-requires c κs = 
+types-well-requires c κs =
     let at-pre = c .before .before .before .before .pre in
     let at-args = c .before .before .before .before .args in
     let at-if1 = c .before .if1 in
@@ -25,14 +25,14 @@ same-length : tie.Need-same-length
 same-length c = search needs
 
 returns : tie.Need-returns
-returns c = 
+returns c =
     let at-types-well = c .before .before .types-well in
     let at-args = c .before .before .before .before .before .before .before .args in
     let at-if1 = c .before .before .before .before .if1 in
     at-types-well .ensures ∙ ap (λ (b : Bool). not b || isTypedWell bits32 (recordIn (at-args .r .now))) (sym (at-if1 .taken))
 
 returns-2 : tie.Need-returns-2
-returns-2 c = 
+returns-2 c =
     let at-args = c .before .before .before .args in
     let at-if1 = c .if1 in
     ap (λ (b : Bool). not b || isTypedWell bits32 (recordIn (at-args .r .now))) (sym (at-if1 .left))

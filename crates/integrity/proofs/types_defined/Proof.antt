@@ -30,7 +30,7 @@ abbrev μ-loop : tie.MeasureT-loop
 μ-loop table s scratch₀ i₀ scratch i = length s - i
 
 loop-holds : tie.Need-loop-holds Inv-loop μ-loop
-loop-holds c = 
+loop-holds c =
     let at-pre = c .before .before .pre in
     let at-args = c .before .before .args in
     (omega arith, at-pre .1 .0, fits-each (records (readOf (at-args .s .now))) (at-pre .1 .1 .0), refl, refl)
@@ -45,7 +45,7 @@ part-next-record-end : tie.Need-part-next-record-end Inv-loop μ-loop
 part-next-record-end c = search needs
 
 next-record-requires : tie.Need-next-record-requires Inv-loop μ-loop
-next-record-requires c κs = 
+next-record-requires c κs =
     let at-pre = c .before .before .before .before .pre in
     let at-args = c .before .before .before .before .args in
     let at-loop = c .before .loop in
@@ -58,12 +58,12 @@ enum-told : tie.Need-enum-told Inv-loop μ-loop
 enum-told c = search needs
 
 same-length : tie.Need-same-length Inv-loop μ-loop
-same-length c = 
+same-length c =
     let at-loop = c .before .before .before .before .loop in
     at-loop .inv .4
 
 returns : tie.Need-returns Inv-loop μ-loop
-returns c = 
+returns c =
     let at-args = c .before .before .before .before .before .before .before .args in
     let at-loop = c .before .before .before .before .loop in
     let at-next-record = c .before .before .next-record in
@@ -71,7 +71,7 @@ returns c =
     let m = meets (at-args .s .now) (at-loop .i) (at-next-record .result) (at-loop .inv .0) (at-loop .inv .1) (at-next-record .ensures) (at-enum-told .given .1) in types-end (at-args .s .now) (at-loop .i) m ∙ sym (at-loop .inv .3)
 
 add-a : tie.Need-add-a Inv-loop μ-loop
-add-a c = 
+add-a c =
     let at-args = c .before .before .before .before .before .before .before .before .before .args in
     let at-loop = c .before .before .before .before .before .before .loop in
     let at-next-record = c .before .before .before .before .next-record in
@@ -80,7 +80,7 @@ add-a c =
     let m = meets (at-args .s .now) (at-loop .i) (at-next-record .result) (at-loop .inv .0) (at-loop .inv .1) (at-next-record .ensures) (at-n .given .1) in omega (arith, m .stand .filled, m .stand .within, m .stand .inside, at-good .1 .0 .0)
 
 add-e : tie.Need-add-e Inv-loop μ-loop
-add-e c = 
+add-e c =
     let at-args = c .before .before .before .before .before .before .before .before .before .before .args in
     let at-loop = c .before .before .before .before .before .before .before .loop in
     let at-next-record = c .before .before .before .before .before .next-record in
@@ -89,7 +89,7 @@ add-e c =
     let m = meets (at-args .s .now) (at-loop .i) (at-next-record .result) (at-loop .inv .0) (at-loop .inv .1) (at-next-record .ensures) (at-n .given .1) in omega (arith, m .stand .filled, m .stand .within, m .stand .inside, at-good .1 .0 .0)
 
 sub-part-typed : tie.Need-sub-part-typed Inv-loop μ-loop
-sub-part-typed c = 
+sub-part-typed c =
     let at-args = c .before .before .before .before .before .before .before .before .before .before .args in
     let at-loop = c .before .before .before .before .before .before .before .loop in
     let at-next-record = c .before .before .before .before .before .next-record in
@@ -98,7 +98,7 @@ sub-part-typed c =
     let m = meets (at-args .s .now) (at-loop .i) (at-next-record .result) (at-loop .inv .0) (at-loop .inv .1) (at-next-record .ensures) (at-n .given .1) in omega (arith, m .stand .filled, m .stand .within, m .stand .inside, at-good .1 .0 .0)
 
 part-part-typed-start : tie.Need-part-part-typed-start Inv-loop μ-loop
-part-part-typed-start c = 
+part-part-typed-start c =
     let at-args = c .before .before .before .before .before .before .before .before .before .before .args in
     let at-loop = c .before .before .before .before .before .before .before .loop in
     let at-next-record = c .before .before .before .before .before .next-record in
@@ -107,7 +107,7 @@ part-part-typed-start c =
     let m = meets (at-args .s .now) (at-loop .i) (at-next-record .result) (at-loop .inv .0) (at-loop .inv .1) (at-next-record .ensures) (at-n .given .1) in omega (arith, m .stand .filled, m .stand .within, m .stand .inside, at-good .1 .0 .0)
 
 part-part-typed-end : tie.Need-part-part-typed-end Inv-loop μ-loop
-part-part-typed-end c = 
+part-part-typed-end c =
     let at-args = c .before .before .before .before .before .before .before .before .before .before .args in
     let at-loop = c .before .before .before .before .before .before .before .loop in
     let at-next-record = c .before .before .before .before .before .next-record in
@@ -116,7 +116,7 @@ part-part-typed-end c =
     let m = meets (at-args .s .now) (at-loop .i) (at-next-record .result) (at-loop .inv .0) (at-loop .inv .1) (at-next-record .ensures) (at-n .given .1) in omega (arith, m .stand .filled, m .stand .within, m .stand .inside, at-good .1 .0 .0)
 
 part-typed-requires : tie.Need-part-typed-requires Inv-loop μ-loop
-part-typed-requires c κs = 
+part-typed-requires c κs =
     let at-args = c .before .before .before .before .before .before .before .before .before .before .before .before .args in
     let at-loop = c .before .before .before .before .before .before .before .before .before .loop in
     let at-next-record = c .before .before .before .before .before .before .before .next-record in
@@ -125,13 +125,13 @@ part-typed-requires c κs =
     let m = meets (at-args .s .now) (at-loop .i) (at-next-record .result) (at-loop .inv .0) (at-loop .inv .1) (at-next-record .ensures) (at-n .given .1) in let f = fits-met (at-args .s .now) (at-loop .i) (at-n .given .0 .0) m (at-loop .inv .2) in (at-pre .0, (reads-readable (m .stand .own-reads), ((f .0 .fits, few-met (at-args .s .now) (at-loop .i) (at-n .given .0 .0) m (f .0)), omega (arith, at-pre .1 .1 .1, at-loop .inv .4))))
 
 same-length-2 : tie.Need-same-length-2 Inv-loop μ-loop
-same-length-2 c = 
+same-length-2 c =
     let at-scratch = c .before .before .scratch in
     let at-loop = c .before .before .before .before .before .before .before .before .before .before .before .before .before .loop in
     omega (arith, at-scratch .given, at-loop .inv .4)
 
 returns-2 : tie.Need-returns-2 Inv-loop μ-loop
-returns-2 c = 
+returns-2 c =
     let at-args = c .before .before .before .before .before .before .before .before .before .before .before .before .before .before .before .before .args in
     let at-loop = c .before .before .before .before .before .before .before .before .before .before .before .before .before .loop in
     let at-next-record = c .before .before .before .before .before .before .before .before .before .before .before .next-record in
@@ -141,7 +141,7 @@ returns-2 c =
     let m = meets (at-args .s .now) (at-loop .i) (at-next-record .result) (at-loop .inv .0) (at-loop .inv .1) (at-next-record .ensures) (at-n .given .1) in types-stop (at-args .s .now) (at-loop .i) (at-n .given .0 .0) m (at-part-typed .result) (at-part-typed .ensures) (at-if1 .left) ∙ sym (at-loop .inv .3)
 
 add-i : tie.Need-add-i Inv-loop μ-loop
-add-i c = 
+add-i c =
     let at-args = c .before .before .before .before .before .before .before .before .before .before .before .before .before .before .before .before .before .args in
     let at-loop = c .before .before .before .before .before .before .before .before .before .before .before .before .before .before .loop in
     let at-next-record = c .before .before .before .before .before .before .before .before .before .before .before .before .next-record in
@@ -150,7 +150,7 @@ add-i c =
     let m = meets (at-args .s .now) (at-loop .i) (at-next-record .result) (at-loop .inv .0) (at-loop .inv .1) (at-next-record .ensures) (at-n .given .1) in omega (arith, m .stand .filled, m .stand .within, m .stand .inside, at-good .1 .0 .0)
 
 loop-less : tie.Need-loop-less Inv-loop μ-loop
-loop-less c = 
+loop-less c =
     let at-args = c .before .before .before .before .before .before .before .before .before .before .before .before .before .before .before .before .before .args in
     let at-loop = c .before .before .before .before .before .before .before .before .before .before .before .before .before .before .loop in
     let at-next-record = c .before .before .before .before .before .before .before .before .before .before .before .before .next-record in
@@ -158,7 +158,7 @@ loop-less c =
     let m = meets (at-args .s .now) (at-loop .i) (at-next-record .result) (at-loop .inv .0) (at-loop .inv .1) (at-next-record .ensures) (at-n .given .1) in omega (arith, m .stand .filled, m .stand .within, m .stand .inside)
 
 loop-again : tie.Need-loop-again Inv-loop μ-loop
-loop-again c = 
+loop-again c =
     let at-args = c .before .before .before .before .before .before .before .before .before .before .before .before .before .before .before .before .before .args in
     let at-loop = c .before .before .before .before .before .before .before .before .before .before .before .before .before .before .loop in
     let at-next-record = c .before .before .before .before .before .before .before .before .before .before .before .before .next-record in

@@ -21,7 +21,7 @@ check-requires : tie.Need-check-requires
 check-requires c κs = search needs
 
 returns : tie.Need-returns
-returns c = 
+returns c =
     let at-args = c .before .before .before .before .before .before .args in
     let at-check = c .before .check in
     let at-if1 = c .if1 in
@@ -37,14 +37,14 @@ part-fetch-in-start : tie.Need-part-fetch-in-start
 part-fetch-in-start c = search needs
 
 part-fetch-in-end : tie.Need-part-fetch-in-end
-part-fetch-in-end c = 
+part-fetch-in-end c =
     let at-args = c .before .before .before .before .before .before .before .before .args in
     let at-if1 = c .before .before .if1 in
     let at-check = c .before .before .before .check in
     omega (arith, used-fits (at-args .buf .now) (at-args .used) (sym (at-if1 .left) ∙ at-check .ensures))
 
 fetch-in-requires : tie.Need-fetch-in-requires
-fetch-in-requires c κs = 
+fetch-in-requires c κs =
     let at-args = c .before .before .before .before .before .before .before .before .before .before .args in
     let at-classes = c .before .before .before .classes in
     let at-if1 = c .before .before .before .before .if1 in
@@ -55,7 +55,7 @@ same-length : tie.Need-same-length
 same-length c = search needs
 
 returns-2 : tie.Need-returns-2
-returns-2 c = 
+returns-2 c =
     let at-args = c .before .before .before .before .before .before .before .before .before .before .before .before .before .args in
     let at-if1 = c .before .before .before .before .before .before .before .if1 in
     let at-check = c .before .before .before .before .before .before .before .before .check in

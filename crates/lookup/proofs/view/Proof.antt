@@ -15,21 +15,21 @@ enum-known-v : tie.Need-enum-known-v
 enum-known-v c = search needs
 
 sub-result : tie.Need-sub-result
-sub-result c = 
+sub-result c =
     let at-args = c .before .before .before .before .before .before .args in
     let at-view-place = c .before .before .before .view-place in
     let at-v = c .before .v in
     seen-ordered (at-args .buf .now) (at-args .used) (at-args .set .now) (at-args .row) (at-view-place .result) (at-view-place .ensures) (at-v .given .0 .0) (at-v .given .0 .1 .0) (at-v .given .1)
 
 part-result-start : tie.Need-part-result-start
-part-result-start c = 
+part-result-start c =
     let at-args = c .before .before .before .before .before .before .args in
     let at-view-place = c .before .before .before .view-place in
     let at-v = c .before .v in
     omega (arith, seen-ordered (at-args .buf .now) (at-args .used) (at-args .set .now) (at-args .row) (at-view-place .result) (at-view-place .ensures) (at-v .given .0 .0) (at-v .given .0 .1 .0) (at-v .given .1), seen-inside (at-args .buf .now) (at-args .used) (at-args .set .now) (at-args .row) (at-view-place .result) (at-view-place .ensures) (at-v .given .0 .0) (at-v .given .0 .1 .0) (at-v .given .1))
 
 part-result-end : tie.Need-part-result-end
-part-result-end c = 
+part-result-end c =
     let at-args = c .before .before .before .before .before .before .args in
     let at-view-place = c .before .before .before .view-place in
     let at-v = c .before .v in
@@ -48,14 +48,14 @@ part-result-end-2 : tie.Need-part-result-end-2
 part-result-end-2 c = search needs
 
 returns : tie.Need-returns
-returns c = 
+returns c =
     let at-args = c .before .before .before .before .before .before .before .args in
     let at-view-place = c .before .before .before .before .view-place in
     let at-v = c .before .before .v in
     seen-part (at-args .buf .now) (at-args .used) (at-args .set .now) (at-args .row) (at-view-place .result) (at-view-place .ensures) (at-v .given .0 .0) (at-v .given .0 .1 .0) (at-v .given .1)
 
 returns-2 : tie.Need-returns-2
-returns-2 c = 
+returns-2 c =
     let at-args = c .before .before .before .before .before .before .before .args in
     let at-view-place = c .before .before .before .before .view-place in
     let at-v2 = c .before .before .v2 in

@@ -21,7 +21,7 @@ check-requires : tie.Need-check-requires
 check-requires c κs = search needs
 
 returns : tie.Need-returns
-returns c = 
+returns c =
     let at-args = c .before .before .before .before .args in
     let at-check = c .before .check in
     let at-if1 = c .if1 in
@@ -37,14 +37,14 @@ part-view-in-start : tie.Need-part-view-in-start
 part-view-in-start c = search needs
 
 part-view-in-end : tie.Need-part-view-in-end
-part-view-in-end c = 
+part-view-in-end c =
     let at-args = c .before .before .before .before .before .before .args in
     let at-if1 = c .before .before .if1 in
     let at-check = c .before .before .before .check in
     omega (arith, used-fits (at-args .buf .now) (at-args .used) (sym (at-if1 .left) ∙ at-check .ensures))
 
 view-in-requires : tie.Need-view-in-requires
-view-in-requires c κs = 
+view-in-requires c κs =
     let at-args = c .before .before .before .before .before .before .before .args in
     let at-classes = c .before .before .classes in
     let at-if1 = c .before .before .before .if1 in
@@ -52,7 +52,7 @@ view-in-requires c κs =
     let t : take (at-args .used - 0) (at-args .buf .now) ≡ take (at-args .used) (at-args .buf .now) = ap (λ (n : ℕ). take n (at-args .buf .now)) (let e : at-args .used - 0 ≡ at-args .used = omega arith in e) in (at-classes .ensures, subst (λ (x : Bytes). isReadable x ≡ true) (sym t) (used-readable (at-args .buf .now) (at-args .used) (sym (at-if1 .left) ∙ at-check .ensures)))
 
 returns-2 : tie.Need-returns-2
-returns-2 c = 
+returns-2 c =
     let at-args = c .before .before .before .before .before .before .before .before .args in
     let at-view-in = c .view-in in
     let at-if1 = c .before .before .before .before .if1 in

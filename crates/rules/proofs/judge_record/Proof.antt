@@ -2,9 +2,8 @@
 use borrow.Author.Tests.{ne-eqb}
 use mathlib.Core.Path.{_≡_, sym, _∙_}
 use lib.ListN.{length}
-use Rattle.format.specs.Bytes.{text}
 use Rattle.records.specs.Walk.{recordIn}
-use Rattle.rules.proofs.Granted.{fields-fit, values-fit}
+use Rattle.rules.proofs.Granted.{fields-fit}
 use Rattle.rules.proofs.Members.{names-stop, types-stop, record-passes}
 use borrow.Author.Needs.{needs}
 use Rattle.rules.proofs.judge_record.Statement.{statement}
@@ -15,26 +14,26 @@ use Rattle.lists.proofs.judge_names.Reads as judge-names-reads
 use Rattle.typed.proofs.record_typed.Reads as record-typed-reads
 
 judge-names-requires : tie.Need-judge-names-requires
-judge-names-requires c κs = 
-    let at-pre = c .before .before .before .before .before .before .before .before .before .before .pre in
+judge-names-requires c κs =
+    let at-pre = c .before .before .before .before .before .before .before .before .before .pre in
     (at-pre .0, (at-pre .1 .1 .1 .0 .0, at-pre .1 .1 .0))
 
 same-length : tie.Need-same-length
 same-length c = search needs
 
 returns : tie.Need-returns
-returns c = 
-    let at-args = c .before .before .before .before .before .before .before .before .before .before .before .before .before .before .args in
-    let at-pre = c .before .before .before .before .before .before .before .before .before .before .before .before .before .before .pre in
+returns c =
+    let at-args = c .before .before .before .before .before .before .before .before .before .before .before .before .before .args in
+    let at-pre = c .before .before .before .before .before .before .before .before .before .before .before .before .before .pre in
     let at-judge-names = c .before .before .before .judge-names in
     let at-if1 = c .if1 in
     names-stop (recordIn (at-args .d .now)) (recordIn (at-args .r .now)) (at-pre .1 .0 .0 .well) (at-judge-names .result) (at-judge-names .ensures) (ne-eqb (at-judge-names .result) 0 (at-if1 .taken))
 
 record-typed-requires : tie.Need-record-typed-requires
-record-typed-requires c κs = 
-    let at-pre = c .before .before .before .before .before .before .before .before .before .before .before .before .before .before .before .before .pre in
-    let at-args = c .before .before .before .before .before .before .before .before .before .before .before .before .before .before .before .before .args in
-    (at-pre .0, ((at-pre .1 .0 .0 .reads, at-pre .1 .1 .1 .0 .0), ((values-fit (length (at-args .other .now)) (at-pre .1 .1 .1 .1 .1) (text "%typedef") (recordIn (at-args .d .now)) (at-pre .1 .0 .0 .fits), values-fit (length (at-args .other .now)) (at-pre .1 .1 .1 .1 .1) (text "%type") (recordIn (at-args .d .now)) (at-pre .1 .0 .0 .fits)), (fields-fit (length (at-args .scratch .now)) (at-pre .1 .1 .1 .1 .0) (recordIn (at-args .r .now)) (at-pre .1 .1 .1 .0 .1), at-pre .1 .0 .1))))
+record-typed-requires c κs =
+    let at-pre = c .before .before .before .before .before .before .before .before .before .before .before .before .before .before .before .pre in
+    let at-args = c .before .before .before .before .before .before .before .before .before .before .before .before .before .before .before .args in
+    (at-pre .0, (at-pre .1 .1 .1 .0 .0, (fields-fit (length (at-args .scratch .now)) (at-pre .1 .1 .1 .1 .0) (recordIn (at-args .r .now)) (at-pre .1 .1 .1 .0 .1), at-pre .1 .0 .1)))
 
 same-length-2 : tie.Need-same-length-2
 same-length-2 c = search needs
@@ -46,9 +45,9 @@ same-length-4 : tie.Need-same-length-4
 same-length-4 c = search needs
 
 returns-2 : tie.Need-returns-2
-returns-2 c = 
-    let at-args = c .before .before .before .before .before .before .before .before .before .before .before .before .before .before .before .before .before .before .before .before .before .before .args in
-    let at-pre = c .before .before .before .before .before .before .before .before .before .before .before .before .before .before .before .before .before .before .before .before .before .before .pre in
+returns-2 c =
+    let at-args = c .before .before .before .before .before .before .before .before .before .before .before .before .before .before .before .before .before .before .before .before .before .args in
+    let at-pre = c .before .before .before .before .before .before .before .before .before .before .before .before .before .before .before .before .before .before .before .before .before .pre in
     let at-judge-names = c .before .before .before .before .before .before .before .before .before .before .before .judge-names in
     let at-if1 = c .before .before .before .before .before .before .before .before .if1 in
     let at-record-typed = c .before .before .before .before .before .record-typed in
@@ -65,9 +64,9 @@ same-length-7 : tie.Need-same-length-7
 same-length-7 c = search needs
 
 returns-3 : tie.Need-returns-3
-returns-3 c = 
-    let at-args = c .before .before .before .before .before .before .before .before .before .before .before .before .before .before .before .before .before .before .before .before .before .before .args in
-    let at-pre = c .before .before .before .before .before .before .before .before .before .before .before .before .before .before .before .before .before .before .before .before .before .before .pre in
+returns-3 c =
+    let at-args = c .before .before .before .before .before .before .before .before .before .before .before .before .before .before .before .before .before .before .before .before .before .args in
+    let at-pre = c .before .before .before .before .before .before .before .before .before .before .before .before .before .before .before .before .before .before .before .before .before .pre in
     let at-judge-names = c .before .before .before .before .before .before .before .before .before .before .before .judge-names in
     let at-if1 = c .before .before .before .before .before .before .before .before .if1 in
     let at-record-typed = c .before .before .before .before .before .record-typed in

@@ -18,7 +18,7 @@ use Rattle.setkeys.proofs.keys_distinct.Reads as keys-distinct-reads
 use Rattle.shapes.proofs.size_met.Reads as size-met-reads
 
 keys-distinct-requires : tie.Need-keys-distinct-requires
-keys-distinct-requires c κs = 
+keys-distinct-requires c κs =
     let at-pre = c .before .before .before .before .before .before .before .before .pre in
     let at-args = c .before .before .before .before .before .before .before .before .args in
     (at-pre .0, ((at-pre .1 .0 .1, key-few bits32 (recordIn (at-args .d .now)) (at-pre .1 .0 .0 .well)), ((at-pre .1 .1 .0 .0, at-pre .1 .1 .0 .1), (omega (arith, members-fit (at-args .rest .now) (at-pre .1 .1 .0 .0) (at-pre .1 .1 .0 .1), at-pre .1 .1 .1 .1), at-pre .1 .1 .0 .2))))
@@ -27,19 +27,19 @@ same-length : tie.Need-same-length
 same-length c = search needs
 
 returns : tie.Need-returns
-returns c = 
+returns c =
     let at-args = c .before .before .before .before .before .before .before .before .before .before .before .before .args in
     let at-keys-distinct = c .before .before .before .keys-distinct in
     let at-if1 = c .if1 in
     keys-stop (recordIn (at-args .d .now)) (membersIn (at-args .rest .now)) (sym (at-keys-distinct .ensures) ∙ at-if1 .left)
 
 count-records-requires : tie.Need-count-records-requires
-count-records-requires c κs = 
+count-records-requires c κs =
     let at-pre = c .before .before .before .before .before .before .before .before .before .before .before .before .pre in
     (at-pre .0, at-pre .1 .1 .0 .0)
 
 size-met-requires : tie.Need-size-met-requires
-size-met-requires c κs = 
+size-met-requires c κs =
     let at-pre = c .before .before .before .before .before .before .before .before .before .before .before .before .before .before .pre in
     (at-pre .0, (at-pre .1 .0 .0 .reads, (at-pre .1 .0 .0 .fits, at-pre .1 .1 .1 .0)))
 
@@ -50,7 +50,7 @@ same-length-3 : tie.Need-same-length-3
 same-length-3 c = search needs
 
 returns-2 : tie.Need-returns-2
-returns-2 c = 
+returns-2 c =
     let at-args = c .before .before .before .before .before .before .before .before .before .before .before .before .before .before .before .before .before .before .args in
     let at-keys-distinct = c .before .before .before .before .before .before .before .before .before .keys-distinct in
     let at-if1 = c .before .before .before .before .before .before .if1 in
@@ -66,7 +66,7 @@ same-length-5 : tie.Need-same-length-5
 same-length-5 c = search needs
 
 returns-3 : tie.Need-returns-3
-returns-3 c = 
+returns-3 c =
     let at-args = c .before .before .before .before .before .before .before .before .before .before .before .before .before .before .before .before .before .before .args in
     let at-keys-distinct = c .before .before .before .before .before .before .before .before .before .keys-distinct in
     let at-if1 = c .before .before .before .before .before .before .if1 in

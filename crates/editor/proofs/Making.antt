@@ -1,0 +1,52 @@
+-- The text that a splice makes of another, in a copy of it.
+use Prim.Native.Nat.{ℕ, zero, suc, _+_, _≤_}
+use native.Mathlib.Omega.{arith}
+use mathlib.Core.Path.{_≡_, refl, sym, ap, _∙_, subst}
+use mathlib.Core.Logic.{_≢_}
+use mathlib.Core.Bool.{Bool, true, _&&_, and-eq-true-iff}
+use lib.Dec.{leb}
+use borrow.Author.Tests.{leb-true}
+use lib.ListN.{length, take, drop}
+use lib.Seq.{take-append-seam}
+use Rattle.format.specs.Bytes.{Bytes, pick}
+use Rattle.format.specs.Limits.{fileBytes}
+use Rattle.format.specs.Calls.{over, placed}
+use Rattle.format.proofs.Passing.{placed-take}
+use Rattle.format.proofs.Judging.{textNo}
+use Rattle.format.proofs.Results.{raisedNo, editNo}
+use Rattle.edits.specs.Splices.{madeBy, Sound}
+use Rattle.edits.specs.declared.Splice.{Splice}
+
+-- s copied over the front of d
+module _ (s d b req : Bytes) (x : Splice) (e : b ≡ over s d) where
+  copied : take (length s) b ≡ s
+  copied = ap (take (length s)) e ∙ take-append-seam s (drop (length s) d)
+
+  pub copied-sound : Sound s req x → Sound (take (length s) b) req x
+  copied-sound h = subst (λ (t : Bytes). Sound t req x) (sym copied) h
+
+  pub copied-made : madeBy (take (length s) b) req x ≡ madeBy s req x
+  copied-made = ap (λ (t : Bytes). madeBy t req x) copied
+
+  -- what is judged, once the splice was carried out on the copy
+  pub copied-judged : (n : ℕ) (after : Bytes) → n ≡ length (madeBy (take (length s) b) req x) → after ≡ placed (madeBy (take (length s) b) req x) (length s) b → take n after ≡ madeBy s req x
+  copied-judged n after h k =
+      (λ i. take (h i) (k i)) ∙ placed-take (madeBy (take (length s) b) req x) (length s) b ∙ copied-made
+
+-- an edit's number, as the questions are asked: n is that of questions 21 to 25, b says whether the made text is within the room
+
+pub number-refused : (room n k : ℕ) (t : Bytes) → n ≡ k → n ≢ 0 → n ≡ editNo room k t
+number-refused room n zero t e h = absurd (h e)
+number-refused room n (suc k) t e h = e
+
+pub number-asked : (room n k : ℕ) (t : Bytes) (b : Bool) → n ≡ k → n ≡ 0 → b ≡ (leb (length t) room && leb (length t) fileBytes) → editNo room k t ≡ pick b (raisedNo (textNo t)) 26
+number-asked room n zero t b e h w = ap (λ (x : Bool). pick x (raisedNo (textNo t)) 26) (sym w)
+number-asked room n (suc k) t b e h w = absurd (omega arith)
+
+pub number-raised : (n : ℕ) → n ≢ 0 → 100 + n ≡ raisedNo n
+number-raised zero h = absurd (h refl)
+number-raised (suc n) h = refl
+
+-- a text within the room is no longer than a file
+pub within-file : (room : ℕ) (t : Bytes) (b : Bool) → b ≡ (leb (length t) room && leb (length t) fileBytes) → b ≡ true → length t ≤ fileBytes
+within-file room t b w h = leb-true (length t) fileBytes (and-eq-true-iff (leb (length t) room) (leb (length t) fileBytes) .0 (sym w ∙ h) .1)

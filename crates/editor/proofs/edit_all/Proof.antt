@@ -1,0 +1,153 @@
+-- `editor::edit_all` meets its contract. The loop's invariant: the buffer, the length and the two slices are what the first i edits leave, and
+-- request i stands at `at`. The measure is the number of edits left.
+use borrow.Author.Needs.{needs}
+use Prim.Native.Nat.{ℕ, _+_, _-_, _≤_}
+use native.Mathlib.Omega.{arith}
+use mathlib.Core.Path.{_≡_, ap, _∙_}
+use lib.ListN.{length, take, drop, length-set}
+use Rattle.format.specs.Calls.{Edited, editAnswer}
+use Rattle.editor.specs.Lists.{fewest}
+use Rattle.editor.proofs.Running.{Reached, reached-start, reached-more, reached-end}
+use Rattle.editor.proofs.edit_all.Statement.{statement}
+use Rattle.editor.proofs.edit_all.Tie as tie
+use Rattle.editor.proofs.edit_all.Reads as reads
+use Rattle.editor.proofs.edit_all.Lts as lts
+use Rattle.editor.proofs.edit.Reads as edit-reads
+use Rattle.editor.proofs.least.Reads as least-reads
+use Rattle.editor.proofs.length_of.Reads as length-of-reads
+use Rattle.editor.proofs.number_of.Reads as number-of-reads
+
+abbrev Inv-loop : tie.InvT-loop
+Inv-loop buf₀ used requests sizes numbers₀ lengths₀ count n₀ at₀ i₀ buf numbers lengths n at i = (i ≤ count) × (at ≤ length requests) × (length buf ≡ length buf₀) × (length numbers ≡ length numbers₀) × (length lengths ≡ length lengths₀) × Reached buf₀ used requests sizes numbers₀ lengths₀ i buf n at numbers lengths
+
+abbrev μ-loop : tie.MeasureT-loop
+μ-loop buf₀ used requests sizes numbers₀ lengths₀ count n₀ at₀ i₀ buf numbers lengths n at i = count - i
+
+least-requires : tie.Need-least-requires Inv-loop μ-loop
+least-requires c κs = search needs
+
+least-requires-2 : tie.Need-least-requires-2 Inv-loop μ-loop
+least-requires-2 c κs = search needs
+
+loop-holds : tie.Need-loop-holds Inv-loop μ-loop
+loop-holds c =
+    let at-args = c .before .before .before .before .before .before .before .args in
+    (omega arith, omega arith, omega arith, omega arith, omega arith, reached-start (at-args .buf .now) (at-args .used) (at-args .requests .now) (at-args .sizes .now) (at-args .numbers .now) (at-args .lengths .now))
+
+mul-least : tie.Need-mul-least Inv-loop μ-loop
+mul-least c =
+    let at-good = c .before .before .before .before .before .before .before .before .before .good in
+    omega (arith, at-good .1 .1 .1 .0 .0)
+
+shared-slice-read-least : tie.Need-shared-slice-read-least Inv-loop μ-loop
+shared-slice-read-least c = omega arith
+
+sub-least : tie.Need-sub-least Inv-loop μ-loop
+sub-least c = omega arith
+
+least-requires-3 : tie.Need-least-requires-3 Inv-loop μ-loop
+least-requires-3 c κs = search needs
+
+add-end : tie.Need-add-end Inv-loop μ-loop
+add-end c = omega arith
+
+sub-edit : tie.Need-sub-edit Inv-loop μ-loop
+sub-edit c = omega arith
+
+part-edit-start : tie.Need-part-edit-start Inv-loop μ-loop
+part-edit-start c = omega arith
+
+part-edit-end : tie.Need-part-edit-end Inv-loop μ-loop
+part-edit-end c = omega arith
+
+edit-requires : tie.Need-edit-requires Inv-loop μ-loop
+edit-requires c κs = search needs
+
+length-of-requires : tie.Need-length-of-requires Inv-loop μ-loop
+length-of-requires c κs = search needs
+
+number-of-requires : tie.Need-number-of-requires Inv-loop μ-loop
+number-of-requires c κs = search needs
+
+mul-numbers : tie.Need-mul-numbers Inv-loop μ-loop
+mul-numbers c =
+    let at-good = c .before .before .before .before .before .before .before .before .before .before .before .before .before .before .before .before .before .before .good in
+    omega (arith, at-good .1 .1 .1 .1 .0 .0)
+
+slice-write-numbers : tie.Need-slice-write-numbers Inv-loop μ-loop
+slice-write-numbers c = omega arith
+
+mul-lengths : tie.Need-mul-lengths Inv-loop μ-loop
+mul-lengths c =
+    let at-good = c .before .before .before .before .before .before .before .before .before .before .before .before .before .before .before .before .before .before .good in
+    omega (arith, at-good .1 .1 .1 .1 .1 .0 .0)
+
+slice-write-lengths : tie.Need-slice-write-lengths Inv-loop μ-loop
+slice-write-lengths c = omega arith
+
+add-i : tie.Need-add-i Inv-loop μ-loop
+add-i c = omega arith
+
+loop-less : tie.Need-loop-less Inv-loop μ-loop
+loop-less c = omega arith
+
+loop-again : tie.Need-loop-again Inv-loop μ-loop
+loop-again c =
+    let at-number-of = c .number-of in
+    let at-length-of = c .before .length-of in
+    let at-edit = c .before .before .before .before .edit in
+    let at-least3 = c .before .before .before .before .before .before .before .least3 in
+    let at-loop = c .before .before .before .before .before .before .before .before .before .before .loop in
+    let at-args = c .before .before .before .before .before .before .before .before .before .before .before .before .before .before .before .before .before .before .args in
+    let e : Edited = record { number = at-number-of .result; length = at-length-of .result; buffer = at-edit .last .0 } in
+    let size : ℕ = at-least3 .result in
+    let z : (at-loop .at + size) - at-loop .at ≡ size = omega arith in
+    let a : e ≡ editAnswer (at-loop .buf) (at-loop .n) (take size (drop (at-loop .at) (at-args .requests .now))) = (λ j. record { number = at-number-of .ensures j; length = at-length-of .ensures j; buffer = at-edit .last .0 }) ∙ at-edit .ensures ∙ ap (λ (k : ℕ). editAnswer (at-loop .buf) (at-loop .n) (take k (drop (at-loop .at) (at-args .requests .now)))) z in
+    (omega arith, omega arith, omega arith, simp length-set (omega arith), simp length-set (omega arith), reached-more (at-args .buf .now) (at-args .used) (at-args .requests .now) (at-args .sizes .now) (at-args .numbers .now) (at-args .lengths .now) (at-loop .i) (at-loop .buf) (at-loop .n) (at-loop .at) (at-loop .numbers) (at-loop .lengths) (at-loop .inv .5) (omega arith) size (at-least3 .ensures) e a (omega arith) (omega arith))
+
+same-length : tie.Need-same-length Inv-loop μ-loop
+same-length c = omega arith
+
+same-length-2 : tie.Need-same-length-2 Inv-loop μ-loop
+same-length-2 c = omega arith
+
+same-length-3 : tie.Need-same-length-3 Inv-loop μ-loop
+same-length-3 c = omega arith
+
+returns : tie.Need-returns Inv-loop μ-loop
+returns c =
+    let at-args = c .before .before .before .before .before .before .before .before .before .args in
+    let at-loop = c .before .loop in
+    reached-end (at-args .buf .now) (at-args .used) (at-args .requests .now) (at-args .sizes .now) (at-args .numbers .now) (at-args .lengths .now) (at-loop .i) (fewest (at-args .sizes .now) (at-args .numbers .now) (at-args .lengths .now)) (at-loop .buf) (at-loop .n) (at-loop .at) (at-loop .numbers) (at-loop .lengths) (at-loop .inv .5) (omega arith) (omega arith)
+
+pub edit-all-spec : {M : Type 1} → statement M
+edit-all-spec =
+    tie.close
+    (tie.spec
+    Inv-loop
+    μ-loop
+    least-requires
+    least-requires-2
+    loop-holds
+    mul-least
+    shared-slice-read-least
+    sub-least
+    least-requires-3
+    add-end
+    sub-edit
+    part-edit-start
+    part-edit-end
+    edit-requires
+    length-of-requires
+    number-of-requires
+    mul-numbers
+    slice-write-numbers
+    mul-lengths
+    slice-write-lengths
+    add-i
+    loop-less
+    loop-again
+    same-length
+    same-length-2
+    same-length-3
+    returns)

@@ -1,0 +1,3 @@
+-- What one edit and a list of them answer.
+pub mod Answers
+pub mod Lists

@@ -1,0 +1,148 @@
+// Edits of a file in a lent buffer: one request, and a list of them.
+ghost use mathlib.Core.Path.{_≡_};
+ghost use Prim.Native.Nat.{ℕ, _≤_, min};
+ghost use lib.ListN.{length, take, drop};
+ghost use Rattle.format.specs.Bytes.{classTable};
+ghost use Rattle.format.specs.Limits.{fileBytes};
+ghost use Rattle.format.specs.Calls.{editAnswer};
+ghost use Rattle.format.proofs.Judging.{textNo};
+ghost use Rattle.format.proofs.Results.{editNo};
+ghost use Rattle.edits.specs.Splices.{refusalOf, madeBy, Sound};
+ghost use Rattle.editor.specs.Answers.{numberOf, lengthOf, editedBy};
+ghost use Rattle.editor.specs.Lists.{fewest, requestsIn, ranBy, Runs};
+use edits::Splice;
+use requests::RequestOf;
+
+// The number of the text that a splice makes of s, questions 2 to 14. It is made in a copy.
+fn result_no(table: &[u8; 256], x: Splice, s: &[u8], req: &[u8]) -> u32
+    requires { ⌜ now table ≡ classTable ⌝ }
+    requires { ⌜ Sound (now s) (now req) x ⌝ }
+    requires { ⌜ (length (now s) ≤ fileBytes) × (length (madeBy (now s) (now req) x) ≤ fileBytes) ⌝ }
+    ensures { λ r. ⌜ r ≡ textNo (madeBy (now (s .entry)) (now (req .entry)) x) ⌝ }
+{
+    let mut copy = [0u8; 65536];
+    let used = s.len();
+    splices::copy_text(s, &mut copy);
+    let n = edits::carry_out(table, x, &mut copy, used, req);
+    integrity::judge(table, &copy[..n])
+}
+
+// The number of an edit of a text that passes, in a buffer of room bytes: the first question, 21 on, that says no, else 0.
+fn edit_no(table: &[u8; 256], x: Splice, s: &[u8], req: &[u8], room: usize) -> u32
+    requires { ⌜ now table ≡ classTable ⌝ }
+    requires { ⌜ (refusalOf x ≡ 0 → Sound (now s) (now req) x) ⌝ }
+    requires { ⌜ (length (now s) ≤ room) × (length (now s) ≤ fileBytes) ⌝ }
+    ensures { λ r. ⌜ r ≡ editNo room (refusalOf x) (madeBy (now (s .entry)) (now (req .entry)) x) ⌝ }
+{
+    let k = edits::refusal(x);
+    if k != 0 {
+        return k;
+    }
+    if edits::fits(x, s, req, room) {} else {
+        return 26;
+    }
+    let n = result_no(table, x, s, req);
+    if n == 0 {
+        return 0;
+    }
+    100 + n
+}
+
+// The new length, or a refusal's number.
+pub enum Edited {
+    Length(usize),
+    Refused(u32),
+}
+
+// One request to the file in the first `used` bytes of buf. A refusal writes nothing.
+pub fn edit(buf: &mut [u8], used: usize, req: &[u8]) -> Edited
+    ensures { λ r. ⌜ editedBy r used (now (buf .exit)) ≡ editAnswer (now (buf .entry)) used (now (req .entry)) ⌝ }
+{
+    let k = integrity::check(buf, used);
+    if k != 0 {
+        return Edited::Refused(k);
+    }
+    let r = requests::request_of(req);
+    let RequestOf::Is(q) = r else {
+        return Edited::Refused(20);
+    };
+    let table = format::classes();
+    let x = edits::locate(&table, &buf[..used], req, q);
+    let room = buf.len();
+    let n = edit_no(&table, x, &buf[..used], req, room);
+    if n != 0 {
+        return Edited::Refused(n);
+    }
+    let new = edits::carry_out(&table, x, buf, used, req);
+    Edited::Length(new)
+}
+
+// The number that an edit tells, 0 if accepted.
+fn number_of(e: Edited) -> u32
+    ensures { λ r. ⌜ r ≡ numberOf e ⌝ }
+{
+    match e {
+        Edited::Length(_) => {
+            return 0;
+        }
+        Edited::Refused(k) => {
+            return k;
+        }
+    }
+}
+
+// The file's length after an edit; it had `used` bytes before.
+fn length_of(e: Edited, used: usize) -> usize
+    ensures { λ r. ⌜ r ≡ lengthOf e used ⌝ }
+{
+    match e {
+        Edited::Length(n) => {
+            return n;
+        }
+        Edited::Refused(_) => {
+            return used;
+        }
+    }
+}
+
+fn least(a: usize, b: usize) -> usize
+    ensures { λ r. ⌜ r ≡ min a b ⌝ }
+{
+    if a < b {
+        return a;
+    }
+    b
+}
+
+// Requests one after another, each on what the one before left. They stand one behind another in `requests`, and sizes says how many bytes each has;
+// one that runs past the end has what is left. As many are run as there are sizes, numbers and lengths. Numbers and lengths say what each edit told;
+// the result is the file's length at the end.
+pub fn edit_all(
+    buf: &mut [u8],
+    used: usize,
+    requests: &[u8],
+    sizes: &[usize],
+    numbers: &mut [u32],
+    lengths: &mut [usize],
+) -> usize
+    ensures { λ r. ⌜ (let count : ℕ = fewest (now (sizes .entry)) (now (numbers .entry)) (now (lengths .entry)) in
+        Runs (now (buf .entry)) used (requestsIn (take count (now (sizes .entry))) (now (requests .entry))) (ranBy count (now (buf .exit)) r (now (numbers .exit)) (now (lengths .exit)))
+        × (drop count (now (numbers .exit)) ≡ drop count (now (numbers .entry)))
+        × (drop count (now (lengths .exit)) ≡ drop count (now (lengths .entry)))) ⌝ }
+{
+    let count = least(sizes.len(), least(numbers.len(), lengths.len()));
+    let mut n = used;
+    let mut at = 0;
+    let mut i = 0;
+    while i < count {
+        let size = least(sizes[i], requests.len() - at);
+        let end = at + size;
+        let e = edit(buf, n, &requests[at..end]);
+        n = length_of(e, n);
+        numbers[i] = number_of(e);
+        lengths[i] = n;
+        at = end;
+        i += 1;
+    }
+    n
+}

@@ -1,0 +1,3 @@
+-- What an edit does to a text.
+pub mod Splices
+pub mod Places

@@ -1,0 +1,140 @@
+-- An edit's number, by parts: questions 21 to 25, the room, and the number of the result's bytes.
+use Prim.Native.Nat.{ℕ, zero, suc, _+_, _≤_, _<_}
+use native.Mathlib.Omega.{arith}
+use mathlib.Core.Path.{_≡_, refl, sym, ap, _∙_, subst}
+use mathlib.Core.Bool.{Bool, true, false, _&&_, and-eq-true-iff}
+use mathlib.Core.List.{List, [], _∷_, _++_, map}
+use mathlib.Core.Option.{Option, none, some}
+use lib.Dec.{leb, eqb}
+use lib.ListN.{length, take}
+use borrow.Author.Tests.{ne-eqb, leb-true}
+use Rattle.format.specs.Bytes.{Bytes, pick, isAllowed, all}
+use Rattle.format.specs.Lines.{isEnded}
+use Rattle.format.specs.Pieces.{Piece, bytesOf, pieces}
+use Rattle.format.specs.Sets.{RecSet, setsOf}
+use Rattle.format.specs.Limits.{fileBytes}
+use Rattle.format.specs.Numbers.{bits32}
+use Rattle.format.specs.Questions.{Row, firstNo, askOf, fitsLimits, describesOnce, describesWell, typesWell, limitRows, ruleRows}
+use Rattle.format.specs.Requests.{Request}
+use Rattle.format.specs.Plain.{Plain, size, apply, Asked, resultFits, raised, editQuestions}
+use Rattle.format.proofs.Whole.{sound-pieces}
+use Rattle.format.proofs.Requested.{HasPairs}
+use Rattle.format.proofs.Staying.{apply-allowed}
+use Rattle.format.proofs.Applying.{Agrees, agrees-size, agrees-parts, agrees-good, Granted, apply-agrees}
+use Rattle.format.proofs.Asking.{first-yes, asked}
+use Rattle.format.proofs.Describing.{describes-once, describes-well, types-well}
+use Rattle.format.proofs.Passing.{SetsPass, bytes-ended, Holds, holds-passes, holds-bytes, holds-agrees}
+use Rattle.format.proofs.Least.{Rise, rise-less, first-append}
+use Rattle.format.proofs.Judging.{setQuestions, first-ask, readNo, textNo}
+
+-- questions 21 to 25
+abbrev pub placeRows : List (Row Asked)
+placeRows = take 5 (editQuestions bits32)
+
+-- "numbered 104 and 108 to 114"
+abbrev pub raisedNo : ℕ → ℕ
+raisedNo zero = 0
+raisedNo (suc k) = 100 + suc k
+
+-- an edit's number in a buffer of `room` bytes, by that of questions 21 to 25 and the text that it makes
+abbrev pub editNo : ℕ → ℕ → Bytes → ℕ
+editNo room zero t = pick (leb (length t) room && leb (length t) fileBytes) (raisedNo (textNo t)) 26
+editNo room (suc k) t = suc k
+
+-- the raised rows
+
+raised-by : (b : Bool) (n k : ℕ) → 0 < k → pick b (raisedNo n) (100 + k) ≡ raisedNo (pick b n k)
+raised-by true n k h = refl
+raised-by false n zero h = absurd (omega arith)
+raised-by false n (suc k) h = refl
+
+first-raised : {A : Type 0} (rs : List (Row A)) (a : A) → Rise 0 rs → firstNo (map raised rs) a ≡ raisedNo (firstNo rs a)
+first-raised [] a h = refl
+first-raised (r ∷ rs) a h = ap (λ (n : ℕ). pick (r .asks a) n (100 + r .number)) (first-raised rs a (rise-less rs (r .number) (h .1))) ∙ raised-by (r .asks a) (firstNo rs a) (r .number) (h .0)
+
+-- questions 26 on
+abbrev resultNo : Asked → ℕ
+resultNo a = pick (resultFits a) (raisedNo (firstNo (limitRows ++ ruleRows bits32) (a .result .parts))) 26
+
+cut-number : (a : Asked) → firstNo (editQuestions bits32) a ≡ pick (eqb (firstNo placeRows a) 0) (resultNo a) (firstNo placeRows a)
+cut-number a =
+    let parts : Asked → List RecSet = λ (x : Asked). x .result .parts in
+    let rows : List (Row (List RecSet)) = limitRows ++ ruleRows bits32 in
+    let e : firstNo (askOf parts (map raised rows)) a ≡ raisedNo (firstNo rows (parts a)) = first-ask parts (map raised rows) a ∙ first-raised rows (parts a) (omega arith) in
+    first-append placeRows (record { number = 26; asks = resultFits } ∷ askOf parts (map raised rows)) a (omega arith)
+    ∙ ap (λ (n : ℕ). pick (eqb (firstNo placeRows a) 0) (pick (resultFits a) n 26) (firstNo placeRows a)) e
+
+-- questions 21 to 25 say yes
+place-granted : (a : Asked) → firstNo placeRows a ≡ 0 → Granted a
+place-granted a e =
+    let y = first-yes placeRows a refl e in
+    record { set = y .0; row = y .1 .0; occurrence = y .1 .1 .0; left = y .1 .1 .1 .0; legal = y .1 .1 .1 .1 .0 }
+
+-- of sets whose descriptors pass, questions 4 to 14 are 4 and 8 to 14
+skip-descriptors : (ss : List RecSet) → describesOnce ss ≡ true → describesWell bits32 ss ≡ true → typesWell bits32 ss ≡ true → firstNo (setQuestions bits32) ss ≡ firstNo (limitRows ++ ruleRows bits32) ss
+skip-descriptors ss a b c =
+    let n : ℕ = firstNo (ruleRows bits32) ss in
+    λ i. pick (fitsLimits ss) (pick (a i) (pick (b i) (pick (c i) n 7) 6) 5) 4
+
+-- a file that passes, a request, and what it makes of the plain file
+module _ (buffer : Bytes) (used : ℕ) (p : Plain) (h : Holds buffer used p) (room : ℕ) (q : Request) (f : HasPairs (q .edit)) (e : firstNo placeRows (asked room p q) ≡ 0) where
+  granted : Granted (asked room p q)
+  granted = place-granted (asked room p q) e
+
+  agrees : Agrees (apply q p)
+  agrees = apply-agrees (asked room p q) f granted (holds-agrees buffer used p h)
+
+  -- its length is that of its bytes
+  result-size : size (apply q p) ≡ length (bytesOf (apply q p .pieces))
+  result-size = agrees-size (apply q p) agrees
+
+  -- the number of its bytes is that of questions 4 and 8 to 14
+  result-text : textNo (bytesOf (apply q p .pieces)) ≡ firstNo (limitRows ++ ruleRows bits32) (apply q p .parts)
+  unfolding textNo
+  result-text =
+      let r : Plain = apply q p in
+      let s : Bytes = bytesOf (r .pieces) in
+      let c = holds-passes buffer used p h in
+      let a = holds-agrees buffer used p h in
+      let old : SetsPass (p .parts) = subst SetsPass (agrees-parts p a) (c .sets) in
+      let allowed : all isAllowed s ≡ true = apply-allowed q p (granted .legal) (a .0) (ap (all isAllowed) (holds-bytes buffer used p h) ∙ c .allowed) in
+      let clear : (all isAllowed s && isEnded s) ≡ true = and-eq-true-iff (all isAllowed s) (isEnded s) .1 (allowed, bytes-ended (r .pieces)) in
+      ap (λ (b : Bool). pick b (readNo (pieces s)) 2) clear
+      ∙ ap readNo (sound-pieces (r .pieces) (agrees .0))
+      ∙ ap (firstNo (setQuestions bits32)) (agrees-parts r agrees)
+      ∙ skip-descriptors (r .parts) (describes-once q p (granted .legal) (agrees-good p a) (old .1 .0)) (describes-well bits32 q p ∙ old .1 .1 .0) (types-well bits32 q p ∙ old .1 .1 .1 .0)
+
+  made-number : firstNo (editQuestions bits32) (asked room p q) ≡ editNo room 0 (bytesOf (apply q p .pieces))
+  made-number =
+      cut-number (asked room p q)
+      ∙ ap (λ (n : ℕ). pick (eqb n 0) (resultNo (asked room p q)) n) e
+      ∙ (λ i. pick (leb (result-size i) room && leb (result-size i) fileBytes) (raisedNo (sym result-text i)) 26)
+
+refused-number : (a : Asked) (k : ℕ) → firstNo placeRows a ≡ suc k → firstNo (editQuestions bits32) a ≡ suc k
+refused-number a k e =
+    cut-number a ∙ ap (λ (n : ℕ). pick (eqb n 0) (resultNo a) n) e ∙ ap (λ (b : Bool). pick b (resultNo a) (suc k)) (ne-eqb (suc k) 0 (λ x. omega arith))
+
+-- the number of an edit
+pub edit-number : (buffer : Bytes) (used : ℕ) (p : Plain) → Holds buffer used p → (room : ℕ) (q : Request) → HasPairs (q .edit) → (k : ℕ) → firstNo placeRows (asked room p q) ≡ k → firstNo (editQuestions bits32) (asked room p q) ≡ editNo room k (bytesOf (apply q p .pieces))
+edit-number buffer used p h room q f zero e = made-number buffer used p h room q f e
+edit-number buffer used p h room q f (suc k) e = refused-number (asked room p q) k e
+
+-- no number of a text is above 14
+
+below-by : (b : Bool) (n k m : ℕ) → n ≤ m → leb k m ≡ true → pick b n k ≤ m
+below-by true n k m h e = h
+below-by false n k m h e = leb-true k m e
+
+first-below : {A : Type 0} (rs : List (Row A)) (m : ℕ) (a : A) → all (λ (r : Row A). leb (r .number) m) rs ≡ true → firstNo rs a ≤ m
+first-below [] m a h = omega arith
+first-below (r ∷ rs) m a h =
+    let k = and-eq-true-iff (leb (r .number) m) (all (λ (x : Row _). leb (x .number) m) rs) .0 h in
+    below-by (r .asks a) (firstNo rs a) (r .number) m (first-below rs m a (k .1)) (k .0)
+
+read-below : (x : Option (List Piece)) → readNo x ≤ 14
+read-below none = omega arith
+read-below (some ps) = first-below (setQuestions bits32) 14 (setsOf ps) refl
+
+pub text-below : (s : Bytes) → textNo s ≤ 14
+unfolding textNo
+text-below s = below-by (all isAllowed s && isEnded s) (readNo (pieces s)) 2 14 (read-below (pieces s)) refl

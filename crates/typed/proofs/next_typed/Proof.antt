@@ -1,0 +1,167 @@
+-- `typed::next_typed` meets its contract. The invariant: the fields from i on, asked of rows from k on, are typed if those from `at` on are, asked of rows from `from` on.
+-- The measure is what is left of the length.
+use borrow.Author.Needs.{needs}
+use Prim.Native.Nat.{ℕ, _-_, _≤_}
+use native.Mathlib.Omega.{arith}
+use mathlib.Core.Path.{_≡_, refl, ap, _∙_}
+use mathlib.Core.Bool.{true}
+use lib.ListN.{length, drop}
+use Rattle.format.specs.Bytes.{all}
+use Rattle.records.specs.Places.{isReadable}
+use Rattle.typedefs.specs.Walks.{fieldsFrom}
+use Rattle.typedefs.proofs.Walking.{field-told}
+use Rattle.typed.specs.Meets.{fieldFits}
+use Rattle.typed.specs.Rules.{typedFrom}
+use Rattle.typed.proofs.Ruled.{field-fits, field-passed, field-named}
+use Rattle.typed.proofs.next_typed.Statement.{statement}
+use Rattle.typed.proofs.next_typed.Tie as tie
+use Rattle.typed.proofs.next_typed.Reads as reads
+use Rattle.typed.proofs.next_typed.Lts as lts
+use Rattle.typed.proofs.next_row.Reads as next-row-reads
+use Rattle.typedefs.proofs.next_field.Reads as next-field-reads
+
+abbrev Inv-loop : tie.InvT-loop
+Inv-loop table d values ends firsts count s i k at₀ from₀ at from = (i ≤ at) × (at ≤ length s) × (isReadable (drop at s) ≡ true) × (from ≤ count) × (at ≤ i → k ≤ from) × ((m : ℕ) → all (fieldFits m) (fieldsFrom s i) ≡ true → all (fieldFits m) (fieldsFrom s at) ≡ true) × (typedFrom d k (fieldsFrom s i) ≡ typedFrom d from (fieldsFrom s at))
+
+abbrev μ-loop : tie.MeasureT-loop
+μ-loop table d values ends firsts count s i k at₀ from₀ at from = length s - at
+
+loop-holds : tie.Need-loop-holds Inv-loop μ-loop
+loop-holds c =
+    let at-pre = c .before .before .pre in
+    (omega arith, at-pre .1 .1 .0, at-pre .1 .1 .1, at-pre .1 .1 .2, (λ q. omega arith), (λ m q. q), refl)
+
+next-field-requires : tie.Need-next-field-requires Inv-loop μ-loop
+next-field-requires c κs =
+    let at-pre = c .before .before .before .pre in
+    let at-loop = c .loop in
+    (at-pre .0, (at-loop .inv .1, at-loop .inv .2))
+
+enum-known-f : tie.Need-enum-known-f Inv-loop μ-loop
+enum-known-f c = search needs
+
+enum-told : tie.Need-enum-told Inv-loop μ-loop
+enum-told c = search needs
+
+returns : tie.Need-returns Inv-loop μ-loop
+returns c =
+    let at-args = c .before .before .before .before .before .before .args in
+    let at-loop = c .before .before .before .loop in
+    let at-next-field = c .before .before .next-field in
+    let at-enum-told = c .enum-told in
+    let h = field-told (at-args .s .now) (at-loop .at) (at-next-field .result) (at-next-field .ensures) (at-enum-told .given .1) in
+    at-loop .inv .6 ∙ ap (typedFrom (at-args .d .now) (at-loop .from)) h
+
+sub-next-row : tie.Need-sub-next-row Inv-loop μ-loop
+sub-next-row c =
+    let at-args = c .before .before .before .before .before .before .before .args in
+    let at-f = c .before .f in
+    let at-loop = c .before .before .before .before .loop in
+    let at-next-field = c .before .before .before .next-field in
+    let s = at-args .s .now in
+    let d = at-args .d .now in
+    let g = at-f .given in
+    let h = field-told s (at-loop .at) (at-next-field .result) (at-next-field .ensures) (g .1) in
+    omega (arith, h .named, h .name-inside, h .inside)
+
+part-next-row-start : tie.Need-part-next-row-start Inv-loop μ-loop
+part-next-row-start c =
+    let at-args = c .before .before .before .before .before .before .before .args in
+    let at-f = c .before .f in
+    let at-loop = c .before .before .before .before .loop in
+    let at-next-field = c .before .before .before .next-field in
+    let s = at-args .s .now in
+    let d = at-args .d .now in
+    let g = at-f .given in
+    let h = field-told s (at-loop .at) (at-next-field .result) (at-next-field .ensures) (g .1) in
+    omega (arith, h .named, h .name-inside, h .inside)
+
+part-next-row-end : tie.Need-part-next-row-end Inv-loop μ-loop
+part-next-row-end c =
+    let at-args = c .before .before .before .before .before .before .before .args in
+    let at-f = c .before .f in
+    let at-loop = c .before .before .before .before .loop in
+    let at-next-field = c .before .before .before .next-field in
+    let s = at-args .s .now in
+    let d = at-args .d .now in
+    let g = at-f .given in
+    let h = field-told s (at-loop .at) (at-next-field .result) (at-next-field .ensures) (g .1) in
+    omega (arith, h .named, h .name-inside, h .inside)
+
+next-row-requires : tie.Need-next-row-requires Inv-loop μ-loop
+next-row-requires c κs =
+    let at-pre = c .before .before .before .before .before .before .before .before .pre in
+    let at-loop = c .before .before .before .before .before .loop in
+    (at-pre .1 .0, at-loop .inv .3)
+
+returns-2 : tie.Need-returns-2 Inv-loop μ-loop
+returns-2 c =
+    let at-args = c .before .before .before .before .before .before .before .before .before .before .args in
+    let at-f = c .before .before .before .before .f in
+    let at-loop = c .before .before .before .before .before .before .before .loop in
+    let at-next-field = c .before .before .before .before .before .before .next-field in
+    let at-next-row = c .before .next-row in
+    let at-if1 = c .if1 in
+    let at-pre = c .before .before .before .before .before .before .before .before .before .before .pre in
+    let s = at-args .s .now in
+    let d = at-args .d .now in
+    let g = at-f .given in
+    let h = field-told s (at-loop .at) (at-next-field .result) (at-next-field .ensures) (g .1) in
+    let n = at-next-row .ensures in
+    record {
+      begins = at-loop .inv .0;
+      later = λ q. omega (arith, at-loop .inv .4 q, n .begins);
+      start = at-loop .inv .1;
+      readable = at-loop .inv .2;
+      ordered = h .value-inside;
+      inside = h .inside;
+      listed = omega (arith, at-if1 .taken, at-pre .1 .0 .count);
+      fits = λ m q. (field-fits d s (at-loop .at) (g .0 .0) (g .0 .1 .0) (g .0 .1 .1 .0) (g .0 .1 .1 .1 .0) (at-loop .from) h m (at-loop .inv .5 m q) .0, at-loop .inv .5 m q);
+      cut = at-loop .inv .6 ∙ field-named d s (at-loop .at) (g .0 .0) (g .0 .1 .0) (g .0 .1 .1 .0) (g .0 .1 .1 .1 .0) (at-loop .from) h (at-next-row .result) n (omega (arith, at-if1 .taken, at-pre .1 .0 .count));
+    }
+
+loop-less : tie.Need-loop-less Inv-loop μ-loop
+loop-less c =
+    let at-args = c .before .before .before .before .before .before .before .before .before .before .args in
+    let at-f = c .before .before .before .before .f in
+    let at-loop = c .before .before .before .before .before .before .before .loop in
+    let at-next-field = c .before .before .before .before .before .before .next-field in
+    let s = at-args .s .now in
+    let d = at-args .d .now in
+    let g = at-f .given in
+    let h = field-told s (at-loop .at) (at-next-field .result) (at-next-field .ensures) (g .1) in
+    omega (arith, h .begins, h .moves, h .inside)
+
+loop-again : tie.Need-loop-again Inv-loop μ-loop
+loop-again c =
+    let at-args = c .before .before .before .before .before .before .before .before .before .before .args in
+    let at-f = c .before .before .before .before .f in
+    let at-loop = c .before .before .before .before .before .before .before .loop in
+    let at-next-field = c .before .before .before .before .before .before .next-field in
+    let at-next-row = c .before .next-row in
+    let at-if1 = c .if1 in
+    let at-pre = c .before .before .before .before .before .before .before .before .before .before .pre in
+    let s = at-args .s .now in
+    let d = at-args .d .now in
+    let g = at-f .given in
+    let h = field-told s (at-loop .at) (at-next-field .result) (at-next-field .ensures) (g .1) in
+    (omega (arith, at-loop .inv .0, h .begins, h .moves), h .inside, h .readable, omega arith, (λ q. absurd (omega (arith, at-loop .inv .0, h .begins, h .moves, q))), (λ m q. field-fits d s (at-loop .at) (g .0 .0) (g .0 .1 .0) (g .0 .1 .1 .0) (g .0 .1 .1 .1 .0) (at-loop .from) h m (at-loop .inv .5 m q) .1), at-loop .inv .6 ∙ field-passed d s (at-loop .at) (g .0 .0) (g .0 .1 .0) (g .0 .1 .1 .0) (g .0 .1 .1 .1 .0) (at-loop .from) h (at-next-row .result) (at-next-row .ensures) (omega (arith, at-if1 .left, at-pre .1 .0 .count)))
+
+pub next-typed-spec : {M : Type 1} → statement M
+next-typed-spec =
+    tie.close
+    (tie.spec
+    Inv-loop
+    μ-loop
+    loop-holds
+    next-field-requires
+    enum-known-f
+    enum-told
+    returns
+    sub-next-row
+    part-next-row-start
+    part-next-row-end
+    next-row-requires
+    returns-2
+    loop-less
+    loop-again)

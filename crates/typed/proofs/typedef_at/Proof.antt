@@ -1,0 +1,129 @@
+-- `typed::typedef_at` meets its contract.
+use native.Mathlib.Omega.{arith}
+use mathlib.Core.Path.{refl, subst}
+use Rattle.format.specs.Bytes.{Bytes}
+use Rattle.format.specs.Words.{afterWord}
+use Rattle.format.specs.Numbers.{bits32}
+use Rattle.format.specs.Types.{typeOf}
+use Rattle.lines.specs.Value.{valueFrom}
+use Rattle.words.specs.Spans.{span}
+use Rattle.types.specs.Meaning.{Told}
+use Rattle.types.specs.declared.Shape.{Shape}
+use Rattle.typedefs.proofs.Chains.{decoded-length, decoded-after}
+use Rattle.typed.proofs.Kinded.{shape-read, shape-none}
+use borrow.Author.Needs.{needs}
+use Rattle.typed.proofs.typedef_at.Statement.{statement}
+use Rattle.typed.proofs.typedef_at.Tie as tie
+use Rattle.typed.proofs.typedef_at.Reads as reads
+use Rattle.typed.proofs.typedef_at.Lts as lts
+use Rattle.lines.proofs.copy_value.Reads as copy-value-reads
+use Rattle.typedefs.proofs.behind_word.Reads as behind-word-reads
+use Rattle.types.proofs.type_of.Reads as type-of-reads
+
+sub-copy-value : tie.Need-sub-copy-value
+sub-copy-value c = search needs
+
+part-copy-value-start : tie.Need-part-copy-value-start
+part-copy-value-start c = search needs
+
+part-copy-value-end : tie.Need-part-copy-value-end
+part-copy-value-end c = search needs
+
+copy-value-requires : tie.Need-copy-value-requires
+copy-value-requires c κs = search needs
+
+slice-reshare-prefix-behind-word : tie.Need-slice-reshare-prefix-behind-word
+slice-reshare-prefix-behind-word c = search needs
+
+slice-aggregate-behind-word : tie.Need-slice-aggregate-behind-word
+slice-aggregate-behind-word c =
+    let at-args = c .before .before .before .before .before .before .before .before .args in
+    let at-copy-value = c .before .before .before .copy-value in
+    decoded-length (valueFrom (span (at-args .value) (at-args .end) (at-args .d .now))) (at-args .scratch .now) _ (at-copy-value .result) (at-copy-value .ensures .0) (at-copy-value .ensures .1)
+
+behind-word-requires : tie.Need-behind-word-requires
+behind-word-requires c κs = search needs
+
+sub-type-of : tie.Need-sub-type-of
+sub-type-of c =
+    let at-args = c .before .before .before .before .before .before .before .before .before .args in
+    let at-copy-value = c .before .before .before .before .copy-value in
+    let at-behind-word = c .behind-word in
+    let l = decoded-length (valueFrom (span (at-args .value) (at-args .end) (at-args .d .now))) (at-args .scratch .now) _ (at-copy-value .result) (at-copy-value .ensures .0) (at-copy-value .ensures .1) in
+    omega (arith, l, at-behind-word .ensures .0)
+
+part-type-of-start : tie.Need-part-type-of-start
+part-type-of-start c =
+    let at-args = c .before .before .before .before .before .before .before .before .before .before .args in
+    let at-copy-value = c .before .before .before .before .before .copy-value in
+    let at-behind-word = c .before .behind-word in
+    let l = decoded-length (valueFrom (span (at-args .value) (at-args .end) (at-args .d .now))) (at-args .scratch .now) _ (at-copy-value .result) (at-copy-value .ensures .0) (at-copy-value .ensures .1) in
+    omega (arith, l, at-behind-word .ensures .0)
+
+part-type-of-end : tie.Need-part-type-of-end
+part-type-of-end c = search needs
+
+type-of-requires : tie.Need-type-of-requires
+type-of-requires c κs =
+    let at-pre = c .before .before .before .before .before .before .before .before .before .before .before .pre in
+    at-pre .0
+
+enum-known-t : tie.Need-enum-known-t
+enum-known-t c = search needs
+
+enum-told : tie.Need-enum-told
+enum-told c = search needs
+
+same-length : tie.Need-same-length
+same-length c = search needs
+
+returns : tie.Need-returns
+returns c =
+    let at-args = c .before .before .before .before .before .before .before .before .before .before .before .before .before .before .args in
+    let at-copy-value = c .before .before .before .before .before .before .before .before .before .copy-value in
+    let at-behind-word = c .before .before .before .before .before .behind-word in
+    let at-type-of = c .before .before .type-of in
+    let at-enum-told = c .enum-told in
+    let w = valueFrom (span (at-args .value) (at-args .end) (at-args .d .now)) in
+    let l = decoded-length w (at-args .scratch .now) _ (at-copy-value .result) (at-copy-value .ensures .0) (at-copy-value .ensures .1) in
+    let g = decoded-after w (at-args .scratch .now) _ (at-copy-value .result) (at-copy-value .ensures .0) (at-copy-value .ensures .1) (at-behind-word .result) (omega (arith, l, at-behind-word .ensures .0)) (at-behind-word .ensures .1) in
+    let h = subst (λ (u : Bytes). Told u (typeOf bits32 u) (at-type-of .result)) g (at-type-of .ensures) in
+    record { starts = refl; ends = refl; shape = shape-none (afterWord w) (typeOf bits32 (afterWord w)) (at-type-of .result) Shape.Line h (at-enum-told .given .1) }
+
+same-length-2 : tie.Need-same-length-2
+same-length-2 c = search needs
+
+returns-2 : tie.Need-returns-2
+returns-2 c =
+    let at-args = c .before .before .before .before .before .before .before .before .before .before .before .before .before .before .before .args in
+    let at-copy-value = c .before .before .before .before .before .before .before .before .before .before .copy-value in
+    let at-behind-word = c .before .before .before .before .before .before .behind-word in
+    let at-type-of = c .before .before .before .type-of in
+    let at-t = c .before .t in
+    let w = valueFrom (span (at-args .value) (at-args .end) (at-args .d .now)) in
+    let l = decoded-length w (at-args .scratch .now) _ (at-copy-value .result) (at-copy-value .ensures .0) (at-copy-value .ensures .1) in
+    let g = decoded-after w (at-args .scratch .now) _ (at-copy-value .result) (at-copy-value .ensures .0) (at-copy-value .ensures .1) (at-behind-word .result) (omega (arith, l, at-behind-word .ensures .0)) (at-behind-word .ensures .1) in
+    let h = subst (λ (u : Bytes). Told u (typeOf bits32 u) (at-type-of .result)) g (at-type-of .ensures) in
+    record { starts = refl; ends = refl; shape = shape-read (afterWord w) (typeOf bits32 (afterWord w)) (at-type-of .result) (at-t .given .0 .0) h (at-t .given .1) }
+
+pub typedef-at-spec : {M : Type 1} → statement M
+typedef-at-spec =
+    tie.close
+    (tie.spec
+    sub-copy-value
+    part-copy-value-start
+    part-copy-value-end
+    copy-value-requires
+    slice-reshare-prefix-behind-word
+    slice-aggregate-behind-word
+    behind-word-requires
+    sub-type-of
+    part-type-of-start
+    part-type-of-end
+    type-of-requires
+    enum-known-t
+    enum-told
+    same-length
+    returns
+    same-length-2
+    returns-2)
