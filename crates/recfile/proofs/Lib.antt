@@ -1,0 +1,2 @@
+-- What each case of an answer tells C.
+pub mod Told

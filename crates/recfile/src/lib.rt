@@ -1,0 +1,134 @@
+// The calls for C: slices are a pointer and a length, a refusal's number goes through a pointer (0: accepted). include/recfile.h says the same in C.
+ghost use mathlib.Core.Path.{_≡_};
+ghost use lib.ListN.{length};
+ghost use Rattle.format.specs.Calls.{checkAnswer, countAnswer, fetchAnswer, viewAnswer, writeAnswer, editAnswer};
+ghost use Rattle.recfile.specs.Interface.{valueIn, numberIn};
+use editor::Edited;
+use lookup::Counted;
+use lookup::Fetched;
+use lookup::Seen;
+use requests::Written;
+
+// The number of the first question that says no of the file in the first `used` bytes of a buffer, else 0.
+#[no_mangle]
+pub extern "C" fn recfile_check(buf: &[u8], used: usize) -> u32
+    ensures { λ r. ⌜ r ≡ checkAnswer (now (buf .entry)) used ⌝ }
+{
+    integrity::check(buf, used)
+}
+
+// The number of records of a set, 0 where it is refused.
+#[no_mangle]
+pub extern "C" fn recfile_count(buf: &[u8], used: usize, set: &[u8], number: &mut u32) -> usize
+    ensures { λ r. ⌜ (r ≡ valueIn (countAnswer (now (buf .entry)) used (now (set .entry)))) × (now (number .exit) ≡ numberIn (countAnswer (now (buf .entry)) used (now (set .entry)))) ⌝ }
+{
+    let c = lookup::count(buf, used, set);
+    match c {
+        Counted::Records(n) => {
+            *number = 0;
+            n
+        }
+        Counted::Refused(k) => {
+            *number = k;
+            0
+        }
+    }
+}
+
+// The length of the value that was put into out, 0 where it is refused.
+#[no_mangle]
+pub extern "C" fn recfile_fetch(
+    buf: &[u8],
+    used: usize,
+    set: &[u8],
+    row: usize,
+    name: &[u8],
+    occurrence: usize,
+    out: &mut [u8],
+    number: &mut u32,
+) -> usize
+    ensures { λ r. ⌜ (r ≡ valueIn (fetchAnswer (now (buf .entry)) used (now (set .entry)) row (now (name .entry)) occurrence (now (out .entry)) .result))
+        × (now (number .exit) ≡ numberIn (fetchAnswer (now (buf .entry)) used (now (set .entry)) row (now (name .entry)) occurrence (now (out .entry)) .result))
+        × (now (out .exit) ≡ fetchAnswer (now (buf .entry)) used (now (set .entry)) row (now (name .entry)) occurrence (now (out .entry)) .out) ⌝ }
+{
+    let f = lookup::fetch(buf, used, set, row, name, occurrence, &mut *out);
+    match f {
+        Fetched::Length(n) => {
+            *number = 0;
+            n
+        }
+        Fetched::Refused(k) => {
+            *number = k;
+            0
+        }
+    }
+}
+
+// The length of the part of the file that a record stands in, and where that begins; both 0 where it is refused.
+#[no_mangle]
+pub extern "C" fn recfile_view(
+    buf: &[u8],
+    used: usize,
+    set: &[u8],
+    row: usize,
+    start: &mut usize,
+    number: &mut u32,
+) -> usize
+    ensures { λ r. ⌜ (r ≡ length (viewAnswer (now (buf .entry)) used (now (set .entry)) row .part .bytes))
+        × (now (start .exit) ≡ viewAnswer (now (buf .entry)) used (now (set .entry)) row .part .start)
+        × (now (number .exit) ≡ viewAnswer (now (buf .entry)) used (now (set .entry)) row .number) ⌝ }
+{
+    let v = lookup::view_place(buf, used, set, row);
+    match v {
+        Seen::At { start: a, end } => {
+            *start = a;
+            *number = 0;
+            end - a
+        }
+        Seen::Refused(k) => {
+            *start = 0;
+            *number = k;
+            0
+        }
+    }
+}
+
+// The length of the text of an insert's record that was put into out, 0 where it is refused.
+#[no_mangle]
+pub extern "C" fn recfile_write(request: &[u8], out: &mut [u8], number: &mut u32) -> usize
+    ensures { λ r. ⌜ (r ≡ valueIn (writeAnswer (now (request .entry)) (now (out .entry)) .result))
+        × (now (number .exit) ≡ numberIn (writeAnswer (now (request .entry)) (now (out .entry)) .result))
+        × (now (out .exit) ≡ writeAnswer (now (request .entry)) (now (out .entry)) .out) ⌝ }
+{
+    let w = requests::write_record(request, &mut *out);
+    match w {
+        Written::Len(n) => {
+            *number = 0;
+            n
+        }
+        Written::Refused(k) => {
+            *number = k;
+            0
+        }
+    }
+}
+
+// One edit: the file's length after it, which is `used` where it is refused.
+#[no_mangle]
+pub extern "C" fn recfile_edit(buf: &mut [u8], used: usize, request: &[u8], number: &mut u32) -> usize
+    ensures { λ r. ⌜ (r ≡ editAnswer (now (buf .entry)) used (now (request .entry)) .length)
+        × (now (number .exit) ≡ editAnswer (now (buf .entry)) used (now (request .entry)) .number)
+        × (now (buf .exit) ≡ editAnswer (now (buf .entry)) used (now (request .entry)) .buffer) ⌝ }
+{
+    let e = editor::edit(&mut *buf, used, request);
+    match e {
+        Edited::Length(n) => {
+            *number = 0;
+            n
+        }
+        Edited::Refused(k) => {
+            *number = k;
+            used
+        }
+    }
+}

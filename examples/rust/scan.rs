@@ -1,0 +1,38 @@
+//! Files a scan in the receipt book on standard input, looks it up and prints its record.
+//!
+//!   rt staticlib recfile
+//!   rustc --edition 2021 -O examples/rust/scan.rs -L target/staticlib -l static=recfile -o target/scan-rust
+//!   target/scan-rust < samples/receipts.rec
+
+mod recfile;
+
+use recfile::{File, Refused, Request};
+use std::io::Read;
+
+fn main() -> Result<(), Refused> {
+    let mut book = vec![0u8; 65536];
+    let mut text = Vec::new();
+    std::io::stdin().take(65536).read_to_end(&mut text).expect("standard input");
+    book[..text.len()].copy_from_slice(&text);
+    let mut file = File::new(&mut book, text.len());
+    file.check()?;
+
+    let insert = Request::new(1, "Scan").pair("Id", "2").pair("Page", "front");
+    file.edit(insert.bytes())?;
+
+    let count = file.count(b"Scan")?;
+    println!("{} scans, {} bytes", count, file.used());
+
+    let mut value = [0u8; 64];
+    let n = file.fetch(b"Scan", count - 1, b"Page", 0, &mut value)?;
+    println!("the last one's page: {}", String::from_utf8_lossy(&value[..n]));
+    print!("{}", String::from_utf8_lossy(file.view(b"Scan", count - 1)?));
+
+    let mut line = [0u8; 256];
+    let n = recfile::write(insert.bytes(), &mut line)?;
+    println!("its text has {} bytes", n);
+
+    // the same key again is refused: 113, question 13 of the result
+    println!("the same scan again: {:?}", file.edit(insert.bytes()));
+    Ok(())
+}
