@@ -1,5 +1,5 @@
 -- The number of a set from those of its records, one record after another.
-use Prim.Native.Nat.{ℕ, zero, suc, _+_}
+use Prim.Native.Nat.{ℕ, zero, suc, _+_, _≤_}
 use native.Mathlib.Omega.{arith}
 use mathlib.Core.Path.{_≡_, refl, sym, ap, _∙_, subst}
 use mathlib.Core.Bool.{Bool, true, false, _&&_, and-eq-true-iff}
@@ -116,6 +116,14 @@ module _ (rules : Record) (ms : List Record) where
   module _ (k : distinct (keysOf s) ≡ true) where
     by-size : firstNo (wholeRows bits32) s ≡ pick (sizeMet bits32 s) 0 14
     by-size = ap (λ (b : Bool). pick b (pick (sizeMet bits32 s) 0 14) 13) k
+
+    -- no size is asked for
+    pub whole-free : length (valuesOf (text "%size") rules) ≤ 0 → 0 ≡ firstNo (wholeRows bits32) s
+    whole-free h = sym (by-size ∙ ap (λ (vs : List Bytes). pick (all (λ (v : Bytes). meetsSize (sizeRule bits32 (words v)) (length ms)) vs) 0 14) (none (valuesOf (text "%size") rules) h))
+      where
+        none : (vs : List Bytes) → length vs ≤ 0 → vs ≡ []
+        none [] e = refl
+        none (v ∷ vs) e = absurd (omega arith)
 
     -- n records were counted
     module _ (n : ℕ) (c : n ≡ length ms) where

@@ -18,6 +18,7 @@ ghost use Rattle.lists.specs.Tables.{Lists};
 ghost use Rattle.setkeys.specs.Keyed.{membersIn, HaveKeys};
 ghost use Rattle.typed.specs.Rules.{Ruled};
 ghost use Rattle.rules.specs.Described.{IsRules, AllFit};
+use records::FoundField;
 use records::NextRecord;
 use typed::Rules;
 
@@ -45,6 +46,9 @@ fn judge_record(
     let n = lists::judge_names(table, d, at, end, list, count, r, &mut *seen);
     if n != 0 {
         return n;
+    }
+    if types.count == 0 {
+        return 0;
     }
     if typed::record_typed(table, d, types, r, &mut *scratch, &mut *other) {} else {
         return 12;
@@ -124,6 +128,15 @@ fn judge_whole(
     if setkeys::keys_distinct(table, d, at, end, list, count, rest, &mut *entries) {} else {
         return 13;
     }
+    let f = records::find_field(table, d, b"%size", 0);
+    let FoundField::At {
+        start: _,
+        value: _,
+        end: _,
+    } = f
+    else {
+        return 0;
+    };
     let n = records::count_records(table, rest);
     if shapes::size_met(table, d, n, &mut *scratch) {} else {
         return 14;

@@ -1,6 +1,7 @@
 -- The types of a field, rule by rule, and the fields of a record, one by one.
 use Prim.Native.Nat.{ℕ, suc, _+_, _≤_, _<_}
 use native.Mathlib.Numerals.{add-one}
+use native.Mathlib.Omega.{arith}
 use mathlib.Core.Path.{_≡_, refl, sym, ap, _∙_}
 use mathlib.Core.Bool.{Bool, true, false, _&&_, _||_, not, and-assoc}
 use mathlib.Core.List.{List, [], _∷_, _++_, map}
@@ -13,6 +14,7 @@ use Rattle.format.specs.Numbers.{bits32}
 use Rattle.format.specs.Types.{Kind, Typedef}
 use Rattle.format.specs.Records.{Field, Record}
 use Rattle.format.specs.Rules.{TypeRule, joinAll, typedNames, typeRuleBy, endKind, isTyped, typeRules}
+use Rattle.format.proofs.Elements.{all-alike, all-yes}
 use Rattle.lines.specs.Value.{valueFrom}
 use Rattle.words.specs.Spans.{span}
 use Rattle.typedefs.specs.Walks.{fieldsFrom, fieldBy, FieldHere}
@@ -39,6 +41,16 @@ module _ (ds : List Typedef) (f : Field) where
 
 pub typed-rules : (d : Bytes) (f : Field) → isTyped bits32 (typeRules bits32 (fieldsFrom d 0)) f ≡ all (ruleMet (defsFrom d) (f .name) (f .value)) (typesFrom d)
 typed-rules d f = rules-met (defsFrom d) f (typesFrom d)
+
+-- a descriptor without `%type` fields asks nothing
+pub typed-free : (d : Bytes) (fs : Record) → length (typesFrom d) ≡ 0 → all (isTyped bits32 (typeRules bits32 (fieldsFrom d 0))) fs ≡ true
+typed-free d fs e =
+    all-alike (isTyped bits32 (typeRules bits32 (fieldsFrom d 0))) (λ (f : Field). true) (λ f. typed-rules d f ∙ ap (all (ruleMet (defsFrom d) (f .name) (f .value))) (no-types (typesFrom d) e)) fs
+    ∙ all-yes fs
+  where
+    no-types : (vs : List Bytes) → length vs ≡ 0 → vs ≡ []
+    no-types [] z = refl
+    no-types (v ∷ vs) z = absurd (omega arith)
 
 pub typed-start : (d : Bytes) (fs : Record) → all (isTyped bits32 (typeRules bits32 (fieldsFrom d 0))) fs ≡ typedFrom d 0 fs
 typed-start d [] = refl

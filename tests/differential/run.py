@@ -1,0 +1,231 @@
+#!/usr/bin/env python3
+"""The library against the independent implementation in tests/model/recfile.py, and its reading against GNU recutils.
+
+Usage: python3 tests/differential/run.py [SEED [ROUNDS]]     (after `rt staticlib recfile`; needs cc; recutils if it is installed)
+
+Random, damaged and limit-sized files; every call on each of them; lists of edits with other bytes behind the file. It prints how many
+answers were compared and stops at the first that differs, showing what was asked.
+"""
+import ctypes
+import os
+import shutil
+import subprocess
+import sys
+import tempfile
+
+HERE = os.path.dirname(os.path.abspath(__file__))
+ROOT = os.path.dirname(os.path.dirname(HERE))
+sys.path.insert(0, os.path.join(ROOT, 'tests', 'model'))
+import recfile    # noqa: E402
+import samples    # noqa: E402
+
+size = ctypes.c_size_t
+
+
+def load():
+    archive = os.path.join(ROOT, 'target', 'staticlib', 'librecfile.a')
+    if not os.path.exists(archive):
+        sys.exit('make the library first: rt staticlib recfile')
+    shared = os.path.join(ROOT, 'target', 'librecfile.so')
+    subprocess.run(['cc', '-shared', '-o', shared, '-Wl,--whole-archive', archive, '-Wl,--no-whole-archive'], check=True)
+    lib = ctypes.CDLL(shared)
+    lib.recfile_check.restype = ctypes.c_uint32
+    for name in ('count', 'fetch', 'view', 'write', 'edit'):
+        getattr(lib, 'recfile_' + name).restype = size
+    return lib
+
+
+class Library:
+    """The calls with the same arguments and answers as recfile.py's."""
+
+    def __init__(self, lib):
+        self.lib = lib
+
+    def check(self, buf, used):
+        return self.lib.recfile_check(bytes(buf), size(len(buf)), size(used))
+
+    def count(self, buf, used, name):
+        number = ctypes.c_uint32(77)
+        n = self.lib.recfile_count(bytes(buf), size(len(buf)), size(used), name, size(len(name)), ctypes.byref(number))
+        return number.value, n
+
+    def fetch(self, buf, used, name, row, field, occurrence, out):
+        number, room = ctypes.c_uint32(77), ctypes.create_string_buffer(bytes(out), max(1, len(out)))
+        n = self.lib.recfile_fetch(bytes(buf), size(len(buf)), size(used), name, size(len(name)), size(row), field, size(len(field)),
+                                   size(occurrence), room, size(len(out)), ctypes.byref(number))
+        return number.value, n, room.raw[:len(out)]
+
+    def view(self, buf, used, name, row):
+        number, start = ctypes.c_uint32(77), size(77)
+        n = self.lib.recfile_view(bytes(buf), size(len(buf)), size(used), name, size(len(name)), size(row), ctypes.byref(start), ctypes.byref(number))
+        return number.value, start.value, bytes(buf[start.value:start.value + n])
+
+    def write(self, request, out):
+        number, room = ctypes.c_uint32(77), ctypes.create_string_buffer(bytes(out), max(1, len(out)))
+        n = self.lib.recfile_write(request, size(len(request)), room, size(len(out)), ctypes.byref(number))
+        return number.value, n, room.raw[:len(out)]
+
+    def edit(self, buf, used, request):
+        number, room = ctypes.c_uint32(77), ctypes.create_string_buffer(bytes(buf), max(1, len(buf)))
+        n = self.lib.recfile_edit(room, size(len(buf)), size(used), request, size(len(request)), ctypes.byref(number))
+        return number.value, n, room.raw[:len(buf)]
+
+
+class Tests:
+    def __init__(self, library, seed):
+        self.library, self.seed, self.done, self.numbers = library, seed, 0, {}
+        self.samples = samples.Samples(seed)
+        self.random = self.samples.random
+
+    def compare(self, call, *args):
+        """Both answers, which must be one."""
+        want = getattr(recfile, call)(*args)
+        got = getattr(self.library, call)(*args)
+        self.done += 1
+        number = want if call == 'check' else want[0]
+        self.numbers[number] = self.numbers.get(number, 0) + 1
+        if got != want:
+            folder = tempfile.mkdtemp(prefix='recfile-')
+            for i, arg in enumerate(args):
+                with open(os.path.join(folder, 'argument-%d' % i), 'wb') as f:
+                    f.write(arg if isinstance(arg, bytes) else str(arg).encode())
+            sys.exit('%s differs (seed %d): library %.300r, model %.300r; its arguments are in %s' % (call, self.seed, got, want, folder))
+        return want
+
+    def lookups(self, buf, used):
+        r = self.random
+        for name in (b'', b'S', b'T', b'X', b'Scan'):
+            self.compare('count', buf, used, name)
+        for _ in range(6):
+            name, row = r.choice([b'', b'S', b'T', b'U', b'Scan']), r.choice([0, 0, 1, 2, 70000, 2 ** 64 - 1])
+            self.compare('view', buf, used, name, row)
+            self.compare('fetch', buf, used, name, row, r.choice([b'A', b'B', b'Id', b'Page', b'', b'Q']), r.choice([0, 0, 1, 2 ** 63]), b'\xee' * r.choice([0, 1, 3, 40]))
+
+    def edits(self, buf, used, rounds):
+        """A list of edits, a longer one and of its own sets where the file passes."""
+        sets = [b'', b'S', b'T', b'Scan']
+        if recfile.check(buf, used) == 0:
+            sets, rounds = [s.name for s in recfile.passed(buf, used)[1]], 4 * rounds
+        for _ in range(rounds):
+            request = self.samples.request(sets)
+            self.compare('write', request, b'\xee' * self.random.choice([0, 5, 200]))
+            _, used, buf = self.compare('edit', buf, used, request)
+        return buf, used
+
+    def file(self, text, rounds=4):
+        r = self.random
+        for used in (len(text), max(0, len(text) - 1), len(text) + 1):
+            self.compare('check', text, used)
+        behind = r.choice([0, 0, 1, 30, 400])
+        buf = text + bytes(r.randrange(256) for _ in range(behind))
+        self.lookups(buf, len(text))
+        self.edits(buf, len(text), rounds)
+
+    def damaged(self):
+        """A file with a few bytes changed, taken out or put in."""
+        r, text = self.random, bytearray(self.samples.file())
+        for _ in range(r.randint(1, 3)):
+            at = r.randrange(len(text) + 1)
+            turn = r.random()
+            if turn < .4 and at < len(text):
+                text[at] = r.choice(b'\\\n+#:% \taA0\x00\x7f\xff')
+            elif turn < .7:
+                text[at:at + r.randint(1, 3)] = b''
+            else:
+                text[at:at] = bytes(r.choice(b'\\\n+#:% \tA') for _ in range(r.randint(1, 3)))
+        return bytes(text)
+
+    def limits(self):
+        """Files about the size of every limit, and large ones."""
+        def book(n):
+            return b'%rec: Scan\n%key: Id\n%type: Id int\n%unique: Page\n\n' + b''.join(b'Id: %d\nPage: p%d\n\n' % (i, i) for i in range(n))
+
+        def chain(n, last):
+            return b'%rec: S\n' + b''.join(b'%%typedef: T%d T%d\n' % (i, i + 1) for i in range(n - 1)) + b'%%typedef: T%d %s\n%%type: A T0\n\nA: 5\n' % (n - 1, last)
+
+        for text in (
+            b'', b'A: 1', b'A: 1\n', b'\n' * 65536, b'\n' * 65537, b'#' * 65535 + b'\n', b'A' * 65535 + b'\n', b'A: ' + b'x' * 65532 + b'\n', b'A:\n' * 21845,
+            b'A:\n\n' * 16384, b'A: 1\n' * 256, b'A: 1\n' * 257, b'A: ' + b'x' * 4096 + b'\n', b'A: ' + b'x' * 4097 + b'\n',
+            b'A: ' + b'x' * 4000 + b'\\\n' + b'y' * 96 + b'\n', b'A: ' + b'x' * 4000 + b'\n+ ' + b'y' * 96 + b'\n', b'N' * 64 + b': 1\n', b'N' * 65 + b': 1\n',
+            b'\n'.join(b'%%rec: S%d\n' % i for i in range(64)), b'\n'.join(b'%%rec: S%d\n' % i for i in range(65)),
+            *(b'%rec: S\n' + (b'%%typedef: T%d int\n' * n % tuple(range(n))) for n in (32, 33)), *(b'%rec: S\n' + b'%type: A int\n' * n for n in (32, 33)),
+            *(b'%rec: S\n%' + f + b':' + b' A' * n + b'\n' for n in (64, 65) for f in (b'mandatory', b'prohibit', b'allowed', b'unique')),
+            *(b'%rec: S\n%' + f + b': A\n' + b'%' + f + b':' + b' A' * n + b'\n' for n in (63, 64) for f in (b'mandatory', b'prohibit', b'allowed', b'unique')),
+            chain(32, b'int'), chain(32, b'T0'), chain(33, b'int'), chain(32, b'T31'),
+            book(1800), book(1800).replace(b'Id: 1799', b'Id: 77'), book(2400), b'%rec: S\n%key: K\n\n' + b''.join(b'K: %d\n\n' % i for i in range(7000)),
+            b'%rec: S\n%size: <= 3\n%key: A\n\nA: 1\n', b'%rec: S\n%mandatory: ' + b'N' * 65 + b'\n\nA: 1\n', b'%rec: S\n%type: ' + b'A,' * 2000 + b'A int\n\nA: 5\nA: x\n',
+        ):
+            self.file(text, rounds=2)
+        # an insert of 256 and 257 pairs, of text that fits and does not, and requests at their limit
+        for n in (256, 257):
+            request = samples.tagged(1, b'\1') + samples.tagged(2, b'') + (samples.tagged(4, b'A') + samples.tagged(6, b'1')) * n
+            self.compare('edit', bytes(4000), 0, request)
+            self.compare('write', request, bytes(4000))
+        for n in (4096, 4097):
+            request = samples.tagged(1, b'\1') + samples.tagged(2, b'') + (samples.tagged(4, b'A') + samples.tagged(6, b'x' * n)) * 15
+            self.compare('edit', bytes(70000), 0, request)
+            self.compare('write', request, bytes(70000))
+            self.compare('write', request + b'\0' * (65537 - len(request)), bytes(10))
+
+
+def readings(library, tests, count):
+    """Sets of random files that pass, read by recsel and by fetch: the names and values must be the same."""
+    compared = 0
+    with tempfile.TemporaryDirectory() as folder:
+        path = os.path.join(folder, 'file.rec')
+        while compared < count:
+            text = tests.samples.file()
+            if recfile.check(text, len(text)) != 0 or b'\xff' in text:
+                continue
+            pieces, sets = recfile.passed(text, len(text))
+            with open(path, 'wb') as f:
+                f.write(text)
+            for s in sets:
+                if s.name == b'' or not s.records:
+                    continue
+                shown = subprocess.run(['recsel', '-t', s.name.decode('latin-1'), path], capture_output=True, check=False)
+                if shown.returncode != 0:
+                    continue
+                theirs = [[(p.name, p.value) for p in block if p.kind == ':'] for block in blocks(shown.stdout)]
+                ours = []
+                for row, record in enumerate(s.records):
+                    seen, fields = {}, []
+                    for i in record.fields:
+                        name = pieces[i].name
+                        number, n, out = library.fetch(text, len(text), s.name, row, name, seen.get(name, 0), bytes(5000))
+                        seen[name] = seen.get(name, 0) + 1
+                        fields.append((name, out[:n]))
+                    ours.append(fields)
+                compared += 1
+                if ours != theirs:
+                    sys.exit('recsel reads another %r: %r, library %r' % (text, theirs, ours))
+    return compared
+
+
+def blocks(text):
+    """What recsel prints, as blocks of pieces."""
+    out = [[]]
+    for p in recfile.read_pieces(text):
+        if p.kind == ' ':
+            out.append([])
+        else:
+            out[-1].append(p)
+    return [b for b in out if b]
+
+
+def main():
+    seed = int(sys.argv[1]) if len(sys.argv) > 1 else 1
+    rounds = int(sys.argv[2]) if len(sys.argv) > 2 else 3000
+    library = Library(load())
+    tests = Tests(library, seed)
+    tests.limits()
+    for _ in range(rounds):
+        tests.file(tests.samples.file())
+        tests.file(tests.damaged())
+    print('%d answers compared with tests/model/recfile.py, seed %d: all the same' % (tests.done, seed))
+    print('by number: ' + ' '.join('%d:%d' % x for x in sorted(tests.numbers.items())))
+    if shutil.which('recsel'):
+        print('%d sets read alike by GNU recutils' % readings(library, tests, max(20, rounds // 10)))
+
+
+main()
