@@ -105,7 +105,7 @@ class Tests:
         """A list of edits, a longer one and of its own sets where the file passes."""
         sets = [b'', b'S', b'T', b'Scan']
         if recfile.check(buf, used) == 0:
-            sets, rounds = [s.name for s in recfile.passed(buf, used)[1]], 4 * rounds
+            sets, rounds = [s.name for s in recfile.passed(buf, used)[1] if s.records] + [b''], 4 * rounds
         for _ in range(rounds):
             request = self.samples.request(sets)
             self.compare('write', request, b'\xee' * self.random.choice([0, 5, 200]))
@@ -134,6 +134,13 @@ class Tests:
             else:
                 text[at:at] = bytes(r.choice(b'\\\n+#:% \tA') for _ in range(r.randint(1, 3)))
         return bytes(text)
+
+    def passing(self):
+        """A file that passes and has a set with records."""
+        while True:
+            text = self.samples.file()
+            if recfile.check(text, len(text)) == 0 and any(s.records and s.name for s in recfile.passed(text, len(text))[1]):
+                return text
 
     def limits(self):
         """Files about the size of every limit, and large ones."""
@@ -215,13 +222,14 @@ def blocks(text):
 
 def main():
     seed = int(sys.argv[1]) if len(sys.argv) > 1 else 1
-    rounds = int(sys.argv[2]) if len(sys.argv) > 2 else 3000
+    rounds = int(sys.argv[2]) if len(sys.argv) > 2 else 1000
     library = Library(load())
     tests = Tests(library, seed)
     tests.limits()
     for _ in range(rounds):
         tests.file(tests.samples.file())
         tests.file(tests.damaged())
+        tests.file(tests.passing())
     print('%d answers compared with tests/model/recfile.py, seed %d: all the same' % (tests.done, seed))
     print('by number: ' + ' '.join('%d:%d' % x for x in sorted(tests.numbers.items())))
     if shutil.which('recsel'):
