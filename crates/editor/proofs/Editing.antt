@@ -9,11 +9,11 @@ use lib.Dec.{leb}
 use lib.ListN.{length, take}
 use lib.Seq.{length-take-le}
 use borrow.Author.Tests.{leb-true}
-use Rattle.format.specs.Bytes.{Bytes, pick}
+use Rattle.format.specs.Bytes.{Bytes, pick, isSome}
 use Rattle.format.specs.Lines.{isEnded}
 use Rattle.format.specs.Pieces.{pieces}
 use Rattle.format.specs.Limits.{fileBytes}
-use Rattle.format.specs.Questions.{isSome, verdict}
+use Rattle.format.specs.Questions.{verdict}
 use Rattle.format.specs.Requests.{Request, requestOf}
 use Rattle.format.specs.Calls.{placed, Edited, refusedEdit, editAnswer}
 use Rattle.format.proofs.Passing.{Passes, verdict-reads, verdict-passes}

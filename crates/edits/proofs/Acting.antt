@@ -8,9 +8,8 @@ use lib.Dec.{ltb}
 use lib.ListN.{length, take, drop, length-drop}
 use lib.Seq.{length-take-le}
 use borrow.Author.Tests.{lt-ltb, le-ltb}
-use Rattle.format.specs.Bytes.{Bytes, pick, all}
+use Rattle.format.specs.Bytes.{Bytes, pick, all, isSome}
 use Rattle.format.specs.Limits.{fileBytes}
-use Rattle.format.specs.Questions.{isSome}
 use Rattle.format.specs.Sets.{valuesOf, setsOf}
 use Rattle.format.specs.Written.{Pair, written, isLegalPair, isLegalName, isLegalValue}
 use Rattle.format.specs.Edits.{Change, Edit}

@@ -9,13 +9,13 @@ use lib.Dec.{ltb}
 use lib.ListN.{length, take, drop}
 use lib.Seq.{drop-drop}
 use borrow.Author.Tests.{lt-ltb, le-ltb}
-use Rattle.format.specs.Bytes.{Bytes, pick, all}
+use Rattle.format.specs.Bytes.{Bytes, pick, all, isSome}
 use Rattle.format.specs.Records.{Record, fieldsOf}
 use Rattle.format.specs.Sets.{RecSet, valuesOf, setsOf}
 use Rattle.format.specs.Written.{Pair, isLegalPair}
 use Rattle.format.specs.Edits.{Change, Edit}
 use Rattle.format.specs.Requests.{Request}
-use Rattle.format.specs.Plain.{plainOf, indexOf, membersAt, recordAt, recordOf, isThere, hasSet, hasRecord, hasOccurrence, Asked, recordThere, occurrenceThere, anotherLeft, leavesField, isLegalChange, isLegalEdit}
+use Rattle.format.specs.Plain.{plainOf, indexOf, membersAt, recordAt, recordOf, hasSet, hasRecord, hasOccurrence, Asked, recordThere, occurrenceThere, anotherLeft, leavesField, isLegalChange, isLegalEdit}
 use Rattle.format.proofs.Asking.{asked}
 use Rattle.records.specs.Places.{isReadable}
 use Rattle.records.specs.Walk.{readOf, recordIn}
@@ -62,12 +62,12 @@ module _ (room : ℕ) (s set : Bytes) (row : ℕ) where
   by-answers e a b c d f = λ i. noOf (a i) (b i) (c i) (d i) (f i)
 
   pub no-set : (e : Edit) → indexOf set parts ≡ none → placeNo room s (sought e) ≡ 21
-  no-set e h = by-answers e (ap isThere h) refl refl refl refl
+  no-set e h = by-answers e (ap isSome h) refl refl refl refl
 
   -- The set is found at a.
   module _ (a : ℕ) (f : SetFound s set (setsOf (readOf s)) a) where
     there : hasSet set parts ≡ true
-    there = ap isThere (f .there)
+    there = ap isSome (f .there)
 
     abbrev members : List Record
     members = membersAt 0 (setsOf (readOf (drop a s)))

@@ -5,9 +5,8 @@ use mathlib.Core.Bool.{Bool, true, _&&_}
 use mathlib.Core.List.{[]}
 use lib.Dec.{leb}
 use lib.ListN.{length}
-use Rattle.format.specs.Bytes.{Bytes}
+use Rattle.format.specs.Bytes.{Bytes, isSome}
 use Rattle.format.specs.Limits.{fileBytes}
-use Rattle.format.specs.Questions.{isSome}
 use Rattle.format.specs.Written.{written, writtenAll}
 use Rattle.records.specs.Places.{isReadable}
 use Rattle.records.proofs.Unfielding.{leftOf}

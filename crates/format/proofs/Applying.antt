@@ -8,13 +8,13 @@ use mathlib.Core.Option.{Option, none, some}
 use lib.Dec.{ltb}
 use lib.ListN.{length}
 use borrow.Author.Tests.{ltb-true}
-use Rattle.format.specs.Bytes.{Bytes, same}
+use Rattle.format.specs.Bytes.{Bytes, same, isSome}
 use Rattle.format.specs.Pieces.{Piece, bytesOf}
 use Rattle.format.specs.Records.{Record, records}
 use Rattle.format.specs.Sets.{RecSet, sets, setsOf}
 use Rattle.format.specs.Written.{Pair, newField}
 use Rattle.format.specs.Edits.{Edit, onPieces, onRecords, ordinal, lastOf, onSet, inFront}
-use Rattle.format.specs.Plain.{Plain, restOf, plainOf, size, indexBy, indexOf, membersAt, membersIn, isThere, appendRecord, gapCount, insertBy, applyAt, applyIn, apply, isLegalEdit}
+use Rattle.format.specs.Plain.{Plain, restOf, plainOf, size, indexBy, indexOf, membersAt, membersIn, appendRecord, gapCount, insertBy, applyAt, applyIn, apply, isLegalEdit}
 use Rattle.format.specs.Plain.{Asked, setThere, recordThere, occurrenceThere, anotherLeft}
 use Rattle.format.specs.Requests.{Request}
 use Rattle.format.proofs.Elements.{Each, Filled, Has, below-has}
@@ -55,7 +55,7 @@ pub record Granted (a : Asked) : Type 0 where
 
 -- the set is found, and the record where the edit is of one
 
-there-some : (x : Option ℕ) → isThere x ≡ true → (i : ℕ) × (x ≡ some i)
+there-some : (x : Option ℕ) → isSome x ≡ true → (i : ℕ) × (x ≡ some i)
 there-some none e = absurd (false≢true e)
 there-some (some i) e = (i, refl)
 

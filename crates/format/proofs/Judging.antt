@@ -7,7 +7,7 @@ use mathlib.Core.List.{List, [], _∷_, _++_, map}
 use mathlib.Core.Option.{Option, none, some}
 use lib.Dec.{leb, eqb}
 use lib.ListN.{length, take}
-use Rattle.format.specs.Bytes.{Bytes, pick, isAllowed, all}
+use Rattle.format.specs.Bytes.{Bytes, pick, isAllowed, all, isSome}
 use Rattle.format.specs.Lines.{isEnded}
 use Rattle.format.specs.Pieces.{Piece, pieces}
 use Rattle.format.specs.Records.{Record}
@@ -15,7 +15,7 @@ use Rattle.format.specs.Sets.{RecSet, setsOf}
 use Rattle.format.specs.Limits.{fileBytes}
 use Rattle.format.specs.Numbers.{Bounds, bits32}
 use Rattle.format.specs.Rules.{distinct}
-use Rattle.format.specs.Questions.{Row, firstNo, askOf, File, setsIn, fileOf, isSome, noneProhibited, allAllowed, allPresent, noneRepeated, allTyped, keysOf, sizeMet, limitRows, descriptorRows, ruleRows, questions, verdictIn, verdict}
+use Rattle.format.specs.Questions.{Row, firstNo, askOf, File, setsIn, fileOf, noneProhibited, allAllowed, allPresent, noneRepeated, allTyped, keysOf, sizeMet, limitRows, descriptorRows, ruleRows, questions, verdictIn, verdict}
 use Rattle.format.proofs.Least.{leasts, eachOf, Rise, first-leasts, first-append}
 
 -- questions 4 to 14, of the sets

@@ -9,13 +9,13 @@ use lib.Dec.{leb}
 use lib.ListN.{length, take, drop, replicate, length-append, length-drop, length-replicate}
 use lib.Seq.{take-append-seam}
 use borrow.Author.Tests.{leb-true, le-leb}
-use Rattle.format.specs.Bytes.{Bytes, isAllowed, all}
+use Rattle.format.specs.Bytes.{Bytes, isAllowed, all, isSome}
 use Rattle.format.specs.Lines.{isEnded}
 use Rattle.format.specs.Pieces.{Piece, allLines, bytesOf, pieces}
 use Rattle.format.specs.Sets.{RecSet, setsOf}
 use Rattle.format.specs.Limits.{fileBytes}
 use Rattle.format.specs.Numbers.{bits32}
-use Rattle.format.specs.Questions.{isSome, setsIn, fileOf, limitRows, descriptorRows, ruleRows, verdict}
+use Rattle.format.specs.Questions.{setsIn, fileOf, limitRows, descriptorRows, ruleRows, verdict}
 use Rattle.format.specs.Requests.{Request}
 use Rattle.format.specs.Plain.{Plain, plainOf, size, apply, editQuestions, step}
 use Rattle.format.specs.Calls.{placed}

@@ -4,6 +4,7 @@ use Prim.Native.Char.{code}
 use Prim.Native.String.{String, [] as empty, _∷_ as _:>_}
 use mathlib.Core.Bool.{Bool, true, false, _&&_, _||_}
 use mathlib.Core.List.{List, [], _∷_, map}
+use mathlib.Core.Option.{Option, none, some}
 use lib.Dec.{leb, eqb}
 
 abbrev pub Bytes : Type 0
@@ -79,3 +80,8 @@ same (x ∷ s) (y ∷ t) = eqb x y && same s t
 -- is one among several
 abbrev pub among : Bytes → List Bytes → Bool
 among x ys = any (same x) ys
+
+-- is there one
+abbrev pub isSome : {A : Type 0} → Option A → Bool
+isSome none = false
+isSome (some a) = true

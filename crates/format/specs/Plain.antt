@@ -5,7 +5,7 @@ use mathlib.Core.List.{List, [], _∷_, _++_, map}
 use mathlib.Core.Option.{Option, none, some}
 use lib.Dec.{leb, ltb}
 use lib.ListN.{length}
-use Rattle.format.specs.Bytes.{Bytes, all, same}
+use Rattle.format.specs.Bytes.{Bytes, all, same, isSome}
 use Rattle.format.specs.Pieces.{Piece}
 use Rattle.format.specs.Records.{Field, Record, countOf}
 use Rattle.format.specs.Sets.{RecSet, setsOf}
@@ -86,12 +86,8 @@ abbrev pub recordOf : Bytes → ℕ → List RecSet → Record
 recordOf n j ss = recordAt j (membersOf n ss)
 
 -- "Set there?", "Record there (a record number beyond the last is no record)?", "name and occurrence there?"
-abbrev pub isThere : {A : Type 0} → Option A → Bool
-isThere none = false
-isThere (some a) = true
-
 abbrev pub hasSet : Bytes → List RecSet → Bool
-hasSet n ss = isThere (indexOf n ss)
+hasSet n ss = isSome (indexOf n ss)
 
 abbrev pub hasRecord : Bytes → ℕ → List RecSet → Bool
 hasRecord n j ss = ltb j (length (membersOf n ss))

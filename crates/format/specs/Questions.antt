@@ -5,7 +5,7 @@ use mathlib.Core.List.{List, [], _∷_, _++_, map}
 use mathlib.Core.Option.{Option, none, some}
 use lib.Dec.{leb, eqb}
 use lib.ListN.{length, take}
-use Rattle.format.specs.Bytes.{Bytes, text, pick, isAllowed, all, any, same, among}
+use Rattle.format.specs.Bytes.{Bytes, text, pick, isAllowed, all, any, same, among, isSome}
 use Rattle.format.specs.Lines.{isEnded}
 use Rattle.format.specs.Pieces.{Piece, pieces}
 use Rattle.format.specs.Records.{Field, Record, records}
@@ -57,9 +57,8 @@ abbrev pub isText : File → Bool
 isText f = all isAllowed (f .content) && isEnded (f .content)
 
 -- "3. Every line of a form above?"
-abbrev pub isSome : {A : Type 0} → Option A → Bool
-isSome none = false
-isSome (some a) = true
+abbrev pub isFormed : File → Bool
+isFormed f = isSome (f .reads)
 
 -- "4. Limits held?"
 abbrev pub fitsField : Field → Bool
@@ -174,7 +173,7 @@ abbrev pub questions : Bounds → List (Row File)
 questions b =
     record { number = 1; asks = isInside } ∷
     record { number = 2; asks = isText } ∷
-    record { number = 3; asks = λ (f : File). isSome (f .reads) } ∷
+    record { number = 3; asks = isFormed } ∷
     askOf (λ (f : File). f .parts) (limitRows ++ descriptorRows b ++ ruleRows b)
 
 unfoldable pub verdictIn : Bounds → Bytes → ℕ → ℕ

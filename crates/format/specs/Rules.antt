@@ -5,7 +5,7 @@ use mathlib.Core.List.{List, [], _∷_, _++_, map}
 use mathlib.Core.Option.{Option, none, some}
 use lib.Dec.{leb, ltb, eqb}
 use lib.ListN.{length, getD}
-use Rattle.format.specs.Bytes.{Bytes, text, pick, all, any, same, among}
+use Rattle.format.specs.Bytes.{Bytes, text, pick, all, any, same, among, isSome}
 use Rattle.format.specs.Lines.{isName}
 use Rattle.format.specs.Records.{Field, Record}
 use Rattle.format.specs.Sets.{valuesOf}
@@ -64,10 +64,6 @@ sizeRule b [] = none
 sizeRule b (w ∷ []) = sizeBy (some (λ m n. eqb m n)) (numberOf b w)
 sizeRule b (w ∷ v ∷ []) = sizeBy (orderOf w) (numberOf b v)
 sizeRule b (w ∷ v ∷ u ∷ us) = none
-
-abbrev pub isSize : Option Size → Bool
-isSize none = false
-isSize (some z) = true
 
 abbrev pub meetsSize : Option Size → ℕ → Bool
 meetsSize none n = true
@@ -138,7 +134,7 @@ shapes b =
     record { name = text "%allowed"; fits = nameList } ∷
     record { name = text "%unique"; fits = nameList } ∷
     record { name = text "%key"; fits = λ (v : Bytes). one isName (words v) } ∷
-    record { name = text "%size"; fits = λ (v : Bytes). isSize (sizeRule b (words v)) } ∷
+    record { name = text "%size"; fits = λ (v : Bytes). isSome (sizeRule b (words v)) } ∷
     record { name = text "%typedef"; fits = free } ∷
     record { name = text "%type"; fits = free } ∷ []
 
@@ -157,10 +153,6 @@ reserved = map text ("int" ∷ "range" ∷ "real" ∷ "line" ∷ "size" ∷ "enu
 abbrev pub isTypedefName : Bytes → Bool
 isTypedefName n = isTypeName n && not (among n reserved)
 
-abbrev pub isDefined : Option Kind → Bool
-isDefined none = false
-isDefined (some k) = true
-
 abbrev pub distinct : List Bytes → Bool
 distinct [] = true
 distinct (x ∷ xs) = not (among x xs) && distinct xs
@@ -172,7 +164,7 @@ isTypedWell b r =
     let tds : List Bytes = valuesOf (text "%typedef") r in
     let tys : List Bytes = valuesOf (text "%type") r in
     all (λ (v : Bytes). isTypedefName (firstWord v)) tds
-    && all (λ (v : Bytes). isDefined (endKind b ds v)) tds
+    && all (λ (v : Bytes). isSome (endKind b ds v)) tds
     && distinct (map firstWord tds)
     && all (λ (v : Bytes). all isName (typedNames v)) tys
-    && all (λ (v : Bytes). isDefined (endKind b ds v)) tys
+    && all (λ (v : Bytes). isSome (endKind b ds v)) tys

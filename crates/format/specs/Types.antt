@@ -5,7 +5,7 @@ use mathlib.Core.List.{List, [], _∷_, map}
 use mathlib.Core.Option.{Option, none, some}
 use lib.Dec.{leb, eqb}
 use lib.ListN.{length}
-use Rattle.format.specs.Bytes.{Bytes, text, pick, isLetter, isDigit, isNewline, all, any, same, among}
+use Rattle.format.specs.Bytes.{Bytes, text, pick, isLetter, isDigit, isNewline, all, any, same, among, isSome}
 use Rattle.format.specs.Lines.{isName}
 use Rattle.format.specs.Words.{isGap, notGap, front, behind, words, split, trim, isTypeName}
 use Rattle.format.specs.Numbers.{Int, plus, minus, Bounds, onlyIf, onward, isDigitOf, intOf, isAtMost, numberOf, isReal}
@@ -154,10 +154,6 @@ kindOf ds t = follow (length ds) ds t
 
 -- values
 
-abbrev pub isInt : Option Int → Bool
-isInt none = false
-isInt (some x) = true
-
 -- "a value is an int within them, ends included"
 abbrev pub isInRange : Int → Int → Option Int → Bool
 isInRange low high none = false
@@ -182,7 +178,7 @@ sizeCount v = length v
 
 -- "Blanks and newlines around a value are ignored for all kinds but `line` and `size`."
 abbrev pub meets : Bounds → Kind → Bytes → Bool
-meets b int v = isInt (intOf b (trim v))
+meets b int v = isSome (intOf b (trim v))
 meets b (range low high) v = isInRange low high (intOf b (trim v))
 meets b real v = isReal (trim v)
 meets b line v = not (any isNewline v)

@@ -1,5 +1,6 @@
 -- What questions 4, 6 and 7 grant of each record that a walk meets.
 use Prim.Native.Nat.{ℕ, _+_, _-_}
+use native.Mathlib.Omega.{arith}
 use mathlib.Core.Path.{_≡_, refl, sym, ap, _∙_, subst}
 use mathlib.Core.Bool.{Bool, true, false, _&&_, _||_, not, and-eq-true-iff, false≢true}
 use mathlib.Core.List.{List, [], _∷_}
@@ -8,19 +9,19 @@ use lib.ListN.{length, take, drop}
 use Rattle.format.specs.Bytes.{Bytes, pick, all}
 use Rattle.format.specs.Limits.{descriptors}
 use Rattle.format.specs.Numbers.{bits32}
-use Rattle.format.specs.Records.{Record, records}
+use Rattle.format.specs.Records.{Record}
 use Rattle.format.specs.Rules.{isWellFormed, isTypedWell, distinct}
 use Rattle.format.specs.Questions.{fitsRecord, fitsRules}
 use Rattle.format.proofs.Elements.{Each, each-both, each-imp, all-each}
 use Rattle.format.proofs.Least.{least}
 use Rattle.format.proofs.Judging.{setNo}
-use Rattle.format.proofs.Walking.{isHead, heads, headNames, before, ruled, walkFits, walkWell, walkTypes, walkNo}
-use Rattle.records.specs.Walk.{recordIn}
+use Rattle.format.proofs.Walking.{isHead, heads, headNames, before, ruled, walkFits, walkTypes, walkNo}
 use Rattle.records.specs.declared.Place.{Place}
 use Rattle.records.proofs.Readings.{reads-readable}
 use Rattle.records.proofs.Searches.{placesAt, Met}
 use Rattle.lines.proofs.Cuts.{rest}
 use Rattle.limits.proofs.Records.{recordsFrom, partAt, recordAt, records-none, records-met, head-met}
+use Rattle.shapes.proofs.Judging.{none-asked}
 use Rattle.lists.proofs.Leasts.{least-none, least-assoc}
 use Rattle.setkeys.specs.Keyed.{membersIn}
 use Rattle.rules.specs.Described.{IsRules, AllFit}
@@ -114,8 +115,20 @@ module _ (s : Bytes) (i : ℕ) (q : Place) (m : Met s i q) where
       ∙ ap (λ (t : Bytes). least (least worst (pick (q .descriptor) (setNo bits32 (ruled (recordAt s i q) (membersIn t))) 0)) (walkNo bits32 (recordsFrom s (i + q .after)))) (sym (rest s (i + q .after)))
       ∙ ap (λ (x : ℕ). least x (walkNo bits32 (recordsFrom s (i + q .after)))) (sym (b ∙ ap (least worst) e))
 
-pub types-end : (s : Bytes) (i : ℕ) → placesAt s i ≡ [] → true ≡ walkTypes bits32 (recordsFrom s i)
-types-end s i e = sym (ap (walkTypes bits32) (records-none s i e))
+-- no descriptor is left
+pub heads-none : (s : Bytes) (i : ℕ) → placesAt s i ≡ [] → length (heads (recordsFrom s i)) ≡ 0
+heads-none s i e = ap (λ (rs : List Record). length (heads rs)) (records-none s i e)
 
-pub sets-end : (s : Bytes) (i worst : ℕ) → placesAt s i ≡ [] → worst ≡ least worst (walkNo bits32 (recordsFrom s i))
-sets-end s i worst e = least-none worst (walkNo bits32 (recordsFrom s i)) (ap (walkNo bits32) (records-none s i e))
+pub types-end : (s : Bytes) (i : ℕ) → length (heads (recordsFrom s i)) ≡ 0 → true ≡ walkTypes bits32 (recordsFrom s i)
+types-end s i e = sym (none-asked (isTypedWell bits32) (recordsFrom s i) e)
+
+no-set-by : (b : Bool) (r : Record) (hs : List Record) (n others : ℕ) → length (pick b (r ∷ hs) hs) ≡ 0 → (length hs ≡ 0 → others ≡ 0) → pick b n others ≡ 0
+no-set-by true r hs n others e h = absurd (omega (arith, e))
+no-set-by false r hs n others e h = h e
+
+no-set : (rs : List Record) → length (heads rs) ≡ 0 → walkNo bits32 rs ≡ 0
+no-set [] e = refl
+no-set (r ∷ rs) e = no-set-by (isHead r) r (heads rs) (least (setNo bits32 (ruled r (before rs))) (walkNo bits32 rs)) (walkNo bits32 rs) e (no-set rs)
+
+pub sets-end : (s : Bytes) (i worst : ℕ) → length (heads (recordsFrom s i)) ≡ 0 → worst ≡ least worst (walkNo bits32 (recordsFrom s i))
+sets-end s i worst e = least-none worst (walkNo bits32 (recordsFrom s i)) (no-set (recordsFrom s i) e)

@@ -8,13 +8,12 @@ use mathlib.Core.Option.{Option, none, some}
 use lib.Dec.{leb, eqb}
 use lib.ListN.{length, take, drop, getD, drop-of-length-le}
 use borrow.Author.Tests.{eq-eqb, ne-eqb, leb-true}
-use Rattle.format.specs.Bytes.{Bytes, pick, isAllowed, classOf, all}
+use Rattle.format.specs.Bytes.{Bytes, pick, isAllowed, classOf, all, isSome}
 use Rattle.format.specs.Lines.{isEnded}
 use Rattle.format.specs.Pieces.{Piece, pieces}
 use Rattle.format.specs.Numbers.{bits32}
 use Rattle.format.specs.Records.{Record, records}
 use Rattle.format.specs.Limits.{fileBytes}
-use Rattle.format.specs.Questions.{isSome}
 use Rattle.format.specs.Calls.{checkAnswer}
 use Rattle.format.proofs.Table.{control-class}
 use Rattle.format.proofs.Judging.{readNo, textNo, verdict-text}

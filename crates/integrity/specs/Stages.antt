@@ -3,12 +3,11 @@ use Prim.Native.Nat.{ℕ}
 use mathlib.Core.Path.{_≡_}
 use mathlib.Core.Bool.{true, _&&_}
 use mathlib.Core.List.{List}
-use Rattle.format.specs.Bytes.{Bytes, pick, isAllowed, all}
+use Rattle.format.specs.Bytes.{Bytes, pick, isAllowed, all, isSome}
 use Rattle.format.specs.Lines.{isEnded}
 use Rattle.format.specs.Pieces.{pieces}
 use Rattle.format.specs.Numbers.{bits32}
 use Rattle.format.specs.Records.{Record}
-use Rattle.format.specs.Questions.{isSome}
 use Rattle.format.proofs.Walking.{walkFits, walkWell, walkTypes}
 
 -- the number of the first of questions 2 and 3 that says no of a text, else 0

@@ -12,12 +12,13 @@ ghost use Rattle.format.specs.Rules.{isTypedWell};
 ghost use Rattle.format.specs.Questions.{fitsRecord, fitsRules};
 ghost use Rattle.format.specs.Calls.{checkAnswer};
 ghost use Rattle.format.proofs.Judging.{textNo, setNo};
-ghost use Rattle.format.proofs.Walking.{ruled, walkFits, walkTypes, walkNo, recordsNo};
+ghost use Rattle.format.proofs.Walking.{heads, ruled, walkFits, walkOnce, walkTypes, walkNo, recordsNo};
 ghost use Rattle.records.specs.Places.{isReadable};
 ghost use Rattle.records.specs.Walk.{readOf, recordIn};
 ghost use Rattle.setkeys.specs.Keyed.{membersIn};
 ghost use Rattle.rules.specs.Described.{IsRules, AllFit};
 ghost use Rattle.integrity.specs.Stages.{formNo, Granted};
+use limits::Bounded;
 use records::NextRecord;
 
 // Are all bytes allowed?
@@ -77,16 +78,18 @@ fn part_typed(table: &[u8; 256], r: &[u8], descriptor: bool, scratch: &mut [u8])
     true
 }
 
-// Question 7: are the types of all descriptors well formed?
-fn types_defined(table: &[u8; 256], s: &[u8], scratch: &mut [u8]) -> bool
+// Question 7: are the types of all descriptors well formed? count of them stand in s; the walk ends behind the last.
+fn types_defined(table: &[u8; 256], s: &[u8], count: usize, scratch: &mut [u8]) -> bool
     requires { ⌜ now table ≡ classTable ⌝ }
     requires { ⌜ isReadable (now s) ≡ true ⌝ }
     requires { ⌜ walkFits (records (readOf (now s))) ≡ true ⌝ }
+    requires { ⌜ count ≡ length (heads (records (readOf (now s)))) ⌝ }
     requires { ⌜ valueBytes ≤ length (now scratch) ⌝ }
     ensures { λ r. ⌜ r ≡ walkTypes bits32 (records (readOf (now (s .entry)))) ⌝ }
 {
     let mut i = 0;
-    loop {
+    let mut met = 0;
+    while met < count {
         let n = records::next_record(table, &s[i..]);
         let NextRecord::At(p) = n else {
             return true;
@@ -96,8 +99,10 @@ fn types_defined(table: &[u8; 256], s: &[u8], scratch: &mut [u8]) -> bool
         if part_typed(table, &s[a..e], p.descriptor, &mut *scratch) {} else {
             return false;
         }
+        met += limits::one_if(p.descriptor);
         i += p.after;
     }
+    true
 }
 
 // The number of a part's set, if it is a descriptor; rest is the file behind it.
@@ -122,10 +127,11 @@ fn judge_part(
     0
 }
 
-// Questions 8 to 14 of all sets: the least number of a descriptor's set, else 0.
+// Questions 8 to 14 of all sets: the least number of a descriptor's set, else 0. count descriptors stand in s; the walk ends behind the last.
 fn judge_sets(
     table: &[u8; 256],
     s: &[u8],
+    count: usize,
     scratch: &mut [u8],
     other: &mut [u8],
     entries: &mut [u32],
@@ -133,12 +139,14 @@ fn judge_sets(
     requires { ⌜ now table ≡ classTable ⌝ }
     requires { ⌜ (isReadable (now s) ≡ true) × (length (now s) ≤ fileBytes) ⌝ }
     requires { ⌜ Granted (records (readOf (now s))) ⌝ }
+    requires { ⌜ count ≡ length (heads (records (readOf (now s)))) ⌝ }
     requires { ⌜ (valueBytes ≤ length (now scratch)) × (valueBytes ≤ length (now other)) × (16384 ≤ length (now entries)) ⌝ }
     ensures { λ r. ⌜ r ≡ walkNo bits32 (records (readOf (now (s .entry)))) ⌝ }
 {
     let mut i = 0;
+    let mut met = 0;
     let mut worst = 0;
-    loop {
+    while met < count {
         let n = records::next_record(table, &s[i..]);
         let NextRecord::At(p) = n else {
             return worst;
@@ -156,7 +164,29 @@ fn judge_sets(
             &mut *entries,
         );
         worst = lists::lesser(worst, k);
+        met += limits::one_if(p.descriptor);
     }
+    worst
+}
+
+// Questions 6 to 14 of a readable text of which 4 and 5 say yes, with count descriptors.
+fn judge_described(table: &[u8; 256], s: &[u8], count: usize) -> u32
+    requires { ⌜ now table ≡ classTable ⌝ }
+    requires { ⌜ (isReadable (now s) ≡ true) × (length (now s) ≤ fileBytes) ⌝ }
+    requires { ⌜ (walkFits (records (readOf (now s))) ≡ true) × (walkOnce (records (readOf (now s))) ≡ true) ⌝ }
+    requires { ⌜ count ≡ length (heads (records (readOf (now s)))) ⌝ }
+    ensures { λ r. ⌜ r ≡ recordsNo bits32 (records (readOf (now (s .entry)))) ⌝ }
+{
+    let mut scratch = [0u8; 4096];
+    if shapes::described_well(table, s, count, &mut scratch) {} else {
+        return 6;
+    }
+    if types_defined(table, s, count, &mut scratch) {} else {
+        return 7;
+    }
+    let mut other = [0u8; 4096];
+    let mut entries = [0u32; 16384];
+    judge_sets(table, s, count, &mut scratch, &mut other, &mut entries)
 }
 
 // Questions 4 to 14 of a readable text.
@@ -165,22 +195,12 @@ fn judge_records(table: &[u8; 256], s: &[u8]) -> u32
     requires { ⌜ (isReadable (now s) ≡ true) × (length (now s) ≤ fileBytes) ⌝ }
     ensures { λ r. ⌜ r ≡ recordsNo bits32 (records (readOf (now (s .entry)))) ⌝ }
 {
-    if limits::limits_held(table, s) {} else {
-        return 4;
+    let b = limits::bounds_of(table, s);
+    match b {
+        Bounded::Past => 4,
+        Bounded::Unnamed => 5,
+        Bounded::Heads(count) => judge_described(table, s, count),
     }
-    if limits::described_once(table, s) {} else {
-        return 5;
-    }
-    let mut scratch = [0u8; 4096];
-    if shapes::described_well(table, s, &mut scratch) {} else {
-        return 6;
-    }
-    if types_defined(table, s, &mut scratch) {} else {
-        return 7;
-    }
-    let mut other = [0u8; 4096];
-    let mut entries = [0u32; 16384];
-    judge_sets(table, s, &mut scratch, &mut other, &mut entries)
 }
 
 // Questions 2 to 14 of a text: the number of the first that says no, else 0.

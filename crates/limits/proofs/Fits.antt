@@ -12,6 +12,7 @@ use Rattle.format.specs.Records.{Field, Record}
 use Rattle.format.specs.Limits.{recordFields, nameBytes, valueBytes}
 use Rattle.format.specs.Questions.{fitsField, fitsRecord}
 use Rattle.lines.specs.Value.{valueFrom}
+use Rattle.lines.proofs.Decoding.{value-length}
 use Rattle.limits.specs.Spots.{between, fieldBetween, SpotAt}
 use Rattle.limits.proofs.Spots.{between-length}
 
@@ -56,8 +57,12 @@ module _ (n : ℕ) (f : Field) (fs : Record) where
       stops-by (leb (n + length (f ∷ fs)) recordFields) (leb (n + 1) recordFields) (leb (length (f .name)) nameBytes) (leb (length (f .value)) valueBytes) (all fitsField fs)
       (λ h. lt-leb (n + length (f ∷ fs)) recordFields (omega (arith, leb-false (n + 1) recordFields h))) e
 
--- the field that a walk has found is asked by its lengths
-pub fits-asked : (r : Bytes) (i start name value end : ℕ) (n len : ℕ) (b : Bool) → SpotAt r i start name value end → len ≡ length (valueFrom (between r value end)) → b ≡ (leb (n + 1) recordFields && leb (name - start) nameBytes && leb len valueBytes) → b ≡ fitsHere n (fieldBetween r start name value end)
+-- a part within the limit of a value holds one that is
+pub value-within : (s : Bytes) → length s ≤ valueBytes → leb (length s) valueBytes ≡ leb (length (valueFrom s)) valueBytes
+value-within s h = le-leb (length s) valueBytes h ∙ sym (le-leb (length (valueFrom s)) valueBytes (omega (arith, value-length s)))
+
+-- the field that a walk has found is asked by the length of its name and a bound of its value's
+pub fits-asked : (r : Bytes) (i start name value end : ℕ) (n len : ℕ) (b : Bool) → SpotAt r i start name value end → leb len valueBytes ≡ leb (length (valueFrom (between r value end))) valueBytes → b ≡ (leb (n + 1) recordFields && leb (name - start) nameBytes && leb len valueBytes) → b ≡ fitsHere n (fieldBetween r start name value end)
 fits-asked r i start name value end n len b f e h =
     let k : length (between r start name) ≡ name - start = between-length r start name (f .name-from) (omega (arith, f .name-inside, f .inside)) in
-    h ∙ (λ j. leb (n + 1) recordFields && leb (sym k j) nameBytes && leb (e j) valueBytes)
+    h ∙ (λ j. leb (n + 1) recordFields && leb (sym k j) nameBytes && e j)

@@ -1,9 +1,9 @@
 -- Questions 4 and 5 of a file, record by record.
 use Prim.Native.Nat.{ℕ, _+_}
 use native.Mathlib.Omega.{arith}
-use mathlib.Core.Path.{_≡_, ap, _∙_}
-use mathlib.Core.Bool.{Bool, true, false, _&&_, _||_, not}
-use mathlib.Core.List.{List, [], _∷_}
+use mathlib.Core.Path.{_≡_, sym, ap, _∙_}
+use mathlib.Core.Bool.{Bool, true, false, _&&_, _||_, not, and-assoc, and-true, and-eq-true-iff}
+use mathlib.Core.List.{List, _∷_}
 use lib.Dec.{leb}
 use lib.ListN.{length}
 use Rattle.format.specs.Bytes.{pick, all}
@@ -11,44 +11,51 @@ use Rattle.format.specs.Records.{Record}
 use Rattle.format.specs.Limits.{descriptors}
 use Rattle.format.specs.Questions.{fitsRecord, fitsRules, hasRecOnce}
 use Rattle.format.proofs.Walking.{isHead, heads, walkFits, walkOnce}
+use Rattle.limits.specs.declared.Answers.{Answers}
+use Rattle.limits.specs.declared.Bounded.{Bounded}
+use Rattle.limits.specs.Bounds.{Answered, outcomeOf, BoundedAs}
 
--- Question 4, record by record: so many descriptors stand before these.
+-- are the limits of a record held, and those of a descriptor if it is one
 abbrev pub fitsPart : Record → Bool → Bool
 fitsPart r head = fitsRecord r && (not head || fitsRules r)
 
-unfoldable pub limitsFrom : ℕ → List Record → Bool
-limitsFrom n rs = all (λ (r : Record). fitsPart r (isHead r)) rs && leb (n + length (heads rs)) descriptors
+-- of every record
+abbrev pub allFit : List Record → Bool
+allFit rs = all (λ (r : Record). fitsPart r (isHead r)) rs
 
-pub limits-start : (rs : List Record) → walkFits rs ≡ limitsFrom 0 rs
-unfolding limitsFrom
-limits-start rs = let e : length (heads rs) ≡ 0 + length (heads rs) = omega arith in ap (λ (k : ℕ). all (λ (r : Record). fitsPart r (isHead r)) rs && leb k descriptors) e
+-- the answers of a part from those of its record; few: a descriptor's own limits are held
+module _ (r : Record) (k : Answers) (a : Answered (fitsRecord r) (hasRecOnce r) k) where
+  pub member-answered : (head : Bool) → head ≡ false → Answered (fitsPart r head) (hasRecOnce r) k
+  member-answered head h = (a .0 ∙ sym (and-true (fitsRecord r)) ∙ ap (λ (b : Bool). fitsRecord r && (not b || fitsRules r)) (sym h), a .1)
 
-pub limits-end : (n : ℕ) → limitsFrom n [] ≡ leb n descriptors
-unfolding limitsFrom
-limits-end n = let e : n + 0 ≡ n = omega arith in ap (λ (k : ℕ). leb k descriptors) e
+  pub head-answered : (head few : Bool) → head ≡ true → few ≡ fitsRules r → Answered (fitsPart r head) (hasRecOnce r) (record { fits = k .fits && few; once = k .once })
+  head-answered head few h e = ((λ i. a .0 i && (not (sym h i) || e i)), λ f. a .1 (and-eq-true-iff (k .fits) few .0 f .0))
 
-head-one : (b : Bool) (r : Record) (hs : List Record) → length (pick b (r ∷ hs) hs) ≡ pick b 1 0 + length hs
-head-one true r hs = omega arith
-head-one false r hs = omega arith
+-- one record further
+module _ (r : Record) (rs : List Record) (head : Bool) (h : isHead r ≡ head) (k : Answers) (a : Answered (fitsPart r head) (hasRecOnce r) k) where
+  fit-by : allFit (r ∷ rs) ≡ (k .fits && allFit rs)
+  fit-by = (λ i. fitsPart r (h i) && allFit rs) ∙ ap (λ (b : Bool). b && allFit rs) (sym (a .0))
 
-module _ (n : ℕ) (r : Record) (rs : List Record) (b : Bool) (head : isHead r ≡ b) where
-  limits-by : limitsFrom n (r ∷ rs) ≡ ((fitsPart r b && all (λ (x : Record). fitsPart x (isHead x)) rs) && leb ((n + pick b 1 0) + length (heads rs)) descriptors)
-  unfolding limitsFrom
-  limits-by =
-      let k : n + length (heads (r ∷ rs)) ≡ (n + pick b 1 0) + length (heads rs) = omega (arith, head-one (isHead r) r (heads rs), ap {B = ℕ} (λ x. pick x 1 0) head) in
-      λ i. (fitsPart r (head i) && all (λ (x : Record). fitsPart x (isHead x)) rs) && leb (k i) descriptors
+  pub fit-on : k .fits ≡ true → allFit (r ∷ rs) ≡ allFit rs
+  fit-on e = fit-by ∙ ap (λ (b : Bool). b && allFit rs) e
 
-  pub limits-on : fitsPart r b ≡ true → limitsFrom n (r ∷ rs) ≡ limitsFrom (n + pick b 1 0) rs
-  unfolding limitsFrom
-  limits-on e = limits-by ∙ ap (λ (x : Bool). (x && all (λ (y : Record). fitsPart y (isHead y)) rs) && leb ((n + pick b 1 0) + length (heads rs)) descriptors) e
+  pub once-held : k .fits ≡ true → (once : Bool) → (once && walkOnce (r ∷ rs)) ≡ ((once && k .once) && walkOnce rs)
+  once-held e once = ap (λ (b : Bool). once && (b && walkOnce rs)) (sym (a .1 e)) ∙ sym (and-assoc once (k .once) (walkOnce rs))
 
-  pub limits-stop : fitsPart r b ≡ false → limitsFrom n (r ∷ rs) ≡ false
-  limits-stop e = limits-by ∙ ap (λ (x : Bool). (x && all (λ (y : Record). fitsPart y (isHead y)) rs) && leb ((n + pick b 1 0) + length (heads rs)) descriptors) e
+  pub fit-stop : k .fits ≡ false → allFit (r ∷ rs) ≡ false
+  fit-stop e = fit-by ∙ ap (λ (b : Bool). b && allFit rs) e
 
--- Question 5, record by record.
-module _ (r : Record) (rs : List Record) where
-  pub once-held : hasRecOnce r ≡ true → walkOnce (r ∷ rs) ≡ walkOnce rs
-  once-held e = ap (λ (x : Bool). x && walkOnce rs) e
+-- the answer of a file
+module _ (rs : List Record) where
+  pub past-told : allFit rs ≡ false → walkFits rs ≡ false
+  past-told e = ap (λ (b : Bool). b && leb (length (heads rs)) descriptors) e
 
-  pub once-broken : hasRecOnce r ≡ false → walkOnce (r ∷ rs) ≡ false
-  once-broken e = ap (λ (x : Bool). x && walkOnce rs) e
+  outcome-by : (n : ℕ) (few once : Bool) → walkFits rs ≡ few → walkOnce rs ≡ once → n ≡ length (heads rs) → BoundedAs rs (pick few (pick once (Bounded.Heads n) Bounded.Unnamed) Bounded.Past)
+  outcome-by n true true f o e = (f, o, e)
+  outcome-by n true false f o e = (f, o)
+  outcome-by n false once f o e = f
+
+  pub outcome-told : (n : ℕ) (once : Bool) → allFit rs ≡ true → walkOnce rs ≡ (once && true) → n + 0 ≡ length (heads rs) → BoundedAs rs (outcomeOf n once)
+  outcome-told n once f o e =
+      let k : length (heads rs) ≡ n = omega (arith, e) in
+      outcome-by n (leb n descriptors) once (λ i. f i && leb (k i) descriptors) (o ∙ and-true once) (sym k)

@@ -1,12 +1,14 @@
 -- The records of a readable part, one after another: a record that is met has its own part's fields, and the others are those of the part behind its block.
 use Prim.Native.Nat.{ℕ, _+_}
+use native.Mathlib.Omega.{arith}
 use mathlib.Core.Path.{_≡_, refl, sym, ap, _∙_}
+use mathlib.Core.Bool.{Bool, true, false}
 use mathlib.Core.List.{List, [], _∷_}
-use lib.ListN.{drop}
-use Rattle.format.specs.Bytes.{Bytes, text}
+use lib.ListN.{length, drop}
+use Rattle.format.specs.Bytes.{Bytes, text, pick}
 use Rattle.format.specs.Records.{Record, fieldsOf, records}
 use Rattle.format.specs.Sets.{valuesOf}
-use Rattle.format.proofs.Walking.{isFilled, isHead}
+use Rattle.format.proofs.Walking.{isFilled, isHead, heads}
 use Rattle.records.specs.Places.{Placed, placesOf, isThere}
 use Rattle.records.specs.Walk.{readOf}
 use Rattle.records.specs.declared.Place.{Place}
@@ -34,6 +36,11 @@ records-places s i =
 pub records-none : (s : Bytes) (i : ℕ) → placesAt s i ≡ [] → recordsFrom s i ≡ []
 records-none s i e = records-places s i ∙ ap (λ (ps : List Placed). fieldsIn ps) e
 
+-- one more record, which may be a descriptor
+head-one : (b : Bool) (r : Record) (hs : List Record) → length (pick b (r ∷ hs) hs) ≡ pick b 1 0 + length hs
+head-one true r hs = omega arith
+head-one false r hs = omega arith
+
 filled-there : (vs : List Bytes) → isFilled vs ≡ isThere vs
 filled-there [] = refl
 filled-there (v ∷ vs) = refl
@@ -51,3 +58,10 @@ module _ (s : Bytes) (i : ℕ) (q : Place) (m : Met s i q) where
   -- it is a descriptor where the place says so
   pub head-met : isHead (recordAt s i q) ≡ q .descriptor
   head-met = ap isHead fields-here ∙ filled-there (valuesOf (text "%rec") (m .here .fields)) ∙ ap (λ (x : Place). x .descriptor) (m .is)
+
+  -- and counts as one
+  pub heads-met : length (heads (recordsFrom s i)) ≡ pick (q .descriptor) 1 0 + length (heads (recordsFrom s (i + q .after)))
+  heads-met =
+      ap (λ (rs : List Record). length (heads rs)) records-met
+      ∙ head-one (isHead (recordAt s i q)) (recordAt s i q) (heads (recordsFrom s (i + q .after)))
+      ∙ ap (λ (b : Bool). pick b 1 0 + length (heads (recordsFrom s (i + q .after)))) head-met

@@ -2,18 +2,20 @@
 ghost use mathlib.Core.Path.{_≡_};
 ghost use mathlib.Core.Bool.{true, _&&_, _||_, not};
 ghost use Prim.Native.Nat.{_+_, _*_, _≤_};
+ghost use lib.Dec.{leb};
 ghost use lib.ListN.{length, drop};
-ghost use Rattle.format.specs.Bytes.{classTable, pick};
+ghost use Rattle.format.specs.Bytes.{classTable, text, pick, same};
 ghost use Rattle.format.specs.Words.{isGap, words};
-ghost use Rattle.format.specs.Limits.{fileBytes};
+ghost use Rattle.format.specs.Limits.{fileBytes, valueBytes};
 ghost use Rattle.format.specs.Records.{fieldsOf, records};
+ghost use Rattle.format.specs.Rules.{isSpecial};
 ghost use Rattle.format.specs.Questions.{fitsRecord, fitsRules, hasRecOnce};
-ghost use Rattle.format.proofs.Walking.{walkFits, walkOnce};
 ghost use Rattle.lines.specs.Value.{valueFrom};
 ghost use Rattle.records.specs.Places.{isReadable};
 ghost use Rattle.records.specs.Walk.{readOf};
 ghost use Rattle.limits.specs.Spots.{NextAt};
 ghost use Rattle.limits.specs.Counts.{countOn, total};
+ghost use Rattle.limits.specs.Bounds.{Answered, outcomeOf, BoundedAs};
 use format::Descriptor;
 use format::Record;
 use lines::Decoded;
@@ -67,7 +69,7 @@ pub fn next_field(table: &[u8; 256], s: &[u8], from: usize) -> NextField
 }
 
 // One where a test holds, else none.
-fn one_if(b: bool) -> usize
+pub fn one_if(b: bool) -> usize
     ensures { λ r. ⌜ (r ≡ pick b 1 0) × (r ≤ 1) ⌝ }
 {
     if b { 1 } else { 0 }
@@ -102,14 +104,50 @@ fn count_words(table: &[u8; 256], s: &[u8]) -> usize
     }
 }
 
-// Are the limits of a record held by the fields of a part? They are asked of each field, with the number of fields so far.
-pub fn record_fits(table: &[u8; 256], r: &[u8]) -> bool
+// A length that is within a value's limit where that of the value is which begins where s does. No value is longer than its bytes in the file, so few are decoded.
+fn value_bound(s: &[u8]) -> usize
+    ensures { λ r. ⌜ leb r valueBytes ≡ leb (length (valueFrom (now (s .entry)))) valueBytes ⌝ }
+{
+    let len = s.len();
+    if len <= Record::VALUE {
+        return len;
+    }
+    lines::value_len(s)
+}
+
+// Does a name begin with `%`?
+fn is_special(name: &[u8]) -> bool
+    ensures { λ r. ⌜ r ≡ isSpecial (now (name .entry)) ⌝ }
+{
+    lines::byte(name, 0) == 37
+}
+
+// Is a name `%rec`? Few names begin as it does.
+fn is_rec(name: &[u8]) -> bool
+    ensures { λ r. ⌜ r ≡ same (text "%rec") (now (name .entry)) ⌝ }
+{
+    if is_special(name) {
+        return lines::same_bytes(b"%rec", name);
+    }
+    false
+}
+
+// Of a record: are its limits held, and if so, has it no `%` name, or `%rec` once?
+struct Answers {
+    fits: bool,
+    once: bool,
+}
+
+// Both questions of the fields of a part, in one pass. The limits are asked of each field, with the number of fields so far.
+fn record_answers(table: &[u8; 256], r: &[u8]) -> Answers
     requires { ⌜ now table ≡ classTable ⌝ }
     requires { ⌜ isReadable (now r) ≡ true ⌝ }
-    ensures { λ b. ⌜ b ≡ fitsRecord (fieldsOf (readOf (now (r .entry)))) ⌝ }
+    ensures { λ k. ⌜ Answered (fitsRecord (fieldsOf (readOf (now (r .entry))))) (hasRecOnce (fieldsOf (readOf (now (r .entry))))) k ⌝ }
 {
     let mut i = 0;
     let mut fields = 0;
+    let mut special = false;
+    let mut recs = 0;
     loop {
         let n = next_field(table, r, i);
         let NextField::At {
@@ -119,20 +157,35 @@ pub fn record_fits(table: &[u8; 256], r: &[u8]) -> bool
             end,
         } = n
         else {
-            return true;
+            if special {
+                return Answers {
+                    fits: true,
+                    once: recs == 1,
+                };
+            }
+            return Answers {
+                fits: true,
+                once: true,
+            };
         };
         fields += 1;
-        let len = lines::value_len(&r[value..end]);
+        let len = value_bound(&r[value..end]);
         let c = Record {
             fields,
             name: name - start,
             value: len,
         };
-        if c.fits() {
-            i = end;
-        } else {
-            return false;
+        if c.fits() {} else {
+            return Answers {
+                fits: false,
+                once: false,
+            };
         }
+        let first = is_special(&r[start..name]);
+        special = special | first;
+        let here = is_rec(&r[start..name]);
+        recs += one_if(here);
+        i = end;
     }
 }
 
@@ -196,96 +249,67 @@ pub fn rules_fit(table: &[u8; 256], d: &[u8]) -> bool
     }
 }
 
-// Have the fields of a part no `%` name, or `%rec` once?
-pub fn rec_once(table: &[u8; 256], r: &[u8]) -> bool
-    requires { ⌜ now table ≡ classTable ⌝ }
-    requires { ⌜ isReadable (now r) ≡ true ⌝ }
-    ensures { λ b. ⌜ b ≡ hasRecOnce (fieldsOf (readOf (now (r .entry)))) ⌝ }
-{
-    let mut i = 0;
-    let mut special = false;
-    let mut count = 0;
-    loop {
-        let n = next_field(table, r, i);
-        let NextField::At {
-            start,
-            name,
-            value: _,
-            end,
-        } = n
-        else {
-            if special {
-                return count == 1;
-            }
-            return true;
-        };
-        let first = lines::byte(&r[start..name], 0);
-        special = special | (first == 37);
-        let here = lines::same_bytes(b"%rec", &r[start..name]);
-        count += one_if(here);
-        i = end;
-    }
-}
-
-// Are the limits of a record held by a part, and those of a descriptor if it is one?
-fn part_fits(table: &[u8; 256], r: &[u8], descriptor: bool) -> bool
+// Both questions of a part; if it is a descriptor, its own limits are asked too.
+fn part_answers(table: &[u8; 256], r: &[u8], descriptor: bool) -> Answers
     requires { ⌜ now table ≡ classTable ⌝ }
     requires { ⌜ isReadable (now r) ≡ true ⌝ }
     requires { ⌜ length (now r) ≤ fileBytes ⌝ }
-    ensures { λ b. ⌜ b ≡ (fitsRecord (fieldsOf (readOf (now (r .entry)))) && (not descriptor || fitsRules (fieldsOf (readOf (now (r .entry)))))) ⌝ }
+    ensures { λ k. ⌜ Answered (fitsRecord (fieldsOf (readOf (now (r .entry)))) && (not descriptor || fitsRules (fieldsOf (readOf (now (r .entry)))))) (hasRecOnce (fieldsOf (readOf (now (r .entry))))) k ⌝ }
 {
-    if record_fits(table, r) {
-        if descriptor {
-            return rules_fit(table, r);
-        }
-        return true;
+    let k = record_answers(table, r);
+    if descriptor {
+        let few = rules_fit(table, r);
+        return Answers {
+            fits: k.fits & few,
+            once: k.once,
+        };
     }
-    false
+    k
 }
 
-// Question 4: are the limits of every record held, and are the descriptors not too many?
-pub fn limits_held(table: &[u8; 256], s: &[u8]) -> bool
+// Of a file: some limit is not held; or all are, but a record with a `%` name has not `%rec`, once; or it has so many descriptors, and neither is the case.
+pub enum Bounded {
+    Past,
+    Unnamed,
+    Heads(usize),
+}
+
+// What a walk that met so many descriptors says in the end.
+fn outcome(count: usize, once: bool) -> Bounded
+    ensures { λ b. ⌜ b ≡ outcomeOf count once ⌝ }
+{
+    if count > Descriptor::COUNT {
+        return Bounded::Past;
+    }
+    if once {
+        return Bounded::Heads(count);
+    }
+    Bounded::Unnamed
+}
+
+// Questions 4 and 5: are the limits of every record held and the descriptors not too many, and has every record with a `%` name `%rec`, once?
+pub fn bounds_of(table: &[u8; 256], s: &[u8]) -> Bounded
     requires { ⌜ now table ≡ classTable ⌝ }
     requires { ⌜ isReadable (now s) ≡ true ⌝ }
     requires { ⌜ length (now s) ≤ fileBytes ⌝ }
-    ensures { λ b. ⌜ b ≡ walkFits (records (readOf (now (s .entry)))) ⌝ }
+    ensures { λ b. ⌜ BoundedAs (records (readOf (now (s .entry)))) b ⌝ }
 {
     let mut i = 0;
-    let mut heads = 0;
+    let mut count = 0;
+    let mut once = true;
     loop {
         let n = records::next_record(table, &s[i..]);
         let NextRecord::At(p) = n else {
-            return heads <= Descriptor::COUNT;
+            return outcome(count, once);
         };
         let a = i + p.start;
         let e = i + p.end;
-        if part_fits(table, &s[a..e], p.descriptor) {
-            heads += one_if(p.descriptor);
-            i += p.after;
-        } else {
-            return false;
+        let k = part_answers(table, &s[a..e], p.descriptor);
+        if k.fits {} else {
+            return Bounded::Past;
         }
-    }
-}
-
-// Question 5: has every record with a `%` name `%rec`, once?
-pub fn described_once(table: &[u8; 256], s: &[u8]) -> bool
-    requires { ⌜ now table ≡ classTable ⌝ }
-    requires { ⌜ isReadable (now s) ≡ true ⌝ }
-    ensures { λ b. ⌜ b ≡ walkOnce (records (readOf (now (s .entry)))) ⌝ }
-{
-    let mut i = 0;
-    loop {
-        let n = records::next_record(table, &s[i..]);
-        let NextRecord::At(p) = n else {
-            return true;
-        };
-        let a = i + p.start;
-        let e = i + p.end;
-        if rec_once(table, &s[a..e]) {
-            i += p.after;
-        } else {
-            return false;
-        }
+        count += one_if(p.descriptor);
+        once = once & k.once;
+        i += p.after;
     }
 }

@@ -3,13 +3,13 @@ use Prim.Native.Nat.{ℕ, zero, suc, _+_, _-_, _≤_, _<_}
 use native.Mathlib.Nat.{not-suc-le-zero}
 use native.Mathlib.Numerals.{add-one}
 use native.Mathlib.Omega.{arith}
-use mathlib.Core.Path.{_≡_, refl, ap, _∙_}
+use mathlib.Core.Path.{_≡_, refl, sym, ap, _∙_}
 use mathlib.Core.Bool.{Bool, true, false, and-false}
 use mathlib.Core.List.{[], _∷_}
 use borrow.Author.Tests.{eq-eqb, ne-eqb}
 use lib.Dec.{eqb}
 use lib.ListN.{length, take, drop, getD, drop-of-length-le, length-drop}
-use lib.Seq.{drop-cons, length-take-le, take-all, getD-take}
+use lib.Seq.{drop-cons, length-take-le, take-all, getD-take, getD-drop}
 use Rattle.format.specs.Bytes.{Bytes, pick, isNewline, same}
 use Rattle.format.specs.Lines.{put, lines, isEnded, joins}
 use Rattle.lines.specs.Line.{lineLen, firstLine}
@@ -35,6 +35,17 @@ module _ (s : Bytes) (i : ℕ) where
   pub line-end : length s ≤ i → lineLen (drop i s) ≡ 0
   unfolding lineLen
   line-end h = rw (drop-of-length-le s)
+
+-- where no newline stands before it, it is the bytes before a place and the line that goes on there
+pub line-from : (s : Bytes) (i : ℕ) → i ≤ lineLen s → lineLen s ≡ i + lineLen (drop i s)
+unfolding lineLen
+line-from s zero h = omega arith
+line-from [] (suc i) h = absurd (omega arith)
+line-from (c ∷ s) (suc i) h = go (isNewline c) h (line-from s i)
+  where
+    go : (t : Bool) → suc i ≤ pick t 0 (suc (lineLen s)) → (i ≤ lineLen s → lineLen s ≡ i + lineLen (drop i s)) → pick t 0 (suc (lineLen s)) ≡ suc i + lineLen (drop i s)
+    go true k f = absurd (omega arith)
+    go false k f = omega (arith, f (omega arith))
 
 -- it is within its text
 pub line-le : (s : Bytes) → lineLen s ≤ length s
@@ -109,3 +120,13 @@ first-joins s h =
 
 pub line-at-inside : (s : Bytes) (i : ℕ) → isEnded s ≡ true → i < length s → i + lineLen (drop i s) < length s
 line-at-inside s i e h = omega (arith, line-inside (drop i s) (ended-drop s i e) (simp length-drop (omega arith)), length-drop i s)
+
+-- the same by the byte before a line's newline, whose rest from a place on is looked at
+pub joins-at : (s : Bytes) (i : ℕ) → 0 < i → (getD s (i - 1) 0 ≡ 92 → ⊥) → joins (firstLine (drop i s)) ≡ eqb (getD s (i + lineLen (drop i s) - 1) 0) 92
+joins-at s i h b = go (lineLen (drop i s)) refl
+  where
+    go : (n : ℕ) → lineLen (drop i s) ≡ n → joins (take n (drop i s)) ≡ eqb (getD s (i + n - 1) 0) 92
+    go zero e = sym (ne-eqb _ _ (λ q. b (ap (λ (k : ℕ). getD s k 0) (let z : i - 1 ≡ i + 0 - 1 = omega arith in z) ∙ q)))
+    go (suc k) e =
+        joins-last (take (suc k) (drop i s)) k (length-take-le (suc k) (drop i s) (omega (arith, line-le (drop i s))))
+        ∙ ap (λ (c : ℕ). eqb c 92) (getD-take (suc k) (drop i s) k 0 (omega arith) ∙ getD-drop i s k 0 ∙ ap (λ (j : ℕ). getD s j 0) (let z : i + k ≡ i + suc k - 1 = omega arith in z))

@@ -1,18 +1,19 @@
 -- The name that a text begins with, and the form of the line that begins so.
-use Prim.Native.Nat.{ℕ, zero, suc, _+_, _≤_, _<_}
+use Prim.Native.Nat.{ℕ, zero, suc, _+_, _-_, _≤_, _<_}
 use native.Mathlib.Nat.{not-suc-le-zero}
 use native.Mathlib.Numerals.{add-one, one-add}
 use native.Mathlib.Omega.{arith}
-use mathlib.Core.Path.{_≡_, refl, sym, ap, _∙_}
+use mathlib.Core.Path.{_≡_, refl, sym, ap, _∙_, subst}
 use mathlib.Core.Bool.{Bool, true, false, false≢true}
 use mathlib.Core.List.{[], _∷_}
-use borrow.Author.Tests.{eqb-true}
+use borrow.Author.Tests.{eqb-true, eq-eqb, ne-eqb}
 use lib.Dec.{eqb}
 use lib.ListN.{length, take, drop, getD, drop-of-length-le}
 use lib.Seq.{drop-cons}
-use Rattle.format.specs.Bytes.{Bytes, pick, isNewline, isBlank}
+use Rattle.format.specs.Bytes.{Bytes, pick, classOf, isNewline, isBlank}
 use Rattle.format.specs.Lines.{isEnded, isFirst, isLater, Form, afterColon, afterBlank, longer, nameRest, form}
-use Rattle.lines.specs.Line.{lineLen, firstLine, run, nameLen}
+use Rattle.format.proofs.Table.{newline-class, blank-class}
+use Rattle.lines.specs.Line.{lineLen, firstLine, GoesOn, run, nameLen}
 use Rattle.lines.proofs.Cuts.{ended-tail}
 
 -- the bytes at the front that pass a test, from an index on
@@ -34,6 +35,15 @@ pub name-first : (s : Bytes) → 0 < length s → isFirst (getD s 0 0) ≡ true 
 unfolding nameLen run
 name-first [] h e = absurd (not-suc-le-zero h)
 name-first (c ∷ s) h e = rw (e, one-add)
+
+pub name-some : (s : Bytes) → 0 < nameLen s → nameLen s ≡ 1 + run isLater (drop 1 s)
+unfolding nameLen run
+name-some [] h = absurd (not-suc-le-zero h)
+name-some (c ∷ s) h = go (isFirst c) h
+  where
+    go : (t : Bool) → 0 < pick t (suc (run isLater s)) 0 → pick t (suc (run isLater s)) 0 ≡ 1 + run isLater s
+    go true k = rw one-add
+    go false k = absurd (not-suc-le-zero k)
 
 pub name-none : (s : Bytes) → isFirst (getD s 0 0) ≡ false → nameLen s ≡ 0
 unfolding nameLen
@@ -63,6 +73,27 @@ name-le (c ∷ s) = go (isFirst c) (run-le isLater s)
     go : (t : Bool) → run isLater s ≤ length s → pick t (suc (run isLater s)) 0 ≤ suc (length s)
     go true h = omega arith
     go false h = omega arith
+
+-- and before its newline
+run-inside : (s : Bytes) → isEnded s ≡ true → 0 < length s → run isLater s < length s
+unfolding run
+run-inside [] e h = h
+run-inside (c ∷ []) e h = rw (eqb-true c 10 e) h
+run-inside (c ∷ d ∷ s) e h = go (isLater c) (run-inside (d ∷ s) e (omega arith))
+  where
+    go : (t : Bool) → run isLater (d ∷ s) < length (d ∷ s) → pick t (suc (run isLater (d ∷ s))) 0 < length (c ∷ d ∷ s)
+    go true k = omega arith
+    go false k = omega arith
+
+pub name-inside : (s : Bytes) → isEnded s ≡ true → 0 < nameLen s → nameLen s < length s
+unfolding nameLen
+name-inside [] e h = absurd (not-suc-le-zero h)
+name-inside (c ∷ []) e h = absurd (not-suc-le-zero (subst (λ (x : ℕ). 0 < pick (isFirst x) (suc (run isLater [])) 0) (eqb-true c 10 e) h))
+name-inside (c ∷ d ∷ s) e h = go (isFirst c) (run-inside (d ∷ s) e (omega arith))
+  where
+    go : (t : Bool) → run isLater (d ∷ s) < length (d ∷ s) → pick t (suc (run isLater (d ∷ s))) 0 < length (c ∷ d ∷ s)
+    go true k = omega arith
+    go false k = omega arith
 
 -- a colon is not the last byte of an ended text
 pub colon-inside : (s : Bytes) (n : ℕ) → isEnded s ≡ true → getD s n 0 ≡ 58 → suc n < length s
@@ -132,3 +163,36 @@ name-told (c ∷ s) e h = go (isNewline c) (isFirst c) refl refl h
     go t false p q h = absurd (not-suc-le-zero h)
     go true true p q h = absurd (false≢true (ap isFirst (sym (eqb-true c 10 p)) ∙ q))
     go false true p q h = rw q (at-longer c (run isLater s) (lineLen s) s (nameRest (firstLine s)) (rest-told s (ended-tail c s e)))
+
+-- So the line goes on behind the colon before a newline, and behind the colon and a blank.
+told-newline : (a e k : Bool) (n len : ℕ) (name : Bytes) (F : Form) → Told a e k n len name F → a ≡ true → e ≡ true → len ≡ suc n
+told-newline false e k n len name F h p q = absurd (false≢true p)
+told-newline true true k n len name F h p q = h .1
+told-newline true false k n len name F h p q = absurd (false≢true q)
+
+told-blank : (a e k : Bool) (n len : ℕ) (name : Bytes) (F : Form) → Told a e k n len name F → a ≡ true → e ≡ false → k ≡ true → suc n < len
+told-blank false e k n len name F h p q r = absurd (false≢true p)
+told-blank true true k n len name F h p q r = absurd (false≢true (sym q))
+told-blank true false true n len name F h p q r = h .2
+told-blank true false false n len name F h p q r = absurd (false≢true r)
+
+module _ (s : Bytes) (n k : ℕ) (ended : isEnded s ≡ true) (some : 0 < nameLen s) (name : n ≡ nameLen s) (colon : getD s n 0 ≡ 58) (small : getD s (n + 1) 0 < 256) (class : k ≡ classOf (getD s (n + 1) 0)) where
+  told : At n (lineLen s) s (form (firstLine s))
+  told = subst (λ (j : ℕ). At j (lineLen s) s (form (firstLine s))) (sym name) (name-told s ended some)
+
+  newline-by : isNewline (getD s (suc n) 0) ≡ eqb k 4
+  newline-by = rw (← add-one n, newline-class (getD s (n + 1) 0) small, class)
+
+  blank-by : isBlank (getD s (suc n) 0) ≡ eqb k 3
+  blank-by = rw (← add-one n, blank-class (getD s (n + 1) 0) small, class)
+
+  pub goes-newline : k ≡ 4 → GoesOn s (n + 1)
+  goes-newline e =
+      let l = told-newline _ _ _ n (lineLen s) _ _ told (eq-eqb _ _ colon) (newline-by ∙ eq-eqb _ _ e) in
+      (omega arith, omega arith, λ q. absurd (omega (arith, sym (ap (λ (j : ℕ). getD s j 0) (let z : (n + 1) - 1 ≡ n = omega arith in z)) ∙ q)))
+
+  pub goes-blank : k ≡ 3 → GoesOn s (n + 2)
+  goes-blank e =
+      let b : isBlank (getD s (suc n) 0) ≡ true = blank-by ∙ eq-eqb _ _ e in
+      let l = told-blank _ _ _ n (lineLen s) _ _ told (eq-eqb _ _ colon) (newline-by ∙ ne-eqb k 4 (λ q. omega (arith, e, q))) b in
+      (omega arith, omega arith, λ q. false≢true (ap isBlank (sym q) ∙ ap (λ (j : ℕ). isBlank (getD s j 0)) (let z : (n + 2) - 1 ≡ suc n = omega arith in z) ∙ b))

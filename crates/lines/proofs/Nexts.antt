@@ -17,7 +17,7 @@ use Rattle.lines.specs.Line.{lineLen, firstLine, nameLen}
 use Rattle.lines.specs.Piece.{extentOf, lineSize, valueAt, fieldNext, nextBy, nextOf}
 use Rattle.lines.specs.declared.Extent.{Extent}
 use Rattle.lines.specs.declared.Next.{Next}
-use Rattle.lines.proofs.Cuts.{lines-cut, first-length}
+use Rattle.lines.proofs.Cuts.{lines-cut, first-length, line-stop}
 use Rattle.lines.proofs.Heads.{Told, name-le, name-told}
 
 -- its first line decides
@@ -55,9 +55,9 @@ next-named s e h =
     next-first s some ∙ rw (lines-cut s some, add-one n) (told-next (eqb (getD s n 0) 58) (isNewline (getD s (suc n) 0)) (isBlank (getD s (suc n) 0)) n (lineLen s) (firstLine s) (lines (drop (suc (lineLen s)) s)) (take n s) (form (firstLine s)) (length-take-le n s (name-le s)) (first-length s) told)
 
 -- the same by the class of the byte behind the colon
-pub next-class : (s : Bytes) (n b k : ℕ) → isEnded s ≡ true → 0 < nameLen s → n ≡ nameLen s → b ≡ getD s (n + 1) 0 → b < 256 → k ≡ classOf b
+pub next-class : (s : Bytes) (n k : ℕ) → isEnded s ≡ true → 0 < nameLen s → n ≡ nameLen s → getD s (n + 1) 0 < 256 → k ≡ classOf (getD s (n + 1) 0)
     → nextOf s ≡ nextNamed (eqb (getD s n 0) 58) (eqb k 4) (eqb k 3) n (extentOf true 0 (lines s))
-next-class s n b k e h p q small r = rw (next-named s e h, ← p, ← q, newline-class b small, blank-class b small, ← r)
+next-class s n k e h p small r = rw (next-named s e h, ← p, newline-class (getD s (n + 1) 0) small, blank-class (getD s (n + 1) 0) small, ← r)
 
 -- a text that begins with no name
 unnamed-by : (h p b : Bool) (c : ℕ) (r l : Line) (ls : List Line) → (p ≡ true → b ≡ false) → nextBy (formBy false h p b c r) l ls ≡ pick h (Next.Comment (lineSize l)) (pick b (Next.Blank (lineSize l)) Next.Fault)
@@ -85,3 +85,9 @@ unnamed-first (c ∷ s) ls h q = go (isNewline c) refl
 pub next-unnamed : (s : Bytes) → 0 < length s → isFirst (getD s 0 0) ≡ false
     → nextOf s ≡ pick (eqb (getD s 0 0) 35) (Next.Comment (lineLen s + 1)) (pick (all isBlank (firstLine s)) (Next.Blank (lineLen s + 1)) Next.Fault)
 next-unnamed s h q = next-first s h ∙ unnamed-first s (lines (drop (suc (lineLen s)) s)) h q ∙ rw (first-length s, add-one (lineLen s))
+
+-- a text that begins with a newline
+pub next-newline : (s : Bytes) → 0 < length s → getD s 0 0 ≡ 10 → nextOf s ≡ Next.Blank 1
+next-newline s h e =
+    let z : lineLen s ≡ 0 = line-stop s 0 h e in
+    next-unnamed s h (ap isFirst e) ∙ rw (e, z)

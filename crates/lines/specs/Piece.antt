@@ -12,6 +12,7 @@ use Rattle.lines.specs.Line.{firstLine}
 use Rattle.lines.specs.Value.{valueFrom}
 use Rattle.lines.specs.declared.Extent.{Extent}
 use Rattle.lines.specs.declared.Next.{Next}
+use Rattle.lines.specs.declared.Step.{Step}
 
 -- a line with its newline
 abbrev pub lineSize : Line → ℕ
@@ -49,6 +50,21 @@ nextIn (l ∷ ls) = nextBy (form l) l ls
 -- what a text goes on with
 unfoldable pub nextOf : Bytes → Next
 nextOf s = nextIn (lines s)
+
+abbrev pub isFault : Next → Bool
+isFault Next.End = false
+isFault Next.Fault = true
+isFault (Next.Blank k) = false
+isFault (Next.Comment k) = false
+isFault (Next.Field n v k) = false
+
+-- the same by its bytes alone
+abbrev pub stepOf : Next → Step
+stepOf Next.End = Step.End
+stepOf Next.Fault = Step.End
+stepOf (Next.Blank k) = Step.Blank k
+stepOf (Next.Comment k) = Step.Comment k
+stepOf (Next.Field n v k) = Step.Field k
 
 -- how many bytes it takes, and the piece that it is
 abbrev pub sizeOf : Next → ℕ

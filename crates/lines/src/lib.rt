@@ -4,10 +4,10 @@ ghost use mathlib.Core.Bool.{true, false};
 ghost use Prim.Native.Nat.{ℕ, _+_, _<_, _≤_};
 ghost use lib.ListN.{length, take, drop, getD};
 ghost use Rattle.format.specs.Bytes.{classTable, same, isBlank, all};
-ghost use Rattle.format.specs.Lines.{lines, isEnded, joins};
+ghost use Rattle.format.specs.Lines.{lines, isEnded};
 ghost use Rattle.format.specs.Calls.{over};
-ghost use Rattle.lines.specs.Line.{lineLen, firstLine, run, nameLen};
-ghost use Rattle.lines.specs.Piece.{extentOf, nextOf};
+ghost use Rattle.lines.specs.Line.{lineLen, firstLine, GoesOn, run, nameLen};
+ghost use Rattle.lines.specs.Piece.{extentOf, nextOf, isFault, stepOf};
 ghost use Rattle.lines.specs.Value.{valueFrom, Unfolds};
 
 // The byte at i, 0 past the end.
@@ -48,22 +48,18 @@ pub fn line_len(s: &[u8]) -> usize
     i
 }
 
-// The first physical line: how long it is without its newline, and whether its last byte is a backslash.
-pub struct Line {
-    pub len: usize,
-    pub joins: bool,
-}
-
-pub fn first_line(s: &[u8]) -> Line
-    ensures { λ r. ⌜ (r .len ≡ lineLen (now (s .entry))) × (r .joins ≡ joins (firstLine (now (s .entry)))) ⌝ }
+// The place of the first newline from i on, in a text that ends with one.
+fn line_end(s: &[u8], i: usize) -> usize
+    requires { ⌜ isEnded (now s) ≡ true ⌝ }
+    requires { ⌜ i < length (now s) ⌝ }
+    ensures { λ r. ⌜ (r ≡ i + lineLen (drop i (now (s .entry)))) × (getD (now (s .entry)) r 0 ≡ 10) ⌝ }
 {
-    let len = line_len(s);
-    if len == 0 {
-        return Line { len, joins: false };
-    }
-    Line {
-        len,
-        joins: s[len - 1] == 92,
+    let mut at = i;
+    loop {
+        if s[at] == 10 {
+            return at;
+        }
+        at += 1;
     }
 }
 
@@ -109,30 +105,52 @@ pub fn name_len(table: &[u8; 256], s: &[u8]) -> usize
     }
 }
 
+// The same where a text that ends with a newline begins with a name.
+fn name_end(table: &[u8; 256], s: &[u8]) -> usize
+    requires { ⌜ now table ≡ classTable ⌝ }
+    requires { ⌜ isEnded (now s) ≡ true ⌝ }
+    requires { ⌜ 0 < nameLen (now s) ⌝ }
+    ensures { λ r. ⌜ r ≡ nameLen (now (s .entry)) ⌝ }
+{
+    let mut i = 1;
+    loop {
+        if format::is_later(table, s[i]) {
+            i += 1;
+        } else {
+            return i;
+        }
+    }
+}
+
 // How many bytes a field takes, or that a line is to be taken on and there is none.
 pub enum Extent {
     Size(usize),
     Open,
 }
 
-// A field's line, the lines that it takes on, and the plus lines that directly follow.
-pub fn field_extent(s: &[u8]) -> Extent
+// A field's line, looked at from a place within it on, the lines that it takes on, and the plus lines that directly follow.
+fn field_extent(s: &[u8], at: usize) -> Extent
     requires { ⌜ isEnded (now s) ≡ true ⌝ }
+    requires { ⌜ GoesOn (now s) at ⌝ }
     ensures { λ r. ⌜ r ≡ extentOf true 0 (lines (now (s .entry))) ⌝ }
 {
-    let mut i = 0;
-    let mut taken = true;
-    while i < s.len() {
+    let mut i = at;
+    loop {
+        let e = line_end(s, i);
+        let taken = s[e - 1] == 92;
+        i = e + 1;
+        if i == s.len() {
+            if taken {
+                return Extent::Open;
+            }
+            return Extent::Size(i);
+        }
         if taken {} else {
             if s[i] != 43 {
                 return Extent::Size(i);
             }
         }
-        let l = first_line(&s[i..]);
-        i += l.len + 1;
-        taken = l.joins;
     }
-    if taken { Extent::Open } else { Extent::Size(i) }
 }
 
 // What a part goes on with: a piece and how many bytes it takes. A field's name has its first bytes, and its value begins at value.
@@ -159,12 +177,11 @@ fn next_field(table: &[u8; 256], s: &[u8]) -> Next
     requires { ⌜ 0 < nameLen (now s) ⌝ }
     ensures { λ r. ⌜ r ≡ nextOf (now (s .entry)) ⌝ }
 {
-    let name = name_len(table, s);
-    if byte(s, name) != 58 {
+    let name = name_end(table, s);
+    if s[name] != 58 {
         return Next::Fault;
     }
-    let b = byte(s, name + 1);
-    let k = format::class_of(table, b);
+    let k = format::class_of(table, s[name + 1]);
     let mut value = name + 2;
     if k == 4 {
         value = name + 1;
@@ -173,7 +190,7 @@ fn next_field(table: &[u8; 256], s: &[u8]) -> Next
             return Next::Fault;
         }
     }
-    let e = field_extent(s);
+    let e = field_extent(s, value);
     match e {
         Extent::Size(size) => Next::Field { name, value, size },
         Extent::Open => Next::Fault,
@@ -190,6 +207,9 @@ pub fn next_piece(table: &[u8; 256], s: &[u8]) -> Next
         return Next::End;
     }
     let b = s[0];
+    if b == 10 {
+        return Next::Blank { size: 1 };
+    }
     if format::is_first(table, b) {
         return next_field(table, s);
     }
@@ -202,6 +222,41 @@ pub fn next_piece(table: &[u8; 256], s: &[u8]) -> Next
         return Next::Blank { size: n + 1 };
     }
     Next::Fault
+}
+
+// What a part goes on with, by its bytes alone.
+pub enum Step {
+    End,
+    Blank { size: usize },
+    Comment { size: usize },
+    Field { size: usize },
+}
+
+// The same for a part that goes on with no fault: its first byte tells the form, and a field's name need not be looked at.
+pub fn next_step(s: &[u8]) -> Step
+    requires { ⌜ isEnded (now s) ≡ true ⌝ }
+    requires { ⌜ isFault (nextOf (now s)) ≡ false ⌝ }
+    ensures { λ r. ⌜ r ≡ stepOf (nextOf (now (s .entry))) ⌝ }
+{
+    if s.len() == 0 {
+        return Step::End;
+    }
+    let b = s[0];
+    if b == 10 {
+        return Step::Blank { size: 1 };
+    }
+    if b <= 35 {
+        let n = line_len(s);
+        if b == 35 {
+            return Step::Comment { size: n + 1 };
+        }
+        return Step::Blank { size: n + 1 };
+    }
+    let e = field_extent(s, 1);
+    match e {
+        Extent::Size(size) => Step::Field { size },
+        Extent::Open => Step::End,
+    }
 }
 
 // One byte of a value, and where the next one is looked for; or the value's end.

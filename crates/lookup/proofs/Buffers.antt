@@ -6,11 +6,11 @@ use mathlib.Core.Bool.{true, _&&_, and-eq-true-iff}
 use mathlib.Core.List.{List, [], _∷_}
 use mathlib.Core.Option.{Option, none, some}
 use lib.ListN.{length, take, drop, length-take}
-use Rattle.format.specs.Bytes.{Bytes}
+use Rattle.format.specs.Bytes.{Bytes, isSome}
 use Rattle.format.specs.Lines.{isEnded}
 use Rattle.format.specs.Pieces.{Piece, pieces}
 use Rattle.format.specs.Sets.{RecSet, setsOf}
-use Rattle.format.specs.Questions.{isSome, firstNo, setsIn, verdict}
+use Rattle.format.specs.Questions.{firstNo, setsIn, verdict}
 use Rattle.format.specs.Plain.{membersOf, indexOf}
 use Rattle.format.specs.Calls.{Answer, answer, fileThen, partsOf, Sought, setRow, recordRow, occurrenceRow, roomRow, soughtValue, checkAnswer, countAnswer, Filled, filled, fetchAnswer, noPart, partIn, Viewed, viewed, viewAnswer}
 use Rattle.format.proofs.Passing.{Passes, verdict-reads, verdict-passes}
@@ -18,6 +18,7 @@ use Rattle.records.specs.Places.{isReadable}
 use Rattle.records.specs.Walk.{readIn, readOf}
 use Rattle.lookup.specs.declared.Seen.{Seen}
 use Rattle.lookup.specs.Answers.{seenAnswer, SeenInside, partsIn, countIn, fetchIn, viewIn}
+use Rattle.lookup.specs.Names.{orderRow, nameRow, listed, nameAt, nameIn, nameAnswer}
 use Rattle.lookup.proofs.Looking.{part-part}
 
 -- what is sought in a text, by its sets
@@ -52,6 +53,13 @@ module _ (buffer : Bytes) (used k : ℕ) (v : k ≡ checkAnswer buffer used) (so
       let p = partIn (q .parts) (pieces (take used buffer)) row (indexOf set (q .parts)) in
       let f : ℕ → Viewed = λ (n : ℕ). viewed (fileThen n (firstNo (setRow ∷ recordRow ∷ []) q)) p in
       on-numbers (λ (n : ℕ). record { number = n; part = noPart }) f (λ j. refl) k some-no ∙ ap f v
+
+  pub name-refused : (order : ℕ) (out : Bytes) → nameAnswer buffer used order out ≡ record { result = Answer.refusal k; out = out }
+  unfolding checkAnswer nameAnswer
+  name-refused order out =
+      let ss : List RecSet = partsOf buffer used in
+      let f : ℕ → Filled = λ (n : ℕ). filled (fileThen n (firstNo (orderRow ∷ nameRow ∷ []) (listed ss order out))) (nameAt ss order) out in
+      ap f (sym v) ∙ on-numbers f (λ (n : ℕ). record { result = Answer.refusal n; out = out }) (λ j. refl) k some-no
 
 -- they all said yes
 module _ (buffer : Bytes) (used : ℕ) (v : 0 ≡ checkAnswer buffer used) where
@@ -89,6 +97,12 @@ module _ (buffer : Bytes) (used : ℕ) (v : 0 ≡ checkAnswer buffer used) where
   unfolding checkAnswer viewIn viewAnswer
   view-text set row =
       let f : List RecSet → ℕ → Viewed = λ (ss : List RecSet) (n : ℕ). viewed (fileThen n (firstNo (setRow ∷ recordRow ∷ []) (soughtIn ss set row [] 0 0))) (partIn ss (pieces s) row (indexOf set ss)) in
+      (λ i. f (parts-are i) (v i))
+
+  pub name-text : (order : ℕ) (out : Bytes) → nameIn s order out ≡ nameAnswer buffer used order out
+  unfolding checkAnswer nameIn nameAnswer
+  name-text order out =
+      let f : List RecSet → ℕ → Filled = λ (ss : List RecSet) (n : ℕ). filled (fileThen n (firstNo (orderRow ∷ nameRow ∷ []) (listed ss order out))) (nameAt ss order) out in
       (λ i. f (parts-are i) (v i))
 
 -- what the place of a record tells of its part

@@ -1,3 +1,4 @@
 -- Laws of the lookups.
 pub mod Looking
 pub mod Buffers
+pub mod Naming

@@ -9,11 +9,11 @@ use lib.Dec.{ltb, leb}
 use lib.ListN.{length, take, drop}
 use lib.Seq.{drop-drop}
 use borrow.Author.Tests.{lt-ltb, le-ltb, le-leb, lt-leb}
-use Rattle.format.specs.Bytes.{Bytes, pick}
+use Rattle.format.specs.Bytes.{Bytes, pick, isSome}
 use Rattle.format.specs.Records.{Record, fieldsOf}
 use Rattle.format.specs.Pieces.{pieces}
 use Rattle.format.specs.Sets.{RecSet, valuesOf, setsOf}
-use Rattle.format.specs.Plain.{indexOf, membersAt, membersOf, recordAt, recordOf, isThere, hasSet, hasRecord, hasOccurrence}
+use Rattle.format.specs.Plain.{indexOf, membersAt, membersOf, recordAt, recordOf, hasSet, hasRecord, hasOccurrence}
 use Rattle.format.specs.Calls.{Answer, answer, Sought, soughtValue, valueAt, over, Filled, filled, noPart, partIn, Viewed, viewed}
 use Rattle.lines.specs.Value.{valueFrom}
 use Rattle.records.specs.Places.{isReadable, placesOf, setPlace, recordPlace, countBefore}
@@ -50,12 +50,12 @@ span-part b e v w s h k =
 module _ (s n : Bytes) where
   pub count-missing : indexOf n (partsIn s) ≡ none → countIn s n ≡ Answer.refusal 21
   unfolding countIn
-  count-missing e = ap (λ (x : Bool). answer (pick x 0 21) (length (membersOf n (partsIn s)))) (ap isThere e)
+  count-missing e = ap (λ (x : Bool). answer (pick x 0 21) (length (membersOf n (partsIn s)))) (ap isSome e)
 
   pub count-found : (a c : ℕ) → SetFound s n (partsIn s) a → c ≡ countBefore (placesOf (drop a s)) → countIn s n ≡ Answer.value c
   unfolding countIn
   count-found a c f e =
-      ap (λ (x : Bool). answer (pick x 0 21) (length (membersOf n (partsIn s)))) (ap isThere (f .there))
+      ap (λ (x : Bool). answer (pick x 0 21) (length (membersOf n (partsIn s)))) (ap isSome (f .there))
       ∙ ap Answer.value (ap length (f .members) ∙ sym (count-sets (drop a s)) ∙ sym e)
 
 -- the record
@@ -63,11 +63,11 @@ module _ (s n : Bytes) where
 module _ (s n : Bytes) (row : ℕ) where
   pub view-missing : indexOf n (partsIn s) ≡ none → viewIn s n row ≡ record { number = 21; part = noPart }
   unfolding viewIn
-  view-missing e = ap (λ (x : Bool). viewed (pick x (pick (hasRecord n row (partsIn s)) 0 22) 21) (partIn (partsIn s) (pieces s) row (indexOf n (partsIn s)))) (ap isThere e)
+  view-missing e = ap (λ (x : Bool). viewed (pick x (pick (hasRecord n row (partsIn s)) 0 22) 21) (partIn (partsIn s) (pieces s) row (indexOf n (partsIn s)))) (ap isSome e)
 
   module _ (a : ℕ) (f : SetFound s n (partsIn s) a) where
     set-there : hasSet n (partsIn s) ≡ true
-    set-there = ap isThere (f .there)
+    set-there = ap isSome (f .there)
 
     row-missing : length (membersAt 0 (setsOf (readOf (drop a s)))) ≤ row → hasRecord n row (partsIn s) ≡ false
     row-missing h = ap (λ (rs : List Record). ltb row (length rs)) (f .members) ∙ le-ltb row (length (membersAt 0 (setsOf (readOf (drop a s))))) h
@@ -108,7 +108,7 @@ module _ (s n : Bytes) (row : ℕ) (m : Bytes) (o : ℕ) (out : Bytes) where
 
   pub fetch-missing : indexOf n (partsIn s) ≡ none → fetchIn s n row m o out ≡ record { result = Answer.refusal 21; out = out }
   unfolding answerIn
-  fetch-missing e = fetch-is ∙ ap (λ (x : Bool). answerIn x (hasRecord n row (partsIn s)) (hasOccurrence n row m o (partsIn s)) fits) (ap isThere e)
+  fetch-missing e = fetch-is ∙ ap (λ (x : Bool). answerIn x (hasRecord n row (partsIn s)) (hasOccurrence n row m o (partsIn s)) fits) (ap isSome e)
 
   module _ (a : ℕ) (f : SetFound s n (partsIn s) a) where
     pub fetch-past : length (membersAt 0 (setsOf (readOf (drop a s)))) ≤ row → fetchIn s n row m o out ≡ record { result = Answer.refusal 22; out = out }

@@ -1,14 +1,23 @@
-// Count, fetch and view: of a readable text, and of any buffer, whose file's own questions come first.
+// Count, fetch, view and the sets' names: of a readable text, and of any buffer, whose file's own questions come first.
 ghost use mathlib.Core.Path.{_≡_};
 ghost use mathlib.Core.Bool.{true};
-ghost use Rattle.format.specs.Bytes.{classTable};
-ghost use lib.ListN.{take};
-ghost use Rattle.format.specs.Calls.{Filled, countAnswer, fetchAnswer, viewAnswer};
-ghost use Rattle.records.specs.Places.{isReadable};
+ghost use Rattle.format.specs.Bytes.{classTable, text};
+ghost use Prim.Native.Nat.{_≤_};
+ghost use lib.ListN.{length, take, drop};
+ghost use Rattle.format.specs.Sets.{valuesOf};
+ghost use Rattle.format.specs.Words.{notGap, front};
+ghost use Rattle.format.specs.Calls.{over, Filled, countAnswer, fetchAnswer, viewAnswer};
+ghost use Rattle.lines.specs.Value.{valueFrom};
+ghost use Rattle.records.specs.Places.{isReadable, placesOf};
+ghost use Rattle.records.specs.Walk.{recordIn};
 ghost use Rattle.lookup.specs.Answers.{countedAnswer, fetchedAnswer, seenAnswer, SeenInside, countIn, fetchIn, viewIn};
+ghost use Rattle.lookup.specs.Names.{descriptorAt, titled, nameIn, nameAnswer};
+use lines::Decoded;
 use records::FoundField;
 use records::FoundRecord;
 use records::FoundSet;
+use records::NextRecord;
+use records::Place;
 
 // The number of records of a set, or a refusal's number.
 pub enum Counted {
@@ -104,6 +113,118 @@ pub fn fetch_in(
     Fetched::Length(n)
 }
 
+// Where descriptor k stands.
+fn find_descriptor(table: &[u8; 256], s: &[u8], k: usize) -> FoundRecord
+    requires { ⌜ now table ≡ classTable ⌝ }
+    requires { ⌜ isReadable (now s) ≡ true ⌝ }
+    ensures { λ r. ⌜ r ≡ descriptorAt (placesOf (now (s .entry))) k ⌝ }
+{
+    let mut i = 0;
+    let mut left = k;
+    loop {
+        let r = records::next_record(table, &s[i..]);
+        let NextRecord::At(p) = r else {
+            return FoundRecord::Missing;
+        };
+        if p.descriptor {} else {
+            i += p.after;
+            continue;
+        }
+        if left == 0 {
+            return FoundRecord::At(Place {
+                start: i + p.start,
+                end: i + p.end,
+                after: i + p.after,
+                descriptor: true,
+            });
+        }
+        left -= 1;
+        i += p.after;
+    }
+}
+
+// The length of the word that the value from i on begins with.
+fn word_len(s: &[u8], i: usize) -> usize
+    ensures { λ r. ⌜ r ≡ length (front notGap (valueFrom (drop i (now (s .entry))))) ⌝ }
+{
+    let mut at = i;
+    let mut n = 0;
+    loop {
+        let d = lines::value_byte(s, at);
+        let Decoded::Byte { byte, next } = d else {
+            return n;
+        };
+        if words::is_gap(byte) {
+            return n;
+        }
+        n += 1;
+        at = next;
+    }
+}
+
+// That word put into out, which holds it; bytes behind it stay.
+fn copy_word(s: &[u8], i: usize, out: &mut [u8])
+    requires { ⌜ length (front notGap (valueFrom (drop i (now s)))) ≤ length (now out) ⌝ }
+    ensures { λ _. ⌜ now (out .exit) ≡ over (front notGap (valueFrom (drop i (now (s .entry))))) (now (out .entry)) ⌝ }
+{
+    let mut at = i;
+    let mut n = 0;
+    loop {
+        let d = lines::value_byte(s, at);
+        let Decoded::Byte { byte, next } = d else {
+            return;
+        };
+        if words::is_gap(byte) {
+            return;
+        }
+        out[n] = byte;
+        n += 1;
+        at = next;
+    }
+}
+
+// The name of the set that a descriptor, which fills d, opens, put into out.
+fn descriptor_name(table: &[u8; 256], d: &[u8], out: &mut [u8]) -> Fetched
+    requires { ⌜ now table ≡ classTable ⌝ }
+    requires { ⌜ isReadable (now d) ≡ true ⌝ }
+    ensures { λ r. ⌜ titled (valuesOf (text "%rec") (recordIn (now (d .entry)))) (now (out .entry)) ≡ record { result = fetchedAnswer r; out = now (out .exit) } ⌝ }
+{
+    let f = records::find_field(table, d, b"%rec", 0);
+    let FoundField::At {
+        start: _,
+        value,
+        end,
+    } = f
+    else {
+        return Fetched::Refused(21);
+    };
+    let i = records::word_start(&d[value..end]);
+    let n = word_len(&d[value..end], i);
+    if out.len() < n {
+        return Fetched::Refused(27);
+    }
+    copy_word(&d[value..end], i, &mut *out);
+    Fetched::Length(n)
+}
+
+// The name of set k of a readable text, in file order, put into out.
+pub fn name_in(table: &[u8; 256], s: &[u8], k: usize, out: &mut [u8]) -> Fetched
+    requires { ⌜ now table ≡ classTable ⌝ }
+    requires { ⌜ isReadable (now s) ≡ true ⌝ }
+    ensures { λ r. ⌜ nameIn (now (s .entry)) k (now (out .entry)) ≡ record { result = fetchedAnswer r; out = now (out .exit) } ⌝ }
+{
+    if k == 0 {
+        return Fetched::Length(0);
+    }
+    let f = find_descriptor(table, s, k - 1);
+    let FoundRecord::At(p) = f else {
+        return Fetched::Refused(21);
+    };
+    let a = p.start;
+    let e = p.end;
+    descriptor_name(table, &s[a..e], &mut *out)
+}
+
 // The number of records of a set of the file at the front of a buffer.
 pub fn count(buf: &[u8], used: usize, set: &[u8]) -> Counted
     ensures { λ r. ⌜ countedAnswer r ≡ countAnswer (now (buf .entry)) used (now (set .entry)) ⌝ }
@@ -163,4 +284,16 @@ pub fn view<'a>(buf: &'a [u8], used: usize, set: &[u8], row: usize, number: &mut
             &buf[0..0]
         }
     }
+}
+
+// The name of set k, in file order and the default set first, put into out; what stands behind it there stays. 21 says that there are not so many sets.
+pub fn set_name(buf: &[u8], used: usize, k: usize, out: &mut [u8]) -> Fetched
+    ensures { λ r. ⌜ nameAnswer (now (buf .entry)) used k (now (out .entry)) ≡ record { result = fetchedAnswer r; out = now (out .exit) } ⌝ }
+{
+    let n = integrity::check(buf, used);
+    if n != 0 {
+        return Fetched::Refused(n);
+    }
+    let table = format::classes();
+    name_in(&table, &buf[0..used], k, &mut *out)
 }

@@ -115,7 +115,12 @@ pub extern "C" fn recfile_write(request: &[u8], out: &mut [u8], number: &mut u32
 
 // One edit: the file's length after it, which is `used` where it is refused.
 #[no_mangle]
-pub extern "C" fn recfile_edit(buf: &mut [u8], used: usize, request: &[u8], number: &mut u32) -> usize
+pub extern "C" fn recfile_edit(
+    buf: &mut [u8],
+    used: usize,
+    request: &[u8],
+    number: &mut u32,
+) -> usize
     ensures { λ r. ⌜ (r ≡ editAnswer (now (buf .entry)) used (now (request .entry)) .length)
         × (now (number .exit) ≡ editAnswer (now (buf .entry)) used (now (request .entry)) .number)
         × (now (buf .exit) ≡ editAnswer (now (buf .entry)) used (now (request .entry)) .buffer) ⌝ }

@@ -4,7 +4,7 @@ use native.Mathlib.Omega.{arith}
 use mathlib.Core.Path.{_≡_, refl, sym, ap, _∙_, subst}
 use mathlib.Core.Bool.{Bool, true, false}
 use mathlib.Core.List.{List, [], _∷_, _++_, append-nil, append-assoc, map}
-use lib.ListN.{length, take, drop, length-append}
+use lib.ListN.{length, take, drop, length-append, length-drop}
 use lib.Seq.{drop-drop}
 use Rattle.format.specs.Bytes.{Bytes, pick}
 use Rattle.format.specs.Lines.{Line, bytes}
@@ -14,15 +14,16 @@ use Rattle.format.specs.Edits.{isRecord}
 use Rattle.format.specs.Calls.{lead, fromFirst, toLast}
 use Rattle.format.proofs.Whole.{Sound}
 use Rattle.format.proofs.Renaming.{sound-starts}
-use Rattle.lines.proofs.Cuts.{rest}
+use Rattle.lines.specs.Line.{nameLen}
 use Rattle.records.specs.Places.{isReadable, Placed, sizeIn, placesIn, placesOf, isDescriptor, firstPlace}
-use Rattle.records.specs.Walk.{readOf, leadSize, untilBlank, fromBlank, runFrom, runOf}
+use Rattle.records.specs.Walk.{readOf, leadSize, untilBlank, fromBlank, isRec, runFrom}
 use Rattle.records.specs.declared.Run.{Run}
 use Rattle.records.specs.declared.Place.{Place}
 use Rattle.records.specs.declared.NextRecord.{NextRecord}
-use Rattle.records.proofs.Walks.{size-append, size-piece, placesRun, places-walk, run-told}
+use Rattle.records.proofs.Walks.{size-append, size-piece, size-none, placesRun, places-walk, run-told}
 use Rattle.records.proofs.Shifts.{raise, places-raised}
 use Rattle.records.proofs.Readings.{Reads, reads-readable, reads-of, reads-length, readable-reads, reads-take, reads-drop, places-read, reads-places}
+use Rattle.records.proofs.Steps.{FieldAt, lead-none, lead-field, run-field}
 
 -- pieces in two parts
 
@@ -78,12 +79,14 @@ field-some n v ls h =
     let f = sound-starts n v ls h in
     omega (arith, ap countOf (f .3), length-append (f .0) (10 ∷ bytes (f .1)))
 
+-- the run of the record that begins at byte k
+abbrev pub runAt : ℕ → Bytes → Run
+runAt k s = runFrom k k false (readOf (drop k s))
+
 -- what is known of the first place and of those behind it
 pub record FirstAt (s : Bytes) (p : Placed) (ps : List Placed) : Type 0 where
   pub begins : leadSize s ≡ p .start
-  pub ends : p .start + runOf (drop (p .start) s) .end ≡ p .end
-  pub closes : p .start + runOf (drop (p .start) s) .after ≡ p .after
-  pub describes : runOf (drop (p .start) s) .descriptor ≡ isDescriptor p
+  pub runs : runAt (p .start) s ≡ record { end = p .end; after = p .after; descriptor = isDescriptor p }
   pub filled : p .start < p .end
   pub within : p .end ≤ p .after
   pub inside : p .after ≤ length s
@@ -108,7 +111,6 @@ first-by s a (Piece.field n v ls ∷ ps) k e f h r =
     let x : ℕ = sizeIn (toLast u) in
     let y : ℕ = sizeIn u in
     let rest : Reads (drop k s) q = reads-drop a q r k e in
-    let run = ap (runFrom 0 0 false) (reads-of rest) ∙ run-told 0 0 false q in
     let c = to-last u in
     let some = field-some n v ls (rest .sound .0) in
     let uw : Reads (drop k s) (u ++ w) = subst (Reads (drop k s)) (sym (until-from q)) rest in
@@ -116,9 +118,7 @@ first-by s a (Piece.field n v ls ∷ ps) k e f h r =
     let behind : Reads (drop (k + y) s) w = subst (λ (z : Bytes). Reads z w) (drop-drop y k s) (reads-drop u w uw y refl) in
     record {
       begins = f;
-      ends = omega (arith, ap (λ z. z .end) run);
-      closes = omega (arith, ap (λ z. z .after) run);
-      describes = ap (λ z. z .descriptor) run;
+      runs = ap (runFrom k k false) (reads-of rest) ∙ run-told k k false q;
       filled = omega (arith, size-piece (Piece.field n v ls) (toLast (untilBlank ps)), some);
       within = omega (arith, ap sizeIn (c .1), size-append (toLast u) (c .0));
       inside = omega (arith, reads-length r, size-append a q, ap sizeIn (until-from q), size-append u w);
@@ -141,56 +141,29 @@ first-place s e =
 pub places-cut : (s : Bytes) (p : Placed) (ps : List Placed) → isReadable s ≡ true → placesOf s ≡ p ∷ ps → FirstAt s p ps
 places-cut s p ps e q = subst (First s) q (first-place s e)
 
--- The part from the first field on.
-lead-reads : (s : Bytes) → isReadable s ≡ true → Reads (drop (leadSize s) s) (fromFirst (readOf s))
-unfolding leadSize
-lead-reads s e =
-    let ps = readOf s in
-    reads-drop (lead ps) (fromFirst ps) (subst (Reads s) (sym (lead-first ps)) (readable-reads s e)) (leadSize s) refl
-
-pub lead-readable : (s : Bytes) → isReadable s ≡ true → isReadable (drop (leadSize s) s) ≡ true
-lead-readable s e = reads-readable (lead-reads s e)
-
-pub lead-inside : (s : Bytes) → isReadable s ≡ true → leadSize s ≤ length s
-unfolding leadSize
-lead-inside s e =
-    let ps = readOf s in
-    omega (arith, reads-length (readable-reads s e), ap sizeIn (lead-first ps), size-append (lead ps) (fromFirst ps))
-
 -- So the search for the first field and the run behind it find the first place.
 abbrev pub placeRun : ℕ → Run → Place
-placeRun k r = record { start = k; end = k + r .end; after = k + r .after; descriptor = r .descriptor }
+placeRun k r = record { start = k; end = r .end; after = r .after; descriptor = r .descriptor }
 
 nothing-by : (s : Bytes) (xs : List Placed) → First s xs → leadSize s ≡ length s → firstPlace xs ≡ NextRecord.Nothing
 nothing-by s [] f e = refl
 nothing-by s (p ∷ ps) f e = absurd (omega (arith, f .begins, f .filled, f .within, f .inside))
 
-found-by : (s : Bytes) (xs : List Placed) → First s xs → (leadSize s ≡ length s → ⊥) → firstPlace xs ≡ NextRecord.At (placeRun (leadSize s) (runOf (drop (leadSize s) s)))
-found-by s [] f e = absurd (e f)
-found-by s (p ∷ ps) f e =
-    let b : p .start ≡ leadSize s = sym (f .begins) in
-    let x : p .end ≡ leadSize s + runOf (drop (leadSize s) s) .end = sym (f .ends) ∙ ap (λ (k : ℕ). k + runOf (drop k s) .end) b in
-    let y : p .after ≡ leadSize s + runOf (drop (leadSize s) s) .after = sym (f .closes) ∙ ap (λ (k : ℕ). k + runOf (drop k s) .after) b in
-    let z : isDescriptor p ≡ runOf (drop (leadSize s) s) .descriptor = sym (f .describes) ∙ ap (λ (k : ℕ). runOf (drop k s) .descriptor) b in
-    λ i. NextRecord.At (record { start = b i; end = x i; after = y i; descriptor = z i })
+found-by : (s : Bytes) (xs : List Placed) (k : ℕ) → First s xs → leadSize s ≡ k → k < length s → firstPlace xs ≡ NextRecord.At (placeRun k (runAt k s))
+found-by s [] k f e h = absurd (omega (arith, f, e, h))
+found-by s (p ∷ ps) k f e h =
+    let b : p .start ≡ k = sym (f .begins) ∙ e in
+    ap NextRecord.At (sym (ap (placeRun (p .start)) (f .runs)) ∙ ap (λ (j : ℕ). placeRun j (runAt j s)) b)
 
-pub next-nothing : (s : Bytes) → isReadable s ≡ true → leadSize s ≡ length s → firstPlace (placesOf s) ≡ NextRecord.Nothing
-next-nothing s e h = nothing-by s (placesOf s) (first-place s e) h
+-- a part whose walk comes to its end before any field
+pub next-nothing : (s : Bytes) (i : ℕ) → isReadable s ≡ true → isReadable (drop i s) ≡ true → i ≤ length s → leadSize s ≡ i + leadSize (drop i s) → readOf (drop i s) ≡ [] → firstPlace (placesOf s) ≡ NextRecord.Nothing
+next-nothing s i e r h q z =
+    let n : length (drop i s) ≡ 0 = sym (reads-length (readable-reads (drop i s) r)) ∙ ap sizeIn z ∙ size-none in
+    nothing-by s (placesOf s) (first-place s e) (omega (arith, q, lead-none s i z, n, length-drop i s))
 
--- the place that a run from byte k on gives is the first one's, and lies in the part
-abbrev pub Found : Bytes → ℕ → Run → Type 0
-Found s k r = (firstPlace (placesOf s) ≡ NextRecord.At (placeRun k r)) × (k + r .end ≤ length s) × (k + r .after ≤ length s)
-
-run-inside : (s : Bytes) (xs : List Placed) → First s xs → (leadSize s ≡ length s → ⊥) → (leadSize s + runOf (drop (leadSize s) s) .end ≤ length s) × (leadSize s + runOf (drop (leadSize s) s) .after ≤ length s)
-run-inside s [] f h = absurd (h f)
-run-inside s (p ∷ ps) f h =
-    let b : p .start ≡ leadSize s = sym (f .begins) in
-    (omega (arith, f .ends, ap (λ (k : ℕ). k + runOf (drop k s) .end) b, f .within, f .inside), omega (arith, f .closes, ap (λ (k : ℕ). k + runOf (drop k s) .after) b, f .inside))
-
-pub next-found : (s : Bytes) (k : ℕ) (r : Run) → isReadable s ≡ true → k ≡ leadSize s → (k ≡ length s → ⊥) → r ≡ runOf (take (length s - k) (drop k s)) → Found s k r
-next-found s k r e q h g =
-    let f = first-place s e in
-    let n : leadSize s ≡ length s → ⊥ = λ x. h (q ∙ x) in
-    let i = run-inside s (placesOf s) f n in
-    let d : runOf (drop (leadSize s) s) ≡ r = ap (λ (j : ℕ). runOf (drop j s)) (sym q) ∙ ap (λ (x : Bytes). runOf x) (sym (rest s k)) ∙ sym g in
-    subst (λ (j : ℕ). Found s j r) (sym q) (subst (Found s (leadSize s)) d (found-by s (placesOf s) f n, i .0, i .1))
+-- a part whose walk comes to a field at byte i: t tells whether it is a `%rec`, and r is the run behind it
+pub next-found : (s : Bytes) (i v k : ℕ) (t : Bool) (r : Run) → isReadable s ≡ true → leadSize s ≡ i + leadSize (drop i s) → FieldAt s i (nameLen (drop i s)) v k
+    → t ≡ isRec (take (length s - i) (drop i s)) → r ≡ runFrom (i + k) (i + k) t (readOf (drop (i + k) s)) → firstPlace (placesOf s) ≡ NextRecord.At (placeRun i r)
+next-found s i v k t r e q f g h =
+    found-by s (placesOf s) i (first-place s e) (omega (arith, q, lead-field s i (nameLen (drop i s)) v k f)) (omega (arith, f .passed .moves, f .passed .inside))
+    ∙ ap (λ (x : Run). NextRecord.At (placeRun i x)) (run-field s i i false v k t f g ∙ sym h)

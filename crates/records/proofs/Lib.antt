@@ -2,8 +2,8 @@
 pub mod Walks
 pub mod Shifts
 pub mod Readings
-pub mod Firsts
 pub mod Steps
+pub mod Firsts
 pub mod Looks
 pub mod Fields
 pub mod Words

@@ -8,10 +8,9 @@ use mathlib.Core.Option.{Option, none, some}
 use lib.Dec.{eqb}
 use lib.ListN.{length, take, drop, getD, length-drop}
 use lib.Seq.{drop-drop}
-use Rattle.format.specs.Bytes.{Bytes}
+use Rattle.format.specs.Bytes.{Bytes, isSome}
 use Rattle.format.specs.Lines.{lines, isEnded}
 use Rattle.format.specs.Pieces.{Piece, pieces}
-use Rattle.format.specs.Questions.{isSome}
 use Rattle.lines.specs.Line.{firstLine}
 use Rattle.lines.specs.Piece.{nextOf, sizeOf, pieceOf, onPiece}
 use Rattle.lines.specs.Value.{valueFrom}

@@ -7,11 +7,10 @@ use mathlib.Core.Option.{Option, none, some}
 use lib.ListN.{length, take, drop}
 use lib.Seq.{take-at, drop-at}
 use Rattle.format.proofs.Elements.{Each, each-parts}
-use Rattle.format.specs.Bytes.{Bytes}
+use Rattle.format.specs.Bytes.{Bytes, isSome}
 use Rattle.format.specs.Lines.{isEnded}
 use Rattle.format.specs.Pieces.{Piece, allLines, bytesOf, pieces}
 use Rattle.format.specs.Records.{blocks}
-use Rattle.format.specs.Questions.{isSome}
 use Rattle.format.proofs.Lines.{ended-bytes}
 use Rattle.format.proofs.Whole.{pieces-sound, sound-pieces, bytesOf-append, Sound}
 use Rattle.lines.proofs.Cuts.{rest}

@@ -4,14 +4,13 @@ use mathlib.Core.Bool.{Bool, true, false, _&&_}
 use mathlib.Core.List.{List, [], _∷_}
 use mathlib.Core.Option.{Option, none, some}
 use lib.ListN.{length}
-use Rattle.format.specs.Bytes.{Bytes, text, pick, same}
+use Rattle.format.specs.Bytes.{Bytes, text, pick, same, isSome}
 use Rattle.format.specs.Lines.{Line, isEnded}
 use Rattle.format.specs.Pieces.{Piece, pieces, bytesOf}
 use Rattle.format.specs.Records.{Record, Block, blocks, countOf, fieldsOf}
 use Rattle.format.specs.Sets.{valuesOf}
 use Rattle.format.specs.Words.{firstWord}
 use Rattle.format.specs.Edits.{isRecord}
-use Rattle.format.specs.Questions.{isSome}
 use Rattle.format.specs.Calls.{lead, fromFirst, toLast}
 use Rattle.lines.specs.Piece.{valueAt}
 use Rattle.records.specs.declared.Place.{Place}

@@ -1,13 +1,15 @@
 -- What a walk over the pieces finds: the first field, and how far its record goes.
 use Prim.Native.Nat.{ℕ, _+_}
-use mathlib.Core.Bool.{Bool, false, _||_}
+use mathlib.Core.Bool.{Bool, _||_}
 use mathlib.Core.List.{List, [], _∷_}
 use mathlib.Core.Option.{Option, none, some}
+use lib.ListN.{take}
 use Rattle.format.specs.Bytes.{Bytes, text, same}
 use Rattle.format.specs.Pieces.{Piece, pieces}
 use Rattle.format.specs.Records.{Record, Block, countOf, fieldsOf}
 use Rattle.format.specs.Sets.{valuesOf}
 use Rattle.format.specs.Calls.{lead}
+use Rattle.lines.specs.Line.{nameLen}
 use Rattle.records.specs.Places.{sizeIn, namesSet}
 use Rattle.records.specs.declared.Run.{Run}
 
@@ -40,15 +42,16 @@ fromBlank (Piece.blank l ∷ ps) = Piece.blank l ∷ ps
 fromBlank (Piece.comment l ∷ ps) = fromBlank ps
 fromBlank (Piece.field n v ls ∷ ps) = fromBlank ps
 
+-- is the name that a part begins with `%rec`
+abbrev pub isRec : Bytes → Bool
+isRec s = same (text "%rec") (take (nameLen s) s)
+
 -- A record's run over pieces that begin at a place: so far its last field ends at end, and descriptor says whether a `%rec` was met.
 unfoldable pub runFrom : ℕ → ℕ → Bool → List Piece → Run
 runFrom at end descriptor [] = record { end = end; after = at; descriptor = descriptor }
 runFrom at end descriptor (Piece.blank l ∷ ps) = record { end = end; after = at; descriptor = descriptor }
 runFrom at end descriptor (Piece.comment l ∷ ps) = runFrom (at + countOf (l ∷ [])) end descriptor ps
 runFrom at end descriptor (Piece.field n v ls ∷ ps) = runFrom (at + countOf ls) (at + countOf ls) (descriptor || same (text "%rec") n) ps
-
-abbrev pub runOf : Bytes → Run
-runOf s = runFrom 0 0 false (readOf s)
 
 -- do the fields of a part open the set of a name
 unfoldable pub opensSet : Bytes → Bytes → Bool

@@ -7,10 +7,11 @@ ghost use Rattle.format.specs.Bytes.{classTable, same};
 ghost use Rattle.format.specs.Words.{isGap, notGap, front, behind, firstWord};
 ghost use Rattle.lines.specs.Value.{valueFrom};
 ghost use Rattle.records.specs.Places.{isReadable, placesOf, firstPlace, setPlace, recordPlace, countBefore, fieldPlace};
-ghost use Rattle.records.specs.Walk.{leadSize, runOf, opensSet};
+ghost use Rattle.records.specs.Walk.{readOf, isRec, runFrom, opensSet};
 ghost use Rattle.records.specs.Gaps.{gapIs};
 use lines::Decoded;
 use lines::Next;
+use lines::Step;
 
 // Is a part empty or ended by a newline, and has every line of it a form?
 pub fn is_readable(table: &[u8; 256], s: &[u8]) -> bool
@@ -64,86 +65,56 @@ pub enum NextRecord {
     At(Place),
 }
 
-// The place of the first field, the length of the part where it has none.
-fn first_field(table: &[u8; 256], s: &[u8]) -> usize
-    requires { ⌜ now table ≡ classTable ⌝ }
-    requires { ⌜ isReadable (now s) ≡ true ⌝ }
-    ensures { λ r. ⌜ r ≡ leadSize (now (s .entry)) ⌝ }
-{
-    let mut i = 0;
-    loop {
-        let n = lines::next_piece(table, &s[i..]);
-        match n {
-            Next::Blank { size } => {
-                i += size;
-            }
-            Next::Comment { size } => {
-                i += size;
-            }
-            Next::Field {
-                name: _,
-                value: _,
-                size: _,
-            } => {
-                return i;
-            }
-            Next::End => {
-                return i;
-            }
-            Next::Fault => {
-                return s.len();
-            }
-        }
-    }
-}
-
-// A record that begins where s does: the byte behind its last field, the byte behind its block, and whether it has a `%rec`.
+// How far a record goes: the byte behind its last field, the byte behind its block, and whether it has a `%rec`.
 struct Run {
     end: usize,
     after: usize,
     descriptor: bool,
 }
 
-fn record_run(table: &[u8; 256], s: &[u8]) -> Run
+// Is the name that s begins with `%rec`?
+fn is_rec(table: &[u8; 256], s: &[u8]) -> bool
     requires { ⌜ now table ≡ classTable ⌝ }
-    requires { ⌜ isReadable (now s) ≡ true ⌝ }
-    ensures { λ r. ⌜ r ≡ runOf (now (s .entry)) ⌝ }
+    ensures { λ r. ⌜ r ≡ isRec (now (s .entry)) ⌝ }
 {
-    let mut end = 0;
-    let mut i = 0;
-    let mut descriptor = false;
+    if lines::byte(s, 0) != 37 {
+        return false;
+    }
+    let a = 0;
+    let e = lines::name_len(table, s);
+    lines::same_bytes(b"%rec", &s[a..e])
+}
+
+// A record that goes on at a byte, behind one of its fields; described: whether a `%rec` was met before.
+fn record_run(table: &[u8; 256], s: &[u8], at: usize, described: bool) -> Run
+    requires { ⌜ now table ≡ classTable ⌝ }
+    requires { ⌜ at ≤ length (now s) ⌝ }
+    requires { ⌜ isReadable (drop at (now s)) ≡ true ⌝ }
+    ensures { λ r. ⌜ r ≡ runFrom at at described (readOf (drop at (now (s .entry)))) ⌝ }
+{
+    let mut end = at;
+    let mut i = at;
+    let mut descriptor = described;
     loop {
-        let n = lines::next_piece(table, &s[i..]);
+        let n = lines::next_step(&s[i..]);
         match n {
-            Next::Comment { size } => {
+            Step::Comment { size } => {
                 i += size;
             }
-            Next::Field {
-                name,
-                value: _,
-                size,
-            } => {
-                let e = i + name;
-                let here = lines::same_bytes(b"%rec", &s[i..e]);
+            Step::Field { size } => {
+                let here = is_rec(table, &s[i..]);
                 descriptor = descriptor | here;
                 i += size;
                 end = i;
             }
-            Next::Blank { size: _ } => {
+            Step::Blank { size: _ } => {
                 return Run {
                     end,
                     after: i,
                     descriptor,
                 };
             }
-            Next::End => {
-                return Run {
-                    end,
-                    after: i,
-                    descriptor,
-                };
-            }
-            Next::Fault => {
+            Step::End => {
                 return Run {
                     end,
                     after: i,
@@ -154,23 +125,37 @@ fn record_run(table: &[u8; 256], s: &[u8]) -> Run
     }
 }
 
-// The next record of a part.
+// The next record of a part: its first field, and its run behind that.
 pub fn next_record(table: &[u8; 256], s: &[u8]) -> NextRecord
     requires { ⌜ now table ≡ classTable ⌝ }
     requires { ⌜ isReadable (now s) ≡ true ⌝ }
     ensures { λ r. ⌜ r ≡ firstPlace (placesOf (now (s .entry))) ⌝ }
 {
-    let start = first_field(table, s);
-    if start == s.len() {
-        return NextRecord::Nothing;
+    let mut i = 0;
+    loop {
+        let n = lines::next_step(&s[i..]);
+        match n {
+            Step::Blank { size } => {
+                i += size;
+            }
+            Step::Comment { size } => {
+                i += size;
+            }
+            Step::Field { size } => {
+                let here = is_rec(table, &s[i..]);
+                let r = record_run(table, s, i + size, here);
+                return NextRecord::At(Place {
+                    start: i,
+                    end: r.end,
+                    after: r.after,
+                    descriptor: r.descriptor,
+                });
+            }
+            Step::End => {
+                return NextRecord::Nothing;
+            }
+        }
     }
-    let r = record_run(table, &s[start..]);
-    NextRecord::At(Place {
-        start,
-        end: start + r.end,
-        after: start + r.after,
-        descriptor: r.descriptor,
-    })
 }
 
 // How many records a part has before any descriptor.

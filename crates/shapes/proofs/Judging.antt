@@ -1,5 +1,6 @@
 -- When a descriptor is well formed; and question 6 as a walk that keeps the names it has met: each new descriptor is well formed and called like none before it.
 use Prim.Native.Nat.{suc, _≤_}
+use native.Mathlib.Omega.{arith}
 use mathlib.Core.Path.{_≡_, refl, sym, ap, _∙_}
 use mathlib.Core.Bool.{Bool, true, false, _&&_, _||_, not, and-eq-true-iff}
 use mathlib.Core.List.{List, [], _∷_, _++_, map}
@@ -154,3 +155,20 @@ heads-member qs r rs e h = ap (λ (x : List Record). length (heads x)) e ∙ ap 
 
 pub heads-more : (qs : List Record) (r : Record) (rs : List Record) → qs ≡ r ∷ rs → isHead r ≡ true → length (heads qs) ≡ suc (length (heads rs))
 heads-more qs r rs e h = ap (λ (x : List Record). length (heads x)) e ∙ ap (λ (b : Bool). length (pick b (r ∷ heads rs) (heads rs))) h
+
+-- no descriptor is left
+
+none-by : (p : Record → Bool) (b : Bool) (r : Record) (rs : List Record) → length (pick b (r ∷ heads rs) (heads rs)) ≡ 0 → (length (heads rs) ≡ 0 → all (λ (x : Record). not (isHead x) || p x) rs ≡ true) → ((not b || p r) && all (λ (x : Record). not (isHead x) || p x) rs) ≡ true
+none-by p true r rs e h = absurd (omega (arith, e))
+none-by p false r rs e h = h e
+
+pub none-asked : (p : Record → Bool) (rs : List Record) → length (heads rs) ≡ 0 → all (λ (r : Record). not (isHead r) || p r) rs ≡ true
+none-asked p [] e = refl
+none-asked p (r ∷ rs) e = none-by p (isHead r) r rs e (none-asked p rs)
+
+none-named : (hs : List Record) → length hs ≡ 0 → map headName hs ≡ []
+none-named [] e = refl
+none-named (h ∷ hs) e = absurd (omega (arith, e))
+
+pub well-none : (seen : List Bytes) (rs : List Record) → length (heads rs) ≡ 0 → wellFrom seen rs ≡ true
+well-none seen rs e = λ i. none-asked (isWellFormed bits32) rs e i && newNames seen (none-named (heads rs) e i)

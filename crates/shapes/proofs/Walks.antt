@@ -1,4 +1,4 @@
--- The walk of question 6 over the records of a file, record by record: what holds at byte i when n names were met, which stand where starts and ends say.
+-- The walk of question 6 over the records of a file, record by record: what holds at byte i when n names of count were met, which stand where starts and ends say.
 use Prim.Native.Nat.{ℕ, _+_, _≤_, _<_}
 use native.Mathlib.Omega.{arith}
 use mathlib.Core.Path.{_≡_, sym, ap, _∙_, subst}
@@ -22,26 +22,28 @@ use Rattle.shapes.specs.declared.Head.{Head}
 use Rattle.shapes.proofs.Folds.{all-both}
 use Rattle.shapes.proofs.Naming.{inside-more, names-more}
 use Rattle.shapes.proofs.Meeting.{recordsAt, records-end, records-met, part-fields, head-met}
-use Rattle.shapes.proofs.Judging.{wellFrom, well-start, well-member, well-stop, well-more, isFitting, fitting-record, walk-fitting, heads-member, heads-more}
+use Rattle.shapes.proofs.Judging.{wellFrom, well-start, well-member, well-stop, well-more, well-none, isFitting, fitting-record, walk-fitting, heads-member, heads-more}
 
-pub record WalkAt (s : Bytes) (i n : ℕ) (starts ends : List ℕ) : Type 0 where
+pub record WalkAt (s : Bytes) (count i n : ℕ) (starts ends : List ℕ) : Type 0 where
   pub inside : i ≤ length s
   pub readable : isReadable (drop i s) ≡ true
   pub fitting : all isFitting (recordsAt s i) ≡ true
-  pub left : n + length (heads (recordsAt s i)) ≤ descriptors
+  pub few : count ≤ descriptors
+  pub left : n + length (heads (recordsAt s i)) ≡ count
   pub room : length starts ≡ descriptors
   pub room-beside : length ends ≡ descriptors
   pub places : Inside s (take n starts) (take n ends)
   pub judged : walkWell bits32 (records (readOf s)) ≡ wellFrom (namesAt s (take n starts) (take n ends)) (recordsAt s i)
 
-pub walk-starts : (s : Bytes) (starts ends : List ℕ) → length starts ≡ descriptors → length ends ≡ descriptors → isReadable s ≡ true → walkFits (records (readOf s)) ≡ true → WalkAt s 0 0 starts ends
-walk-starts s starts ends h k e f =
+pub walk-starts : (s : Bytes) (count : ℕ) (starts ends : List ℕ) → length starts ≡ descriptors → length ends ≡ descriptors → isReadable s ≡ true → walkFits (records (readOf s)) ≡ true → count ≡ length (heads (records (readOf s))) → WalkAt s count 0 0 starts ends
+walk-starts s count starts ends h k e f c =
     let w = walk-fitting (records (readOf s)) f in
     record {
       inside = omega arith;
       readable = e;
       fitting = w .0;
-      left = omega (arith, w .1);
+      few = omega (arith, w .1, c);
+      left = omega (arith, c);
       room = h;
       room-beside = k;
       places = tt;
@@ -49,13 +51,16 @@ walk-starts s starts ends h k e f =
     }
 
 -- the same at equal numbers and arrays
-pub walk-same : (s : Bytes) (i n : ℕ) (starts ends : List ℕ) {m : ℕ} {bs es : List ℕ} → n ≡ m → starts ≡ bs → ends ≡ es → WalkAt s i m bs es → WalkAt s i n starts ends
-walk-same s i n starts ends {m} {bs} {es} p q r w =
-    subst (λ (x : ℕ). WalkAt s i x starts ends) (sym p) (subst (λ (x : List ℕ). WalkAt s i m x ends) (sym q) (subst (λ (x : List ℕ). WalkAt s i m bs x) (sym r) w))
+pub walk-same : (s : Bytes) (count i n : ℕ) (starts ends : List ℕ) {m : ℕ} {bs es : List ℕ} → n ≡ m → starts ≡ bs → ends ≡ es → WalkAt s count i m bs es → WalkAt s count i n starts ends
+walk-same s count i n starts ends {m} {bs} {es} p q r w =
+    subst (λ (x : ℕ). WalkAt s count i x starts ends) (sym p) (subst (λ (x : List ℕ). WalkAt s count i m x ends) (sym q) (subst (λ (x : List ℕ). WalkAt s count i m bs x) (sym r) w))
 
-module _ (s : Bytes) (i n : ℕ) (starts ends : List ℕ) (w : WalkAt s i n starts ends) where
+module _ (s : Bytes) (count i n : ℕ) (starts ends : List ℕ) (w : WalkAt s count i n starts ends) where
   pub walk-ends : placesAt s i ≡ [] → walkWell bits32 (records (readOf s)) ≡ true
   walk-ends e = w .judged ∙ ap (wellFrom (namesAt s (take n starts) (take n ends))) (records-end s i e)
+
+  pub walk-done : count ≤ n → walkWell bits32 (records (readOf s)) ≡ true
+  walk-done h = w .judged ∙ well-none (namesAt s (take n starts) (take n ends)) (recordsAt s i) (omega (arith, w .left))
 
   module _ (q : Place) (m : Met s i q) where
     both : (isFitting (m .here .fields) ≡ true) × (all isFitting (recordsAt s (i + q .after)) ≡ true)
@@ -67,7 +72,7 @@ module _ (s : Bytes) (i n : ℕ) (starts ends : List ℕ) (w : WalkAt s i n star
     pub part-reads : isReadable (span (i + q .start) (i + q .end) s) ≡ true
     part-reads = reads-readable (m .stand .own-reads)
 
-    pub walk-member : q .descriptor ≡ false → WalkAt s (i + q .after) n starts ends
+    pub walk-member : q .descriptor ≡ false → WalkAt s count (i + q .after) n starts ends
     walk-member d =
         let h : isHead (m .here .fields) ≡ false = head-met s i q m ∙ d in
         let e = records-met s i q m in
@@ -75,6 +80,7 @@ module _ (s : Bytes) (i n : ℕ) (starts ends : List ℕ) (w : WalkAt s i n star
           inside = m .stand .inside;
           readable = m .stand .readable;
           fitting = both .1;
+          few = w .few;
           left = omega (arith, w .left, heads-member (recordsAt s i) (m .here .fields) (recordsAt s (i + q .after)) e h);
           room = w .room;
           room-beside = w .room-beside;
@@ -87,7 +93,7 @@ module _ (s : Bytes) (i n : ℕ) (starts ends : List ℕ) (w : WalkAt s i n star
       head = head-met s i q m ∙ d
 
       pub one-left : n < descriptors
-      one-left = omega (arith, w .left, heads-more (recordsAt s i) (m .here .fields) (recordsAt s (i + q .after)) (records-met s i q m) head)
+      one-left = omega (arith, w .few, w .left, heads-more (recordsAt s i) (m .here .fields) (recordsAt s (i + q .after)) (records-met s i q m) head)
 
       module _ (x : Head) (t : Told s (fieldsOf (readOf (span (i + q .start) (i + q .end) s))) (namesAt s (take n starts) (take n ends)) x) where
         told : {y : Head} → x ≡ y → Told s (m .here .fields) (namesAt s (take n starts) (take n ends)) y
@@ -96,7 +102,7 @@ module _ (s : Bytes) (i n : ℕ) (starts ends : List ℕ) (w : WalkAt s i n star
         pub walk-stops : x ≡ Head.Fault → walkWell bits32 (records (readOf s)) ≡ false
         walk-stops e = w .judged ∙ well-stop (namesAt s (take n starts) (take n ends)) (recordsAt s i) (m .here .fields) (recordsAt s (i + q .after)) (records-met s i q m) head (told e)
 
-        pub walk-head : (a b : ℕ) → x ≡ Head.Named a b → WalkAt s (i + q .after) (n + 1) (set starts n a) (set ends n b)
+        pub walk-head : (a b : ℕ) → x ≡ Head.Named a b → WalkAt s count (i + q .after) (n + 1) (set starts n a) (set ends n b)
         walk-head a b e =
             let f = told e in
             let h : n < length starts = omega (arith, one-left, w .room) in
@@ -105,6 +111,7 @@ module _ (s : Bytes) (i n : ℕ) (starts ends : List ℕ) (w : WalkAt s i n star
               inside = m .stand .inside;
               readable = m .stand .readable;
               fitting = both .1;
+              few = w .few;
               left = omega (arith, w .left, heads-more (recordsAt s i) (m .here .fields) (recordsAt s (i + q .after)) (records-met s i q m) head);
               room = length-set starts n a ∙ w .room;
               room-beside = length-set ends n b ∙ w .room-beside;

@@ -6,11 +6,11 @@ use mathlib.Core.List.{[], _∷_}
 use mathlib.Core.Option.{Option, none, some}
 use lib.Dec.{leb, ltb, eqb}
 use lib.ListN.{length}
-use Rattle.format.specs.Bytes.{Bytes, text, same}
+use Rattle.format.specs.Bytes.{Bytes, text, same, isSome}
 use Rattle.format.specs.Lines.{isName}
 use Rattle.format.specs.Numbers.{bits32}
 use Rattle.format.specs.Records.{Field}
-use Rattle.format.specs.Rules.{Size, sizeRule, isSize, meetsSize, one, nameList, isShaped}
+use Rattle.format.specs.Rules.{Size, sizeRule, meetsSize, one, nameList, isShaped}
 use Rattle.format.specs.Words.{words, isTypeName}
 use Rattle.words.specs.Spans.{span}
 use Rattle.words.specs.declared.Word.{Word}
@@ -37,7 +37,7 @@ holds Content.Free v = true
 holds Content.TypeName v = one isTypeName (words v)
 holds Content.Names v = nameList v
 holds Content.Name v = one isName (words v)
-holds Content.Size v = isSize (sizeRule bits32 (words v))
+holds Content.Size v = isSome (sizeRule bits32 (words v))
 holds Content.Fault v = false
 
 abbrev pub fieldOf : Bytes → Bytes → ℕ → Field

@@ -6,16 +6,16 @@ ghost use mathlib.Core.Option.{some};
 ghost use Prim.Native.Nat.{ℕ, _≤_};
 ghost use lib.Dec.{leb};
 ghost use lib.ListN.{length};
-ghost use Rattle.format.specs.Bytes.{classTable, text, all, among};
+ghost use Rattle.format.specs.Bytes.{classTable, text, all, among, isSome};
 ghost use Rattle.format.specs.Lines.{isName};
 ghost use Rattle.format.specs.Limits.{valueBytes};
 ghost use Rattle.format.specs.Numbers.{bits32};
 ghost use Rattle.format.specs.Records.{records, fieldsOf};
-ghost use Rattle.format.specs.Rules.{isSpecial, one, several, orderOf, sizeBy, sizeRule, isSize, meetsSize, isShaped, isWellFormed};
+ghost use Rattle.format.specs.Rules.{isSpecial, one, several, orderOf, sizeBy, sizeRule, meetsSize, isShaped, isWellFormed};
 ghost use Rattle.format.specs.Sets.{valuesOf};
 ghost use Rattle.format.specs.Questions.{fitsRecord};
 ghost use Rattle.format.specs.Words.{words, firstWord, isTypeName};
-ghost use Rattle.format.proofs.Walking.{walkFits, walkWell};
+ghost use Rattle.format.proofs.Walking.{heads, walkFits, walkWell};
 ghost use Rattle.lines.specs.Value.{valueFrom};
 ghost use Rattle.records.specs.Places.{isReadable};
 ghost use Rattle.records.specs.Walk.{readOf};
@@ -171,7 +171,7 @@ pub fn size_rule(s: &[u8]) -> SizeRule
 
 // Is this a size?
 fn is_size(r: SizeRule) -> bool
-    ensures { λ t. ⌜ t ≡ isSize (sizeAnswer r) ⌝ }
+    ensures { λ t. ⌜ t ≡ isSome (sizeAnswer r) ⌝ }
 {
     match r {
         SizeRule::None => false,
@@ -490,11 +490,12 @@ fn head_of(
     }
 }
 
-// Question 6: are all descriptors well formed, and no two sets called alike? At most 64 descriptors stand in s.
-pub fn described_well(table: &[u8; 256], s: &[u8], scratch: &mut [u8]) -> bool
+// Question 6: are all descriptors well formed, and no two sets called alike? count of them, at most 64, stand in s; the walk ends behind the last.
+pub fn described_well(table: &[u8; 256], s: &[u8], count: usize, scratch: &mut [u8]) -> bool
     requires { ⌜ now table ≡ classTable ⌝ }
     requires { ⌜ isReadable (now s) ≡ true ⌝ }
     requires { ⌜ walkFits (records (readOf (now s))) ≡ true ⌝ }
+    requires { ⌜ count ≡ length (heads (records (readOf (now s)))) ⌝ }
     requires { ⌜ valueBytes ≤ length (now scratch) ⌝ }
     ensures { λ r. ⌜ (r ≡ walkWell bits32 (records (readOf (now (s .entry))))) × (length (now (scratch .exit)) ≡ length (now (scratch .entry))) ⌝ }
 {
@@ -502,7 +503,7 @@ pub fn described_well(table: &[u8; 256], s: &[u8], scratch: &mut [u8]) -> bool
     let mut ends = [0usize; 64];
     let mut n = 0;
     let mut i = 0;
-    loop {
+    while n < count {
         let r = records::next_record(table, &s[i..]);
         let NextRecord::At(p) = r else {
             return true;
@@ -526,4 +527,5 @@ pub fn described_well(table: &[u8; 256], s: &[u8], scratch: &mut [u8]) -> bool
         }
         i += p.after;
     }
+    true
 }

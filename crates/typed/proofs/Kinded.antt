@@ -8,11 +8,11 @@ use mathlib.Core.Option.{Option, none, some}
 use denote.Enum.Declared.{tagOf}
 use lib.ListN.{length}
 use types.Run.{OneOf, miss}
-use Rattle.format.specs.Bytes.{Bytes, text, all}
+use Rattle.format.specs.Bytes.{Bytes, text, all, isSome}
 use Rattle.format.specs.Words.{firstWord, afterWord}
 use Rattle.format.specs.Numbers.{bits32, onward}
 use Rattle.format.specs.Types.{Kind, Typed, Typedef, typeOf, kindOf}
-use Rattle.format.specs.Rules.{endKind, isDefined}
+use Rattle.format.specs.Rules.{endKind}
 use Rattle.format.specs.Calls.{valueAt}
 use Rattle.lines.specs.Value.{valueFrom}
 use Rattle.words.specs.Spans.{span}
@@ -64,16 +64,16 @@ pub record Alone (x : Option Typed) : Type 0 where
   pub type : x ≡ some (Typed.kind kind)
   pub is : kindOnly x ≡ some kind
 
-alone : (x : Option Typed) → isDefined (kindOnly x) ≡ true → Alone x
+alone : (x : Option Typed) → isSome (kindOnly x) ≡ true → Alone x
 alone none e = absurd (let z : _≡_ {A = ℕ} 0 1 = cc in omega arith)
 alone (some (Typed.kind k)) e = record { kind = k; type = refl; is = refl }
 alone (some (Typed.alias n)) e = absurd (let z : _≡_ {A = ℕ} 0 1 = cc in omega arith)
 
 -- the shape that was read of the text of the last type holds the kind
 pub kind-read : (m : ℕ) (d w : Bytes) (v e : ℕ) (t : Row) → ReadAt d v e t → v ≤ e → e ≤ length d → length (valueFrom (span v e d)) ≤ m
-    → isDefined (endKind bits32 (defsFrom d) w) ≡ true → endKind bits32 (defsFrom d) w ≡ kindOnly (typeOf bits32 (typeText d v e)) → KindOf m d w t
+    → isSome (endKind bits32 (defsFrom d) w) ≡ true → endKind bits32 (defsFrom d) w ≡ kindOnly (typeOf bits32 (typeText d v e)) → KindOf m d w t
 kind-read m d w v e t r o l f h q =
-    let a = alone (typeOf bits32 (typeText d v e)) (sym (ap isDefined q) ∙ h) in
+    let a = alone (typeOf bits32 (typeText d v e)) (sym (ap isSome q) ∙ h) in
     let s : ShapeOf (typeText d v e) (some (Typed.kind (a .kind))) (t .kind) = subst (λ (x : Option Typed). ShapeOf (typeText d v e) x (t .kind)) (a .type) (r .shape) in
     let b : v ≡ t .value = sym (r .starts) in
     let z : e ≡ t .end = sym (r .ends) in
@@ -110,15 +110,15 @@ module _ (d : Bytes) (ts : List ℕ) (r : Ready d ts) (w : Bytes) (t : ℕ) (e :
   pub own-kind : t ≡ 33 → endKind bits32 (defsFrom d) w ≡ kindOnly (typeOf bits32 (afterWord w))
   own-kind h = own-by (typeOf bits32 (afterWord w)) e h
 
-  leads-rows : isDefined (endKind bits32 (defsFrom d) w) ≡ leads ts t
+  leads-rows : isSome (endKind bits32 (defsFrom d) w) ≡ leads ts t
   leads-rows = leads-by vs (r .few) typed (typeOf bits32 (afterWord w)) ∙ ap (leads (map (targetIn (map firstWord vs)) vs)) (sym e) ∙ ap (λ (xs : List ℕ). leads xs t) (sym (r .are))
 
   -- a name that leads nowhere
-  pub lost-kind : (t ≡ 33 → ⊥) → length ts ≤ t → isDefined (endKind bits32 (defsFrom d) w) ≡ false
+  pub lost-kind : (t ≡ 33 → ⊥) → length ts ≤ t → isSome (endKind bits32 (defsFrom d) w) ≡ false
   lost-kind n h = leads-rows ∙ leads-nowhere ts t n h
 
   module _ (f : Followed) (n : t ≡ 33 → ⊥) (h : t < length ts) (q : f ≡ followOf (length ts - 1) ts t) where
-    pub open-kind : isEnd f ≡ false → isDefined (endKind bits32 (defsFrom d) w) ≡ false
+    pub open-kind : isEnd f ≡ false → isSome (endKind bits32 (defsFrom d) w) ≡ false
     open-kind z = leads-rows ∙ leads-there ts t f n h q ∙ z
 
     ends-at : endKind bits32 (defsFrom d) w ≡ kindBy (defsFrom d) f

@@ -6,12 +6,12 @@ use mathlib.Core.List.{List, [], _∷_, map}
 use mathlib.Core.Option.{Option, none, some}
 use lib.Dec.{leb}
 use lib.ListN.{length}
-use Rattle.format.specs.Bytes.{Bytes, text, all, among}
+use Rattle.format.specs.Bytes.{Bytes, text, all, among, isSome}
 use Rattle.format.specs.Records.{Field}
 use Rattle.format.specs.Words.{firstWord, afterWord}
 use Rattle.format.specs.Numbers.{bits32}
 use Rattle.format.specs.Types.{Kind, Typed, Typedef, typeOf, meets}
-use Rattle.format.specs.Rules.{joinAll, typedefOf, endKind, isDefined, typedNames}
+use Rattle.format.specs.Rules.{joinAll, typedefOf, endKind, typedNames}
 use Rattle.typedefs.specs.Walks.{valuesFrom}
 use Rattle.typedefs.specs.Targets.{targetIn}
 
@@ -34,7 +34,7 @@ abbrev pub typesFrom : Bytes → List Bytes
 typesFrom d = valuesFrom d (text "%type") 0
 
 abbrev pub areKinds : Bytes → List Bytes → Bool
-areKinds d vs = all (λ (v : Bytes). isDefined (endKind bits32 (defsFrom d) v)) vs
+areKinds d vs = all (λ (v : Bytes). isSome (endKind bits32 (defsFrom d) v)) vs
 
 -- the typedefs and types of a descriptor all end in a kind, and these are the targets of the typedefs
 pub record Ready (d : Bytes) (targets : List ℕ) : Type 0 where

@@ -4,11 +4,11 @@ ghost use mathlib.Core.Path.{_≡_};
 ghost use mathlib.Core.Bool.{true};
 ghost use Prim.Native.Nat.{_≤_};
 ghost use lib.ListN.{length, drop};
-ghost use Rattle.format.specs.Bytes.{classTable, text, all, among};
+ghost use Rattle.format.specs.Bytes.{classTable, text, all, among, isSome};
 ghost use Rattle.format.specs.Words.{afterWord};
 ghost use Rattle.format.specs.Numbers.{bits32};
 ghost use Rattle.format.specs.Records.{fieldsOf};
-ghost use Rattle.format.specs.Rules.{typedNames, endKind, isDefined, isTypedWell};
+ghost use Rattle.format.specs.Rules.{typedNames, endKind, isTypedWell};
 ghost use Rattle.format.specs.Questions.{allTyped};
 ghost use Rattle.lines.specs.Value.{valueFrom};
 ghost use Rattle.words.specs.Spans.{span};
@@ -77,7 +77,7 @@ fn kind_of(
     requires { ⌜ (value ≤ end) × (end ≤ length (now d)) × (length (valueFrom (span value end (now d))) ≤ length (now scratch)) ⌝ }
     requires { ⌜ fitFrom (length (now scratch)) (now d) (text "%typedef") 0 ≡ true ⌝ }
     requires { ⌜ Ready (now d) (now targets) ⌝ }
-    requires { ⌜ isDefined (endKind bits32 (defsFrom (now d)) (valueFrom (span value end (now d)))) ≡ true ⌝ }
+    requires { ⌜ isSome (endKind bits32 (defsFrom (now d)) (valueFrom (span value end (now d)))) ≡ true ⌝ }
     ensures { λ r. ⌜ KindOf (length (now (scratch .entry))) (now (d .entry)) (valueFrom (span value end (now (d .entry)))) r ⌝ }
 {
     let t = typedefs::target_of(table, d, value, end, &mut *scratch);

@@ -11,11 +11,11 @@ use borrow.Author.Tests.{leb-true, le-leb, ne-eqb}
 use lib.Dec.{leb}
 use lib.ListN.{length, drop, getD}
 use lib.Seq.{drop-nil}
-use Rattle.format.specs.Bytes.{Bytes, pick, all, among, upFrom}
+use Rattle.format.specs.Bytes.{Bytes, pick, all, among, upFrom, isSome}
 use Rattle.format.specs.Words.{firstWord, afterWord}
 use Rattle.format.specs.Numbers.{bits32, onward}
 use Rattle.format.specs.Types.{Kind, Typed, Typedef, typeOf, follow, kindOf}
-use Rattle.format.specs.Rules.{joinAll, typedefOf, endKind, isTypedefName, isDefined, distinct, defines}
+use Rattle.format.specs.Rules.{joinAll, typedefOf, endKind, isTypedefName, distinct, defines}
 use Rattle.typedefs.specs.Targets.{indexFrom, targetBy, targetIn, followOf, isEnd, endsIn, leads, goodNames, areDefined}
 use Rattle.typedefs.specs.declared.Followed.{Followed}
 use Rattle.typedefs.proofs.Chains.{chain-missing, chain-end, chain-loop, chain-on}
@@ -37,10 +37,6 @@ good-split (v ∷ vs) =
     ∙ swap (isTypedefName (firstWord v)) (not (among (firstWord v) ns)) (all (λ (w : Bytes). isTypedefName (firstWord w)) vs) (distinct ns)
 
 -- has a value a type
-abbrev pub isSome : Option Typed → Bool
-isSome none = false
-isSome (some t) = true
-
 abbrev pub isTyped : Bytes → Bool
 isTyped v = isSome (typeOf bits32 (afterWord v))
 
@@ -58,7 +54,7 @@ pub cut-typed : (v : Bytes) (vs : List Bytes) → all isTyped (v ∷ vs) ≡ tru
 cut-typed v vs h = go (typeOf bits32 (afterWord v)) refl
   where
     go : (x : Option Typed) → typeOf bits32 (afterWord v) ≡ x → Cut v vs
-    go none e = absurd (let q : (isSome none && all isTyped vs) ≡ true = sym (ap (λ (x : Option Typed). isSome x && all isTyped vs) e) ∙ h in let z : _≡_ {A = ℕ} 0 1 = cc in omega arith)
+    go none e = absurd (let q : (isSome {A = Typed} none && all isTyped vs) ≡ true = sym (ap (λ (x : Option Typed). isSome x && all isTyped vs) e) ∙ h in let z : _≡_ {A = ℕ} 0 1 = cc in omega arith)
     go (some t) e =
         record {
           type = t;
@@ -99,29 +95,29 @@ row-head (t ∷ ts) (suc i) x xs q = let r = row-head ts i x xs q in (omega (ari
 
 -- all have a type
 module _ (ds : List Typedef) (few : length ds ≤ 32) where
-  pub ended : (left i : ℕ) → isDefined (onward (follow left ds) (typeAt ds i)) ≡ isEnd (followOf left (targetsBy (namesIn ds) ds) i)
-  ended left i = ap isDefined (follow-of ds few left i) ∙ follows-end ds few left i
+  pub ended : (left i : ℕ) → isSome (onward (follow left ds) (typeAt ds i)) ≡ isEnd (followOf left (targetsBy (namesIn ds) ds) i)
+  ended left i = ap isSome (follow-of ds few left i) ∙ follows-end ds few left i
 
   all-ends : (ws : List Bytes) (i : ℕ) → drop i ds ≡ defsOf ws → all isTyped ws ≡ true
-      → all (λ (v : Bytes). isDefined (endKind bits32 ds v)) ws ≡ all (λ (j : ℕ). isEnd (followOf (length ds) (targetsBy (namesIn ds) ds) j)) (upFrom (length ws) i)
+      → all (λ (v : Bytes). isSome (endKind bits32 ds v)) ws ≡ all (λ (j : ℕ). isEnd (followOf (length ds) (targetsBy (namesIn ds) ds) j)) (upFrom (length ws) i)
   all-ends [] i q h = refl
   all-ends (w ∷ ws) i q h =
       let c = cut-typed w ws h in
       let t = type-head ds i (record { name = firstWord w; type = c .type }) (defsOf ws) (q ∙ c .defs) in
-      let e : isDefined (endKind bits32 ds w) ≡ isEnd (followOf (length ds) (targetsBy (namesIn ds) ds) i) =
-      ap (λ (x : Option Typed). isDefined (onward (kindOf ds) x)) (c .is ∙ sym (t .0)) ∙ ended (length ds) i in
-      ap (λ (b : Bool). b && all (λ (v : Bytes). isDefined (endKind bits32 ds v)) ws) e
+      let e : isSome (endKind bits32 ds w) ≡ isEnd (followOf (length ds) (targetsBy (namesIn ds) ds) i) =
+      ap (λ (x : Option Typed). isSome (onward (kindOf ds) x)) (c .is ∙ sym (t .0)) ∙ ended (length ds) i in
+      ap (λ (b : Bool). b && all (λ (v : Bytes). isSome (endKind bits32 ds v)) ws) e
       ∙ ap (λ (b : Bool). isEnd (followOf (length ds) (targetsBy (namesIn ds) ds) i) && b) (all-ends ws (suc i) (t .1) (c .others))
 
 -- some one has none
-untyped-left : (ds : List Typedef) (ws : List Bytes) → all isTyped ws ≡ false → all (λ (v : Bytes). isDefined (endKind bits32 ds v)) ws ≡ false
+untyped-left : (ds : List Typedef) (ws : List Bytes) → all isTyped ws ≡ false → all (λ (v : Bytes). isSome (endKind bits32 ds v)) ws ≡ false
 untyped-left ds [] h = h
 untyped-left ds (w ∷ ws) h = go (typeOf bits32 (afterWord w)) h (λ q. untyped-left ds ws q)
   where
-    go : (x : Option Typed) → (isSome x && all isTyped ws) ≡ false → (all isTyped ws ≡ false → all (λ (v : Bytes). isDefined (endKind bits32 ds v)) ws ≡ false)
-        → (isDefined (onward (kindOf ds) x) && all (λ (v : Bytes). isDefined (endKind bits32 ds v)) ws) ≡ false
+    go : (x : Option Typed) → (isSome x && all isTyped ws) ≡ false → (all isTyped ws ≡ false → all (λ (v : Bytes). isSome (endKind bits32 ds v)) ws ≡ false)
+        → (isSome (onward (kindOf ds) x) && all (λ (v : Bytes). isSome (endKind bits32 ds v)) ws) ≡ false
     go none q ih = refl
-    go (some t) q ih = ap (λ (b : Bool). isDefined (kindOf ds t) && b) (ih q) ∙ and-false (isDefined (kindOf ds t))
+    go (some t) q ih = ap (λ (b : Bool). isSome (kindOf ds t) && b) (ih q) ∙ and-false (isSome (kindOf ds t))
 
 module _ (ns : List Bytes) (ts : List ℕ) (few : length ts ≤ 32) where
   no-end : (left i : ℕ) → i < length ts → getD ts i 0 ≡ 34 → isEnd (followOf left ts i) ≡ false
@@ -141,7 +137,7 @@ module _ (ns : List Bytes) (ts : List ℕ) (few : length ts ≤ 32) where
 
 -- so the chains of all typedefs end if the definitions give each a kind, and only then
 pub all-defined : (vs : List Bytes) → length vs ≤ 32
-    → all (λ (v : Bytes). isDefined (endKind bits32 (defsOf vs) v)) vs ≡ all (endsIn (map (targetIn (map firstWord vs)) vs)) (upFrom (length (map (targetIn (map firstWord vs)) vs)) 0)
+    → all (λ (v : Bytes). isSome (endKind bits32 (defsOf vs) v)) vs ≡ all (endsIn (map (targetIn (map firstWord vs)) vs)) (upFrom (length (map (targetIn (map firstWord vs)) vs)) 0)
 all-defined vs few = go (all isTyped vs) refl
   where
     ns : List Bytes
@@ -153,7 +149,7 @@ all-defined vs few = go (all isTyped vs) refl
     size : length vs ≡ length ts
     size = sym (length-map (targetIn ns) vs)
 
-    go : (t : Bool) → all isTyped vs ≡ t → all (λ (v : Bytes). isDefined (endKind bits32 (defsOf vs) v)) vs ≡ all (endsIn ts) (upFrom (length ts) 0)
+    go : (t : Bool) → all isTyped vs ≡ t → all (λ (v : Bytes). isSome (endKind bits32 (defsOf vs) v)) vs ≡ all (endsIn ts) (upFrom (length ts) 0)
     go true h =
         let l : length (defsOf vs) ≡ length vs = length-defs vs h in
         let rows : targetsBy (namesIn (defsOf vs)) (defsOf vs) ≡ ts = ap (λ (ms : List Bytes). targetsBy ms (defsOf vs)) (names-defs vs h) ∙ targets-defs ns vs h in
@@ -169,7 +165,7 @@ all-defined vs few = go (all isTyped vs) refl
 pub well-split : (vs : List Bytes) → length vs ≤ 32
     → areDefined vs ≡ (goodNames (map firstWord vs) && all (endsIn (map (targetIn (map firstWord vs)) vs)) (upFrom (length (map (targetIn (map firstWord vs)) vs)) 0))
 well-split vs few =
-    ap (λ (b : Bool). b && all (λ (v : Bytes). isDefined (endKind bits32 (defsOf vs) v)) vs) (sym (good-split vs))
+    ap (λ (b : Bool). b && all (λ (v : Bytes). isSome (endKind bits32 (defsOf vs) v)) vs) (sym (good-split vs))
     ∙ ap (λ (b : Bool). goodNames (map firstWord vs) && b) (all-defined vs few)
 
 -- What a type leads to, where every typedef has one: its kind by the definitions is there if its target ends, and only then.
@@ -206,29 +202,29 @@ module _ (vs : List Bytes) (few : length vs ≤ 32) (h : all isTyped vs ≡ true
   pub few-names : length names ≤ 32
   few-names = omega (arith, words-length vs)
 
-  alias-by : (n : Bytes) (m : ℕ) → length (defsOf vs) ≡ m → isDefined (follow m (defsOf vs) (Typed.alias n)) ≡ leads rows (indexFrom 0 n names)
+  alias-by : (n : Bytes) (m : ℕ) → length (defsOf vs) ≡ m → isSome (follow m (defsOf vs) (Typed.alias n)) ≡ leads rows (indexFrom 0 n names)
   alias-by n zero q = sym (leads-none rows (indexFrom 0 n names) (λ e. omega (arith, index-most 0 n names (omega (arith, few-names)))) (omega (arith, rows-size)))
   alias-by n (suc l) q =
       let j : ℕ = indexFrom 0 n names in
       let ds : List Typedef = defsOf vs in
-      ap (λ (x : Option Typed). isDefined (onward (follow l ds) x)) (lookup-index n ds few-defs)
+      ap (λ (x : Option Typed). isSome (onward (follow l ds) x)) (lookup-index n ds few-defs)
       ∙ ended ds few-defs l (indexFrom 0 n (namesIn ds))
       ∙ ap (λ (ts : List ℕ). isEnd (followOf l ts (indexFrom 0 n (namesIn ds)))) rows-are
       ∙ ap (λ (ms : List Bytes). isEnd (followOf l rows (indexFrom 0 n ms))) (names-defs vs h)
       ∙ sym (leads-on rows j l (λ e. omega (arith, index-most 0 n names (omega (arith, few-names)))) (sym rows-size ∙ q))
 
-  pub leads-by : (x : Option Typed) → isDefined (onward (kindOf (defsOf vs)) x) ≡ leads rows (targetBy names x)
+  pub leads-by : (x : Option Typed) → isSome (onward (kindOf (defsOf vs)) x) ≡ leads rows (targetBy names x)
   leads-by none = sym (leads-none rows 34 (λ e. omega arith) (omega (arith, rows-size, few-defs)))
-  leads-by (some (Typed.kind k)) = ap isDefined (kind-stays (length (defsOf vs)) (defsOf vs) k)
+  leads-by (some (Typed.kind k)) = ap isSome (kind-stays (length (defsOf vs)) (defsOf vs) k)
   leads-by (some (Typed.alias n)) = alias-by n (length (defsOf vs)) refl
 
-pub typed-all : (ds : List Typedef) (vs : List Bytes) → all (λ (v : Bytes). isDefined (endKind bits32 ds v)) vs ≡ true → all isTyped vs ≡ true
+pub typed-all : (ds : List Typedef) (vs : List Bytes) → all (λ (v : Bytes). isSome (endKind bits32 ds v)) vs ≡ true → all isTyped vs ≡ true
 typed-all ds vs h = go (all isTyped vs) refl
   where
     go : (t : Bool) → all isTyped vs ≡ t → t ≡ true
     go true e = refl
     go false e = sym (untyped-left ds vs e) ∙ h
 
-pub type-leads : (vs : List Bytes) → length vs ≤ 32 → all (λ (v : Bytes). isDefined (endKind bits32 (defsOf vs) v)) vs ≡ true
-    → (v : Bytes) → isDefined (endKind bits32 (defsOf vs) v) ≡ leads (map (targetIn (map firstWord vs)) vs) (targetIn (map firstWord vs) v)
+pub type-leads : (vs : List Bytes) → length vs ≤ 32 → all (λ (v : Bytes). isSome (endKind bits32 (defsOf vs) v)) vs ≡ true
+    → (v : Bytes) → isSome (endKind bits32 (defsOf vs) v) ≡ leads (map (targetIn (map firstWord vs)) vs) (targetIn (map firstWord vs) v)
 type-leads vs few h v = leads-by vs few (typed-all (defsOf vs) vs h) (typeOf bits32 (afterWord v))

@@ -7,10 +7,9 @@ use mathlib.Core.Bool.{Bool, true, false}
 use mathlib.Core.List.{List, [], _∷_, map}
 use mathlib.Core.Option.{Option, none, some, Option·none-ne-some}
 use lib.ListN.{length, getD}
-use Rattle.format.specs.Bytes.{Bytes, pick, same}
+use Rattle.format.specs.Bytes.{Bytes, pick, same, isSome}
 use Rattle.format.specs.Numbers.{onward}
 use Rattle.format.specs.Types.{Kind, Typed, Typedef, found, lookup, follow}
-use Rattle.format.specs.Rules.{isDefined}
 use Rattle.typedefs.specs.Targets.{indexFrom, targetBy, followOf, isEnd}
 use Rattle.typedefs.specs.declared.Followed.{Followed}
 use Rattle.typedefs.proofs.Chains.{chain-missing, chain-end, chain-loop, chain-on}
@@ -131,23 +130,23 @@ module _ (ds : List Typedef) (few : length ds ≤ 32) where
   follow-of (suc left) i = follow-step (suc left) i (λ l q j. let z : left ≡ l = omega arith in subst (λ (m : ℕ). onward (follow m ds) (typeAt ds j) ≡ kindBy ds (followOf m ts j)) z (follow-of left j)) (typeAt ds i) refl
 
   -- a chain that ends does so in a kind
-  end-step : (left i : ℕ) → ((l : ℕ) → left ≡ suc l → (j : ℕ) → isDefined (kindBy ds (followOf l ts j)) ≡ isEnd (followOf l ts j))
-      → (x : Option Typed) → typeAt ds i ≡ x → isDefined (kindBy ds (followOf left ts i)) ≡ isEnd (followOf left ts i)
+  end-step : (left i : ℕ) → ((l : ℕ) → left ≡ suc l → (j : ℕ) → isSome (kindBy ds (followOf l ts j)) ≡ isEnd (followOf l ts j))
+      → (x : Option Typed) → typeAt ds i ≡ x → isSome (kindBy ds (followOf left ts i)) ≡ isEnd (followOf left ts i)
   end-step left i ih none e =
       let m = chain-missing ts i left (target-past (namesIn ds) ds i e) in
-      ap (λ (f : Followed). isDefined (kindBy ds f)) m ∙ sym (ap isEnd m)
+      ap (λ (f : Followed). isSome (kindBy ds f)) m ∙ sym (ap isEnd m)
   end-step left i ih (some (Typed.kind k)) e =
       let r = target-there (namesIn ds) ds i (Typed.kind k) e in
-      ap isDefined (ends-here left i k e) ∙ sym (ap isEnd (chain-end ts i left (r .0) (r .1)))
+      ap isSome (ends-here left i k e) ∙ sym (ap isEnd (chain-end ts i left (r .0) (r .1)))
   end-step zero i ih (some (Typed.alias n)) e =
       let r = target-there (namesIn ds) ds i (Typed.alias n) e in
       let m = chain-loop ts i (r .0) (not-33 i n (r .1)) in
-      ap (λ (f : Followed). isDefined (kindBy ds f)) m ∙ sym (ap isEnd m)
+      ap (λ (f : Followed). isSome (kindBy ds f)) m ∙ sym (ap isEnd m)
   end-step (suc left) i ih (some (Typed.alias n)) e =
       let r = target-there (namesIn ds) ds i (Typed.alias n) e in
       let m = chain-on ts i left (r .0) (not-33 i n (r .1)) in
-      ap (λ (f : Followed). isDefined (kindBy ds f)) m ∙ ih left refl (getD ts i 0) ∙ sym (ap isEnd m)
+      ap (λ (f : Followed). isSome (kindBy ds f)) m ∙ ih left refl (getD ts i 0) ∙ sym (ap isEnd m)
 
-  pub follows-end : (left i : ℕ) → isDefined (kindBy ds (followOf left ts i)) ≡ isEnd (followOf left ts i)
+  pub follows-end : (left i : ℕ) → isSome (kindBy ds (followOf left ts i)) ≡ isEnd (followOf left ts i)
   follows-end zero i = end-step zero i (λ l q j. absurd (omega arith)) (typeAt ds i) refl
-  follows-end (suc left) i = end-step (suc left) i (λ l q j. let z : left ≡ l = omega arith in subst (λ (m : ℕ). isDefined (kindBy ds (followOf m ts j)) ≡ isEnd (followOf m ts j)) z (follows-end left j)) (typeAt ds i) refl
+  follows-end (suc left) i = end-step (suc left) i (λ l q j. let z : left ≡ l = omega arith in subst (λ (m : ℕ). isSome (kindBy ds (followOf m ts j)) ≡ isEnd (followOf m ts j)) z (follows-end left j)) (typeAt ds i) refl

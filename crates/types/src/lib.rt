@@ -4,10 +4,10 @@ ghost use mathlib.Core.Bool.{true, false, _&&_};
 ghost use Prim.Native.Nat.{_<_, _≤_};
 ghost use lib.Dec.{eqb};
 ghost use lib.ListN.{length, drop, getD};
-ghost use Rattle.format.specs.Bytes.{classTable, all, among};
+ghost use Rattle.format.specs.Bytes.{classTable, all, among, isSome};
 ghost use Rattle.format.specs.Words.{words};
 ghost use Rattle.format.specs.Numbers.{bits32, areDigits, intOf};
-ghost use Rattle.format.specs.Types.{uncomment, isSymbolByte, isSymbol, beforeComment, enumOf, endOf, rangeOf, sizeOf, aliasOf, plainKind, typeOf, isInt, isInRange, truths, isUuid};
+ghost use Rattle.format.specs.Types.{uncomment, isSymbolByte, isSymbol, beforeComment, enumOf, endOf, rangeOf, sizeOf, aliasOf, plainKind, typeOf, isInRange, truths, isUuid};
 ghost use Rattle.words.specs.Spans.{span, runEnd};
 ghost use Rattle.numbers.specs.Meaning.{intIn, intAnswer};
 ghost use Rattle.types.specs.Meaning.{isRead, symbolsIn, headOf, rangeIn, Sound, Told, meetsIn};
@@ -475,7 +475,7 @@ pub fn type_of(table: &[u8; 256], s: &[u8]) -> TypeOf
 
 // Is this text an int?
 fn is_int(w: &[u8]) -> bool
-    ensures { λ r. ⌜ r ≡ isInt (intOf bits32 (now (w .entry))) ⌝ }
+    ensures { λ r. ⌜ r ≡ isSome (intOf bits32 (now (w .entry))) ⌝ }
 {
     let x = numbers::int_of(w);
     match x {

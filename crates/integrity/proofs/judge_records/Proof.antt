@@ -1,141 +1,65 @@
--- `integrity::judge_records` meets its contract, question by question.
-use native.Mathlib.Omega.{arith}
-use mathlib.Core.Path.{sym, _∙_}
+-- `integrity::judge_records` meets its contract, by what the first walk has found.
+use mathlib.Core.Path.{subst}
 use Rattle.format.specs.Records.{records}
 use Rattle.records.specs.Walk.{readOf}
-use Rattle.integrity.proofs.Staging.{limits-no, once-no, well-no, types-no, sets-no}
+use Rattle.limits.specs.Bounds.{BoundedAs}
+use Rattle.integrity.proofs.Staging.{limits-no, once-no}
 use borrow.Author.Needs.{needs}
 use Rattle.integrity.proofs.judge_records.Statement.{statement}
 use Rattle.integrity.proofs.judge_records.Tie as tie
 use Rattle.integrity.proofs.judge_records.Reads as reads
 use Rattle.integrity.proofs.judge_records.Lts as lts
-use Rattle.integrity.proofs.judge_sets.Reads as judge-sets-reads
-use Rattle.integrity.proofs.types_defined.Reads as types-defined-reads
-use Rattle.limits.proofs.described_once.Reads as described-once-reads
-use Rattle.limits.proofs.limits_held.Reads as limits-held-reads
-use Rattle.shapes.proofs.described_well.Reads as described-well-reads
+use Rattle.integrity.proofs.judge_described.Reads as judge-described-reads
+use Rattle.limits.proofs.bounds_of.Reads as bounds-of-reads
 
-limits-held-requires : tie.Need-limits-held-requires
-limits-held-requires c κs =
-    let at-pre = c .before .pre in
-    (at-pre .0, (at-pre .1 .0, at-pre .1 .1))
+bounds-of-requires : tie.Need-bounds-of-requires
+bounds-of-requires c κs = search needs
+
+enum-told : tie.Need-enum-told
+enum-told c = search needs
+
+enum-told-2 : tie.Need-enum-told-2
+enum-told-2 c = search needs
+
+enum-known-b : tie.Need-enum-known-b
+enum-known-b c = search needs
+
+judge-described-requires : tie.Need-judge-described-requires
+judge-described-requires c κs =
+    let at-args = c .before .before .before .before .before .args in
+    let at-b = c .before .b in
+    let at-bounds-of = c .before .before .before .bounds-of in
+    let at-pre = c .before .before .before .before .before .pre in
+    let h = subst (BoundedAs (records (readOf (at-args .s .now)))) (at-b .given .1) (at-bounds-of .ensures) in
+    (at-pre .0, (at-pre .1, ((h .0, h .1), h .2)))
 
 returns : tie.Need-returns
 returns c =
-    let at-args = c .before .before .before .args in
-    let at-limits-held = c .before .limits-held in
-    let at-if1 = c .if1 in
-    limits-no (records (readOf (at-args .s .now))) (sym (at-limits-held .ensures) ∙ at-if1 .left)
-
-described-once-requires : tie.Need-described-once-requires
-described-once-requires c κs =
-    let at-pre = c .before .before .before .pre in
-    (at-pre .0, at-pre .1 .0)
+    let at-args = c .before .before .before .before .args in
+    let at-enum-told = c .enum-told in
+    let at-bounds-of = c .before .before .bounds-of in
+    limits-no (records (readOf (at-args .s .now))) (subst (BoundedAs (records (readOf (at-args .s .now)))) (at-enum-told .given .1) (at-bounds-of .ensures))
 
 returns-2 : tie.Need-returns-2
 returns-2 c =
-    let at-args = c .before .before .before .before .before .args in
-    let at-limits-held = c .before .before .before .limits-held in
-    let at-if1 = c .before .before .if1 in
-    let at-described-once = c .before .described-once in
-    let at-if2 = c .if2 in
-    once-no (records (readOf (at-args .s .now))) (sym (at-limits-held .ensures) ∙ at-if1 .taken) (sym (at-described-once .ensures) ∙ at-if2 .left)
-
-slice-aggregate-described-well : tie.Need-slice-aggregate-described-well
-slice-aggregate-described-well c = search needs
-
-described-well-requires : tie.Need-described-well-requires
-described-well-requires c κs =
-    let at-pre = c .before .before .before .before .before .before .pre in
-    let at-limits-held = c .before .before .before .before .limits-held in
-    let at-if1 = c .before .before .before .if1 in
-    (at-pre .0, (at-pre .1 .0, ((sym (at-limits-held .ensures) ∙ at-if1 .taken), omega arith)))
+    let at-args = c .before .before .before .before .args in
+    let at-enum-told2 = c .enum-told2 in
+    let at-bounds-of = c .before .before .bounds-of in
+    let h = subst (BoundedAs (records (readOf (at-args .s .now)))) (at-enum-told2 .given .1) (at-bounds-of .ensures) in
+    once-no (records (readOf (at-args .s .now))) (h .0) (h .1)
 
 returns-3 : tie.Need-returns-3
-returns-3 c =
-    let at-args = c .before .before .before .before .before .before .before .before .before .args in
-    let at-limits-held = c .before .before .before .before .before .before .before .limits-held in
-    let at-if1 = c .before .before .before .before .before .before .if1 in
-    let at-described-once = c .before .before .before .before .before .described-once in
-    let at-if2 = c .before .before .before .before .if2 in
-    let at-described-well = c .before .before .described-well in
-    let at-if3 = c .if3 in
-    well-no (records (readOf (at-args .s .now))) (sym (at-limits-held .ensures) ∙ at-if1 .taken) (sym (at-described-once .ensures) ∙ at-if2 .taken) (sym (at-described-well .ensures .0) ∙ at-if3 .left)
-
-slice-aggregate-types-defined : tie.Need-slice-aggregate-types-defined
-slice-aggregate-types-defined c = search needs
-
-types-defined-requires : tie.Need-types-defined-requires
-types-defined-requires c κs =
-    let at-pre = c .before .before .before .before .before .before .before .before .before .before .pre in
-    let at-limits-held = c .before .before .before .before .before .before .before .before .limits-held in
-    let at-if1 = c .before .before .before .before .before .before .before .if1 in
-    let at-described-well = c .before .before .before .described-well in
-    (at-pre .0, (at-pre .1 .0, ((sym (at-limits-held .ensures) ∙ at-if1 .taken), omega (arith, at-described-well .ensures .1))))
-
-returns-4 : tie.Need-returns-4
-returns-4 c =
-    let at-args = c .before .before .before .before .before .before .before .before .before .before .before .before .before .args in
-    let at-limits-held = c .before .before .before .before .before .before .before .before .before .before .before .limits-held in
-    let at-if1 = c .before .before .before .before .before .before .before .before .before .before .if1 in
-    let at-described-once = c .before .before .before .before .before .before .before .before .before .described-once in
-    let at-if2 = c .before .before .before .before .before .before .before .before .if2 in
-    let at-described-well = c .before .before .before .before .before .before .described-well in
-    let at-if3 = c .before .before .before .before .if3 in
-    let at-types-defined = c .before .before .types-defined in
-    let at-if4 = c .if4 in
-    types-no (records (readOf (at-args .s .now))) (sym (at-limits-held .ensures) ∙ at-if1 .taken) (sym (at-described-once .ensures) ∙ at-if2 .taken) (sym (at-described-well .ensures .0) ∙ at-if3 .taken) (sym (at-types-defined .ensures) ∙ at-if4 .left)
-
-slice-aggregate-judge-sets : tie.Need-slice-aggregate-judge-sets
-slice-aggregate-judge-sets c = search needs
-
-slice-aggregate-judge-sets-2 : tie.Need-slice-aggregate-judge-sets-2
-slice-aggregate-judge-sets-2 c = search needs
-
-slice-aggregate-judge-sets-3 : tie.Need-slice-aggregate-judge-sets-3
-slice-aggregate-judge-sets-3 c = search needs
-
-judge-sets-requires : tie.Need-judge-sets-requires
-judge-sets-requires c κs =
-    let at-pre = c .before .before .before .before .before .before .before .before .before .before .before .before .before .before .before .before .pre in
-    let at-limits-held = c .before .before .before .before .before .before .before .before .before .before .before .before .before .before .limits-held in
-    let at-if1 = c .before .before .before .before .before .before .before .before .before .before .before .before .before .if1 in
-    let at-described-well = c .before .before .before .before .before .before .before .before .before .described-well in
-    let at-if3 = c .before .before .before .before .before .before .before .if3 in
-    let at-types-defined = c .before .before .before .before .before .types-defined in
-    let at-if4 = c .before .before .before .if4 in
-    (at-pre .0, (at-pre .1, (record { fit = (sym (at-limits-held .ensures) ∙ at-if1 .taken); well = (sym (at-described-well .ensures .0) ∙ at-if3 .taken); types = sym (at-types-defined .ensures) ∙ at-if4 .taken }, (omega (arith, at-described-well .ensures .1), omega arith, omega arith))))
-
-returns-5 : tie.Need-returns-5
-returns-5 c =
-    let at-judge-sets = c .before .before .before .judge-sets in
-    let at-args = c .before .before .before .before .before .before .before .before .before .before .before .before .before .before .before .before .before .before .before .before .args in
-    let at-limits-held = c .before .before .before .before .before .before .before .before .before .before .before .before .before .before .before .before .before .before .limits-held in
-    let at-if1 = c .before .before .before .before .before .before .before .before .before .before .before .before .before .before .before .before .before .if1 in
-    let at-described-once = c .before .before .before .before .before .before .before .before .before .before .before .before .before .before .before .before .described-once in
-    let at-if2 = c .before .before .before .before .before .before .before .before .before .before .before .before .before .before .before .if2 in
-    let at-described-well = c .before .before .before .before .before .before .before .before .before .before .before .before .before .described-well in
-    let at-if3 = c .before .before .before .before .before .before .before .before .before .before .before .if3 in
-    let at-types-defined = c .before .before .before .before .before .before .before .before .before .types-defined in
-    let at-if4 = c .before .before .before .before .before .before .before .if4 in
-    at-judge-sets .ensures ∙ sets-no (records (readOf (at-args .s .now))) (sym (at-limits-held .ensures) ∙ at-if1 .taken) (sym (at-described-once .ensures) ∙ at-if2 .taken) (sym (at-described-well .ensures .0) ∙ at-if3 .taken) (sym (at-types-defined .ensures) ∙ at-if4 .taken)
+returns-3 c = search needs
 
 pub judge-records-spec : {M : Type 1} → statement M
 judge-records-spec =
     tie.close
     (tie.spec
-    limits-held-requires
+    bounds-of-requires
+    enum-told
+    enum-told-2
+    enum-known-b
+    judge-described-requires
     returns
-    described-once-requires
     returns-2
-    slice-aggregate-described-well
-    described-well-requires
-    returns-3
-    slice-aggregate-types-defined
-    types-defined-requires
-    returns-4
-    slice-aggregate-judge-sets
-    slice-aggregate-judge-sets-2
-    slice-aggregate-judge-sets-3
-    judge-sets-requires
-    returns-5)
+    returns-3)

@@ -1,111 +1,140 @@
--- `lines::field_extent` meets its contract. The invariant: the lines from i on give the answer, with i bytes before them.
+-- `lines::field_extent` meets its contract. The invariant: the line from i on is taken, with i bytes before it, and gives the answer; no backslash stands directly before i.
 use borrow.Author.Needs.{needs}
-use mathlib.Core.Path.{_≡_, refl}
-use mathlib.Core.Bool.{true, _||_}
-use mathlib.Core.Logic.{⊎-elim}
-use Prim.Native.Nat.{_≤_, _-_}
-use native.Mathlib.Numerals.{add-one}
+use Prim.Native.Nat.{_+_, _<_, _-_}
 use native.Mathlib.Omega.{arith}
-use borrow.Author.Tests.{eq-eqb, ne-eqb}
-use lib.Dec.{eqb}
+use mathlib.Core.Path.{_≡_}
+use mathlib.Core.Bool.{true, false}
+use borrow.Author.Tests.{ne-eqb}
 use lib.ListN.{length, drop, getD}
 use Rattle.format.specs.Lines.{lines}
 use Rattle.lines.specs.Piece.{extentOf}
-use Rattle.lines.proofs.Cuts.{rest, line-at-inside}
-use Rattle.lines.proofs.Extents.{extent-step, extent-end}
+use Rattle.lines.proofs.Cuts.{line-le, line-inside, line-at-inside}
+use Rattle.lines.proofs.Extents.{extent-step, extent-end, extent-plus, extent-past, extent-from, newline-before}
 use Rattle.lines.proofs.field_extent.Statement.{statement}
 use Rattle.lines.proofs.field_extent.Tie as tie
 use Rattle.lines.proofs.field_extent.Reads as reads
 use Rattle.lines.proofs.field_extent.Lts as lts
-use Rattle.lines.proofs.first_line.Reads as first-line-reads
+use Rattle.lines.proofs.line_end.Reads as line-end-reads
 
 abbrev Inv-loop : tie.InvT-loop
-Inv-loop s i₀ taken₀ i taken = (i ≤ length s) × (extentOf true 0 (lines s) ≡ extentOf taken i (lines (drop i s)))
+Inv-loop s at i₀ i = (i < length s) × (0 < i) × (getD s (i - 1) 0 ≡ 92 → ⊥) × (extentOf true 0 (lines s) ≡ extentOf true i (lines (drop i s)))
 
 abbrev μ-loop : tie.MeasureT-loop
-μ-loop s i₀ taken₀ i taken = length s - i
+μ-loop s at i₀ i = length s - i
 
 loop-holds : tie.Need-loop-holds Inv-loop μ-loop
-loop-holds c = (omega arith, refl)
+loop-holds c =
+    let at-args = c .before .args in
+    let at-pre = c .before .pre in
+    let s = at-args .s .now in
+    let g = at-pre .1 in
+    let some : 0 < length s = omega (arith, g .0, g .1, line-le s) in
+    let h : at-args .at < length s = omega (arith, g .1, line-inside s (at-pre .0) some) in
+    (h, g .0, g .2, extent-from s (at-args .at) h g)
 
-shared-slice-read-if2 : tie.Need-shared-slice-read-if2 Inv-loop μ-loop
-shared-slice-read-if2 c = search needs
+line-end-requires : tie.Need-line-end-requires Inv-loop μ-loop
+line-end-requires c κs =
+    let at-pre = c .before .before .pre in
+    let at-loop = c .loop in
+    (at-pre .0, at-loop .inv .0)
+
+sub-taken : tie.Need-sub-taken Inv-loop μ-loop
+sub-taken c =
+    let at-line-end = c .line-end in
+    let at-loop = c .before .loop in
+    omega (arith, at-line-end .ensures .0, at-loop .inv .1)
+
+shared-slice-read-taken : tie.Need-shared-slice-read-taken Inv-loop μ-loop
+shared-slice-read-taken c =
+    let at-line-end = c .before .line-end in
+    let at-args = c .before .before .before .before .args in
+    let at-loop = c .before .before .loop in
+    let at-pre = c .before .before .before .before .pre in
+    omega (arith, at-line-end .ensures .0, line-at-inside (at-args .s .now) (at-loop .i) (at-pre .0) (at-loop .inv .0))
+
+add-i : tie.Need-add-i Inv-loop μ-loop
+add-i c =
+    let at-line-end = c .before .line-end in
+    let at-args = c .before .before .before .before .args in
+    let at-loop = c .before .before .loop in
+    let at-pre = c .before .before .before .before .pre in
+    omega (arith, at-line-end .ensures .0, line-at-inside (at-args .s .now) (at-loop .i) (at-pre .0) (at-loop .inv .0))
 
 returns : tie.Need-returns Inv-loop μ-loop
 returns c =
     let at-loop = c .before .before .before .before .loop in
-    let s = c .before .before .before .before .before .before .args .s .now in
-    let at-loop-test = c .before .before .before .loop-test in
-    let at-if1 = c .before .before .if1 in
+    let at-args = c .before .before .before .before .before .before .args in
+    let at-line-end = c .before .before .before .line-end in
     let at-if2 = c .if2 in
-    rw (at-loop .inv .1, extent-step s (at-loop .taken) (at-loop .i) (at-loop-test .taken), at-if1 .left, ne-eqb _ _ (at-if2 .taken))
-
-sub-first-line : tie.Need-sub-first-line Inv-loop μ-loop
-sub-first-line c = search needs
-
-part-first-line-start : tie.Need-part-first-line-start Inv-loop μ-loop
-part-first-line-start c = search needs
-
-part-first-line-end : tie.Need-part-first-line-end Inv-loop μ-loop
-part-first-line-end c = search needs
-
-first-line-requires : tie.Need-first-line-requires Inv-loop μ-loop
-first-line-requires c κs = search needs
-
-add-i : tie.Need-add-i Inv-loop μ-loop
-add-i c =
-    let s = c .before .before .before .before .before .before .before .args .s .now in
-    let at-loop = c .before .before .before .before .before .loop in
-    let at-first-line = c .before .first-line in
-    let at-pre = c .before .before .before .before .before .before .before .pre in
-    let at-loop-test = c .before .before .before .before .loop-test in
-    let e = rw (rest s (at-loop .i)) at (at-first-line .ensures .0) in omega (arith, line-at-inside s (at-loop .i) at-pre (at-loop-test .taken))
-
-add-i-2 : tie.Need-add-i-2 Inv-loop μ-loop
-add-i-2 c =
-    let s = c .before .before .before .before .before .before .before .args .s .now in
-    let at-loop = c .before .before .before .before .before .loop in
-    let at-first-line = c .before .first-line in
-    let at-pre = c .before .before .before .before .before .before .before .pre in
-    let at-loop-test = c .before .before .before .before .loop-test in
-    let e = rw (rest s (at-loop .i)) at (at-first-line .ensures .0) in omega (arith, line-at-inside s (at-loop .i) at-pre (at-loop-test .taken))
-
-loop-less : tie.Need-loop-less Inv-loop μ-loop
-loop-less c =
-    let s = c .before .before .before .before .before .before .before .args .s .now in
-    let at-loop = c .before .before .before .before .before .loop in
-    let at-first-line = c .before .first-line in
-    let at-pre = c .before .before .before .before .before .before .before .pre in
-    let at-loop-test = c .before .before .before .before .loop-test in
-    let e = rw (rest s (at-loop .i)) at (at-first-line .ensures .0) in omega (arith, line-at-inside s (at-loop .i) at-pre (at-loop-test .taken))
-
-loop-again : tie.Need-loop-again Inv-loop μ-loop
-loop-again c =
-    let s = c .before .before .before .before .before .before .before .args .s .now in
-    let at-loop = c .before .before .before .before .before .loop in
-    let at-first-line = c .before .first-line in
-    let at-if1 = c .before .before .before .if1 in
-    let at-pre = c .before .before .before .before .before .before .before .pre in
-    let at-loop-test = c .before .before .before .before .loop-test in
-    let e = rw (rest s (at-loop .i)) at (at-first-line .ensures .0) in let g = rw (rest s (at-loop .i)) at (at-first-line .ensures .1) in
-    let t : at-loop .taken || eqb (getD s (at-loop .i) 0) 43 ≡ true = ⊎-elim (λ w. rw (w .taken)) (λ w. rw (w .0 .left, eq-eqb _ _ (w .2 .left))) (at-if1 .came) in
-    (omega (arith, line-at-inside s (at-loop .i) at-pre (at-loop-test .taken)), rw (at-loop .inv .1, extent-step s (at-loop .taken) (at-loop .i) (at-loop-test .taken), t, ← g, ← e, add-one))
+    let at-if1 = c .before .if1 in
+    rw (at-loop .inv .3, extent-past (at-args .s .now) (at-loop .i) (at-line-end .result) (at-loop .inv .0) (at-loop .inv .1) (at-loop .inv .2) (at-line-end .ensures .0), at-if2 .taken, extent-end (at-args .s .now) true (at-line-end .result + 1) (omega (arith, at-if1 .taken)))
 
 returns-2 : tie.Need-returns-2 Inv-loop μ-loop
 returns-2 c =
-    let at-loop = c .before .before .loop in
-    let s = c .before .before .before .before .args .s .now in
-    let at-loop-test = c .before .loop-test in
+    let at-loop = c .before .before .before .before .loop in
+    let at-args = c .before .before .before .before .before .before .args in
+    let at-line-end = c .before .before .before .line-end in
+    let at-if2 = c .if2 in
+    let at-if1 = c .before .if1 in
+    rw (at-loop .inv .3, extent-past (at-args .s .now) (at-loop .i) (at-line-end .result) (at-loop .inv .0) (at-loop .inv .1) (at-loop .inv .2) (at-line-end .ensures .0), at-if2 .left, extent-end (at-args .s .now) false (at-line-end .result + 1) (omega (arith, at-if1 .taken)))
+
+loop-less : tie.Need-loop-less Inv-loop μ-loop
+loop-less c =
+    let at-line-end = c .before .before .before .line-end in
+    let at-args = c .before .before .before .before .before .before .args in
+    let at-loop = c .before .before .before .before .loop in
+    let at-pre = c .before .before .before .before .before .before .pre in
+    omega (arith, at-line-end .ensures .0, line-at-inside (at-args .s .now) (at-loop .i) (at-pre .0) (at-loop .inv .0))
+
+loop-again : tie.Need-loop-again Inv-loop μ-loop
+loop-again c =
+    let at-line-end = c .before .before .before .line-end in
+    let at-if1 = c .before .if1 in
+    let at-args = c .before .before .before .before .before .before .args in
+    let at-loop = c .before .before .before .before .loop in
+    let at-pre = c .before .before .before .before .before .before .pre in
     let at-if3 = c .if3 in
-    rw (at-loop .inv .1, extent-end s (at-loop .taken) (at-loop .i) (at-loop-test .left), at-if3 .taken)
+    (omega (arith, at-line-end .ensures .0, at-if1 .left, line-at-inside (at-args .s .now) (at-loop .i) (at-pre .0) (at-loop .inv .0)), omega arith, newline-before (at-args .s .now) (at-line-end .result) (at-line-end .ensures .1), rw (at-loop .inv .3, extent-past (at-args .s .now) (at-loop .i) (at-line-end .result) (at-loop .inv .0) (at-loop .inv .1) (at-loop .inv .2) (at-line-end .ensures .0), at-if3 .taken))
+
+shared-slice-read-if4 : tie.Need-shared-slice-read-if4 Inv-loop μ-loop
+shared-slice-read-if4 c =
+    let at-line-end = c .before .before .before .before .line-end in
+    let at-if1 = c .before .before .if1 in
+    let at-args = c .before .before .before .before .before .before .before .args in
+    let at-loop = c .before .before .before .before .before .loop in
+    let at-pre = c .before .before .before .before .before .before .before .pre in
+    omega (arith, at-line-end .ensures .0, at-if1 .left, line-at-inside (at-args .s .now) (at-loop .i) (at-pre .0) (at-loop .inv .0))
 
 returns-3 : tie.Need-returns-3 Inv-loop μ-loop
 returns-3 c =
-    let at-loop = c .before .before .loop in
-    let s = c .before .before .before .before .args .s .now in
-    let at-loop-test = c .before .loop-test in
-    let at-if3 = c .if3 in
-    rw (at-loop .inv .1, extent-end s (at-loop .taken) (at-loop .i) (at-loop-test .left), at-if3 .left)
+    let at-loop = c .before .before .before .before .before .before .loop in
+    let at-args = c .before .before .before .before .before .before .before .before .args in
+    let at-line-end = c .before .before .before .before .before .line-end in
+    let at-if3 = c .before .before .if3 in
+    let at-if1 = c .before .before .before .if1 in
+    let at-pre = c .before .before .before .before .before .before .before .before .pre in
+    let at-if4 = c .if4 in
+    rw (at-loop .inv .3, extent-past (at-args .s .now) (at-loop .i) (at-line-end .result) (at-loop .inv .0) (at-loop .inv .1) (at-loop .inv .2) (at-line-end .ensures .0), at-if3 .left, extent-step (at-args .s .now) false (at-line-end .result + 1) (omega (arith, at-line-end .ensures .0, at-if1 .left, line-at-inside (at-args .s .now) (at-loop .i) (at-pre .0) (at-loop .inv .0))), ne-eqb _ _ (at-if4 .taken))
+
+loop-less-2 : tie.Need-loop-less-2 Inv-loop μ-loop
+loop-less-2 c =
+    let at-line-end = c .before .before .before .before .before .line-end in
+    let at-args = c .before .before .before .before .before .before .before .before .args in
+    let at-loop = c .before .before .before .before .before .before .loop in
+    let at-pre = c .before .before .before .before .before .before .before .before .pre in
+    omega (arith, at-line-end .ensures .0, line-at-inside (at-args .s .now) (at-loop .i) (at-pre .0) (at-loop .inv .0))
+
+loop-again-2 : tie.Need-loop-again-2 Inv-loop μ-loop
+loop-again-2 c =
+    let at-line-end = c .before .before .before .before .before .line-end in
+    let at-args = c .before .before .before .before .before .before .before .before .args in
+    let at-if1 = c .before .before .before .if1 in
+    let at-loop = c .before .before .before .before .before .before .loop in
+    let at-pre = c .before .before .before .before .before .before .before .before .pre in
+    let at-if3 = c .before .before .if3 in
+    let at-if4 = c .if4 in
+    let h : at-line-end .result + 1 < length (at-args .s .now) = omega (arith, at-line-end .ensures .0, at-if1 .left, line-at-inside (at-args .s .now) (at-loop .i) (at-pre .0) (at-loop .inv .0)) in
+    (h, omega arith, newline-before (at-args .s .now) (at-line-end .result) (at-line-end .ensures .1), rw (at-loop .inv .3, extent-past (at-args .s .now) (at-loop .i) (at-line-end .result) (at-loop .inv .0) (at-loop .inv .1) (at-loop .inv .2) (at-line-end .ensures .0), at-if3 .left, extent-plus (at-args .s .now) (at-line-end .result + 1) h (at-if4 .left)))
 
 pub field-extent-spec : {M : Type 1} → statement M
 field-extent-spec =
@@ -114,15 +143,15 @@ field-extent-spec =
     Inv-loop
     μ-loop
     loop-holds
-    shared-slice-read-if2
-    returns
-    sub-first-line
-    part-first-line-start
-    part-first-line-end
-    first-line-requires
+    line-end-requires
+    sub-taken
+    shared-slice-read-taken
     add-i
-    add-i-2
+    returns
+    returns-2
     loop-less
     loop-again
-    returns-2
-    returns-3)
+    shared-slice-read-if4
+    returns-3
+    loop-less-2
+    loop-again-2)

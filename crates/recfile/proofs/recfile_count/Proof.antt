@@ -17,13 +17,13 @@ enum-known-c-2 : tie.Need-enum-known-c-2
 enum-known-c-2 c = search needs
 
 returns : tie.Need-returns
-returns c = 
+returns c =
     let at-count = c .before .before .before .count in
     let at-c = c .before .c in
     count-tells (at-count .result) _ _ (at-count .ensures) (at-c .given .1)
 
 returns-2 : tie.Need-returns-2
-returns-2 c = 
+returns-2 c =
     let at-count = c .before .before .before .count in
     let at-c2 = c .before .c2 in
     count-tells (at-count .result) _ _ (at-count .ensures) (at-c2 .given .1)

@@ -20,7 +20,7 @@ same-length : tie.Need-same-length
 same-length c = search needs
 
 returns : tie.Need-returns
-returns c = 
+returns c =
     let at-edit = c .before .before .before .before .before .edit in
     let at-e = c .before .e in
     edit-tells (at-edit .result) _ _ _ _ (at-edit .ensures) (at-e .given .1)
@@ -29,7 +29,7 @@ same-length-2 : tie.Need-same-length-2
 same-length-2 c = search needs
 
 returns-2 : tie.Need-returns-2
-returns-2 c = 
+returns-2 c =
     let at-edit = c .before .before .before .before .before .edit in
     let at-e2 = c .before .e2 in
     edit-tells (at-edit .result) _ _ _ _ (at-edit .ensures) (at-e2 .given .1)

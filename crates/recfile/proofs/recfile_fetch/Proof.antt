@@ -20,7 +20,7 @@ same-length : tie.Need-same-length
 same-length c = search needs
 
 returns : tie.Need-returns
-returns c = 
+returns c =
     let at-fetch = c .before .before .before .before .before .fetch in
     let at-f = c .before .f in
     fetch-fills (at-fetch .result) _ _ _ (at-fetch .ensures) (at-f .given .1)
@@ -29,7 +29,7 @@ same-length-2 : tie.Need-same-length-2
 same-length-2 c = search needs
 
 returns-2 : tie.Need-returns-2
-returns-2 c = 
+returns-2 c =
     let at-fetch = c .before .before .before .before .before .fetch in
     let at-f2 = c .before .f2 in
     fetch-fills (at-fetch .result) _ _ _ (at-fetch .ensures) (at-f2 .given .1)

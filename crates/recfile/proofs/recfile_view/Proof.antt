@@ -15,7 +15,7 @@ enum-known-v : tie.Need-enum-known-v
 enum-known-v c = search needs
 
 sub-result : tie.Need-sub-result
-sub-result c = 
+sub-result c =
     let at-args = c .before .before .before .before .before .before .args in
     let at-view-place = c .before .before .before .view-place in
     let at-v = c .before .v in
@@ -25,14 +25,14 @@ enum-known-v-2 : tie.Need-enum-known-v-2
 enum-known-v-2 c = search needs
 
 returns : tie.Need-returns
-returns c = 
+returns c =
     let at-args = c .before .before .before .before .before .before .args in
     let at-view-place = c .before .before .before .view-place in
     let at-v = c .before .v in
     view-tells (take (at-args .used) (at-args .buf .now)) (at-view-place .result) _ (at-view-place .ensures) (at-v .given .0 .0) (at-v .given .0 .1 .0) (at-v .given .1)
 
 returns-2 : tie.Need-returns-2
-returns-2 c = 
+returns-2 c =
     let at-args = c .before .before .before .before .before .before .args in
     let at-view-place = c .before .before .before .view-place in
     let at-v2 = c .before .v2 in

@@ -20,7 +20,7 @@ same-length : tie.Need-same-length
 same-length c = search needs
 
 returns : tie.Need-returns
-returns c = 
+returns c =
     let at-write-record = c .before .before .before .before .before .write-record in
     let at-w = c .before .w in
     write-fills (at-write-record .result) _ _ _ (at-write-record .ensures) (at-w .given .1)
@@ -29,7 +29,7 @@ same-length-2 : tie.Need-same-length-2
 same-length-2 c = search needs
 
 returns-2 : tie.Need-returns-2
-returns-2 c = 
+returns-2 c =
     let at-write-record = c .before .before .before .before .before .write-record in
     let at-w2 = c .before .w2 in
     write-fills (at-write-record .result) _ _ _ (at-write-record .ensures) (at-w2 .given .1)

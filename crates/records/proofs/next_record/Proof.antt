@@ -1,88 +1,197 @@
--- `records::next_record` meets its contract: the first field and the run behind it give the first place.
-use native.Mathlib.Omega.{arith}
-use mathlib.Core.Path.{sym, _∙_}
-use Rattle.records.proofs.Readings.{part-readable}
-use Rattle.records.proofs.Firsts.{lead-inside, lead-readable, next-nothing, next-found}
+-- `records::next_record` meets its contract. The invariant: the part from i on is readable, and what stands before its first field is what is left.
+-- The measure is what is left of the length.
 use borrow.Author.Needs.{needs}
+use Prim.Native.Nat.{_+_, _-_, _≤_}
+use native.Mathlib.Omega.{arith}
+use mathlib.Core.Path.{_≡_, sym}
+use mathlib.Core.Bool.{true}
+use lib.ListN.{length, drop}
+use Rattle.format.specs.Pieces.{Piece}
+use Rattle.records.specs.Places.{isReadable}
+use Rattle.records.specs.Walk.{leadSize}
+use Rattle.records.proofs.Walks.{blank-loose, comment-loose}
+use Rattle.records.proofs.Readings.{part-ended}
+use Rattle.records.proofs.Steps.{part-formed, walks, lead-loose}
+use Rattle.records.proofs.Firsts.{next-nothing, next-found}
 use Rattle.records.proofs.next_record.Statement.{statement}
 use Rattle.records.proofs.next_record.Tie as tie
 use Rattle.records.proofs.next_record.Reads as reads
 use Rattle.records.proofs.next_record.Lts as lts
-use Rattle.records.proofs.first_field.Reads as first-field-reads
+use Rattle.lines.proofs.next_step.Reads as next-step-reads
+use Rattle.records.proofs.is_rec.Reads as is-rec-reads
 use Rattle.records.proofs.record_run.Reads as record-run-reads
 
-first-field-requires : tie.Need-first-field-requires
-first-field-requires c κs = search needs
+abbrev Inv-loop : tie.InvT-loop
+Inv-loop table s i₀ i = (i ≤ length s) × (isReadable (drop i s) ≡ true) × (leadSize s ≡ i + leadSize (drop i s))
 
-returns : tie.Need-returns
-returns c =
+abbrev μ-loop : tie.MeasureT-loop
+μ-loop table s i₀ i = length s - i
+
+loop-holds : tie.Need-loop-holds Inv-loop μ-loop
+loop-holds c =
+    let at-pre = c .before .pre in
+    (omega arith, at-pre .1, omega arith)
+
+sub-next-step : tie.Need-sub-next-step Inv-loop μ-loop
+sub-next-step c = search needs
+
+part-next-step-start : tie.Need-part-next-step-start Inv-loop μ-loop
+part-next-step-start c = search needs
+
+part-next-step-end : tie.Need-part-next-step-end Inv-loop μ-loop
+part-next-step-end c = search needs
+
+next-step-requires : tie.Need-next-step-requires Inv-loop μ-loop
+next-step-requires c κs =
     let at-args = c .before .before .before .args in
-    let at-pre = c .before .before .before .pre in
-    let at-first-field = c .before .first-field in
-    let at-if1 = c .if1 in
-    sym (next-nothing (at-args .s .now) (at-pre .1) (sym (at-first-field .ensures) ∙ at-if1 .taken))
+    let at-loop = c .before .loop in
+    (part-ended (at-args .s .now) (at-loop .i) (at-loop .inv .1), part-formed (at-args .s .now) (at-loop .i) (at-loop .inv .1))
 
-sub-record-run : tie.Need-sub-record-run
-sub-record-run c =
-    let at-first-field = c .before .first-field in
-    let at-args = c .before .before .before .args in
-    let at-pre = c .before .before .before .pre in
-    omega (arith, at-first-field .ensures, lead-inside (at-args .s .now) (at-pre .1))
+enum-known-n : tie.Need-enum-known-n Inv-loop μ-loop
+enum-known-n c = search needs
 
-part-record-run-start : tie.Need-part-record-run-start
-part-record-run-start c =
-    let at-first-field = c .before .first-field in
-    let at-args = c .before .before .before .args in
-    let at-pre = c .before .before .before .pre in
-    omega (arith, at-first-field .ensures, lead-inside (at-args .s .now) (at-pre .1))
+add-i : tie.Need-add-i Inv-loop μ-loop
+add-i c =
+    let at-args = c .before .before .before .before .before .before .before .args in
+    let at-loop = c .before .before .before .before .before .loop in
+    let at-next-step = c .before .before .before .next-step in
+    let at-n = c .before .n in
+    let p = walks (at-args .s .now) (at-loop .i) (at-next-step .result) (at-loop .inv .1) (at-next-step .ensures) (at-n .given .1) in
+    omega (arith, p .1 .inside)
 
-part-record-run-end : tie.Need-part-record-run-end
-part-record-run-end c = search needs
+loop-less : tie.Need-loop-less Inv-loop μ-loop
+loop-less c =
+    let at-args = c .before .before .before .before .before .before .before .args in
+    let at-loop = c .before .before .before .before .before .loop in
+    let at-next-step = c .before .before .before .next-step in
+    let at-n = c .before .n in
+    let p = walks (at-args .s .now) (at-loop .i) (at-next-step .result) (at-loop .inv .1) (at-next-step .ensures) (at-n .given .1) in
+    omega (arith, p .1 .inside, p .1 .moves)
 
-record-run-requires : tie.Need-record-run-requires
+loop-again : tie.Need-loop-again Inv-loop μ-loop
+loop-again c =
+    let at-args = c .before .before .before .before .before .before .before .args in
+    let at-loop = c .before .before .before .before .before .loop in
+    let at-next-step = c .before .before .before .next-step in
+    let at-n = c .before .n in
+    let p = walks (at-args .s .now) (at-loop .i) (at-next-step .result) (at-loop .inv .1) (at-next-step .ensures) (at-n .given .1) in
+    (p .1 .inside, p .1 .readable, omega (arith, at-loop .inv .2, lead-loose (at-args .s .now) (at-loop .i) (Piece.blank (p .0)) (at-n .given .0 .0) (blank-loose (p .0)) (p .1)))
+
+enum-known-n-2 : tie.Need-enum-known-n-2 Inv-loop μ-loop
+enum-known-n-2 c = search needs
+
+add-i-2 : tie.Need-add-i-2 Inv-loop μ-loop
+add-i-2 c =
+    let at-args = c .before .before .before .before .before .before .before .args in
+    let at-loop = c .before .before .before .before .before .loop in
+    let at-next-step = c .before .before .before .next-step in
+    let at-n2 = c .before .n2 in
+    let p = walks (at-args .s .now) (at-loop .i) (at-next-step .result) (at-loop .inv .1) (at-next-step .ensures) (at-n2 .given .1) in
+    omega (arith, p .1 .inside)
+
+loop-less-2 : tie.Need-loop-less-2 Inv-loop μ-loop
+loop-less-2 c =
+    let at-args = c .before .before .before .before .before .before .before .args in
+    let at-loop = c .before .before .before .before .before .loop in
+    let at-next-step = c .before .before .before .next-step in
+    let at-n2 = c .before .n2 in
+    let p = walks (at-args .s .now) (at-loop .i) (at-next-step .result) (at-loop .inv .1) (at-next-step .ensures) (at-n2 .given .1) in
+    omega (arith, p .1 .inside, p .1 .moves)
+
+loop-again-2 : tie.Need-loop-again-2 Inv-loop μ-loop
+loop-again-2 c =
+    let at-args = c .before .before .before .before .before .before .before .args in
+    let at-loop = c .before .before .before .before .before .loop in
+    let at-next-step = c .before .before .before .next-step in
+    let at-n2 = c .before .n2 in
+    let p = walks (at-args .s .now) (at-loop .i) (at-next-step .result) (at-loop .inv .1) (at-next-step .ensures) (at-n2 .given .1) in
+    (p .1 .inside, p .1 .readable, omega (arith, at-loop .inv .2, lead-loose (at-args .s .now) (at-loop .i) (Piece.comment (p .0)) (at-n2 .given .0 .0) (comment-loose (p .0)) (p .1)))
+
+enum-known-n-3 : tie.Need-enum-known-n-3 Inv-loop μ-loop
+enum-known-n-3 c = search needs
+
+sub-is-rec : tie.Need-sub-is-rec Inv-loop μ-loop
+sub-is-rec c = search needs
+
+part-is-rec-start : tie.Need-part-is-rec-start Inv-loop μ-loop
+part-is-rec-start c = search needs
+
+part-is-rec-end : tie.Need-part-is-rec-end Inv-loop μ-loop
+part-is-rec-end c = search needs
+
+is-rec-requires : tie.Need-is-rec-requires Inv-loop μ-loop
+is-rec-requires c κs = search needs
+
+add-record-run : tie.Need-add-record-run Inv-loop μ-loop
+add-record-run c =
+    let at-args = c .before .before .before .before .before .before .before .before .before .args in
+    let at-loop = c .before .before .before .before .before .before .before .loop in
+    let at-next-step = c .before .before .before .before .before .next-step in
+    let at-n3 = c .before .before .before .n3 in
+    let p = walks (at-args .s .now) (at-loop .i) (at-next-step .result) (at-loop .inv .1) (at-next-step .ensures) (at-n3 .given .1) in
+    omega (arith, p .1 .passed .inside)
+
+record-run-requires : tie.Need-record-run-requires Inv-loop μ-loop
 record-run-requires c κs =
-    let at-pre = c .before .before .before .before .pre in
-    let at-args = c .before .before .before .before .args in
-    let at-first-field = c .before .before .first-field in
-    (at-pre .0, part-readable (at-args .s .now) (at-first-field .result) (rw (at-first-field .ensures) (lead-readable (at-args .s .now) (at-pre .1))))
+    let at-args = c .before .before .before .before .before .before .before .before .before .args in
+    let at-loop = c .before .before .before .before .before .before .before .loop in
+    let at-next-step = c .before .before .before .before .before .next-step in
+    let at-n3 = c .before .before .before .n3 in
+    let at-pre = c .before .before .before .before .before .before .before .before .before .pre in
+    let p = walks (at-args .s .now) (at-loop .i) (at-next-step .result) (at-loop .inv .1) (at-next-step .ensures) (at-n3 .given .1) in
+    (at-pre .0, (p .1 .passed .inside, p .1 .passed .readable))
 
-add-t5 : tie.Need-add-t5
-add-t5 c =
-    let at-args = c .before .before .before .before .before .before .args in
-    let at-first-field = c .before .before .before .before .first-field in
-    let at-record-run = c .before .record-run in
-    let at-pre = c .before .before .before .before .before .before .pre in
-    let at-if1 = c .before .before .before .if1 in
-    omega (arith, next-found (at-args .s .now) (at-first-field .result) (at-record-run .result) (at-pre .1) (at-first-field .ensures) (at-if1 .left) (at-record-run .ensures) .1)
+returns : tie.Need-returns Inv-loop μ-loop
+returns c =
+    let at-args = c .before .before .before .before .before .before .before .before .before .before .args in
+    let at-loop = c .before .before .before .before .before .before .before .before .loop in
+    let at-next-step = c .before .before .before .before .before .before .next-step in
+    let at-n3 = c .before .before .before .before .n3 in
+    let at-is-rec = c .before .is-rec in
+    let at-record-run = c .record-run in
+    let at-pre = c .before .before .before .before .before .before .before .before .before .before .pre in
+    let p = walks (at-args .s .now) (at-loop .i) (at-next-step .result) (at-loop .inv .1) (at-next-step .ensures) (at-n3 .given .1) in
+    sym (next-found (at-args .s .now) (at-loop .i) (p .0) (at-n3 .given .0 .0) (at-is-rec .result) (at-record-run .result) (at-pre .1) (at-loop .inv .2) (p .1) (at-is-rec .ensures) (at-record-run .ensures))
 
-add-t10 : tie.Need-add-t10
-add-t10 c =
-    let at-args = c .before .before .before .before .before .before .before .args in
-    let at-first-field = c .before .before .before .before .before .first-field in
-    let at-record-run = c .before .before .record-run in
-    let at-pre = c .before .before .before .before .before .before .before .pre in
-    let at-if1 = c .before .before .before .before .if1 in
-    omega (arith, next-found (at-args .s .now) (at-first-field .result) (at-record-run .result) (at-pre .1) (at-first-field .ensures) (at-if1 .left) (at-record-run .ensures) .2)
+enum-told : tie.Need-enum-told Inv-loop μ-loop
+enum-told c = search needs
 
-returns-2 : tie.Need-returns-2
+returns-2 : tie.Need-returns-2 Inv-loop μ-loop
 returns-2 c =
-    let at-args = c .before .before .before .before .before .before .before .args in
-    let at-first-field = c .before .before .before .before .before .first-field in
-    let at-record-run = c .before .before .record-run in
-    let at-pre = c .before .before .before .before .before .before .before .pre in
-    let at-if1 = c .before .before .before .before .if1 in
-    sym (next-found (at-args .s .now) (at-first-field .result) (at-record-run .result) (at-pre .1) (at-first-field .ensures) (at-if1 .left) (at-record-run .ensures) .0)
+    let at-args = c .before .before .before .before .before .before .args in
+    let at-loop = c .before .before .before .before .loop in
+    let at-next-step = c .before .before .next-step in
+    let at-enum-told = c .enum-told in
+    let at-pre = c .before .before .before .before .before .before .pre in
+    let p = walks (at-args .s .now) (at-loop .i) (at-next-step .result) (at-loop .inv .1) (at-next-step .ensures) (at-enum-told .given .1) in
+    sym (next-nothing (at-args .s .now) (at-loop .i) (at-pre .1) (at-loop .inv .1) (at-loop .inv .0) (at-loop .inv .2) p)
 
 pub next-record-spec : {M : Type 1} → statement M
 next-record-spec =
     tie.close
     (tie.spec
-    first-field-requires
-    returns
-    sub-record-run
-    part-record-run-start
-    part-record-run-end
+    Inv-loop
+    μ-loop
+    loop-holds
+    sub-next-step
+    part-next-step-start
+    part-next-step-end
+    next-step-requires
+    enum-known-n
+    add-i
+    loop-less
+    loop-again
+    enum-known-n-2
+    add-i-2
+    loop-less-2
+    loop-again-2
+    enum-known-n-3
+    sub-is-rec
+    part-is-rec-start
+    part-is-rec-end
+    is-rec-requires
+    add-record-run
     record-run-requires
-    add-t5
-    add-t10
+    returns
+    enum-told
     returns-2)

@@ -1,10 +1,10 @@
 -- `requests::are_pairs` meets its contract. The invariant: they are pairs if those from i on are. The measure is what is left of the request.
+use Rattle.format.specs.Bytes.{isSome}
 use borrow.Author.Needs.{needs}
 use Prim.Native.Nat.{_-_}
 use native.Mathlib.Omega.{arith}
 use mathlib.Core.Path.{_≡_, refl, sym, _∙_}
 use lib.ListN.{length}
-use Rattle.format.specs.Questions.{isSome}
 use Rattle.requests.specs.Pairs.{pairsFrom}
 use Rattle.requests.proofs.Pairing.{pair-found, pair-missed, some-more, some-end}
 use Rattle.requests.proofs.are_pairs.Statement.{statement}

@@ -8,7 +8,7 @@ use mathlib.Core.Path.{_≡_, refl, sym, ap, _∙_}
 use mathlib.Core.Bool.{true}
 use lib.ListN.{length}
 use lib.Seq.{sets}
-use Rattle.format.specs.Questions.{isSome}
+use Rattle.format.specs.Bytes.{isSome}
 use Rattle.format.specs.Written.{written, writtenAll}
 use Rattle.lines.proofs.Over.{over-sets}
 use Rattle.writing.proofs.Texts.{length-put}

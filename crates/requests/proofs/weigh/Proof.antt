@@ -8,8 +8,7 @@ use mathlib.Core.Path.{_≡_, refl, sym, ap, _∙_}
 use mathlib.Core.Bool.{true}
 use mathlib.Core.List.{List}
 use lib.ListN.{length}
-use Rattle.format.specs.Bytes.{all}
-use Rattle.format.specs.Questions.{isSome}
+use Rattle.format.specs.Bytes.{all, isSome}
 use Rattle.format.specs.Written.{Pair, writtenAll, isLegalPair}
 use Rattle.requests.specs.Pairs.{pairsFrom, pairsAt, pairOf}
 use Rattle.requests.proofs.Pairing.{pair-found, pair-missed, some-more, list-more, list-end}

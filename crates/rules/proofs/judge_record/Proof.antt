@@ -15,7 +15,7 @@ use Rattle.lists.proofs.judge_names.Reads as judge-names-reads
 use Rattle.typed.proofs.record_typed.Reads as record-typed-reads
 
 judge-names-requires : tie.Need-judge-names-requires
-judge-names-requires c κs = 
+judge-names-requires c κs =
     let at-pre = c .before .before .before .before .before .before .before .before .before .pre in
     (at-pre .0, (at-pre .1 .1 .1 .0 .0, at-pre .1 .1 .0))
 
@@ -23,7 +23,7 @@ same-length : tie.Need-same-length
 same-length c = search needs
 
 returns : tie.Need-returns
-returns c = 
+returns c =
     let at-args = c .before .before .before .before .before .before .before .before .before .before .before .before .before .args in
     let at-pre = c .before .before .before .before .before .before .before .before .before .before .before .before .before .pre in
     let at-judge-names = c .before .before .before .judge-names in
@@ -34,7 +34,7 @@ same-length-2 : tie.Need-same-length-2
 same-length-2 c = search needs
 
 returns-2 : tie.Need-returns-2
-returns-2 c = 
+returns-2 c =
     let at-args = c .before .before .before .before .before .before .before .before .before .before .before .before .before .before .before .args in
     let at-pre = c .before .before .before .before .before .before .before .before .before .before .before .before .before .before .before .pre in
     let at-judge-names = c .before .before .before .before .before .judge-names in
@@ -43,7 +43,7 @@ returns-2 c =
     record-passes (recordIn (at-args .d .now)) (recordIn (at-args .r .now)) (at-pre .1 .0 .0 .well) (at-judge-names .result) (at-judge-names .ensures) (at-if1 .left) (typed-free (at-args .d .now) (recordIn (at-args .r .now)) (sym (at-pre .1 .0 .1 .listed .count) ∙ at-if2 .taken))
 
 record-typed-requires : tie.Need-record-typed-requires
-record-typed-requires c κs = 
+record-typed-requires c κs =
     let at-pre = c .before .before .before .before .before .before .before .before .before .before .before .before .before .before .before .before .before .pre in
     let at-args = c .before .before .before .before .before .before .before .before .before .before .before .before .before .before .before .before .before .args in
     (at-pre .0, (at-pre .1 .1 .1 .0 .0, (fields-fit (length (at-args .scratch .now)) (at-pre .1 .1 .1 .1 .0) (recordIn (at-args .r .now)) (at-pre .1 .1 .1 .0 .1), at-pre .1 .0 .1)))
@@ -58,7 +58,7 @@ same-length-5 : tie.Need-same-length-5
 same-length-5 c = search needs
 
 returns-3 : tie.Need-returns-3
-returns-3 c = 
+returns-3 c =
     let at-args = c .before .before .before .before .before .before .before .before .before .before .before .before .before .before .before .before .before .before .before .before .before .before .before .args in
     let at-pre = c .before .before .before .before .before .before .before .before .before .before .before .before .before .before .before .before .before .before .before .before .before .before .before .pre in
     let at-judge-names = c .before .before .before .before .before .before .before .before .before .before .before .before .before .judge-names in
@@ -77,7 +77,7 @@ same-length-8 : tie.Need-same-length-8
 same-length-8 c = search needs
 
 returns-4 : tie.Need-returns-4
-returns-4 c = 
+returns-4 c =
     let at-args = c .before .before .before .before .before .before .before .before .before .before .before .before .before .before .before .before .before .before .before .before .before .before .before .args in
     let at-pre = c .before .before .before .before .before .before .before .before .before .before .before .before .before .before .before .before .before .before .before .before .before .before .before .pre in
     let at-judge-names = c .before .before .before .before .before .before .before .before .before .before .before .before .before .judge-names in

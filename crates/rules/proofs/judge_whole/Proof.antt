@@ -21,7 +21,7 @@ use Rattle.setkeys.proofs.keys_distinct.Reads as keys-distinct-reads
 use Rattle.shapes.proofs.size_met.Reads as size-met-reads
 
 keys-distinct-requires : tie.Need-keys-distinct-requires
-keys-distinct-requires c κs = 
+keys-distinct-requires c κs =
     let at-pre = c .before .before .before .before .before .before .before .before .pre in
     let at-args = c .before .before .before .before .before .before .before .before .args in
     (at-pre .0, ((at-pre .1 .0 .1, key-few bits32 (recordIn (at-args .d .now)) (at-pre .1 .0 .0 .well)), ((at-pre .1 .1 .0 .0, at-pre .1 .1 .0 .1), (omega (arith, members-fit (at-args .rest .now) (at-pre .1 .1 .0 .0) (at-pre .1 .1 .0 .1), at-pre .1 .1 .1 .1), at-pre .1 .1 .0 .2))))
@@ -30,7 +30,7 @@ same-length : tie.Need-same-length
 same-length c = search needs
 
 returns : tie.Need-returns
-returns c = 
+returns c =
     let at-args = c .before .before .before .before .before .before .before .before .before .before .before .before .args in
     let at-keys-distinct = c .before .before .before .keys-distinct in
     let at-if1 = c .if1 in
@@ -40,7 +40,7 @@ slice-aggregate-find-field : tie.Need-slice-aggregate-find-field
 slice-aggregate-find-field c = search needs
 
 find-field-requires : tie.Need-find-field-requires
-find-field-requires c κs = 
+find-field-requires c κs =
     let at-pre = c .before .before .before .before .before .before .before .before .before .before .before .before .before .pre in
     (at-pre .0, at-pre .1 .0 .0 .reads)
 
@@ -54,7 +54,7 @@ same-length-2 : tie.Need-same-length-2
 same-length-2 c = search needs
 
 returns-2 : tie.Need-returns-2
-returns-2 c = 
+returns-2 c =
     let at-args = c .before .before .before .before .before .before .before .before .before .before .before .before .before .before .before .before .args in
     let at-keys-distinct = c .before .before .before .before .before .before .before .keys-distinct in
     let at-if1 = c .before .before .before .before .if1 in
@@ -64,12 +64,12 @@ returns-2 c =
     whole-free (recordIn (at-args .d .now)) (membersIn (at-args .rest .now)) (sym (at-keys-distinct .ensures) ∙ at-if1 .taken) (field-told (text "%size") (at-args .d .now) 0 (at-find-field .result) (at-pre .1 .0 .0 .reads) (at-find-field .ensures) (at-enum-told2 .given .1))
 
 count-records-requires : tie.Need-count-records-requires
-count-records-requires c κs = 
+count-records-requires c κs =
     let at-pre = c .before .before .before .before .before .before .before .before .before .before .before .before .before .before .before .before .pre in
     (at-pre .0, at-pre .1 .1 .0 .0)
 
 size-met-requires : tie.Need-size-met-requires
-size-met-requires c κs = 
+size-met-requires c κs =
     let at-pre = c .before .before .before .before .before .before .before .before .before .before .before .before .before .before .before .before .before .before .pre in
     (at-pre .0, (at-pre .1 .0 .0 .reads, (at-pre .1 .0 .0 .fits, at-pre .1 .1 .1 .0)))
 
@@ -80,7 +80,7 @@ same-length-4 : tie.Need-same-length-4
 same-length-4 c = search needs
 
 returns-3 : tie.Need-returns-3
-returns-3 c = 
+returns-3 c =
     let at-args = c .before .before .before .before .before .before .before .before .before .before .before .before .before .before .before .before .before .before .before .before .before .before .args in
     let at-keys-distinct = c .before .before .before .before .before .before .before .before .before .before .before .before .before .keys-distinct in
     let at-if1 = c .before .before .before .before .before .before .before .before .before .before .if1 in
@@ -96,7 +96,7 @@ same-length-6 : tie.Need-same-length-6
 same-length-6 c = search needs
 
 returns-4 : tie.Need-returns-4
-returns-4 c = 
+returns-4 c =
     let at-args = c .before .before .before .before .before .before .before .before .before .before .before .before .before .before .before .before .before .before .before .before .before .before .args in
     let at-keys-distinct = c .before .before .before .before .before .before .before .before .before .before .before .before .before .keys-distinct in
     let at-if1 = c .before .before .before .before .before .before .before .before .before .before .if1 in

@@ -2,8 +2,7 @@
 use native.Mathlib.Omega.{arith}
 use mathlib.Core.Path.{ap, _∙_}
 use lib.ListN.{length}
-use Rattle.format.specs.Bytes.{text}
-use Rattle.format.specs.Rules.{isDefined}
+use Rattle.format.specs.Bytes.{text, isSome}
 use Rattle.lines.specs.Value.{valueFrom}
 use Rattle.words.specs.Spans.{span}
 use Rattle.records.proofs.Fields.{field-told}
@@ -116,7 +115,7 @@ returns-4 c =
     let w = valueFrom (span (at-args .value) (at-args .end) d) in
     let e = end-kind (at-args .d .now) (at-args .targets .now) (at-pre .1 .1 .1 .1 .0) w (at-target-of .result) (at-target-of .ensures) (at-follow .result) (at-if1 .left) (at-if2 .left) (at-follow .ensures) (at-f .given .0 .0) (at-f .given .1) in
     let n = number-none (valuesFrom d (text "%typedef") 0) (at-f .given .0 .0) (field-told (text "%typedef") d (at-f .given .0 .0) (at-find-field .result) (at-pre .1 .0) (at-find-field .ensures) (at-enum-told .given .1)) in
-    absurd (contrary (at-pre .1 .1 .1 .1 .1) (ap isDefined (e ∙ ap kindOnly n)))
+    absurd (contrary (at-pre .1 .1 .1 .1 .1) (ap isSome (e ∙ ap kindOnly n)))
 
 typedef-at-requires-2 : tie.Need-typedef-at-requires-2
 typedef-at-requires-2 c κs =

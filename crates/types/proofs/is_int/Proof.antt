@@ -1,6 +1,6 @@
 -- `types::is_int` meets its contract.
+use Rattle.format.specs.Bytes.{isSome}
 use mathlib.Core.Path.{sym, ap, _∙_}
-use Rattle.format.specs.Types.{isInt}
 use Rattle.numbers.specs.Meaning.{intAnswer}
 use borrow.Author.Needs.{needs}
 use Rattle.types.proofs.is_int.Statement.{statement}
@@ -22,13 +22,13 @@ returns : tie.Need-returns
 returns c =
     let at-int-of = c .before .before .int-of in
     let at-enum-told = c .enum-told in
-    sym (ap isInt (sym (at-int-of .ensures) ∙ ap intAnswer (at-enum-told .given .1)))
+    sym (ap isSome (sym (at-int-of .ensures) ∙ ap intAnswer (at-enum-told .given .1)))
 
 returns-2 : tie.Need-returns-2
 returns-2 c =
     let at-int-of = c .before .before .int-of in
     let at-enum-told2 = c .enum-told2 in
-    sym (ap isInt (sym (at-int-of .ensures) ∙ ap intAnswer (at-enum-told2 .given .1)))
+    sym (ap isSome (sym (at-int-of .ensures) ∙ ap intAnswer (at-enum-told2 .given .1)))
 
 pub is-int-spec : {M : Type 1} → statement M
 is-int-spec = tie.close (tie.spec int-of-requires enum-told enum-told-2 returns returns-2)

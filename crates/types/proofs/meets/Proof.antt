@@ -5,10 +5,10 @@ use Prim.Native.Nat.{ℕ}
 use native.Mathlib.Omega.{arith}
 use lib.Dec.{eqb}
 use lib.ListN.{length}
-use Rattle.format.specs.Bytes.{Bytes, among}
+use Rattle.format.specs.Bytes.{Bytes, among, isSome}
 use Rattle.format.specs.Lines.{isName}
 use Rattle.format.specs.Numbers.{bits32, intOf, isReal}
-use Rattle.format.specs.Types.{isInt, isInRange, truths, isUuid, uncomment}
+use Rattle.format.specs.Types.{isInRange, truths, isUuid, uncomment}
 use Rattle.words.specs.Spans.{span}
 use Rattle.numbers.specs.Meaning.{intIn}
 use Rattle.types.specs.Meaning.{symbolsIn}
@@ -183,7 +183,7 @@ returns c =
     let at-trimmed = c .before .before .before .before .trimmed in
     let at-args = c .before .before .before .before .before .before .before .args in
     let at-enum-told = c .before .before .enum-told in
-    at-is-int .ensures ∙ (ap (λ (w : Bytes). isInt (intOf bits32 w)) (at-trimmed .ensures .2) ∙ meets-shape (at-args .text .now) (at-args .v .now) (at-enum-told .given .1))
+    at-is-int .ensures ∙ (ap (λ (w : Bytes). isSome (intOf bits32 w)) (at-trimmed .ensures .2) ∙ meets-shape (at-args .text .now) (at-args .v .now) (at-enum-told .given .1))
 
 returns-2 : tie.Need-returns-2
 returns-2 c =

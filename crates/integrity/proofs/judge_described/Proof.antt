@@ -1,0 +1,94 @@
+-- `integrity::judge_described` meets its contract, question by question.
+use native.Mathlib.Omega.{arith}
+use mathlib.Core.Path.{sym, _∙_}
+use Rattle.format.specs.Records.{records}
+use Rattle.records.specs.Walk.{readOf}
+use Rattle.integrity.proofs.Staging.{well-no, types-no, sets-no}
+use borrow.Author.Needs.{needs}
+use Rattle.integrity.proofs.judge_described.Statement.{statement}
+use Rattle.integrity.proofs.judge_described.Tie as tie
+use Rattle.integrity.proofs.judge_described.Reads as reads
+use Rattle.integrity.proofs.judge_described.Lts as lts
+use Rattle.integrity.proofs.judge_sets.Reads as judge-sets-reads
+use Rattle.integrity.proofs.types_defined.Reads as types-defined-reads
+use Rattle.shapes.proofs.described_well.Reads as described-well-reads
+
+slice-aggregate-described-well : tie.Need-slice-aggregate-described-well
+slice-aggregate-described-well c = search needs
+
+described-well-requires : tie.Need-described-well-requires
+described-well-requires c κs =
+    let at-pre = c .before .before .pre in
+    (at-pre .0, (at-pre .1 .0 .0, (at-pre .1 .1 .0 .0, (at-pre .1 .1 .1, omega arith))))
+
+returns : tie.Need-returns
+returns c =
+    let at-args = c .before .before .before .before .before .args in
+    let at-pre = c .before .before .before .before .before .pre in
+    let at-described-well = c .before .before .described-well in
+    let at-if1 = c .if1 in
+    well-no (records (readOf (at-args .s .now))) (at-pre .1 .1 .0 .0) (at-pre .1 .1 .0 .1) (sym (at-described-well .ensures .0) ∙ at-if1 .left)
+
+slice-aggregate-types-defined : tie.Need-slice-aggregate-types-defined
+slice-aggregate-types-defined c = search needs
+
+types-defined-requires : tie.Need-types-defined-requires
+types-defined-requires c κs =
+    let at-pre = c .before .before .before .before .before .before .pre in
+    let at-described-well = c .before .before .before .described-well in
+    (at-pre .0, (at-pre .1 .0 .0, (at-pre .1 .1 .0 .0, (at-pre .1 .1 .1, omega (arith, at-described-well .ensures .1)))))
+
+returns-2 : tie.Need-returns-2
+returns-2 c =
+    let at-args = c .before .before .before .before .before .before .before .before .before .args in
+    let at-pre = c .before .before .before .before .before .before .before .before .before .pre in
+    let at-described-well = c .before .before .before .before .before .before .described-well in
+    let at-if1 = c .before .before .before .before .if1 in
+    let at-types-defined = c .before .before .types-defined in
+    let at-if2 = c .if2 in
+    types-no (records (readOf (at-args .s .now))) (at-pre .1 .1 .0 .0) (at-pre .1 .1 .0 .1) (sym (at-described-well .ensures .0) ∙ at-if1 .taken) (sym (at-types-defined .ensures) ∙ at-if2 .left)
+
+slice-aggregate-judge-sets : tie.Need-slice-aggregate-judge-sets
+slice-aggregate-judge-sets c = search needs
+
+slice-aggregate-judge-sets-2 : tie.Need-slice-aggregate-judge-sets-2
+slice-aggregate-judge-sets-2 c = search needs
+
+slice-aggregate-judge-sets-3 : tie.Need-slice-aggregate-judge-sets-3
+slice-aggregate-judge-sets-3 c = search needs
+
+judge-sets-requires : tie.Need-judge-sets-requires
+judge-sets-requires c κs =
+    let at-pre = c .before .before .before .before .before .before .before .before .before .before .before .before .pre in
+    let at-described-well = c .before .before .before .before .before .before .before .before .before .described-well in
+    let at-if1 = c .before .before .before .before .before .before .before .if1 in
+    let at-types-defined = c .before .before .before .before .before .types-defined in
+    let at-if2 = c .before .before .before .if2 in
+    (at-pre .0, (at-pre .1 .0, (record { fit = at-pre .1 .1 .0 .0; well = sym (at-described-well .ensures .0) ∙ at-if1 .taken; types = sym (at-types-defined .ensures) ∙ at-if2 .taken }, (at-pre .1 .1 .1, (omega (arith, at-described-well .ensures .1), omega arith, omega arith)))))
+
+returns-3 : tie.Need-returns-3
+returns-3 c =
+    let at-judge-sets = c .before .before .before .judge-sets in
+    let at-args = c .before .before .before .before .before .before .before .before .before .before .before .before .before .before .before .before .args in
+    let at-pre = c .before .before .before .before .before .before .before .before .before .before .before .before .before .before .before .before .pre in
+    let at-described-well = c .before .before .before .before .before .before .before .before .before .before .before .before .before .described-well in
+    let at-if1 = c .before .before .before .before .before .before .before .before .before .before .before .if1 in
+    let at-types-defined = c .before .before .before .before .before .before .before .before .before .types-defined in
+    let at-if2 = c .before .before .before .before .before .before .before .if2 in
+    at-judge-sets .ensures ∙ sets-no (records (readOf (at-args .s .now))) (at-pre .1 .1 .0 .0) (at-pre .1 .1 .0 .1) (sym (at-described-well .ensures .0) ∙ at-if1 .taken) (sym (at-types-defined .ensures) ∙ at-if2 .taken)
+
+pub judge-described-spec : {M : Type 1} → statement M
+judge-described-spec =
+    tie.close
+    (tie.spec
+    slice-aggregate-described-well
+    described-well-requires
+    returns
+    slice-aggregate-types-defined
+    types-defined-requires
+    returns-2
+    slice-aggregate-judge-sets
+    slice-aggregate-judge-sets-2
+    slice-aggregate-judge-sets-3
+    judge-sets-requires
+    returns-3)

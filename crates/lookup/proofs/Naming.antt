@@ -1,0 +1,184 @@
+-- The sets' names, by the places of the descriptors.
+use Prim.Native.Nat.{ℕ, zero, suc, _+_, _-_, _≤_, _<_}
+use native.Mathlib.Omega.{arith}
+use mathlib.Core.Path.{_≡_, refl, sym, ap, _∙_, subst}
+use mathlib.Core.Bool.{Bool, true, false}
+use mathlib.Core.List.{List, [], _∷_}
+use lib.Dec.{ltb, leb}
+use lib.ListN.{length, take, drop, length-drop, length-append}
+use borrow.Author.Tests.{lt-ltb, le-ltb, le-leb, lt-leb}
+use Rattle.format.specs.Bytes.{Bytes, text, pick}
+use Rattle.format.specs.Pieces.{Piece}
+use Rattle.format.specs.Records.{Record, fieldsOf}
+use Rattle.format.specs.Sets.{RecSet, valuesOf, sets}
+use Rattle.format.specs.Words.{notGap, frontIf, front, firstWord}
+use Rattle.format.specs.Questions.{firstNo, verdict}
+use Rattle.format.specs.Calls.{Answer, fileThen, partsOf, over, Filled, filled}
+use Rattle.format.proofs.Sets.{GoodSets, good-sets}
+use Rattle.lines.specs.Value.{valueFrom}
+use Rattle.lines.proofs.Decoding.{value-length}
+use Rattle.records.specs.Places.{isReadable, Placed, placesOf, isThere}
+use Rattle.records.specs.Walk.{recordIn}
+use Rattle.records.specs.declared.Place.{Place}
+use Rattle.records.specs.declared.FoundRecord.{FoundRecord}
+use Rattle.records.proofs.Shifts.{raise, fieldsIn}
+use Rattle.records.proofs.Readings.{reads-of}
+use Rattle.records.proofs.Searches.{placesAt, Stand, Met}
+use Rattle.records.proofs.Members.{sets-places, Stands, stands, others, othersBy, others-enter}
+use Rattle.records.proofs.Fields.{FieldFound}
+use Rattle.lookup.specs.declared.Fetched.{Fetched}
+use Rattle.lookup.specs.Answers.{fetchedAnswer, partsIn}
+use Rattle.lookup.specs.Names.{nameAt, orderRow, nameRow, listed, nameIn, nameAnswer, titled, descriptorBy, descriptorAt}
+
+-- the search for descriptor k, record by record
+module _ (s : Bytes) (i : ℕ) where
+  pub descriptor-end : (k : ℕ) → placesAt s i ≡ [] → descriptorAt (placesAt s i) k ≡ FoundRecord.Missing
+  unfolding descriptorAt
+  descriptor-end k e = ap (λ (ps : List Placed). descriptorAt ps k) e
+
+  module _ (q : Place) (m : Met s i q) where
+    by : Bool → ℕ → FoundRecord
+    by b k = descriptorBy b k (raise i (m .here)) (λ (j : ℕ). descriptorAt (placesAt s (i + q .after)) j)
+
+    descriptor-on : (k : ℕ) (b : Bool) → q .descriptor ≡ b → descriptorAt (placesAt s i) k ≡ by b k
+    unfolding descriptorAt by
+    descriptor-on k b d = ap (λ (ps : List Placed). descriptorAt ps k) (m .places) ∙ ap (λ (x : Bool). by x k) (ap (λ (x : Place). x .descriptor) (m .is) ∙ d)
+
+    pub descriptor-passed : (k : ℕ) → q .descriptor ≡ false → descriptorAt (placesAt s i) k ≡ descriptorAt (placesAt s (i + q .after)) k
+    unfolding by
+    descriptor-passed k d = descriptor-on k false d
+
+    pub descriptor-here : (k : ℕ) → q .descriptor ≡ true → k ≡ 0 → descriptorAt (placesAt s i) k ≡ FoundRecord.At (record { start = i + q .start; end = i + q .end; after = i + q .after; descriptor = true })
+    unfolding by
+    descriptor-here k d z =
+        descriptor-on k true d ∙ ap (by true) z
+        ∙ (λ t. FoundRecord.At (record { start = i + m .is t .start; end = i + m .is t .end; after = i + m .is t .after; descriptor = (ap (λ (x : Place). x .descriptor) (m .is) ∙ d) t }))
+
+    pub descriptor-later : (k j : ℕ) → q .descriptor ≡ true → k ≡ suc j → descriptorAt (placesAt s i) k ≡ descriptorAt (placesAt s (i + q .after)) j
+    unfolding by
+    descriptor-later k j d z = descriptor-on k true d ∙ ap (by true) z
+
+-- Descriptor k is that of set k but for the default one, and there is none where there are not so many.
+pub record DescriptorFound (s : Bytes) (ds : List RecSet) (k : ℕ) (q : Place) : Type 0 where
+  pub there : k < length ds
+  pub fields : Record
+  pub stand : Stand s (q .start) (q .end) (q .after) fields
+  pub value : Bytes
+  pub values : List Bytes
+  pub titles : valuesOf (text "%rec") fields ≡ value ∷ values
+  pub named : nameAt ds k ≡ firstWord value
+
+abbrev pub DescriptorTold : Bytes → List RecSet → ℕ → FoundRecord → Type 0
+DescriptorTold s ds k FoundRecord.Missing = length ds ≤ k
+DescriptorTold s ds k (FoundRecord.At q) = DescriptorFound s ds k q
+
+told-on : (s : Bytes) (d : RecSet) (ds : List RecSet) (k : ℕ) (x : FoundRecord) → DescriptorTold s ds k x → DescriptorTold s (d ∷ ds) (suc k) x
+told-on s d ds k FoundRecord.Missing h = omega arith
+told-on s d ds k (FoundRecord.At q) h = record { there = omega (arith, h .there); fields = h .fields; stand = h .stand; value = h .value; values = h .values; titles = h .titles; named = h .named }
+
+told-by : (s : Bytes) (vs : List Bytes) (p : Placed) (ss : List RecSet) (k : ℕ) (later : ℕ → FoundRecord) → valuesOf (text "%rec") (p .fields) ≡ vs → Stand s (p .start) (p .end) (p .after) (p .fields) → ((j : ℕ) → DescriptorTold s (others ss) j (later j)) → DescriptorTold s (othersBy vs (p .fields) ss) k (descriptorBy (isThere vs) k p later)
+told-by s [] p ss k later e h ih = ih k
+told-by s (v ∷ vs) p ss zero later e h ih = record { there = omega arith; fields = p .fields; stand = h; value = v; values = vs; titles = e; named = refl }
+told-by s (v ∷ vs) p ss (suc k) later e h ih = told-on s _ (others ss) k (later k) (ih k)
+
+told-in : (s : Bytes) (ps : List Placed) (k : ℕ) → Stands s ps → DescriptorTold s (others (sets (fieldsIn ps))) k (descriptorAt ps k)
+unfolding descriptorAt
+told-in s [] k h = omega arith
+told-in s (p ∷ ps) k h =
+    let vs : List Bytes = valuesOf (text "%rec") (p .fields) in
+    subst (λ (ds : List RecSet). DescriptorTold s ds k (descriptorAt (p ∷ ps) k)) (sym (others-enter vs (p .fields) (sets (fieldsIn ps))))
+    (told-by s vs p (sets (fieldsIn ps)) k (λ (j : ℕ). descriptorAt ps j) refl (h .0) (λ j. told-in s ps j (h .2)))
+
+-- of an answer, once its form is known
+pub descriptor-told : (s : Bytes) (k : ℕ) (x : FoundRecord) {y : FoundRecord} → isReadable s ≡ true → x ≡ descriptorAt (placesOf s) k → x ≡ y → DescriptorTold s (others (partsIn s)) k y
+descriptor-told s k x {y} e f g =
+    subst (DescriptorTold s (others (partsIn s)) k) (sym f ∙ g)
+    (subst (λ (ss : List RecSet). DescriptorTold s (others ss) k (descriptorAt (placesOf s) k)) (sym (sets-places s)) (told-in s (placesOf s) k (stands s e)))
+
+-- the default set stands first and has no name
+first-set : (s : Bytes) → GoodSets (partsIn s)
+first-set s = subst GoodSets (sym (sets-places s)) (good-sets (fieldsIn (placesOf s)))
+
+default-name : (ss : List RecSet) → GoodSets ss → (0 < length ss) × (nameAt ss 0 ≡ [])
+default-name [] g = absurd g
+default-name (d ∷ ds) g = (omega arith, g .0)
+
+other-names : (ss : List RecSet) (j : ℕ) → GoodSets ss → (length ss ≡ suc (length (others ss))) × (nameAt ss (suc j) ≡ nameAt (others ss) j)
+other-names [] j g = absurd g
+other-names (d ∷ ds) j g = (refl, refl)
+
+module _ (s : Bytes) (k : ℕ) (out : Bytes) where
+  name-by : Bool → Bytes → Filled
+  name-by x v = filled (pick x (pick (leb (length v) (length out)) 0 27) 21) v out
+
+  name-is : nameIn s k out ≡ name-by (ltb k (length (partsIn s))) (nameAt (partsIn s) k)
+  unfolding nameIn name-by
+  name-is = refl
+
+  name-there : (v : Bytes) → k < length (partsIn s) → nameAt (partsIn s) k ≡ v → nameIn s k out ≡ filled (pick (leb (length v) (length out)) 0 27) v out
+  unfolding name-by
+  name-there v h e = name-is ∙ ap (λ (x : Bool). name-by x (nameAt (partsIn s) k)) (lt-ltb k (length (partsIn s)) h) ∙ ap (name-by true) e
+
+  pub name-default : k ≡ 0 → nameIn s k out ≡ record { result = Answer.value 0; out = out }
+  name-default z =
+      let d = default-name (partsIn s) (first-set s) in
+      name-there [] (omega (arith, d .0)) (ap (nameAt (partsIn s)) z ∙ d .1)
+      ∙ ap (λ (b : Bool). filled (pick b 0 27) [] out) (le-leb 0 (length out) (omega arith))
+
+  module _ (j : ℕ) (z : k ≡ suc j) where
+    pub name-missing : length (others (partsIn s)) ≤ j → nameIn s k out ≡ record { result = Answer.refusal 21; out = out }
+    unfolding name-by
+    name-missing h =
+        let o = other-names (partsIn s) j (first-set s) in
+        name-is ∙ ap (λ (x : Bool). name-by x (nameAt (partsIn s) k)) (le-ltb k (length (partsIn s)) (omega (arith, o .0)))
+
+    pub name-found : (q : Place) (f : DescriptorFound s (others (partsIn s)) j q) → nameIn s k out ≡ titled (valuesOf (text "%rec") (recordIn (take (q .end - q .start) (drop (q .start) s)))) out
+    name-found q f =
+        let o = other-names (partsIn s) j (first-set s) in
+        name-there (firstWord (f .value)) (omega (arith, o .0, f .there)) (ap (nameAt (partsIn s)) z ∙ o .1 ∙ f .named)
+        ∙ sym (ap (λ (vs : List Bytes). titled vs out) (ap (λ (ps : List Piece). valuesOf (text "%rec") (fieldsOf ps)) (reads-of (f .stand .own-reads)) ∙ ap (valuesOf (text "%rec")) (f .stand .own-fields) ∙ f .titles))
+
+-- the word that a value begins with is no longer than the text
+front-length : (p : ℕ → Bool) (v : Bytes) → length (front p v) ≤ length v
+front-length p [] = omega arith
+front-length p (c ∷ v) = go (p c) (front p v) (front-length p v)
+  where
+    go : (b : Bool) (w : Bytes) → length w ≤ length v → length (frontIf b c w) ≤ suc (length v)
+    go true w h = omega arith
+    go false w h = omega arith
+
+pub word-length : (s : Bytes) (i : ℕ) → length (front notGap (valueFrom (drop i s))) ≤ length s
+word-length s i = omega (arith, front-length notGap (valueFrom (drop i s)), value-length (drop i s), length-drop i s)
+
+-- what a descriptor's first `%rec` value gives
+pub titled-none : (vs : List Bytes) (out : Bytes) → length vs ≤ 0 → titled vs out ≡ record { result = Answer.refusal 21; out = out }
+titled-none [] out h = refl
+titled-none (v ∷ vs) out h = absurd (omega arith)
+
+titled-by : (d : Bytes) (vs : List Bytes) (start value end : ℕ) (out w : Bytes) → FieldFound d vs 0 start value end → w ≡ firstWord (valueFrom (take (end - value) (drop value d))) → titled vs out ≡ filled (pick (leb (length w) (length out)) 0 27) w out
+titled-by d [] start value end out w f e = absurd (omega (arith, f .there))
+titled-by d (v ∷ vs) start value end out w f e = ap (λ (x : Bytes). filled (pick (leb (length x) (length out)) 0 27) x out) (sym (e ∙ ap firstWord (f .decodes)))
+
+module _ (d : Bytes) (vs : List Bytes) (start value end : ℕ) (out w : Bytes) (f : FieldFound d vs 0 start value end) (e : w ≡ firstWord (valueFrom (take (end - value) (drop value d)))) where
+  pub titled-long : length out < length w → titled vs out ≡ record { result = Answer.refusal 27; out = out }
+  titled-long h = titled-by d vs start value end out w f e ∙ ap (λ (b : Bool). filled (pick b 0 27) w out) (lt-leb (length w) (length out) h)
+
+  pub titled-first : length w ≤ length out → titled vs out ≡ record { result = Answer.value (length w); out = over w out }
+  titled-first h = titled-by d vs start value end out w f e ∙ ap (λ (b : Bool). filled (pick b 0 27) w out) (le-leb (length w) (length out) h)
+
+-- A name that was put into a buffer stands inside it.
+InsideIf : Answer → Bytes → Type 0
+InsideIf (Answer.value n) o = n ≤ length o
+InsideIf (Answer.refusal k) o = Unit {0}
+
+filled-inside : (number : ℕ) (t out : Bytes) → InsideIf (filled number t out .result) (filled number t out .out)
+unfolding InsideIf
+filled-inside zero t out = omega (arith, length-append t (drop (length t) out))
+filled-inside (suc k) t out = tt
+
+pub name-inside : (buffer : Bytes) (used k : ℕ) (out : Bytes) (x : Fetched) {n : ℕ} (o : Bytes) → nameAnswer buffer used k out ≡ record { result = fetchedAnswer x; out = o } → x ≡ Fetched.Length n → n ≤ length o
+unfolding nameAnswer InsideIf
+name-inside buffer used k out x {n} o e f =
+    let ss : List RecSet = partsOf buffer used in
+    let i = filled-inside (fileThen (verdict buffer used) (firstNo (orderRow ∷ nameRow ∷ []) (listed ss k out))) (nameAt ss k) out in
+    subst (λ (y : Fetched). InsideIf (fetchedAnswer y) o) f (subst (λ (y : Filled). InsideIf (y .result) (y .out)) e i)

@@ -1,0 +1,332 @@
+#!/usr/bin/env python3
+"""The input and the expected output of the test program `replay`: what tests/model/recfile.py answers to edits, lists of edits and the other calls.
+
+Usage: tests/replay/make.py       (writes crates/replay/stdin and crates/replay/stdout)
+"""
+import collections
+import os
+import sys
+import zlib
+
+ROOT = os.path.dirname(os.path.dirname(os.path.dirname(os.path.abspath(__file__))))
+sys.path.insert(0, os.path.join(ROOT, 'tests', 'model'))
+
+import recfile  # noqa: E402
+import samples  # noqa: E402
+from frames import four, frame, packed, two, whole  # noqa: E402
+from samples import number, tagged  # noqa: E402
+
+RECEIPTS = open(os.path.join(ROOT, 'samples', 'receipts.rec'), 'rb').read()
+MORE = 200      # of spare bytes in a large buffer
+
+
+def pair(name, value):
+    return tagged(4, name) + tagged(6, value)
+
+
+def head(kind, name):
+    return tagged(1, bytes([kind])) + tagged(2, name)
+
+
+def insert(name, *pairs):
+    return head(1, name) + b''.join(pair(n, v) for n, v in pairs)
+
+
+def delete(name, row):
+    return head(2, name) + tagged(3, number(row))
+
+
+def add(name, row, field, value):
+    return head(3, name) + tagged(3, number(row)) + pair(field, value)
+
+
+def setting(name, row, field, occurrence, value):
+    return head(4, name) + tagged(3, number(row)) + tagged(4, field) + tagged(5, number(occurrence)) + tagged(6, value)
+
+
+def drop(name, row, field, occurrence):
+    return head(5, name) + tagged(3, number(row)) + tagged(4, field) + tagged(5, number(occurrence))
+
+
+def rename(name, row, field, occurrence, new):
+    return head(6, name) + tagged(3, number(row)) + tagged(4, field) + tagged(5, number(occurrence)) + tagged(7, new)
+
+
+class Replay:
+    """The frames and what each call must print. The model keeps the buffer."""
+
+    def __init__(self):
+        self.frames, self.lines, self.calls = [], [], collections.Counter()
+        self.buffer, self.used = b'', 0
+
+    def start(self, runs, room=None, used=None, behind=b''):
+        """A file in a buffer; behind it there is `behind`, and then zeros up to the buffer's length."""
+        if isinstance(runs, bytes):
+            runs = [(1, runs)]
+        size = len(whole(runs))
+        room = size + MORE if room is None else room
+        runs = runs + [(1, behind)] if behind else runs
+        self.buffer = whole(runs)
+        assert len(self.buffer) <= room <= 65600
+        self.buffer += bytes(room - len(self.buffer))
+        self.used = size if used is None else used
+        self.frames.append(frame(b'\0', four(room), four(self.used), packed(runs + [(65600 - len(whole(runs)), b'\0')])))
+
+    def tell(self, kind, number_, length, text):
+        self.calls[kind, number_] += 1
+        self.lines.append('%d %d %d\n' % (number_, length, zlib.adler32(text)))
+
+    def edit(self, *requests):
+        for runs in requests:
+            if isinstance(runs, bytes):
+                runs = [(1, runs)]
+            no, self.used, self.buffer = recfile.edit(self.buffer, self.used, whole(runs))
+            self.frames.append(frame(b'\1', packed(runs)))
+            self.tell('edit', no, self.used, self.buffer)
+
+    def edit_list(self, requests, sizes=None):
+        """All requests in one call; a size that runs past the end has what is left."""
+        sizes = [len(q) for q in requests] if sizes is None else sizes
+        text, at = b''.join(requests), 0
+        assert len(sizes) <= 16
+        told = []
+        for size in sizes + [0] * (16 - len(sizes)):
+            no, self.used, self.buffer = recfile.edit(self.buffer, self.used, text[at:at + size])
+            at = min(at + size, len(text))
+            told.append((no, self.used))
+        self.frames.append(frame(b'\2', two(len(sizes)), b''.join(four(n) for n in sizes + [0] * (16 - len(sizes))), packed([(1, text)])))
+        for no, length in told[:len(sizes)]:
+            self.tell('list', no, length, b'')
+        self.tell('end', 0, self.used, self.buffer)
+
+    def call(self, kind, name=b'', row=0, field=b'', occurrence=0, room=0, runs=None):
+        tail = name + field if runs is None else packed(runs)
+        self.frames.append(frame(bytes([kind]), two(row), two(occurrence), four(room), two(len(name)), two(len(field)), tail))
+
+    def count(self, name):
+        self.call(3, name)
+        self.tell('count', *recfile.count(self.buffer, self.used, name), b'')
+
+    def fetch(self, name, row, field, occurrence, room):
+        self.call(4, name, row, field, occurrence, room)
+        self.tell('fetch', *recfile.fetch(self.buffer, self.used, name, row, field, occurrence, b'\xaa' * room))
+
+    def view(self, name, row):
+        no, _, part = recfile.view(self.buffer, self.used, name, row)
+        self.call(5, name, row)
+        self.tell('view', no, len(part), part)
+
+    def write(self, runs, room):
+        if isinstance(runs, bytes):
+            runs = [(1, runs)]
+        self.call(6, room=room, runs=runs)
+        self.tell('write', *recfile.write(whole(runs), b'\xaa' * room))
+
+    def set_name(self, order, room):
+        """The name of a set by its place in the file: 21 where there are not so many sets, 27 where it is longer than the second buffer."""
+        self.call(7, row=order, room=room)
+        out = b'\xaa' * room
+        try:
+            _, sets = recfile.passed(self.buffer, self.used)
+            if order >= len(sets):
+                raise recfile.No(21)
+            name = sets[order].name
+            if len(name) > room:
+                raise recfile.No(27)
+            self.tell('name', 0, len(name), name + out[len(name):])
+        except recfile.No as no:
+            self.tell('name', no.number, 0, out)
+
+    def look_around(self):
+        """Every call of every set, record and field, and one past each."""
+        try:
+            pieces, sets = recfile.passed(self.buffer, self.used)
+        except recfile.No:
+            sets = []
+        for k in range(len(sets) + 1):
+            self.set_name(k, 64)
+        for s in [b'', b'X'] + [s.name for s in sets[1:]]:
+            self.count(s)
+            here = [t for t in sets if t.name == s]
+            for row in range(len(here[0].records) + 1 if here else 1):
+                self.view(s, row)
+                r = here[0].records[row] if here and row < len(here[0].records) else None
+                names = recfile.names_of(pieces, r) if r else [b'A']
+                for name in sorted(set(names)) + [b'Zz', b'']:
+                    for occurrence in range(names.count(name) + 1):
+                        length = recfile.fetch(self.buffer, self.used, s, row, name, occurrence, bytes(4096))[1]
+                        self.fetch(s, row, name, occurrence, 40)
+                        self.fetch(s, row, name, occurrence, length)
+                        if length:
+                            self.fetch(s, row, name, occurrence, length - 1)
+
+
+def receipt(r, *requests, room=None, behind=b''):
+    r.start(RECEIPTS, room, behind=behind)
+    r.edit(*requests)
+
+
+def marked(r):
+    """Cases (b) to (l), each on the receipt book."""
+    two_ = insert(b'Scan', (b'Id', b'2'), (b'Page', b'p'))
+    for request in (two_, insert(b'Scan', (b'Id', b'1'), (b'Page', b'p')), insert(b'Scan', (b'Page', b'p')), drop(b'Scan', 0, b'Page', 1), bytes.fromhex('01000102020004 5363616E 0300020000'), setting(b'Scan', 0, b'Id', 0, b'08'),
+                    setting(b'Scan', 0, b'Id', 0, b'010'), rename(b'Scan', 0, b'Page', 0, b'Id'), setting(b'Scan', 0, b'Id', 0, b'a\\')):
+        receipt(r, request)
+        receipt(r, request, room=109)
+        receipt(r, request, room=150, behind=b'left behind')
+    receipt(r, two_, room=109)
+    r.start(b'')
+    r.edit(two_, insert(b'', (b'A', b'1')), insert(b'', (b'A', b'2')))
+
+
+def numbers(r):
+    """Every number of a refusal, and accepted edits beside them."""
+    page = setting(b'Scan', 0, b'Page', 0, b'x')
+    # 1 to 14: of the file itself
+    for text in (b'A: 1', b'A: \x01\n', b'A\n', b'A' * 65 + b': 1\n', b'%key: A\n', b'%rec: S\n%foo: 1\n', b'%rec: S\n%type: A foo\n', b'%rec: S\n%prohibit: A\n\nA: 1\n', b'%rec: S\n%allowed: B\n\nA: 1\n', b'%rec: S\n%mandatory: B\n\nA: 1\n',
+                 b'%rec: S\n%unique: A\n\nA: 1\nA: 1\n', b'%rec: S\n%type: A int\n\nA: x\n', b'%rec: S\n%key: A\n\nA: 1\n\nA: 1\n', b'%rec: S\n%size: 0\n\nA: 1\n'):
+        r.start(text)
+        r.edit(setting(b'S', 0, b'A', 0, b'2'), b'')
+        r.edit_list([insert(b'', (b'A', b'1')), b'x'])
+        r.look_around()
+    r.start(RECEIPTS, room=108 + 1, used=110)
+    r.edit(page)
+    r.look_around()
+    # 20: the form of a request
+    good = insert(b'Scan', (b'Id', b'2'), (b'Page', b'p'))
+    receipt(r, b'', b'\1', good[:-1], good + b'\0', good[4:], tagged(1, b''), tagged(1, b'\1\1') + good[4:], tagged(1, b'\0') + good[4:], tagged(1, b'\7') + good[4:], tagged(1, b'\2') + good[4:], insert(b'Scan'), insert(b'Scan') + tagged(4, b'Id'),
+            insert(b'Scan') + tagged(6, b'2') + tagged(4, b'Id'), good + tagged(4, b'A'), good + tagged(3, b'\0\0'), delete(b'Scan', 0) + tagged(3, b'\0\0'), head(2, b'Scan'), head(2, b'Scan') + tagged(3, b'\0'), head(2, b'Scan') + tagged(3, b'\0\0\0'),
+            add(b'Scan', 0, b'A', b'1') + tagged(7, b'B'), head(5, b'Scan') + tagged(3, b'\0\0') + tagged(4, b'Page') + tagged(5, b'\0'), rename(b'Scan', 0, b'Page', 0, b'P') + pair(b'A', b'1'),
+            head(6, b'Scan') + tagged(3, b'\0\0') + tagged(4, b'Page') + tagged(7, b'P') + tagged(5, b'\0\0'), tagged(2, b'Scan') + tagged(1, b'\2') + tagged(3, b'\0\0'), page)
+    long = [(1, insert(b'Scan', (b'Id', b'2'))), (16, pair(b'Page', b'p' * 4000))]
+    size = len(whole(long))
+    for more in (65536 - size - 6, 65536 - size - 5):
+        receipt(r)
+        r.edit(long + [(1, tagged(4, b'') + tagged(6, b'y' * more))])
+        r.edit(long + [(1, pair(b'Page', b'y' * (more - 4)))])
+        r.start(RECEIPTS, room=65600)
+        r.edit(long + [(1, pair(b'Page', b'y' * (more - 4)))])
+    # 21 to 24
+    receipt(r, delete(b'scan', 0), delete(b'Sca', 0), delete(b'', 0), delete(b'Scan', 1), delete(b'Scan', 65535), delete(b'\0Scan', 0), drop(b'Scan', 0, b'Pag', 0), drop(b'Scan', 0, b'Page', 2), drop(b'Scan', 0, b'Page', 65535),
+            drop(b'Scan', 0, b'Id', 0), setting(b'Scan', 0, b'%rec', 0, b'x'), rename(b'Scan', 0, b'', 0, b'x'), drop(b'Scan', 0, b'Page', 0), drop(b'Scan', 0, b'Page', 0))
+    r.start(b'A: 1\n')
+    r.edit(drop(b'', 0, b'A', 0), drop(b'', 0, b'A', 1), drop(b'', 0, b'B', 0), add(b'', 0, b'A', b'2'), drop(b'', 0, b'A', 0), delete(b'', 0), delete(b'', 0), insert(b'', (b'A', b'')))
+    # 25
+    for value in (b'a\\', b'a\\\nb', b'a\nb\\', b'\\', b'a\\b', b'a\\ ', b'\1', b'a\x7f', b'\xff\x80', b'x' * 4096, b'x' * 4097, b'\n' * 4096, b'\n', b'\n\n', b'+ x', b'# x', b'\t'):
+        receipt(r, setting(b'Scan', 0, b'Page', 0, value), add(b'Scan', 0, b'Note', value), insert(b'Scan', (b'Id', b'2'), (b'Page', value)), room=20000)
+        r.look_around()
+    for name in (b'A' * 64, b'A' * 65, b'%A', b'%', b'', b'1', b'A b', b'A:', b'_A', b'A_1', b'Id', b'Page', b'\xe9'):
+        receipt(r, add(b'Scan', 0, name, b'1'), rename(b'Scan', 0, b'Page', 1, name), insert(b'Scan', (b'Id', b'2'), (b'Page', b'p'), (name, b'1')), room=2000)
+    # 26
+    for room in (109, 110, 117, 123, 124, 125):
+        receipt(r, good, page, setting(b'Scan', 0, b'Page', 1, b'longer'), add(b'Scan', 0, b'A', b''), rename(b'Scan', 0, b'Page', 0, b'Pages'), rename(b'Scan', 0, b'Page', 0, b'P'), delete(b'Scan', 0), room=room)
+    r.start([(16000, b'A:\n\n'), (1, b'A: x\n')], room=65600)
+    r.edit(insert(b'', (b'B', b'y' * 1000)), insert(b'', (b'B', b'y' * 520)), insert(b'', (b'B', b'y' * 525)), insert(b'', (b'B', b'')), add(b'', 16000, b'C', b'z' * 8), add(b'', 16000, b'C', b'z' * 7), delete(b'', 3), add(b'', 15999, b'C', b''))
+    # 104
+    r.start(b'A: x\n' * 256, room=3000)
+    r.edit(add(b'', 0, b'A', b'x'), setting(b'', 0, b'A', 255, b'y'), drop(b'', 0, b'A', 255), add(b'', 0, b'A', b'x'), insert(b'', *[(b'A', b'')] * 256), insert(b'', *[(b'A', b'')] * 257))
+    # 108 to 114
+    rules = b'%rec: S\n%prohibit: P\n%allowed: K A B P U\n%mandatory: A\n%unique: U\n%key: K\n%type: A int\n%size: <= 2\n\nK: 1\nA: 1\nU: 1\n'
+    r.start(rules, room=400)
+    r.edit(add(b'S', 0, b'P', b'1'), rename(b'S', 0, b'U', 0, b'P'), add(b'S', 0, b'Q', b'1'), rename(b'S', 0, b'U', 0, b'Q'), rename(b'S', 0, b'A', 0, b'B'), drop(b'S', 0, b'A', 0), drop(b'S', 0, b'K', 0), add(b'S', 0, b'U', b'1'),
+           add(b'S', 0, b'K', b'1'), setting(b'S', 0, b'A', 0, b'x'), insert(b'S', (b'K', b'1'), (b'A', b'1')), insert(b'S', (b'K', b'2'), (b'A', b'1')), insert(b'S', (b'K', b'3'), (b'A', b'1')), setting(b'S', 1, b'K', 0, b'1'),
+           delete(b'S', 0), setting(b'S', 0, b'K', 0, b'1'), insert(b'S', (b'K', b'1'), (b'A', b'1')), insert(b'S', (b'K', b'3'), (b'A', b'1')), delete(b'S', 1), delete(b'S', 0), delete(b'S', 0))
+    r.look_around()
+    r.start(b'%rec: S\n%size: >= 1\n\nA: 1\n\n# c\n\n%rec: T\n\n', room=400, behind=b'behind')
+    r.edit(delete(b'S', 0), insert(b'S', (b'A', b'2')), delete(b'S', 0), delete(b'S', 0), insert(b'T', (b'A', b'a\nb'), (b'B', b'')), insert(b'', (b'Z', b'z')), insert(b'T', (b'C', b'c')), delete(b'', 0), delete(b'T', 0))
+    r.look_around()
+
+
+def comments(r):
+    """Comments, blank lines, joined lines and plus lines around each edit."""
+    text = b'# top\nA: 1\n# in\nB: x\\\ny\n+ z\n# end\n \nC:\n\n%rec: S\n# rules\n%doc: d\n# last\n\n# alone\n\n# before\nA: 1\nA: 2\n+ 3\n# after\n'
+    r.start(text, room=400, behind=b'Behind: 1\n')
+    r.look_around()
+    for request in (delete(b'', 0), delete(b'S', 0), add(b'', 0, b'N', b'1\n2'), add(b'S', 0, b'N', b''), setting(b'', 0, b'B', 0, b'\n'), setting(b'S', 0, b'A', 1, b'9'), drop(b'', 0, b'B', 0), drop(b'S', 0, b'A', 0), rename(b'', 0, b'B', 0, b'Longer'),
+                    rename(b'S', 0, b'A', 1, b'L'), insert(b'', (b'N', b'1')), insert(b'S', (b'N', b'1'))):
+        r.start(text, room=400, behind=b'Behind: 1\n')
+        r.edit(request, request, request)
+        r.look_around()
+
+
+def writing(r):
+    good = insert(b'S', (b'A', b'1'), (b'B', b'a\nb'))
+    for room in (0, 5, 15, 16, 17, 100):
+        r.write(good, room)
+        r.write(insert(b'', (b'A', b'')), room)
+    for request in (b'', good[:-1], delete(b'S', 0), add(b'S', 0, b'A', b'1'), insert(b'S', (b'%A', b'1')), insert(b'S', (b'A', b'\\')), insert(b'S', (b'A' * 65, b'1')), insert(b'S', (b'A', b'x' * 4097)), insert(b'S', (b'A', b'x' * 4096))):
+        r.write(request, 5000)
+    r.write(insert(b'S', *[(b'A', b'')] * 256), 65600)
+    r.write(insert(b'S', *[(b'A', b'')] * 257), 65600)
+    r.write(insert(b'S', *[(b'A', b'')] * 257), 0)
+    r.write([(1, head(1, b'S')), (15, pair(b'A', b'x' * 4096)), (1, pair(b'A', b'x' * 3900))], 65600)
+    r.write([(1, head(1, b'S')), (15, pair(b'A', b'\n' * 2048)), (1, pair(b'A', b'\n'))], 65600)
+    r.write([(1, head(1, b'S')), (8, pair(b'A', b'\n' * 2727)), (1, pair(b'A', b''))], 65600)
+    r.write([(1, head(1, b'S')), (8, pair(b'A', b'\n' * 2729)), (1, pair(b'A', b'xx'))], 65600)
+    r.write([(1, head(1, b'S')), (8, pair(b'A', b'\n' * 2729)), (1, pair(b'A', b'xxx'))], 65600)
+    r.write([(1, head(1, b'S')), (9, pair(b'A', b'\n' * 4096))], 65600)
+
+
+def names(r):
+    r.start(b'A: 1\n\n' + b''.join(b'%%rec: S%d\n\n' % k for k in range(64)), room=2000)
+    for order in (0, 1, 2, 10, 11, 63, 64, 65, 65535):
+        for room in (0, 1, 2, 3, 64):
+            r.set_name(order, room)
+    r.start(b'%rec: \n+ Scan\\\nner \n\nA: 1\n\n%rec: ' + b'L' * 4096 + b'\n', room=5000)
+    for order in range(4):
+        for room in (0, 6, 7, 4095, 4096, 65600):
+            r.set_name(order, room)
+    r.count(b'Scanner')
+    r.count(b'L' * 4096)
+    r.count(b'L' * 4095)
+    r.fetch(b'Scanner', 0, b'A', 0, 1)
+
+
+def lists(r):
+    a, b = insert(b'Scan', (b'Id', b'2'), (b'Page', b'p')), setting(b'Scan', 1, b'Page', 0, b'q')
+    for sizes in (None, [], [len(a)], [len(a) + 1, len(b)], [len(a), len(b) + 9], [len(a), len(b), 5], [65536, 1], [4294967295]):
+        r.start(RECEIPTS)
+        r.edit_list([a, b], sizes)
+
+
+def passing(g):
+    """A random file that passes and has two records or more, and its sets."""
+    while True:
+        text = g.file()
+        if recfile.check(text, len(text)) == 0:
+            _, sets = recfile.passed(text, len(text))
+            if sum(len(s.records) for s in sets) > 1:
+                return text, sets
+
+
+def random_lists(r, count):
+    for seed in range(count):
+        g = samples.Samples(10000 + seed)
+        text, sets = passing(g)
+        here = [s.name for s in sets if s.records or g.random.random() < .2] or [b'']
+        requests = [g.request(here) for _ in range(8)]
+        room = len(text) + g.random.choice([0, 5, 40, 300])
+        behind = b'Left: 1\n'[:room - len(text)] if g.random.random() < .3 else b''
+        r.start(text, room, behind=behind)
+        r.edit(*requests)
+        r.look_around()
+        r.start(text, room, behind=behind)
+        r.edit_list(requests)
+        for q in requests:
+            r.write(q, g.random.choice([0, 6, 12, 40]))
+
+
+r = Replay()
+for make in (marked, numbers, comments, writing, names, lists):
+    make(r)
+random_lists(r, 200)
+
+stdin = b''.join(r.frames)
+folder = os.path.join(ROOT, 'crates', 'replay')
+with open(os.path.join(folder, 'stdin'), 'wb') as f:
+    f.write(stdin)
+with open(os.path.join(folder, 'stdout'), 'w') as f:
+    f.writelines(r.lines)
+print(len(r.lines), 'lines', len(stdin), 'bytes')
+for kind in sorted({k for k, _ in r.calls}):
+    print(kind, sorted((n, c) for (k, n), c in r.calls.items() if k == kind))
