@@ -62,10 +62,14 @@ def run(*words):
 
 
 def ours(path, call):
-    nanoseconds, number = run(TIMER, path, call).stdout.split()
-    if number != '0':
-        sys.exit('%s on %s was refused: %s' % (call, path, number))
-    return float(nanoseconds)
+    """The best of three runs of the timer, in nanoseconds: on a shared machine a whole run may fall into a slow moment."""
+    best = float('inf')
+    for _ in range(3):
+        nanoseconds, number = run(TIMER, path, call).stdout.split()
+        if number != '0':
+            sys.exit('%s on %s was refused: %s' % (call, path, number))
+        best = min(best, float(nanoseconds))
+    return best
 
 
 def theirs(path, *words):
