@@ -29,11 +29,17 @@ static void field(uint8_t tag, const char *contents, size_t len)
     request_len += 3 + len;
 }
 
-static void insert_request(void)
+/* A request of a kind begins with the set. */
+static void begin(const char *kind)
 {
     request_len = 0;
-    field(1, "\1", 1);
+    field(1, kind, 1);
     field(2, "Scan", 4);
+}
+
+static void insert_request(void)
+{
+    begin("\1");
     field(4, "Id", 2);
     field(6, "999999", 6);
     field(4, "Page", 4);
@@ -42,9 +48,7 @@ static void insert_request(void)
 
 static void set_request(void)
 {
-    request_len = 0;
-    field(1, "\4", 1);
-    field(2, "Scan", 4);
+    begin("\4");
     field(3, "\0\3", 2);
     field(4, "Page", 4);
     field(5, "\0\0", 2);
