@@ -57,6 +57,12 @@ def crafted(limit):
     return filled(b'%rec: Scan\n%key: K\n\n', lambda n: b'K: ' + keys[n - 1] + b'\n\n', limit)
 
 
+def many_names(limit):
+    """Records of many fields under `%type` fields that list many names, none of which is a field's."""
+    head = b'%rec: Scan\n' + (b'%type: ' + b','.join([b'Bb'] * 1340) + b' line\n') * 8 + b'\n'
+    return filled(head, lambda n: b'Ba:\n' * 200 + b'\n', limit)
+
+
 def run(*words):
     return subprocess.run(words, capture_output=True, text=True, check=False)
 
@@ -104,7 +110,7 @@ def main():
 
     files = {}
     for name, (text, count) in {
-        'book 1 KB': book(1024), 'book 8 KB': book(8192), 'book 64 KB': book(65000), 'keys 64 KB': only_keys(65536), 'crafted 64 KB': crafted(65536),
+        'book 1 KB': book(1024), 'book 8 KB': book(8192), 'book 64 KB': book(65000), 'keys 64 KB': only_keys(65536), 'crafted 64 KB': crafted(65536), 'names 64 KB': many_names(65536),
     }.items():
         path = os.path.join(OUT, name.replace(' ', '-') + '.rec')
         with open(path, 'wb') as f:
@@ -125,7 +131,7 @@ def main():
                 continue
             mine = ours(path, call)
             took[name, call] = mine
-            other = theirs(path, *command) if not name.startswith('crafted') else None
+            other = theirs(path, *command) if name.startswith(('book', 'keys')) else None
             print('%-14s %7d %7d  %-7s %9.1f us %9.2f %s' % (
                 name, size, count, call, mine / 1000, mine / size,
                 '%10.1f ms %8.0fx' % (other / 1e6, other / mine) if other else '            -         -'))
