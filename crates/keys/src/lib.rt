@@ -1,4 +1,4 @@
-// Are the keys of a set distinct? Their entries are sorted and neighbours compared, so no file takes quadratic time.
+// Are the keys of a set distinct? Their entries are sorted, into buckets by fingerprint and each bucket by heap sort, and neighbours compared, so no file takes quadratic time.
 ghost use mathlib.Core.Path.{_≡_};
 ghost use Prim.Native.Nat.{_<_, _≤_, _%_};
 ghost use lib.ListN.{length, take, drop};
@@ -150,16 +150,16 @@ fn last_child(s: &[u8], entries: &[u32], left: usize, end: usize) -> usize
     left
 }
 
-// The entry at root sinks to its place in the heap before end. What is said of this and of the sort: entries are only moved. Whether they come to
-// be in order is seen afterwards.
-fn sift(s: &[u8], entries: &mut [u32], from: usize, end: usize)
+// The entry at root sinks to its place in the heap from lo to end. What is said of this and of the sort: entries are only moved. Whether they
+// come to be in order is seen afterwards.
+fn sift(s: &[u8], entries: &mut [u32], lo: usize, from: usize, end: usize)
     requires { ⌜ Entries (now s) (length (now entries)) (now entries) ⌝ }
-    requires { ⌜ end ≤ length (now entries) ⌝ }
+    requires { ⌜ (lo ≤ from) × (end ≤ length (now entries)) ⌝ }
     ensures { λ _. ⌜ Moved (now (s .entry)) (now (entries .entry)) (now (entries .exit)) ⌝ }
 {
     let mut root = from;
     while root < end {
-        let left = root + root + 1;
+        let left = root + (root - lo) + 1;
         if end <= left {
             return;
         }
@@ -173,30 +173,146 @@ fn sift(s: &[u8], entries: &mut [u32], from: usize, end: usize)
     }
 }
 
-fn make_heap(s: &[u8], entries: &mut [u32])
+fn make_heap(s: &[u8], entries: &mut [u32], lo: usize, end: usize)
     requires { ⌜ Entries (now s) (length (now entries)) (now entries) ⌝ }
+    requires { ⌜ (lo ≤ end) × (end ≤ length (now entries)) ⌝ }
     ensures { λ _. ⌜ Moved (now (s .entry)) (now (entries .entry)) (now (entries .exit)) ⌝ }
 {
-    let n = entries.len();
-    let mut top = n / 2;
-    while 0 < top {
+    let mut top = lo + (end - lo) / 2;
+    while lo < top {
         top -= 1;
-        sift(s, &mut *entries, top, n);
+        sift(s, &mut *entries, lo, top, end);
     }
 }
 
-// Heap sort: never quadratic, and in place.
+// Heap sort of the entries from lo to hi: never quadratic, and in place.
+fn sort_part(s: &[u8], entries: &mut [u32], lo: usize, hi: usize)
+    requires { ⌜ Entries (now s) (length (now entries)) (now entries) ⌝ }
+    requires { ⌜ (lo ≤ hi) × (hi ≤ length (now entries)) ⌝ }
+    ensures { λ _. ⌜ Moved (now (s .entry)) (now (entries .entry)) (now (entries .exit)) ⌝ }
+{
+    make_heap(s, &mut *entries, lo, hi);
+    let mut end = hi;
+    while 1 < end - lo {
+        end -= 1;
+        swap(&mut *entries, lo, end);
+        sift(s, &mut *entries, lo, lo, end);
+    }
+}
+
+// The bucket that an entry goes to, by the upper byte of its fingerprint.
+fn bucket(x: u32) -> usize
+    ensures { λ r. ⌜ r < 256 ⌝ }
+{
+    wide(x / 16777216)
+}
+
+// The entries of each bucket are counted.
+fn count_buckets(entries: &[u32], counts: &mut [u32])
+    requires { ⌜ 256 ≤ length (now counts) ⌝ }
+{
+    let mut i = 0;
+    while i < entries.len() {
+        let b = bucket(entries[i]);
+        counts[b] = counts[b] % 65536 + 1;
+        i += 1;
+    }
+}
+
+// The counts become the places where the buckets begin.
+fn sum_counts(counts: &mut [u32]) {
+    let mut total = 0;
+    let mut b = 0;
+    while b < counts.len() {
+        let count = counts[b];
+        counts[b] = total;
+        total = (total + count % 65536) % 65536;
+        b += 1;
+    }
+}
+
+// The entry at i changes places with the one where its bucket goes on; false where there is no such place.
+fn settle(s: &[u8], entries: &mut [u32], next: &mut [u32], i: usize) -> bool
+    requires { ⌜ Entries (now s) (length (now entries)) (now entries) ⌝ }
+    requires { ⌜ 256 ≤ length (now next) ⌝ }
+    ensures { λ _. ⌜ Moved (now (s .entry)) (now (entries .entry)) (now (entries .exit)) ⌝ }
+{
+    if entries.len() <= i {
+        return false;
+    }
+    let b = bucket(entries[i]);
+    let j = wide(next[b]);
+    if entries.len() <= j {
+        return false;
+    }
+    next[b] = next[b] % 65536 + 1;
+    swap(&mut *entries, i, j);
+    true
+}
+
+// Entries are settled until bucket b goes on at e.
+fn fill_bucket(s: &[u8], entries: &mut [u32], next: &mut [u32], b: usize, e: usize)
+    requires { ⌜ Entries (now s) (length (now entries)) (now entries) ⌝ }
+    requires { ⌜ (256 ≤ length (now next)) × (b < 256) ⌝ }
+    ensures { λ _. ⌜ Moved (now (s .entry)) (now (entries .entry)) (now (entries .exit)) ⌝ }
+{
+    let mut left = entries.len();
+    while 0 < left {
+        left -= 1;
+        let i = wide(next[b]);
+        if e <= i {
+            return;
+        }
+        if settle(s, &mut *entries, &mut *next, i) {} else {
+            return;
+        }
+    }
+}
+
+// Every entry is moved into its bucket.
+fn fill_buckets(s: &[u8], entries: &mut [u32], starts: &[u32], next: &mut [u32])
+    requires { ⌜ Entries (now s) (length (now entries)) (now entries) ⌝ }
+    requires { ⌜ (257 ≤ length (now starts)) × (256 ≤ length (now next)) ⌝ }
+    ensures { λ _. ⌜ Moved (now (s .entry)) (now (entries .entry)) (now (entries .exit)) ⌝ }
+{
+    let mut b = 0;
+    while b < 256 {
+        let e = wide(starts[b + 1]);
+        fill_bucket(s, &mut *entries, &mut *next, b, e);
+        b += 1;
+    }
+}
+
+// Each bucket is sorted.
+fn sort_buckets(s: &[u8], entries: &mut [u32], starts: &[u32])
+    requires { ⌜ Entries (now s) (length (now entries)) (now entries) ⌝ }
+    requires { ⌜ 257 ≤ length (now starts) ⌝ }
+    ensures { λ _. ⌜ Moved (now (s .entry)) (now (entries .entry)) (now (entries .exit)) ⌝ }
+{
+    let mut b = 0;
+    while b < 256 {
+        let lo = wide(starts[b]);
+        b += 1;
+        let hi = wide(starts[b]);
+        if hi <= entries.len() {
+            if lo < hi {
+                sort_part(s, &mut *entries, lo, hi);
+            }
+        }
+    }
+}
+
+// Entries go into buckets by their fingerprints, and each bucket is sorted: about linear time where fingerprints are spread.
 fn sort(s: &[u8], entries: &mut [u32])
     requires { ⌜ Entries (now s) (length (now entries)) (now entries) ⌝ }
     ensures { λ _. ⌜ Moved (now (s .entry)) (now (entries .entry)) (now (entries .exit)) ⌝ }
 {
-    make_heap(s, &mut *entries);
-    let mut end = entries.len();
-    while 1 < end {
-        end -= 1;
-        swap(&mut *entries, 0, end);
-        sift(s, &mut *entries, 0, end);
-    }
+    let mut starts = [0u32; 257];
+    count_buckets(&*entries, &mut starts);
+    sum_counts(&mut starts);
+    let mut next = starts;
+    fill_buckets(s, &mut *entries, &starts, &mut next);
+    sort_buckets(s, &mut *entries, &starts);
 }
 
 // Is each key before the next? The first neighbours that are not decide.

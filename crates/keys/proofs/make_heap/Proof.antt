@@ -1,8 +1,7 @@
 -- `keys::make_heap` meets its contract. The invariant: the entries were only moved. The measure is the place that is sifted next.
 use borrow.Author.Needs.{needs}
+use Prim.Native.Nat.{_≤_}
 use native.Mathlib.Omega.{arith}
-use mathlib.Core.Path.{_≡_, refl}
-use lib.ListN.{length}
 use Rattle.keys.specs.Keys.{Moved}
 use Rattle.keys.proofs.Moves.{moved-none, moved-on}
 use Rattle.keys.proofs.make_heap.Statement.{statement}
@@ -12,24 +11,31 @@ use Rattle.keys.proofs.make_heap.Lts as lts
 use Rattle.keys.proofs.sift.Reads as sift-reads
 
 abbrev Inv-loop : tie.InvT-loop
-Inv-loop s entries₀ n top₀ entries top = (Moved s entries₀ entries) × (n ≡ length entries₀)
+Inv-loop s entries₀ lo end top₀ entries top = (Moved s entries₀ entries) × (lo ≤ top)
 
 abbrev μ-loop : tie.MeasureT-loop
-μ-loop s entries₀ n top₀ entries top = top
+μ-loop s entries₀ lo end top₀ entries top = top
+
+sub-top : tie.Need-sub-top Inv-loop μ-loop
+sub-top c = search needs
+
+add-top : tie.Need-add-top Inv-loop μ-loop
+add-top c = search needs
 
 loop-holds : tie.Need-loop-holds Inv-loop μ-loop
 loop-holds c =
     let at-args = c .before .before .args in
     let at-pre = c .before .before .pre in
-    (moved-none (at-args .s .now) (at-args .entries .now) at-pre, refl)
+    (moved-none (at-args .s .now) (at-args .entries .now) (at-pre .0), omega arith)
 
-sub-top : tie.Need-sub-top Inv-loop μ-loop
-sub-top c = search needs
+sub-top-2 : tie.Need-sub-top-2 Inv-loop μ-loop
+sub-top-2 c = search needs
 
 sift-requires : tie.Need-sift-requires Inv-loop μ-loop
 sift-requires c κs =
     let at-loop = c .before .before .loop in
-    (at-loop .inv .0 .entries, omega (arith, at-loop .inv .0 .long, at-loop .inv .1))
+    let at-pre = c .before .before .before .before .before .pre in
+    (at-loop .inv .0 .entries, (omega arith, omega (arith, at-loop .inv .0 .long, at-pre .1 .1)))
 
 loop-less : tie.Need-loop-less Inv-loop μ-loop
 loop-less c = search needs
@@ -39,7 +45,7 @@ loop-again c =
     let at-args = c .before .before .before .before .before .before .before .before .args in
     let at-loop = c .before .before .before .before .before .loop in
     let at-sift = c .before .before .sift in
-    (moved-on (at-args .s .now) (at-args .entries .now) (at-loop .entries) _ (at-loop .inv .0) (at-sift .ensures), at-loop .inv .1)
+    (moved-on (at-args .s .now) (at-args .entries .now) (at-loop .entries) _ (at-loop .inv .0) (at-sift .ensures), omega arith)
 
 same-length : tie.Need-same-length Inv-loop μ-loop
 same-length c =
@@ -57,8 +63,10 @@ make-heap-spec =
     (tie.spec
     Inv-loop
     μ-loop
-    loop-holds
     sub-top
+    add-top
+    loop-holds
+    sub-top-2
     sift-requires
     loop-less
     loop-again

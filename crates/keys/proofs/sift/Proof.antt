@@ -1,6 +1,6 @@
--- `keys::sift` meets its contract. The invariant: the entries were only moved. The measure is what lies between the root and the end.
+-- `keys::sift` meets its contract. The invariant: the entries were only moved, and the root is in the heap. The measure is what lies between the root and the end.
 use borrow.Author.Needs.{needs}
-use Prim.Native.Nat.{_-_}
+use Prim.Native.Nat.{_-_, _≤_}
 use native.Mathlib.Omega.{arith}
 use Rattle.keys.specs.Keys.{Moved}
 use Rattle.keys.proofs.Moves.{moved-none, moved-on, moved-swapped}
@@ -13,16 +13,19 @@ use Rattle.keys.proofs.last_child.Reads as last-child-reads
 use Rattle.keys.proofs.swap.Reads as swap-reads
 
 abbrev Inv-loop : tie.InvT-loop
-Inv-loop s entries₀ from end root₀ entries root = Moved s entries₀ entries
+Inv-loop s entries₀ lo from end root₀ entries root = (Moved s entries₀ entries) × (lo ≤ root)
 
 abbrev μ-loop : tie.MeasureT-loop
-μ-loop s entries₀ from end root₀ entries root = end - root
+μ-loop s entries₀ lo from end root₀ entries root = end - root
 
 loop-holds : tie.Need-loop-holds Inv-loop μ-loop
 loop-holds c =
     let at-args = c .before .before .args in
     let at-pre = c .before .before .pre in
-    moved-none (at-args .s .now) (at-args .entries .now) (at-pre .0)
+    (moved-none (at-args .s .now) (at-args .entries .now) (at-pre .0), at-pre .1 .0)
+
+sub-left : tie.Need-sub-left Inv-loop μ-loop
+sub-left c = search needs
 
 add-left : tie.Need-add-left Inv-loop μ-loop
 add-left c = search needs
@@ -33,12 +36,12 @@ add-left-2 c = search needs
 same-length : tie.Need-same-length Inv-loop μ-loop
 same-length c =
     let at-loop = c .before .before .loop in
-    at-loop .inv .long
+    at-loop .inv .0 .long
 
 returns : tie.Need-returns Inv-loop μ-loop
 returns c =
     let at-loop = c .before .before .loop in
-    at-loop .inv
+    at-loop .inv .0
 
 last-child-requires : tie.Need-last-child-requires Inv-loop μ-loop
 last-child-requires c κs = search needs
@@ -60,10 +63,10 @@ is-before-requires c κs =
     let at-loop = c .before .before .before .before .before .before .loop in
     let at-pre = c .before .before .before .before .before .before .before .before .before .pre in
     let at-last-child = c .before .before .last-child in
-    let n = at-loop .inv .long in
-    let h = at-pre .1 in
+    let n = at-loop .inv .0 .long in
+    let h = at-pre .1 .1 in
     let g = at-last-child .ensures in
-    (at-loop .inv .entries (at-loop .root) (omega arith), at-loop .inv .entries (at-last-child .result) (omega arith))
+    (at-loop .inv .0 .entries (at-loop .root) (omega arith), at-loop .inv .0 .entries (at-last-child .result) (omega arith))
 
 swap-requires : tie.Need-swap-requires Inv-loop μ-loop
 swap-requires c κs = search needs
@@ -78,34 +81,34 @@ loop-again c =
     let at-last-child = c .before .before .before .before .before .before .before .before .last-child in
     let at-args = c .before .before .before .before .before .before .before .before .before .before .before .before .before .before .before .args in
     let at-swap = c .before .before .swap in
-    let n = at-loop .inv .long in
-    let h = at-pre .1 in
+    let n = at-loop .inv .0 .long in
+    let h = at-pre .1 .1 in
     let g = at-last-child .ensures in
     let s = at-args .s .now in
     let l = at-loop .entries in
     let i = at-loop .root in
     let j = at-last-child .result in
-    moved-on s (at-args .entries .now) l _ (at-loop .inv) (moved-swapped l i j (omega arith) (omega arith) s _ (at-swap .ensures) (at-loop .inv .entries))
+    (moved-on s (at-args .entries .now) l _ (at-loop .inv .0) (moved-swapped l i j (omega arith) (omega arith) s _ (at-swap .ensures) (at-loop .inv .0 .entries)), omega arith)
 
 same-length-2 : tie.Need-same-length-2 Inv-loop μ-loop
 same-length-2 c =
     let at-loop = c .before .before .before .before .before .before .before .before .loop in
-    at-loop .inv .long
+    at-loop .inv .0 .long
 
 returns-2 : tie.Need-returns-2 Inv-loop μ-loop
 returns-2 c =
     let at-loop = c .before .before .before .before .before .before .before .before .loop in
-    at-loop .inv
+    at-loop .inv .0
 
 same-length-3 : tie.Need-same-length-3 Inv-loop μ-loop
 same-length-3 c =
     let at-loop = c .before .loop in
-    at-loop .inv .long
+    at-loop .inv .0 .long
 
 returns-3 : tie.Need-returns-3 Inv-loop μ-loop
 returns-3 c =
     let at-loop = c .before .loop in
-    at-loop .inv
+    at-loop .inv .0
 
 pub sift-spec : {M : Type 1} → statement M
 sift-spec =
@@ -114,6 +117,7 @@ sift-spec =
     Inv-loop
     μ-loop
     loop-holds
+    sub-left
     add-left
     add-left-2
     same-length

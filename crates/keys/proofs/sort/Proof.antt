@@ -1,92 +1,65 @@
--- `keys::sort` meets its contract. The invariant: since the heap was made the entries were only moved. The measure is the end of the heap.
+-- `keys::sort` meets its contract: entries move into their buckets, and within them.
 use borrow.Author.Needs.{needs}
-use Prim.Native.Nat.{_-_, _≤_}
-use native.Mathlib.Omega.{arith}
-use mathlib.Core.Path.{_∙_}
-use lib.ListN.{length}
-use Rattle.keys.specs.Keys.{Moved}
-use Rattle.keys.proofs.Moves.{moved-none, moved-on, moved-swapped}
+use Rattle.keys.proofs.Moves.{moved-on}
+use borrow.Author.Needs.{needs}
 use Rattle.keys.proofs.sort.Statement.{statement}
 use Rattle.keys.proofs.sort.Tie as tie
 use Rattle.keys.proofs.sort.Reads as reads
 use Rattle.keys.proofs.sort.Lts as lts
-use Rattle.keys.proofs.make_heap.Reads as make-heap-reads
-use Rattle.keys.proofs.sift.Reads as sift-reads
-use Rattle.keys.proofs.swap.Reads as swap-reads
+use Rattle.keys.proofs.count_buckets.Reads as count-buckets-reads
+use Rattle.keys.proofs.fill_buckets.Reads as fill-buckets-reads
+use Rattle.keys.proofs.sort_buckets.Reads as sort-buckets-reads
+use Rattle.keys.proofs.sum_counts.Reads as sum-counts-reads
 
-abbrev Inv-loop : tie.InvT-loop
-Inv-loop s entries₀ end₀ entries end = (Moved s entries₀ entries) × (end ≤ length entries)
+slice-aggregate-count-buckets : tie.Need-slice-aggregate-count-buckets
+slice-aggregate-count-buckets c = search needs
 
-abbrev μ-loop : tie.MeasureT-loop
-μ-loop s entries₀ end₀ entries end = end
+count-buckets-requires : tie.Need-count-buckets-requires
+count-buckets-requires c κs = search needs
 
-make-heap-requires : tie.Need-make-heap-requires Inv-loop μ-loop
-make-heap-requires c κs = search needs
+slice-aggregate-sum-counts : tie.Need-slice-aggregate-sum-counts
+slice-aggregate-sum-counts c = search needs
 
-loop-holds : tie.Need-loop-holds Inv-loop μ-loop
-loop-holds c =
-    let at-args = c .before .before .before .before .before .before .args in
-    let at-make-heap = c .before .before .make-heap in
-    (moved-none (at-args .s .now) (at-make-heap .last .1 .0) (at-make-heap .ensures .entries), omega arith)
+sum-counts-requires : tie.Need-sum-counts-requires
+sum-counts-requires c κs = search needs
 
-sub-end : tie.Need-sub-end Inv-loop μ-loop
-sub-end c = search needs
+slice-aggregate-fill-buckets : tie.Need-slice-aggregate-fill-buckets
+slice-aggregate-fill-buckets c = search needs
 
-swap-requires : tie.Need-swap-requires Inv-loop μ-loop
-swap-requires c κs = search needs
+slice-aggregate-fill-buckets-2 : tie.Need-slice-aggregate-fill-buckets-2
+slice-aggregate-fill-buckets-2 c = search needs
 
-sift-requires : tie.Need-sift-requires Inv-loop μ-loop
-sift-requires c κs =
-    let at-args = c .before .before .before .before .before .before .before .before .before .before .before .before .before .args in
-    let at-loop = c .before .before .before .before .before .before .loop in
-    let at-swap = c .before .before .before .swap in
-    let s = at-args .s .now in
-    let l = at-loop .entries in
-    let m = moved-swapped l 0 (at-loop .end - 1) (omega arith) (omega arith) s (at-swap .last .0) (at-swap .ensures) (at-loop .inv .0 .entries) in
-    (m .entries, omega (arith, m .long, at-loop .inv .1))
+fill-buckets-requires : tie.Need-fill-buckets-requires
+fill-buckets-requires c κs = search needs
 
-loop-less : tie.Need-loop-less Inv-loop μ-loop
-loop-less c = search needs
+slice-aggregate-sort-buckets : tie.Need-slice-aggregate-sort-buckets
+slice-aggregate-sort-buckets c = search needs
 
-loop-again : tie.Need-loop-again Inv-loop μ-loop
-loop-again c =
-    let at-args = c .before .before .before .before .before .before .before .before .before .before .before .before .before .before .before .before .args in
-    let at-loop = c .before .before .before .before .before .before .before .before .before .loop in
-    let at-make-heap = c .before .before .before .before .before .before .before .before .before .before .before .before .make-heap in
-    let at-swap = c .before .before .before .before .before .before .swap in
-    let at-sift = c .before .before .sift in
-    let s = at-args .s .now in
-    let l = at-loop .entries in
-    let h = at-make-heap .last .1 .0 in
-    let m = moved-swapped l 0 (at-loop .end - 1) (omega arith) (omega arith) s (at-swap .last .0) (at-swap .ensures) (at-loop .inv .0 .entries) in
-    let k = moved-on s l (at-swap .last .0) (at-sift .last .1 .0) m (at-sift .ensures) in
-    (moved-on s h l (at-sift .last .1 .0) (at-loop .inv .0) k, omega (arith, k .long, at-loop .inv .1))
+sort-buckets-requires : tie.Need-sort-buckets-requires
+sort-buckets-requires c κs = search needs
 
-same-length : tie.Need-same-length Inv-loop μ-loop
-same-length c =
-    let at-loop = c .before .loop in
-    let at-make-heap = c .before .before .before .before .make-heap in
-    at-loop .inv .0 .long ∙ at-make-heap .ensures .long
+same-length : tie.Need-same-length
+same-length c = search needs
 
-returns : tie.Need-returns Inv-loop μ-loop
+returns : tie.Need-returns
 returns c =
-    let at-args = c .before .before .before .before .before .before .before .before .args in
-    let at-make-heap = c .before .before .before .before .make-heap in
-    let at-loop = c .before .loop in
-    moved-on (at-args .s .now) (at-args .entries .now) (at-make-heap .last .1 .0) (at-loop .entries) (at-make-heap .ensures) (at-loop .inv .0)
+    let at-args = c .before .before .before .before .before .before .before .before .before .before .before .before .before .before .before .before .before .before .before .before .before .args in
+    let at-fill-buckets = c .before .before .before .before .before .before .before .before .fill-buckets in
+    let at-sort-buckets = c .before .before .sort-buckets in
+    moved-on (at-args .s .now) (at-args .entries .now) (at-fill-buckets .last .1 .0) (at-sort-buckets .last .1 .0) (at-fill-buckets .ensures) (at-sort-buckets .ensures)
 
 pub sort-spec : {M : Type 1} → statement M
 sort-spec =
     tie.close
     (tie.spec
-    Inv-loop
-    μ-loop
-    make-heap-requires
-    loop-holds
-    sub-end
-    swap-requires
-    sift-requires
-    loop-less
-    loop-again
+    slice-aggregate-count-buckets
+    count-buckets-requires
+    slice-aggregate-sum-counts
+    sum-counts-requires
+    slice-aggregate-fill-buckets
+    slice-aggregate-fill-buckets-2
+    fill-buckets-requires
+    slice-aggregate-sort-buckets
+    sort-buckets-requires
     same-length
     returns)
