@@ -1,5 +1,6 @@
 #!/usr/bin/env python3
-"""The input and the expected output of the test program `questions`: what tests/model/recfile.py answers of files at each question and each limit.
+"""The input and the expected output of the test program `questions`: what tests/model/recfile.py answers of files at each question and each limit,
+and what GNU recfix said of the files of tests/recfix.
 
 Usage: tests/questions/make.py       (writes crates/questions/stdin and crates/questions/stdout)
 """
@@ -228,10 +229,15 @@ numbers, stdin = [], b''
 for runs, room, used in cases:
     buffer = whole(runs)
     numbers.append(recfile.check(buffer + bytes(room - len(buffer)), used))
-    stdin += frame(four(room), four(used), packed(runs))
+    stdin += frame(four(0), four(room), four(used), packed(runs))
+judged = os.path.join(ROOT, 'tests', 'recfix')
+with open(os.path.join(judged, 'cases'), 'rb') as f:
+    stdin += f.read()
+with open(os.path.join(judged, 'verdicts')) as f:
+    verdicts = f.read()
 folder = os.path.join(ROOT, 'crates', 'questions')
 with open(os.path.join(folder, 'stdin'), 'wb') as f:
     f.write(stdin)
 with open(os.path.join(folder, 'stdout'), 'w') as f:
-    f.write(''.join('%d\n' % n for n in numbers))
+    f.write(''.join('%d\n' % n for n in numbers) + verdicts)
 print(len(cases), 'cases', len(stdin), 'bytes', sorted(collections.Counter(numbers).items()))

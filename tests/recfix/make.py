@@ -1,7 +1,7 @@
 #!/usr/bin/env python3
-"""The input and the expected output of the test program `judged`: what GNU recfix says of files on which its reading and document 01's coincide.
+"""What GNU recfix says of files on which its reading and document 01's coincide, for the test program `questions`.
 
-Usage: tests/recfix/make.py       (needs recfix of GNU recutils; writes crates/judged/stdin and crates/judged/stdout)
+Usage: tests/recfix/make.py       (needs recfix of GNU recutils; writes tests/recfix/cases and tests/recfix/verdicts, which tests/questions/make.py takes in)
 
 The expected output is recfix's own. tests/model/recfile.py is asked too, and a case of COINCIDE on which the two differ stops the script, as does a case of
 DIFFER on which they agree: such a case stands in the wrong list.
@@ -15,7 +15,7 @@ ROOT = os.path.dirname(os.path.dirname(os.path.dirname(os.path.abspath(__file__)
 sys.path.insert(0, os.path.join(ROOT, 'tests', 'model'))
 
 import recfile  # noqa: E402
-from frames import frame, packed  # noqa: E402
+from frames import four, frame, packed  # noqa: E402
 
 
 def described(rules, records='A: 1\n'):
@@ -93,14 +93,14 @@ for t in COINCIDE:
     told.append(recfix(text))
     if told[-1] != ours(text):
         sys.exit('the readings differ on %r' % t)
-    stdin += frame(packed([(1, text)]))
+    stdin += frame(four(1), four(len(text)), four(len(text)), packed([(1, text)]))
 for why, texts in DIFFER.items():
     for t in texts:
         if recfix(t.encode()) == ours(t.encode()):
             sys.exit('the readings agree on %r: %s' % (t, why))
-folder = os.path.join(ROOT, 'crates', 'judged')
-with open(os.path.join(folder, 'stdin'), 'wb') as f:
+folder = os.path.join(ROOT, 'tests', 'recfix')
+with open(os.path.join(folder, 'cases'), 'wb') as f:
     f.write(stdin)
-with open(os.path.join(folder, 'stdout'), 'w') as f:
+with open(os.path.join(folder, 'verdicts'), 'w') as f:
     f.writelines('pass\n' if ok else 'fail\n' for ok in told)
 print(len(told), 'cases', told.count(True), 'pass', sum(map(len, DIFFER.values())), 'left out', len(stdin), 'bytes')

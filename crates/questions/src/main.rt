@@ -1,4 +1,5 @@
-// Checks each file of its input and prints the number. A frame is the buffer's length and the used length, four bytes each, and the file's runs.
+// Checks each file of its input and prints the number, or, of the files that GNU recfix judged too, whether it passes.
+// A frame is 0 or 1 for that, the buffer's length and the used length, four bytes each, and the file's runs.
 fn main() {
     let mut left: usize = 4096;
     while 0 < left {
@@ -16,16 +17,32 @@ fn next_case() -> bool {
     if n == 0 {
         return false;
     }
-    print_number(&frame[..n]);
+    judge(&frame[..n]);
     true
 }
 
-fn print_number(frame: &[u8]) {
+fn judge(frame: &[u8]) {
     let mut file = [0u8; 65600];
-    let used = frames::four(frame, 4);
-    frames::expand(frame, 8, &mut file);
-    let room = frames::within(frames::four(frame, 0), &file);
+    let used = frames::four(frame, 8);
+    frames::expand(frame, 12, &mut file);
+    let room = frames::within(frames::four(frame, 4), &file);
     let k = integrity::check(&file[..room], used);
+    if frames::four(frame, 0) == 0 {
+        print_number(k);
+    } else {
+        print_verdict(k);
+    }
+}
+
+fn print_number(k: u32) {
     io::print_decimal(1, k as u64);
     io::write_all(1, b"\n");
+}
+
+fn print_verdict(k: u32) {
+    if k == 0 {
+        io::write_all(1, b"pass\n");
+    } else {
+        io::write_all(1, b"fail\n");
+    }
 }
