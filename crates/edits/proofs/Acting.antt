@@ -32,15 +32,15 @@ use Rattle.records.proofs.Applied.{appliedTo, insert-applied, add-applied, dele
 use Rattle.requests.specs.Fields.{bytesOf, InSpan}
 use Rattle.requests.specs.Pairs.{pairsFrom, pairsAt, pairOf, Weighs}
 use Rattle.requests.specs.Kinds.{editOf}
-use Rattle.requests.specs.declared.Action.{Action}
-use Rattle.requests.specs.declared.Span.{Span}
-use Rattle.requests.specs.declared.Weighed.{Weighed}
+use Rattle.requests.specs.declared.kinds.Action.{Action}
+use Rattle.requests.specs.declared.fields.Span.{Span}
+use Rattle.requests.specs.declared.pairs.Weighed.{Weighed}
 use Rattle.requests.proofs.Reading.{span-length}
 use Rattle.splices.specs.Space.{spliced}
 use Rattle.changes.specs.Texts.{inserted}
 use Rattle.changes.proofs.Inserts.{told-inserted}
 use Rattle.edits.specs.declared.Splice.{Splice}
-use Rattle.edits.specs.declared.Target.{Target}
+use Rattle.edits.specs.declared.targets.Target.{Target}
 use Rattle.edits.specs.Places.{placeNo, Located, LocatedIn, FoundAt, TargetAt}
 use Rattle.edits.proofs.Asking.{OfRecord, own-readable, no-set, insert-asked, no-record, delete-asked, add-asked, no-field, change-asked}
 

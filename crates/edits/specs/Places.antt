@@ -21,9 +21,9 @@ use Rattle.records.proofs.RecordEdits.{ownPart}
 use Rattle.records.proofs.Applied.{appliedTo}
 use Rattle.requests.specs.Fields.{bytesOf}
 use Rattle.requests.specs.Kinds.{editOf}
-use Rattle.requests.specs.declared.Request.{Request as Read}
+use Rattle.requests.specs.declared.kinds.Request.{Request as Read}
 use Rattle.edits.specs.declared.Splice.{Splice}
-use Rattle.edits.specs.declared.Target.{Target}
+use Rattle.edits.specs.declared.targets.Target.{Target}
 use Rattle.edits.specs.Splices.{refusalOf, madeBy, Sound}
 
 -- the first of questions 21 to 25 that says no of a request to the text s, else 0

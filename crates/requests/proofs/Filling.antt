@@ -23,10 +23,10 @@ use Rattle.format.specs.Edits.{Edit}
 use Rattle.format.specs.Calls.{Answer, over, Filled, filled, writeRows, insertOf, writeBy, writeAnswer}
 use Rattle.format.proofs.Inserting.{set-reads-back}
 use Rattle.format.proofs.Requested.{HasPairs, request-pairs}
-use Rattle.requests.proofs.Action.{the-type}
-use Rattle.requests.specs.declared.Action.{Action}
-use Rattle.requests.specs.declared.Request.{Request}
-use Rattle.requests.specs.declared.RequestOf.{RequestOf}
+use Rattle.requests.proofs.kinds.Action.{the-type}
+use Rattle.requests.specs.declared.kinds.Action.{Action}
+use Rattle.requests.specs.declared.kinds.Request.{Request}
+use Rattle.requests.specs.declared.kinds.RequestOf.{RequestOf}
 use Rattle.requests.specs.declared.Written.{Written}
 use Rattle.requests.specs.Pairs.{pairsAt}
 use Rattle.requests.specs.Kinds.{editOf, requestAnswer, InAction, Inside}

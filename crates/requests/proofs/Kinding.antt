@@ -14,13 +14,13 @@ use Rattle.format.specs.Numbers.{onward}
 use Rattle.format.specs.Requests.{Tagged, Request as Asked, withText, ends, pairOn, pairsOf, inserts, byKind, requestOf, tagged}
 use Rattle.format.specs.Written.{Pair as Written}
 use Rattle.format.specs.Edits.{Edit, Change}
-use Rattle.requests.specs.declared.Span.{Span}
-use Rattle.requests.specs.declared.Text.{Text}
-use Rattle.requests.specs.declared.Number.{Number}
-use Rattle.requests.specs.declared.Pair.{Pair}
-use Rattle.requests.specs.declared.Place.{Place}
-use Rattle.requests.specs.declared.Action.{Action}
-use Rattle.requests.specs.declared.RequestOf.{RequestOf}
+use Rattle.requests.specs.declared.fields.Span.{Span}
+use Rattle.requests.specs.declared.fields.Text.{Text}
+use Rattle.requests.specs.declared.fields.Number.{Number}
+use Rattle.requests.specs.declared.pairs.Pair.{Pair}
+use Rattle.requests.specs.declared.fields.Place.{Place}
+use Rattle.requests.specs.declared.kinds.Action.{Action}
+use Rattle.requests.specs.declared.kinds.RequestOf.{RequestOf}
 use Rattle.requests.specs.Fields.{bytesOf, InSpan, fieldsFrom, NoText, TextAt, NumberAt, PlaceAt}
 use Rattle.requests.specs.Pairs.{pairsFrom, listOf, withPair, PairAt}
 use Rattle.requests.specs.Kinds.{Kind, insertKind, deletes, deleteKind, adds, addKind, asks, sets, setKind, drops, dropKind, renames, renameKind, requestAnswer, Inside, Reads}

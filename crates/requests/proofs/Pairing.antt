@@ -12,9 +12,9 @@ use Rattle.format.specs.Bytes.{Bytes, isSome}
 use Rattle.format.specs.Numbers.{onlyIf, onward}
 use Rattle.format.specs.Requests.{Tagged, Request, withText, pairOn, pairsOf}
 use Rattle.format.specs.Written.{Pair as Written}
-use Rattle.requests.specs.declared.Span.{Span}
-use Rattle.requests.specs.declared.Text.{Text}
-use Rattle.requests.specs.declared.Pair.{Pair}
+use Rattle.requests.specs.declared.fields.Span.{Span}
+use Rattle.requests.specs.declared.fields.Text.{Text}
+use Rattle.requests.specs.declared.pairs.Pair.{Pair}
 use Rattle.requests.specs.Fields.{bytesOf, fieldsFrom, inFront, NoText, TextAt}
 use Rattle.requests.specs.Pairs.{pairsFrom, pairsAt, listOf, pairOf, onto, withPair, PairAt}
 use Rattle.requests.proofs.Tagging.{Ample, fields-ample, fields-end}

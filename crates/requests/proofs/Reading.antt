@@ -14,12 +14,12 @@ use denote.Enum.Declared.{tagOf}
 use Rattle.format.specs.Bytes.{Bytes, pick}
 use Rattle.format.specs.Numbers.{onward}
 use Rattle.format.specs.Requests.{Tagged, Request, withText, twoBytes, withNumber, ends}
-use Rattle.requests.specs.declared.Span.{Span}
-use Rattle.requests.proofs.Tagged.{the-type}
-use Rattle.requests.specs.declared.Tagged.{Tagged as Read}
-use Rattle.requests.specs.declared.Text.{Text}
-use Rattle.requests.specs.declared.Number.{Number}
-use Rattle.requests.specs.declared.Place.{Place}
+use Rattle.requests.specs.declared.fields.Span.{Span}
+use Rattle.requests.proofs.fields.Tagged.{the-type}
+use Rattle.requests.specs.declared.fields.Tagged.{Tagged as Read}
+use Rattle.requests.specs.declared.fields.Text.{Text}
+use Rattle.requests.specs.declared.fields.Number.{Number}
+use Rattle.requests.specs.declared.fields.Place.{Place}
 use Rattle.requests.specs.Fields.{part, bytesOf, InSpan, fieldsFrom, inFront, FieldAt, NoText, TextAt, NumberAt, PlaceAt}
 use Rattle.requests.proofs.Tagging.{Ample, fields-ample, fields-end}
 

@@ -14,9 +14,9 @@ use Rattle.format.specs.Questions.{firstNo}
 use Rattle.format.specs.Written.{written, Pair as Written, writtenAll, isLegalName, isLegalValue, isLegalPair}
 use Rattle.format.specs.Calls.{writeRows}
 use Rattle.writing.proofs.Texts.{indent-length, written-length, sets-append}
-use Rattle.requests.specs.declared.Span.{Span}
-use Rattle.requests.specs.declared.Pair.{Pair}
-use Rattle.requests.specs.declared.Weighed.{Weighed}
+use Rattle.requests.specs.declared.fields.Span.{Span}
+use Rattle.requests.specs.declared.pairs.Pair.{Pair}
+use Rattle.requests.specs.declared.pairs.Weighed.{Weighed}
 use Rattle.requests.specs.Fields.{bytesOf}
 use Rattle.requests.specs.Pairs.{PairAt, Weighs}
 use Rattle.requests.proofs.Reading.{span-length}

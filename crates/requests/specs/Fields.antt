@@ -9,11 +9,11 @@ use lib.ListN.{length, take, drop}
 use Rattle.format.specs.Bytes.{Bytes}
 use Rattle.format.specs.Numbers.{onward}
 use Rattle.format.specs.Requests.{Tagged as Field, tagged, Request, withNumber, changes}
-use Rattle.requests.specs.declared.Span.{Span}
-use Rattle.requests.specs.declared.Tagged.{Tagged}
-use Rattle.requests.specs.declared.Text.{Text}
-use Rattle.requests.specs.declared.Number.{Number}
-use Rattle.requests.specs.declared.Place.{Place}
+use Rattle.requests.specs.declared.fields.Span.{Span}
+use Rattle.requests.specs.declared.fields.Tagged.{Tagged}
+use Rattle.requests.specs.declared.fields.Text.{Text}
+use Rattle.requests.specs.declared.fields.Number.{Number}
+use Rattle.requests.specs.declared.fields.Place.{Place}
 
 -- the bytes from one place to another
 abbrev pub part : Bytes → ℕ → ℕ → Bytes

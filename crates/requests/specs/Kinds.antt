@@ -9,9 +9,9 @@ use Rattle.format.specs.Bytes.{Bytes, isSome}
 use Rattle.format.specs.Numbers.{onward}
 use Rattle.format.specs.Requests.{Tagged, Request as Asked, withText, withNumber, ends, pairsOf, inserts, changes}
 use Rattle.format.specs.Edits.{Edit, Change}
-use Rattle.requests.specs.declared.Span.{Span}
-use Rattle.requests.specs.declared.Action.{Action}
-use Rattle.requests.specs.declared.RequestOf.{RequestOf}
+use Rattle.requests.specs.declared.fields.Span.{Span}
+use Rattle.requests.specs.declared.kinds.Action.{Action}
+use Rattle.requests.specs.declared.kinds.RequestOf.{RequestOf}
 use Rattle.requests.specs.Fields.{bytesOf, InSpan, fieldsFrom}
 use Rattle.requests.specs.Pairs.{pairsFrom, pairsAt, withPair}
 

@@ -10,9 +10,9 @@ use Rattle.format.specs.Bytes.{Bytes, all}
 use Rattle.format.specs.Numbers.{onlyIf, onward}
 use Rattle.format.specs.Requests.{Tagged, Request, withText, pairsOf}
 use Rattle.format.specs.Written.{Pair as Written, writtenAll, isLegalPair}
-use Rattle.requests.specs.declared.Span.{Span}
-use Rattle.requests.specs.declared.Pair.{Pair}
-use Rattle.requests.specs.declared.Weighed.{Weighed}
+use Rattle.requests.specs.declared.fields.Span.{Span}
+use Rattle.requests.specs.declared.pairs.Pair.{Pair}
+use Rattle.requests.specs.declared.pairs.Weighed.{Weighed}
 use Rattle.requests.specs.Fields.{bytesOf, InSpan, fieldsFrom}
 
 abbrev pub pairsFrom : Bytes → ℕ → Option (List Written)

@@ -21,7 +21,7 @@ use Rattle.words.specs.Spans.{span, runEnd}
 use Rattle.words.proofs.Finding.{run-le, run-end-le, run-passes, run-ends, byte-inside}
 use Rattle.types.specs.Meaning.{isRead, symbolsIn}
 use Rattle.types.specs.Symbols.{notParen, isPlain, wordsIn, symbolsAt, withWord, NextSymbol, areSymbols, isEnum}
-use Rattle.types.specs.declared.Symbol.{Symbol}
+use Rattle.types.specs.declared.symbols.Symbol.{Symbol}
 
 -- what a byte that is a gap, or plain, or neither, is not
 gap-open : (c : ℕ) → isGap c ≡ true → eqb c 40 ≡ false

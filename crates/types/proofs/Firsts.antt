@@ -19,7 +19,7 @@ use Rattle.types.specs.Meaning.{typedIn, typeAnswer, Sound, SoundType, T
 use Rattle.types.specs.Symbols.{symbolsAt, isEnum}
 use Rattle.types.specs.declared.Shape.{Shape}
 use Rattle.types.specs.declared.TypeOf.{TypeOf}
-use Rattle.types.specs.declared.Head.{Head}
+use Rattle.types.specs.declared.kinds.Head.{Head}
 use Rattle.types.proofs.Comments.{enum-by, enum-read}
 
 -- a type with nothing after it

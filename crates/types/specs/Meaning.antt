@@ -14,7 +14,7 @@ use Rattle.numbers.specs.Meaning.{intIn}
 use Rattle.numbers.specs.declared.IntOf.{IntOf}
 use Rattle.types.specs.declared.Shape.{Shape}
 use Rattle.types.specs.declared.TypeOf.{TypeOf}
-use Rattle.types.specs.declared.Head.{Head}
+use Rattle.types.specs.declared.kinds.Head.{Head}
 
 -- are the comments of a text closed
 abbrev pub isRead : Option Bytes → Bool

@@ -10,7 +10,7 @@ use Rattle.format.specs.Bytes.{Bytes, all}
 use Rattle.format.specs.Words.{notGap, words}
 use Rattle.format.specs.Types.{uncomment, isSymbol}
 use Rattle.words.specs.Spans.{span}
-use Rattle.types.specs.declared.Symbol.{Symbol}
+use Rattle.types.specs.declared.symbols.Symbol.{Symbol}
 
 abbrev pub notParen : ℕ → Bool
 notParen c = not (eqb c 40 || eqb c 41)

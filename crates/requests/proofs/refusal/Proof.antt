@@ -7,7 +7,7 @@ use Rattle.requests.proofs.refusal.Statement.{statement}
 use Rattle.requests.proofs.refusal.Tie as tie
 use Rattle.requests.proofs.refusal.Reads as reads
 use Rattle.requests.proofs.refusal.Lts as lts
-use Rattle.requests.proofs.weigh.Reads as weigh-reads
+use Rattle.requests.proofs.pairs.weigh.Reads as weigh-reads
 
 weigh-requires : tie.Need-weigh-requires
 weigh-requires c κs = search needs

@@ -14,9 +14,9 @@ use Rattle.requests.proofs.write_record.Tie as tie
 use Rattle.requests.proofs.write_record.Reads as reads
 use Rattle.requests.proofs.write_record.Lts as lts
 use Rattle.format.proofs.classes.Reads as classes-reads
-use Rattle.requests.proofs.put_pairs.Reads as put-pairs-reads
+use Rattle.requests.proofs.pairs.put_pairs.Reads as put-pairs-reads
 use Rattle.requests.proofs.refusal.Reads as refusal-reads
-use Rattle.requests.proofs.request_of.Reads as request-of-reads
+use Rattle.requests.proofs.kinds.request_of.Reads as request-of-reads
 
 request-of-requires : tie.Need-request-of-requires
 request-of-requires c κs = search needs

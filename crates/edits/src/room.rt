@@ -1,0 +1,67 @@
+// Whether the text that an edit makes fits.
+ghost use mathlib.Core.Path.{_≡_};
+ghost use Prim.Native.Nat.{_≤_};
+ghost use lib.ListN.{length};
+ghost use Rattle.format.specs.Limits.{fileBytes};
+ghost use Rattle.edits.specs.Splices.{madeBy, Sound, isWithin};
+use super::Splice;
+
+// Is a length at most the room and a file's limit?
+fn is_within(n: usize, room: usize) -> bool
+    ensures { λ r. ⌜ r ≡ isWithin room n ⌝ }
+{
+    if n > room {
+        return false;
+    }
+    n <= format::File::BYTES
+}
+
+// Is the text that a splice makes of s at most room bytes long, and no longer than a file may be?
+pub fn fits(x: Splice, s: &[u8], req: &[u8], room: usize) -> bool
+    requires { ⌜ Sound (now s) (now req) x ⌝ }
+    requires { ⌜ (length (now s) ≤ room) × (length (now s) ≤ fileBytes) ⌝ }
+    ensures { λ r. ⌜ r ≡ isWithin room (length (madeBy (now (s .entry)) (now (req .entry)) x)) ⌝ }
+{
+    let used = s.len();
+    match x {
+        Splice::Record {
+            at: _,
+            from: _,
+            len,
+        } => {
+            if len > format::File::BYTES {
+                return false;
+            }
+            if used == 0 {
+                return is_within(len, room);
+            }
+            return is_within(used + len + 1, room);
+        }
+        Splice::Field {
+            at: _,
+            old,
+            name,
+            value,
+        } => {
+            let a = name.start;
+            let b = name.end;
+            let c = value.start;
+            let d = value.end;
+            let new = writing::written_len(&req[a..b], &req[c..d]);
+            return is_within(used - old + new, room);
+        }
+        Splice::Name { at: _, old, name } => {
+            let new = name.end - name.start;
+            return is_within(used - old + new, room);
+        }
+        Splice::Cut { at: _, old: _ } => {
+            return true;
+        }
+        Splice::Unfield { start: _, end: _ } => {
+            return true;
+        }
+        Splice::Refused(_) => {
+            return true;
+        }
+    }
+}
