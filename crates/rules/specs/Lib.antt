@@ -1,2 +1,2 @@
--- What a descriptor that passed questions 4, 6 and 7 is, and the records that it rules.
+-- What a descriptor that passed questions 4, 6 and 7 is, the records that it rules, and what a walk over them tells.
 pub mod Described

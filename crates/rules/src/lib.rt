@@ -1,62 +1,30 @@
-// Questions 8 to 14 of one set: its descriptor's rules are read once and asked of each of its records.
+// Questions 8 to 14 of one set: its descriptor's rules are read once; those on names are asked of each of its records, those on types of all their fields together.
 ghost use mathlib.Core.Path.{_≡_};
 ghost use mathlib.Core.Bool.{true};
-ghost use mathlib.Core.List.{map};
 ghost use Prim.Native.Nat.{_≤_};
 ghost use lib.ListN.{length};
-ghost use Rattle.format.specs.Bytes.{classTable};
+ghost use Rattle.format.specs.Bytes.{classTable, all};
 ghost use Rattle.format.specs.Limits.{fileBytes, valueBytes};
 ghost use Rattle.format.specs.Numbers.{bits32};
-ghost use Rattle.format.specs.Questions.{firstNo, fitsRecord};
-ghost use Rattle.format.proofs.Elements.{Each};
-ghost use Rattle.format.proofs.Least.{leasts};
-ghost use Rattle.format.proofs.Judging.{recordNo, wholeRows, setNo};
+ghost use Rattle.format.specs.Questions.{firstNo, allTyped};
+ghost use Rattle.format.proofs.Judging.{wholeRows, setNo};
 ghost use Rattle.format.proofs.Walking.{ruled};
 ghost use Rattle.records.specs.Places.{isReadable};
 ghost use Rattle.records.specs.Walk.{recordIn};
 ghost use Rattle.lists.specs.Tables.{Lists};
 ghost use Rattle.setkeys.specs.Keyed.{membersIn, HaveKeys};
-ghost use Rattle.typed.specs.Rules.{Ruled};
-ghost use Rattle.rules.specs.Described.{IsRules, AllFit};
+ghost use Rattle.typed.specs.Meets.{fieldFits};
+ghost use Rattle.rules.specs.Described.{IsRules, AllFit, AllAsked};
 use records::FoundField;
 use records::NextRecord;
-use typed::Rules;
 
-// Questions 8 to 12 of one record, by its descriptor's tables: the number of the first that says no, else 0.
-fn judge_record(
-    table: &[u8; 256],
-    d: &[u8],
-    at: &[u32],
-    end: &[u32],
-    list: &[u8],
-    count: usize,
-    types: Rules,
-    r: &[u8],
-    seen: &mut [u8],
-    scratch: &mut [u8],
-    other: &mut [u8],
-) -> u32
-    requires { ⌜ now table ≡ classTable ⌝ }
-    requires { ⌜ IsRules (now d) × Ruled (length (now other)) (now d) types ⌝ }
-    requires { ⌜ Lists (now d) (now at) (now end) (now list) count × (count ≤ length (now seen)) ⌝ }
-    requires { ⌜ (isReadable (now r) ≡ true) × (fitsRecord (recordIn (now r)) ≡ true) ⌝ }
-    requires { ⌜ (valueBytes ≤ length (now scratch)) × (valueBytes ≤ length (now other)) ⌝ }
-    ensures { λ n. ⌜ n ≡ recordNo bits32 (recordIn (now (d .entry))) (recordIn (now (r .entry))) ⌝ }
-{
-    let n = lists::judge_names(table, d, at, end, list, count, r, &mut *seen);
-    if n != 0 {
-        return n;
-    }
-    if types.count == 0 {
-        return 0;
-    }
-    if typed::record_typed(table, d, types, r, &mut *scratch, &mut *other) {} else {
-        return 12;
-    }
-    0
+// The members of a set, asked questions 8 to 11: the least number that one of them has, and the byte behind which none stands.
+pub struct Asked {
+    pub number: u32,
+    pub end: usize,
 }
 
-// The least number of the records before the next descriptor, each asked once.
+// Questions 8 to 11 of the records before the next descriptor, each asked once.
 fn judge_members(
     table: &[u8; 256],
     d: &[u8],
@@ -64,17 +32,12 @@ fn judge_members(
     end: &[u32],
     list: &[u8],
     count: usize,
-    types: Rules,
     rest: &[u8],
-    scratch: &mut [u8],
-    other: &mut [u8],
-) -> u32
+) -> Asked
     requires { ⌜ now table ≡ classTable ⌝ }
-    requires { ⌜ IsRules (now d) × Ruled (length (now other)) (now d) types ⌝ }
     requires { ⌜ Lists (now d) (now at) (now end) (now list) count × (count ≤ 257) ⌝ }
-    requires { ⌜ (isReadable (now rest) ≡ true) × AllFit (membersIn (now rest)) ⌝ }
-    requires { ⌜ (valueBytes ≤ length (now scratch)) × (valueBytes ≤ length (now other)) ⌝ }
-    ensures { λ n. ⌜ n ≡ leasts (map (recordNo bits32 (recordIn (now (d .entry)))) (membersIn (now (rest .entry)))) ⌝ }
+    requires { ⌜ isReadable (now rest) ≡ true ⌝ }
+    ensures { λ r. ⌜ AllAsked (recordIn (now (d .entry))) (now (rest .entry)) r ⌝ }
 {
     let mut seen = [0u8; 257];
     let mut i = 0;
@@ -82,29 +45,37 @@ fn judge_members(
     loop {
         let n = records::next_record(table, &rest[i..]);
         let NextRecord::At(p) = n else {
-            return worst;
+            return Asked {
+                number: worst,
+                end: i,
+            };
         };
         if p.descriptor {
-            return worst;
+            return Asked {
+                number: worst,
+                end: i,
+            };
         }
         let a = i + p.start;
         let e = i + p.end;
-        let k = judge_record(
-            table,
-            d,
-            at,
-            end,
-            list,
-            count,
-            types,
-            &rest[a..e],
-            &mut seen,
-            &mut *scratch,
-            &mut *other,
-        );
+        let k = lists::judge_names(table, d, at, end, list, count, &rest[a..e], &mut seen);
         worst = lists::lesser(worst, k);
         i += p.after;
     }
+}
+
+// Question 12 of all fields of a part, by the type rules of a descriptor; without such rules it asks nothing.
+fn all_typed(table: &[u8; 256], d: &[u8], s: &[u8], scratch: &mut [u8], other: &mut [u8]) -> bool
+    requires { ⌜ now table ≡ classTable ⌝ }
+    requires { ⌜ IsRules (now d) × (valueBytes ≤ length (now other)) ⌝ }
+    requires { ⌜ (isReadable (now s) ≡ true) × (all (fieldFits (length (now scratch))) (recordIn (now s)) ≡ true) ⌝ }
+    ensures { λ r. ⌜ r ≡ allTyped bits32 (recordIn (now (d .entry))) (recordIn (now (s .entry))) ⌝ }
+{
+    let types = typed::read_rules(table, d, &mut *other);
+    if types.count == 0 {
+        return true;
+    }
+    typed::record_typed(table, d, types, s, &mut *scratch, &mut *other)
 }
 
 // Questions 13 and 14 of a set whose records have its key: the number of the first that says no, else 0.
@@ -163,21 +134,12 @@ pub fn judge_set(
     let mut end = [0u32; 257];
     let mut list = [0u8; 257];
     let count = lists::read_lists(table, d, &mut at, &mut end, &mut list);
-    let types = typed::read_rules(table, d, &mut *other);
-    let k = judge_members(
-        table,
-        d,
-        &at,
-        &end,
-        &list,
-        count,
-        types,
-        rest,
-        &mut *scratch,
-        &mut *other,
-    );
-    if k != 0 {
-        return k;
+    let m = judge_members(table, d, &at, &end, &list, count, rest);
+    if m.number != 0 {
+        return m.number;
+    }
+    if all_typed(table, d, &rest[..m.end], &mut *scratch, &mut *other) {} else {
+        return 12;
     }
     judge_whole(
         table,

@@ -1,30 +1,26 @@
--- `rules::judge_set` meets its contract: the least number of its records, else that of the whole set.
-use Prim.Native.Nat.{ℕ}
+-- `rules::judge_set` meets its contract: the least number of its records on their names, else 12, else that of the whole set.
 use native.Mathlib.Omega.{arith}
-use mathlib.Core.Path.{_≡_, sym, _∙_, subst}
+use mathlib.Core.Path.{sym, ap, _∙_}
 use borrow.Author.Tests.{ne-eqb}
-use lib.ListN.{length}
-use mathlib.Core.Bool.{true}
-use Rattle.format.specs.Bytes.{Bytes, text, all}
-use Rattle.format.specs.Sets.{valuesOf}
-use Rattle.typedefs.specs.Walks.{fits}
+use lib.ListN.{length, take}
+use lib.Seq.{length-take-le}
+use Rattle.format.specs.Bytes.{all}
 use Rattle.format.specs.Numbers.{bits32}
 use Rattle.records.specs.Walk.{recordIn}
 use Rattle.lists.proofs.Listed.{entries-fit}
 use Rattle.setkeys.specs.Keyed.{membersIn}
-use Rattle.setkeys.proofs.Asked.{have-keys}
-use Rattle.typed.specs.Rules.{Ruled}
-use Rattle.rules.proofs.Granted.{values-fit, few-typedefs, few-types}
-use Rattle.rules.proofs.Members.{set-records, set-whole, records-none}
+use Rattle.setkeys.proofs.Asked.{have-keys-named}
+use Rattle.typed.specs.Meets.{fieldFits}
+use Rattle.rules.proofs.Members.{values-short, names-none, set-names, set-types, set-whole}
 use borrow.Author.Needs.{needs}
 use Rattle.rules.proofs.judge_set.Statement.{statement}
 use Rattle.rules.proofs.judge_set.Tie as tie
 use Rattle.rules.proofs.judge_set.Reads as reads
 use Rattle.rules.proofs.judge_set.Lts as lts
 use Rattle.lists.proofs.read_lists.Reads as read-lists-reads
+use Rattle.rules.proofs.all_typed.Reads as all-typed-reads
 use Rattle.rules.proofs.judge_members.Reads as judge-members-reads
 use Rattle.rules.proofs.judge_whole.Reads as judge-whole-reads
-use Rattle.typed.proofs.read_rules.Reads as read-rules-reads
 
 slice-aggregate-read-lists : tie.Need-slice-aggregate-read-lists
 slice-aggregate-read-lists c = search needs
@@ -37,15 +33,10 @@ slice-aggregate-read-lists-3 c = search needs
 
 read-lists-requires : tie.Need-read-lists-requires
 read-lists-requires c κs =
-    let at-pre = c .before .before .before .before .before .before .before .before .pre in
     let at-args = c .before .before .before .before .before .before .before .before .args in
-    (at-pre .0, (at-pre .1 .0 .0 .reads, (at-pre .1 .0 .1, (entries-fit bits32 (recordIn (at-args .d .now)) (at-pre .1 .0 .0 .few) (at-pre .1 .0 .0 .well), entries-fit bits32 (recordIn (at-args .d .now)) (at-pre .1 .0 .0 .few) (at-pre .1 .0 .0 .well), entries-fit bits32 (recordIn (at-args .d .now)) (at-pre .1 .0 .0 .few) (at-pre .1 .0 .0 .well)))))
-
-read-rules-requires : tie.Need-read-rules-requires
-read-rules-requires c κs =
-    let at-args = c .before .before .before .before .before .before .before .before .before .before .before .before .before .args in
-    let at-pre = c .before .before .before .before .before .before .before .before .before .before .before .before .before .pre in
-    let fit : (n : Bytes) → all (fits (length (at-args .other .now))) (valuesOf n (recordIn (at-args .d .now))) ≡ true = λ n. values-fit (length (at-args .other .now)) (at-pre .1 .1 .1 .1) n (recordIn (at-args .d .now)) (at-pre .1 .0 .0 .fits) in (at-pre .0, (at-pre .1 .0 .0 .reads, ((few-typedefs (recordIn (at-args .d .now)) (at-pre .1 .0 .0 .few), few-types (recordIn (at-args .d .now)) (at-pre .1 .0 .0 .few)), ((fit (text "%typedef"), fit (text "%type")), at-pre .1 .0 .0 .typed))))
+    let at-pre = c .before .before .before .before .before .before .before .before .pre in
+    let few = entries-fit bits32 (recordIn (at-args .d .now)) (at-pre .1 .0 .0 .few) (at-pre .1 .0 .0 .well) in
+    (at-pre .0, (at-pre .1 .0 .0 .reads, (at-pre .1 .0 .1, (few, few, few))))
 
 slice-aggregate-judge-members : tie.Need-slice-aggregate-judge-members
 slice-aggregate-judge-members c = search needs
@@ -58,12 +49,31 @@ slice-aggregate-judge-members-3 c = search needs
 
 judge-members-requires : tie.Need-judge-members-requires
 judge-members-requires c κs =
+    let at-pre = c .before .before .before .before .before .before .before .before .before .before .before .before .before .before .before .pre in
+    let at-read-lists = c .before .before .before .before .before .before .read-lists in
+    let at-args = c .before .before .before .before .before .before .before .before .before .before .before .before .before .before .before .args in
+    (at-pre .0, ((at-read-lists .ensures, omega (arith, at-read-lists .ensures .count, entries-fit bits32 (recordIn (at-args .d .now)) (at-pre .1 .0 .0 .few) (at-pre .1 .0 .0 .well))), at-pre .1 .1 .0 .0))
+
+returns : tie.Need-returns
+returns c =
+    let at-args = c .before .before .before .before .before .before .before .before .before .before .before .before .before .before .before .before .before .before .args in
+    let at-pre = c .before .before .before .before .before .before .before .before .before .before .before .before .before .before .before .before .before .before .pre in
+    let at-judge-members = c .before .before .judge-members in
+    let at-if1 = c .if1 in
+    set-names (recordIn (at-args .d .now)) (at-pre .1 .0 .0 .well) (membersIn (at-args .rest .now)) (at-judge-members .result .number) (at-judge-members .ensures .least) (ne-eqb (at-judge-members .result .number) 0 (at-if1 .taken))
+
+slice-aggregate-all-typed : tie.Need-slice-aggregate-all-typed
+slice-aggregate-all-typed c =
+    let at-judge-members = c .before .before .before .judge-members in
+    let at-args = c .before .before .before .before .before .before .before .before .before .before .before .before .before .before .before .before .before .before .before .args in
+    sym (length-take-le (at-judge-members .result .end) (at-args .rest .now) (at-judge-members .ensures .inside))
+
+all-typed-requires : tie.Need-all-typed-requires
+all-typed-requires c κs =
     let at-pre = c .before .before .before .before .before .before .before .before .before .before .before .before .before .before .before .before .before .before .before .before .before .pre in
+    let at-judge-members = c .before .before .before .before .before .judge-members in
     let at-args = c .before .before .before .before .before .before .before .before .before .before .before .before .before .before .before .before .before .before .before .before .before .args in
-    let at-read-rules = c .before .before .before .before .before .before .before .read-rules in
-    let at-other = c .before .before .before .before .before .before .other in
-    let at-read-lists = c .before .before .before .before .before .before .before .before .before .before .before .before .read-lists in
-    (at-pre .0, ((at-pre .1 .0 .0, subst (λ (n : ℕ). Ruled n (at-args .d .now) (at-read-rules .result)) (sym (at-other .given)) (at-read-rules .ensures)), ((at-read-lists .ensures, omega (arith, at-read-lists .ensures .count, entries-fit bits32 (recordIn (at-args .d .now)) (at-pre .1 .0 .0 .few) (at-pre .1 .0 .0 .well))), ((at-pre .1 .1 .0 .0, at-pre .1 .1 .0 .2), (at-pre .1 .1 .1 .0, omega (arith, at-other .given, at-pre .1 .1 .1 .1))))))
+    (at-pre .0, ((at-pre .1 .0 .0, at-pre .1 .1 .1 .1), (at-judge-members .ensures .reads, ap (all (fieldFits (length (at-args .scratch .now)))) (at-judge-members .ensures .fields) ∙ values-short (length (at-args .scratch .now)) (at-pre .1 .1 .1 .0) (membersIn (at-args .rest .now)) (at-pre .1 .1 .0 .2))))
 
 same-length : tie.Need-same-length
 same-length c = search needs
@@ -71,12 +81,15 @@ same-length c = search needs
 same-length-2 : tie.Need-same-length-2
 same-length-2 c = search needs
 
-returns : tie.Need-returns
-returns c =
+returns-2 : tie.Need-returns-2
+returns-2 c =
     let at-args = c .before .before .before .before .before .before .before .before .before .before .before .before .before .before .before .before .before .before .before .before .before .before .before .before .before .before .before .args in
-    let at-judge-members = c .before .before .before .before .before .judge-members in
-    let at-if1 = c .if1 in
-    set-records (recordIn (at-args .d .now)) (membersIn (at-args .rest .now)) (at-judge-members .result) (at-judge-members .ensures) (ne-eqb (at-judge-members .result) 0 (at-if1 .taken))
+    let at-pre = c .before .before .before .before .before .before .before .before .before .before .before .before .before .before .before .before .before .before .before .before .before .before .before .before .before .before .before .pre in
+    let at-judge-members = c .before .before .before .before .before .before .before .before .before .before .before .judge-members in
+    let at-if1 = c .before .before .before .before .before .before .before .before .before .if1 in
+    let at-all-typed = c .before .before .before .before .before .all-typed in
+    let at-if2 = c .if2 in
+    set-types (recordIn (at-args .d .now)) (at-pre .1 .0 .0 .well) (membersIn (at-args .rest .now)) (at-judge-members .result .number) (at-judge-members .ensures .least) (at-if1 .left) (recordIn (take (at-judge-members .result .end) (at-args .rest .now))) (at-judge-members .ensures .fields) (at-all-typed .result) (at-all-typed .ensures) (at-if2 .left)
 
 slice-aggregate-judge-whole : tie.Need-slice-aggregate-judge-whole
 slice-aggregate-judge-whole c = search needs
@@ -89,13 +102,14 @@ slice-aggregate-judge-whole-3 c = search needs
 
 judge-whole-requires : tie.Need-judge-whole-requires
 judge-whole-requires c κs =
-    let at-pre = c .before .before .before .before .before .before .before .before .before .before .before .before .before .before .before .before .before .before .before .before .before .before .before .before .before .before .before .before .before .before .before .before .pre in
-    let at-read-lists = c .before .before .before .before .before .before .before .before .before .before .before .before .before .before .before .before .before .before .before .before .before .before .before .read-lists in
     let at-args = c .before .before .before .before .before .before .before .before .before .before .before .before .before .before .before .before .before .before .before .before .before .before .before .before .before .before .before .before .before .before .before .before .args in
-    let at-judge-members = c .before .before .before .before .before .before .before .before .before .before .judge-members in
-    let at-if1 = c .before .before .before .before .before .if1 in
+    let at-pre = c .before .before .before .before .before .before .before .before .before .before .before .before .before .before .before .before .before .before .before .before .before .before .before .before .before .before .before .before .before .before .before .before .pre in
+    let at-judge-members = c .before .before .before .before .before .before .before .before .before .before .before .before .before .before .before .before .judge-members in
+    let at-if1 = c .before .before .before .before .before .before .before .before .before .before .before .before .before .before .if1 in
+    let at-read-lists = c .before .before .before .before .before .before .before .before .before .before .before .before .before .before .before .before .before .before .before .before .before .before .before .read-lists in
     let at-scratch = c .before .before .before .before .before .before .before .before .before .scratch in
-    (at-pre .0, ((at-pre .1 .0 .0, at-read-lists .ensures), ((at-pre .1 .1 .0 .0, at-pre .1 .1 .0 .1, have-keys bits32 (recordIn (at-args .d .now)) (membersIn (at-args .rest .now)) (records-none (recordIn (at-args .d .now)) (membersIn (at-args .rest .now)) (at-judge-members .result) (at-judge-members .ensures) (at-if1 .left))), (omega (arith, at-scratch .given, at-pre .1 .1 .1 .0), at-pre .1 .1 .1 .2))))
+    let keys = have-keys-named bits32 (recordIn (at-args .d .now)) (membersIn (at-args .rest .now)) (at-pre .1 .0 .0 .well) (names-none (recordIn (at-args .d .now)) (at-pre .1 .0 .0 .well) (membersIn (at-args .rest .now)) (at-judge-members .result .number) (at-judge-members .ensures .least) (at-if1 .left)) in
+    (at-pre .0, ((at-pre .1 .0 .0, at-read-lists .ensures), ((at-pre .1 .1 .0 .0, at-pre .1 .1 .0 .1, keys), (omega (arith, at-scratch .given, at-pre .1 .1 .1 .0), at-pre .1 .1 .1 .2))))
 
 same-length-3 : tie.Need-same-length-3
 same-length-3 c = search needs
@@ -106,13 +120,16 @@ same-length-4 c = search needs
 same-length-5 : tie.Need-same-length-5
 same-length-5 c = search needs
 
-returns-2 : tie.Need-returns-2
-returns-2 c =
+returns-3 : tie.Need-returns-3
+returns-3 c =
     let at-args = c .before .before .before .before .before .before .before .before .before .before .before .before .before .before .before .before .before .before .before .before .before .before .before .before .before .before .before .before .before .before .before .before .before .before .before .before .before .args in
-    let at-judge-members = c .before .before .before .before .before .before .before .before .before .before .before .before .before .before .before .judge-members in
-    let at-if1 = c .before .before .before .before .before .before .before .before .before .before .if1 in
+    let at-pre = c .before .before .before .before .before .before .before .before .before .before .before .before .before .before .before .before .before .before .before .before .before .before .before .before .before .before .before .before .before .before .before .before .before .before .before .before .before .pre in
+    let at-judge-members = c .before .before .before .before .before .before .before .before .before .before .before .before .before .before .before .before .before .before .before .before .before .judge-members in
+    let at-if1 = c .before .before .before .before .before .before .before .before .before .before .before .before .before .before .before .before .before .before .before .if1 in
+    let at-all-typed = c .before .before .before .before .before .before .before .before .before .before .before .before .before .before .before .all-typed in
+    let at-if2 = c .before .before .before .before .before .before .before .before .before .before .if2 in
     let at-judge-whole = c .before .before .before .before .judge-whole in
-    set-whole (recordIn (at-args .d .now)) (membersIn (at-args .rest .now)) (at-judge-members .result) (at-judge-members .ensures) (at-if1 .left) (at-judge-whole .result) (at-judge-whole .ensures)
+    set-whole (recordIn (at-args .d .now)) (at-pre .1 .0 .0 .well) (membersIn (at-args .rest .now)) (at-judge-members .result .number) (at-judge-members .ensures .least) (at-if1 .left) (recordIn (take (at-judge-members .result .end) (at-args .rest .now))) (at-judge-members .ensures .fields) (at-all-typed .result) (at-all-typed .ensures) (at-if2 .taken) (at-judge-whole .result) (at-judge-whole .ensures)
 
 pub judge-set-spec : {M : Type 1} → statement M
 judge-set-spec =
@@ -122,14 +139,16 @@ judge-set-spec =
     slice-aggregate-read-lists-2
     slice-aggregate-read-lists-3
     read-lists-requires
-    read-rules-requires
     slice-aggregate-judge-members
     slice-aggregate-judge-members-2
     slice-aggregate-judge-members-3
     judge-members-requires
+    returns
+    slice-aggregate-all-typed
+    all-typed-requires
     same-length
     same-length-2
-    returns
+    returns-2
     slice-aggregate-judge-whole
     slice-aggregate-judge-whole-2
     slice-aggregate-judge-whole-3
@@ -137,4 +156,4 @@ judge-set-spec =
     same-length-3
     same-length-4
     same-length-5
-    returns-2)
+    returns-3)

@@ -1,7 +1,6 @@
 -- `rules::judge_whole` meets its contract: the keys' number, else the size's.
 use native.Mathlib.Omega.{arith}
-use mathlib.Core.Path.{_≡_, sym, _∙_}
-use lib.ListN.{length}
+use mathlib.Core.Path.{_∙_}
 use Rattle.format.specs.Numbers.{bits32}
 use Rattle.format.specs.Bytes.{text}
 use Rattle.records.specs.Walk.{recordIn}
@@ -34,7 +33,7 @@ returns c =
     let at-args = c .before .before .before .before .before .before .before .before .before .before .before .before .args in
     let at-keys-distinct = c .before .before .before .keys-distinct in
     let at-if1 = c .if1 in
-    keys-stop (recordIn (at-args .d .now)) (membersIn (at-args .rest .now)) (sym (at-keys-distinct .ensures) ∙ at-if1 .left)
+    keys-stop (recordIn (at-args .d .now)) (membersIn (at-args .rest .now)) (at-keys-distinct .result) (at-keys-distinct .ensures) (at-if1 .left)
 
 slice-aggregate-find-field : tie.Need-slice-aggregate-find-field
 slice-aggregate-find-field c = search needs
@@ -61,7 +60,7 @@ returns-2 c =
     let at-find-field = c .before .before .find-field in
     let at-pre = c .before .before .before .before .before .before .before .before .before .before .before .before .before .before .before .before .pre in
     let at-enum-told2 = c .enum-told2 in
-    whole-free (recordIn (at-args .d .now)) (membersIn (at-args .rest .now)) (sym (at-keys-distinct .ensures) ∙ at-if1 .taken) (field-told (text "%size") (at-args .d .now) 0 (at-find-field .result) (at-pre .1 .0 .0 .reads) (at-find-field .ensures) (at-enum-told2 .given .1))
+    whole-free (recordIn (at-args .d .now)) (membersIn (at-args .rest .now)) (at-keys-distinct .result) (at-keys-distinct .ensures) (at-if1 .taken) (field-told (text "%size") (at-args .d .now) 0 (at-find-field .result) (at-pre .1 .0 .0 .reads) (at-find-field .ensures) (at-enum-told2 .given .1))
 
 count-records-requires : tie.Need-count-records-requires
 count-records-requires c κs =
@@ -87,7 +86,7 @@ returns-3 c =
     let at-count-records = c .before .before .before .before .before .count-records in
     let at-size-met = c .before .before .before .size-met in
     let at-if2 = c .if2 in
-    size-stop (recordIn (at-args .d .now)) (membersIn (at-args .rest .now)) (sym (at-keys-distinct .ensures) ∙ at-if1 .taken) (at-count-records .result) (at-count-records .ensures ∙ count-members (at-args .rest .now)) (sym (at-size-met .ensures .0) ∙ at-if2 .left)
+    size-stop (recordIn (at-args .d .now)) (membersIn (at-args .rest .now)) (at-keys-distinct .result) (at-keys-distinct .ensures) (at-if1 .taken) (at-count-records .result) (at-count-records .ensures ∙ count-members (at-args .rest .now)) (at-size-met .result) (at-size-met .ensures .0) (at-if2 .left)
 
 same-length-5 : tie.Need-same-length-5
 same-length-5 c = search needs
@@ -103,7 +102,7 @@ returns-4 c =
     let at-count-records = c .before .before .before .before .before .count-records in
     let at-size-met = c .before .before .before .size-met in
     let at-if2 = c .if2 in
-    whole-passes (recordIn (at-args .d .now)) (membersIn (at-args .rest .now)) (sym (at-keys-distinct .ensures) ∙ at-if1 .taken) (at-count-records .result) (at-count-records .ensures ∙ count-members (at-args .rest .now)) (sym (at-size-met .ensures .0) ∙ at-if2 .taken)
+    whole-passes (recordIn (at-args .d .now)) (membersIn (at-args .rest .now)) (at-keys-distinct .result) (at-keys-distinct .ensures) (at-if1 .taken) (at-count-records .result) (at-count-records .ensures ∙ count-members (at-args .rest .now)) (at-size-met .result) (at-size-met .ensures .0) (at-if2 .taken)
 
 pub judge-whole-spec : {M : Type 1} → statement M
 judge-whole-spec =
