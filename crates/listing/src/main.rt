@@ -1,6 +1,6 @@
 // Checks the recfile on standard input and, where it passes, lists its sets in file order, each with its number of records.
-use lookup::Counted;
-use lookup::Fetched;
+use fetching::Counted;
+use fetching::Fetched;
 
 fn main() {
     let mut file = [0u8; 65537];

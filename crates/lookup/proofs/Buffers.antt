@@ -16,10 +16,10 @@ use Rattle.format.specs.Calls.{Answer, answer, fileThen, partsOf, Sought, setRo
 use Rattle.format.proofs.Passing.{Passes, verdict-reads, verdict-passes}
 use Rattle.records.specs.Places.{isReadable}
 use Rattle.records.specs.Walk.{readIn, readOf}
-use Rattle.lookup.specs.declared.Seen.{Seen}
-use Rattle.lookup.specs.Answers.{seenAnswer, SeenInside, partsIn, countIn, fetchIn, viewIn}
-use Rattle.lookup.specs.Names.{orderRow, nameRow, listed, nameAt, nameIn, nameAnswer}
-use Rattle.lookup.proofs.Looking.{part-part}
+use Rattle.fetching.specs.declared.Seen.{Seen}
+use Rattle.fetching.specs.Answers.{seenAnswer, SeenInside, partsIn, countIn, fetchIn, viewIn}
+use Rattle.fetching.specs.Names.{orderRow, nameRow, listed, nameAt, nameIn, nameAnswer}
+use Rattle.fetching.proofs.Looking.{part-part}
 
 -- what is sought in a text, by its sets
 abbrev soughtIn : List RecSet → Bytes → ℕ → Bytes → ℕ → ℕ → Sought

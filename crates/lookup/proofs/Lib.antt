@@ -1,4 +1,2 @@
--- Laws of the lookups.
-pub mod Looking
+-- The lookups of a buffer from those of its text.
 pub mod Buffers
-pub mod Naming

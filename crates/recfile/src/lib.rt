@@ -4,9 +4,9 @@ ghost use lib.ListN.{length};
 ghost use Rattle.format.specs.Calls.{checkAnswer, countAnswer, fetchAnswer, viewAnswer, writeAnswer, editAnswer};
 ghost use Rattle.recfile.specs.Interface.{valueIn, numberIn};
 use editor::Edited;
-use lookup::Counted;
-use lookup::Fetched;
-use lookup::Seen;
+use fetching::Counted;
+use fetching::Fetched;
+use fetching::Seen;
 use requests::Written;
 
 // The number of the first question that says no of the file in the first `used` bytes of a buffer, else 0.

@@ -9,9 +9,9 @@ use Rattle.format.specs.Plain.{membersOf, indexOf}
 use Rattle.format.specs.Calls.{Answer, answer, Sought, setRow, recordRow, occurrenceRow, roomRow, soughtValue, Filled, filled, Part, noPart, partIn, Viewed, viewed}
 use Rattle.format.specs.Pieces.{pieces}
 use Rattle.records.specs.Walk.{readOf}
-use Rattle.lookup.specs.declared.Counted.{Counted}
-use Rattle.lookup.specs.declared.Fetched.{Fetched}
-use Rattle.lookup.specs.declared.Seen.{Seen}
+use Rattle.fetching.specs.declared.Counted.{Counted}
+use Rattle.fetching.specs.declared.Fetched.{Fetched}
+use Rattle.fetching.specs.declared.Seen.{Seen}
 
 abbrev pub countedAnswer : Counted → Answer
 countedAnswer (Counted.Records n) = Answer.value n

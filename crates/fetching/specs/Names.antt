@@ -11,7 +11,7 @@ use Rattle.format.specs.Questions.{Row, firstNo, verdict}
 use Rattle.format.specs.Calls.{fileThen, partsOf, Filled, filled}
 use Rattle.records.specs.Places.{Placed, isDescriptor, placeOf}
 use Rattle.records.specs.declared.FoundRecord.{FoundRecord}
-use Rattle.lookup.specs.Answers.{partsIn}
+use Rattle.fetching.specs.Answers.{partsIn}
 
 -- the name of set k
 abbrev pub nameAt : List RecSet → ℕ → Bytes

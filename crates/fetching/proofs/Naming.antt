@@ -26,9 +26,9 @@ use Rattle.records.proofs.Readings.{reads-of}
 use Rattle.records.proofs.Searches.{placesAt, Stand, Met}
 use Rattle.records.proofs.Members.{sets-places, Stands, stands, others, othersBy, others-enter}
 use Rattle.records.proofs.Fields.{FieldFound}
-use Rattle.lookup.specs.declared.Fetched.{Fetched}
-use Rattle.lookup.specs.Answers.{fetchedAnswer, partsIn}
-use Rattle.lookup.specs.Names.{nameAt, orderRow, nameRow, listed, nameIn, nameAnswer, titled, descriptorBy, descriptorAt}
+use Rattle.fetching.specs.declared.Fetched.{Fetched}
+use Rattle.fetching.specs.Answers.{fetchedAnswer, partsIn}
+use Rattle.fetching.specs.Names.{nameAt, orderRow, nameRow, listed, nameIn, nameAnswer, titled, descriptorBy, descriptorAt}
 
 -- the search for descriptor k, record by record
 module _ (s : Bytes) (i : ℕ) where

@@ -26,7 +26,7 @@ use Rattle.records.proofs.Searches.{Stand}
 use Rattle.records.proofs.Members.{SetFound, RecordFound, count-sets}
 use Rattle.records.proofs.Fields.{FieldFound}
 use Rattle.records.proofs.Views.{partOf, view-part}
-use Rattle.lookup.specs.Answers.{partsIn, soughtField, countIn, fetchIn, viewIn}
+use Rattle.fetching.specs.Answers.{partsIn, soughtField, countIn, fetchIn, viewIn}
 
 -- a part of a part
 pub part-part : (j k m : ℕ) (l : Bytes) → j + k ≤ m → take k (drop j (take m l)) ≡ take k (drop j l)

@@ -1,0 +1,226 @@
+// Count, fetch, view and the sets' names in a text that is known to be readable.
+ghost use mathlib.Core.Path.{_≡_};
+ghost use mathlib.Core.Bool.{true};
+ghost use Rattle.format.specs.Bytes.{classTable, text};
+ghost use Prim.Native.Nat.{_≤_};
+ghost use lib.ListN.{length, drop};
+ghost use Rattle.format.specs.Sets.{valuesOf};
+ghost use Rattle.format.specs.Words.{notGap, front};
+ghost use Rattle.format.specs.Calls.{over};
+ghost use Rattle.lines.specs.Value.{valueFrom};
+ghost use Rattle.records.specs.Places.{isReadable, placesOf};
+ghost use Rattle.records.specs.Walk.{recordIn};
+ghost use Rattle.fetching.specs.Answers.{countedAnswer, fetchedAnswer, seenAnswer, SeenInside, countIn, fetchIn, viewIn};
+ghost use Rattle.fetching.specs.Names.{descriptorAt, titled, nameIn};
+use lines::Decoded;
+use records::FoundField;
+use records::FoundRecord;
+use records::FoundSet;
+use records::NextRecord;
+use records::Place;
+
+// The number of records of a set, or a refusal's number.
+pub enum Counted {
+    Records(usize),
+    Refused(u32),
+}
+
+// The count of a set in a readable text.
+pub fn count_in(table: &[u8; 256], s: &[u8], set: &[u8]) -> Counted
+    requires { ⌜ now table ≡ classTable ⌝ }
+    requires { ⌜ isReadable (now s) ≡ true ⌝ }
+    ensures { λ r. ⌜ countedAnswer r ≡ countIn (now (s .entry)) (now (set .entry)) ⌝ }
+{
+    let f = records::find_set(table, s, set);
+    let FoundSet::At(a) = f else {
+        return Counted::Refused(21);
+    };
+    let n = records::count_records(table, &s[a..]);
+    Counted::Records(n)
+}
+
+// A record of a set, from its first field's first byte to the byte behind its last field, or a refusal's number.
+pub enum Seen {
+    At { start: usize, end: usize },
+    Refused(u32),
+}
+
+// A record of a set in a readable text.
+pub fn view_in(table: &[u8; 256], s: &[u8], set: &[u8], row: usize) -> Seen
+    requires { ⌜ now table ≡ classTable ⌝ }
+    requires { ⌜ isReadable (now s) ≡ true ⌝ }
+    ensures { λ r. ⌜ (seenAnswer (now (s .entry)) r ≡ viewIn (now (s .entry)) (now (set .entry)) row) × SeenInside (now (s .entry)) r ⌝ }
+{
+    let f = records::find_set(table, s, set);
+    let FoundSet::At(a) = f else {
+        return Seen::Refused(21);
+    };
+    let g = records::find_record(table, &s[a..], row);
+    let FoundRecord::At(p) = g else {
+        return Seen::Refused(22);
+    };
+    let start = a + p.start;
+    let end = a + p.end;
+    Seen::At { start, end }
+}
+
+// The length of a fetched value, or a refusal's number.
+pub enum Fetched {
+    Length(usize),
+    Refused(u32),
+}
+
+// The value of an occurrence of a name in a record of a set of a readable text, put into out.
+pub fn fetch_in(
+    table: &[u8; 256],
+    s: &[u8],
+    set: &[u8],
+    row: usize,
+    name: &[u8],
+    occurrence: usize,
+    out: &mut [u8],
+) -> Fetched
+    requires { ⌜ now table ≡ classTable ⌝ }
+    requires { ⌜ isReadable (now s) ≡ true ⌝ }
+    ensures { λ r. ⌜ fetchIn (now (s .entry)) (now (set .entry)) row (now (name .entry)) occurrence (now (out .entry)) ≡ record { result = fetchedAnswer r; out = now (out .exit) } ⌝ }
+{
+    let f = records::find_set(table, s, set);
+    let FoundSet::At(a) = f else {
+        return Fetched::Refused(21);
+    };
+    let g = records::find_record(table, &s[a..], row);
+    let FoundRecord::At(p) = g else {
+        return Fetched::Refused(22);
+    };
+    let b = a + p.start;
+    let e = a + p.end;
+    let h = records::find_field(table, &s[b..e], name, occurrence);
+    let FoundField::At {
+        start: _,
+        value,
+        end,
+    } = h
+    else {
+        return Fetched::Refused(23);
+    };
+    let v = b + value;
+    let w = b + end;
+    let n = lines::value_len(&s[v..w]);
+    if out.len() < n {
+        return Fetched::Refused(27);
+    }
+    lines::copy_value(&s[v..w], &mut *out);
+    Fetched::Length(n)
+}
+
+// Where descriptor k stands.
+fn find_descriptor(table: &[u8; 256], s: &[u8], k: usize) -> FoundRecord
+    requires { ⌜ now table ≡ classTable ⌝ }
+    requires { ⌜ isReadable (now s) ≡ true ⌝ }
+    ensures { λ r. ⌜ r ≡ descriptorAt (placesOf (now (s .entry))) k ⌝ }
+{
+    let mut i = 0;
+    let mut left = k;
+    loop {
+        let r = records::next_record(table, &s[i..]);
+        let NextRecord::At(p) = r else {
+            return FoundRecord::Missing;
+        };
+        if p.descriptor {} else {
+            i += p.after;
+            continue;
+        }
+        if left == 0 {
+            return FoundRecord::At(Place {
+                start: i + p.start,
+                end: i + p.end,
+                after: i + p.after,
+                descriptor: true,
+            });
+        }
+        left -= 1;
+        i += p.after;
+    }
+}
+
+// The length of the word that the value from i on begins with.
+fn word_len(s: &[u8], i: usize) -> usize
+    ensures { λ r. ⌜ r ≡ length (front notGap (valueFrom (drop i (now (s .entry))))) ⌝ }
+{
+    let mut at = i;
+    let mut n = 0;
+    loop {
+        let d = lines::value_byte(s, at);
+        let Decoded::Byte { byte, next } = d else {
+            return n;
+        };
+        if words::is_gap(byte) {
+            return n;
+        }
+        n += 1;
+        at = next;
+    }
+}
+
+// That word put into out, which holds it; bytes behind it stay.
+fn copy_word(s: &[u8], i: usize, out: &mut [u8])
+    requires { ⌜ length (front notGap (valueFrom (drop i (now s)))) ≤ length (now out) ⌝ }
+    ensures { λ _. ⌜ now (out .exit) ≡ over (front notGap (valueFrom (drop i (now (s .entry))))) (now (out .entry)) ⌝ }
+{
+    let mut at = i;
+    let mut n = 0;
+    loop {
+        let d = lines::value_byte(s, at);
+        let Decoded::Byte { byte, next } = d else {
+            return;
+        };
+        if words::is_gap(byte) {
+            return;
+        }
+        out[n] = byte;
+        n += 1;
+        at = next;
+    }
+}
+
+// The name of the set that a descriptor, which fills d, opens, put into out.
+fn descriptor_name(table: &[u8; 256], d: &[u8], out: &mut [u8]) -> Fetched
+    requires { ⌜ now table ≡ classTable ⌝ }
+    requires { ⌜ isReadable (now d) ≡ true ⌝ }
+    ensures { λ r. ⌜ titled (valuesOf (text "%rec") (recordIn (now (d .entry)))) (now (out .entry)) ≡ record { result = fetchedAnswer r; out = now (out .exit) } ⌝ }
+{
+    let f = records::find_field(table, d, b"%rec", 0);
+    let FoundField::At {
+        start: _,
+        value,
+        end,
+    } = f
+    else {
+        return Fetched::Refused(21);
+    };
+    let i = records::word_start(&d[value..end]);
+    let n = word_len(&d[value..end], i);
+    if out.len() < n {
+        return Fetched::Refused(27);
+    }
+    copy_word(&d[value..end], i, &mut *out);
+    Fetched::Length(n)
+}
+
+// The name of set k of a readable text, in file order, put into out.
+pub fn name_in(table: &[u8; 256], s: &[u8], k: usize, out: &mut [u8]) -> Fetched
+    requires { ⌜ now table ≡ classTable ⌝ }
+    requires { ⌜ isReadable (now s) ≡ true ⌝ }
+    ensures { λ r. ⌜ nameIn (now (s .entry)) k (now (out .entry)) ≡ record { result = fetchedAnswer r; out = now (out .exit) } ⌝ }
+{
+    if k == 0 {
+        return Fetched::Length(0);
+    }
+    let f = find_descriptor(table, s, k - 1);
+    let FoundRecord::At(p) = f else {
+        return Fetched::Refused(21);
+    };
+    let a = p.start;
+    let e = p.end;
+    descriptor_name(table, &s[a..e], &mut *out)
+}
