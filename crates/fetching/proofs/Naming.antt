@@ -17,7 +17,8 @@ use Rattle.format.specs.Calls.{Answer, fileThen, partsOf, over, Filled, filled}
 use Rattle.format.proofs.Sets.{GoodSets, good-sets}
 use Rattle.lines.specs.Value.{valueFrom}
 use Rattle.lines.proofs.Decoding.{value-length}
-use Rattle.records.specs.Places.{isReadable, Placed, placesOf, isThere}
+use Rattle.format.proofs.Walking.{isFilled}
+use Rattle.records.specs.Places.{isReadable, Placed, placesOf}
 use Rattle.records.specs.Walk.{recordIn}
 use Rattle.records.specs.declared.Place.{Place}
 use Rattle.records.specs.declared.FoundRecord.{FoundRecord}
@@ -76,7 +77,7 @@ told-on : (s : Bytes) (d : RecSet) (ds : List RecSet) (k : ℕ) (x : FoundRecord
 told-on s d ds k FoundRecord.Missing h = omega arith
 told-on s d ds k (FoundRecord.At q) h = record { there = omega (arith, h .there); fields = h .fields; stand = h .stand; value = h .value; values = h .values; titles = h .titles; named = h .named }
 
-told-by : (s : Bytes) (vs : List Bytes) (p : Placed) (ss : List RecSet) (k : ℕ) (later : ℕ → FoundRecord) → valuesOf (text "%rec") (p .fields) ≡ vs → Stand s (p .start) (p .end) (p .after) (p .fields) → ((j : ℕ) → DescriptorTold s (others ss) j (later j)) → DescriptorTold s (othersBy vs (p .fields) ss) k (descriptorBy (isThere vs) k p later)
+told-by : (s : Bytes) (vs : List Bytes) (p : Placed) (ss : List RecSet) (k : ℕ) (later : ℕ → FoundRecord) → valuesOf (text "%rec") (p .fields) ≡ vs → Stand s (p .start) (p .end) (p .after) (p .fields) → ((j : ℕ) → DescriptorTold s (others ss) j (later j)) → DescriptorTold s (othersBy vs (p .fields) ss) k (descriptorBy (isFilled vs) k p later)
 told-by s [] p ss k later e h ih = ih k
 told-by s (v ∷ vs) p ss zero later e h ih = record { there = omega arith; fields = p .fields; stand = h; value = v; values = vs; titles = e; named = refl }
 told-by s (v ∷ vs) p ss (suc k) later e h ih = told-on s _ (others ss) k (later k) (ih k)

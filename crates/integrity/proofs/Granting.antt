@@ -20,7 +20,7 @@ use Rattle.records.specs.declared.Place.{Place}
 use Rattle.records.proofs.Readings.{reads-readable}
 use Rattle.records.proofs.Searches.{placesAt, Met}
 use Rattle.lines.proofs.Cuts.{rest}
-use Rattle.limits.proofs.Records.{recordsFrom, partAt, recordAt, records-none, records-met, head-met}
+use Rattle.records.proofs.Cuts.{recordsFrom, partAt, recordAt, records-none, records-met, head-met}
 use Rattle.shapes.proofs.Judging.{none-asked}
 use Rattle.lists.proofs.Leasts.{least-none, least-assoc}
 use Rattle.setkeys.specs.Keyed.{membersIn}

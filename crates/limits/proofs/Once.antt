@@ -1,26 +1,17 @@
 -- A `%` name and the number of `%rec` fields, field by field.
 use Prim.Native.Nat.{ℕ, _+_}
 use native.Mathlib.Omega.{arith}
-use mathlib.Core.Path.{_≡_, refl, sym, ap, _∙_}
-use mathlib.Core.Bool.{Bool, true, false, _||_, not, or-assoc, true≢false}
+use mathlib.Core.Path.{_≡_, refl, sym, ap}
+use mathlib.Core.Bool.{Bool, true, false, _||_, not, or-assoc}
 use mathlib.Core.List.{[], _∷_}
 use lib.Dec.{eqb}
 use lib.ListN.{length}
-use Rattle.format.specs.Bytes.{Bytes, text, pick, same, any}
+use Rattle.format.specs.Bytes.{text, pick, same, any}
 use Rattle.format.specs.Records.{Field, Record}
 use Rattle.format.specs.Sets.{valuesOf}
 use Rattle.format.specs.Rules.{isSpecial}
 use Rattle.format.specs.Questions.{hasRecOnce}
-use Rattle.format.proofs.Listing.{same-true}
 use Rattle.limits.proofs.Tallies.{values-one}
-
--- `%rec` is a `%` name
-pub rec-special : (n : Bytes) → isSpecial n ≡ false → same (text "%rec") n ≡ false
-rec-special n e = go (same (text "%rec") n) refl
-  where
-    go : (b : Bool) → same (text "%rec") n ≡ b → same (text "%rec") n ≡ false
-    go true h = absurd (true≢false (ap isSpecial (same-true (text "%rec") n h) ∙ e))
-    go false h = h
 
 -- special: a `%` name stands before these fields; n: so many `%rec` do
 unfoldable pub onceFrom : Bool → ℕ → Record → Bool

@@ -3,9 +3,9 @@ ghost use mathlib.Core.Path.{_≡_};
 ghost use mathlib.Core.Bool.{true, _&&_, _||_, not};
 ghost use Prim.Native.Nat.{_+_, _*_, _≤_};
 ghost use lib.Dec.{leb};
-ghost use lib.ListN.{length, drop};
-ghost use Rattle.format.specs.Bytes.{classTable, text, pick, same};
-ghost use Rattle.format.specs.Words.{isGap, words};
+ghost use lib.ListN.{length};
+ghost use Rattle.format.specs.Bytes.{classTable, pick};
+ghost use Rattle.format.specs.Words.{words};
 ghost use Rattle.format.specs.Limits.{fileBytes, valueBytes};
 ghost use Rattle.format.specs.Records.{fieldsOf, records};
 ghost use Rattle.format.specs.Rules.{isSpecial};
@@ -13,60 +13,13 @@ ghost use Rattle.format.specs.Questions.{fitsRecord, fitsRules, hasRecOnce};
 ghost use Rattle.lines.specs.Value.{valueFrom};
 ghost use Rattle.records.specs.Places.{isReadable};
 ghost use Rattle.records.specs.Walk.{readOf};
-ghost use Rattle.limits.specs.Spots.{NextAt};
 ghost use Rattle.limits.specs.Counts.{countOn, total};
 ghost use Rattle.limits.specs.Bounds.{Answered, outcomeOf, BoundedAs};
 use format::Descriptor;
 use format::Record;
 use lines::Decoded;
-use lines::Next;
+use records::NextField;
 use records::NextRecord;
-
-// Where the next field stands in a part: its first byte, the byte behind its name, its value's first byte, the byte behind it.
-pub enum NextField {
-    Nothing,
-    At {
-        start: usize,
-        name: usize,
-        value: usize,
-        end: usize,
-    },
-}
-
-// The next field of a part from the byte reached on.
-pub fn next_field(table: &[u8; 256], s: &[u8], from: usize) -> NextField
-    requires { ⌜ now table ≡ classTable ⌝ }
-    requires { ⌜ from ≤ length (now s) ⌝ }
-    requires { ⌜ isReadable (drop from (now s)) ≡ true ⌝ }
-    ensures { λ r. ⌜ NextAt (now (s .entry)) from r ⌝ }
-{
-    let mut i = from;
-    loop {
-        let n = lines::next_piece(table, &s[i..]);
-        match n {
-            Next::Blank { size } => {
-                i += size;
-            }
-            Next::Comment { size } => {
-                i += size;
-            }
-            Next::Field { name, value, size } => {
-                return NextField::At {
-                    start: i,
-                    name: i + name,
-                    value: i + value,
-                    end: i + size,
-                };
-            }
-            Next::End => {
-                return NextField::Nothing;
-            }
-            Next::Fault => {
-                return NextField::Nothing;
-            }
-        }
-    }
-}
 
 // One where a test holds, else none.
 pub fn one_if(b: bool) -> usize
@@ -75,18 +28,8 @@ pub fn one_if(b: bool) -> usize
     if b { 1 } else { 0 }
 }
 
-// Does a byte divide words?
-fn is_gap(table: &[u8; 256], b: u8) -> bool
-    requires { ⌜ now table ≡ classTable ⌝ }
-    ensures { λ r. ⌜ r ≡ isGap b ⌝ }
-{
-    let k = format::class_of(table, b);
-    k == 3 || k == 4
-}
-
 // How many words the value has that begins where s does: a byte that is no gap begins one where a gap, or nothing, stands before it.
-fn count_words(table: &[u8; 256], s: &[u8]) -> usize
-    requires { ⌜ now table ≡ classTable ⌝ }
+fn count_words(s: &[u8]) -> usize
     ensures { λ r. ⌜ (r ≡ length (words (valueFrom (now (s .entry))))) × (r ≤ length (now (s .entry))) ⌝ }
 {
     let mut i = 0;
@@ -97,7 +40,7 @@ fn count_words(table: &[u8; 256], s: &[u8]) -> usize
         let Decoded::Byte { byte, next } = d else {
             return n;
         };
-        let here = is_gap(table, byte);
+        let here = words::is_gap(byte);
         n += one_if(gap & !here);
         gap = here;
         i = next;
@@ -122,16 +65,6 @@ fn is_special(name: &[u8]) -> bool
     lines::byte(name, 0) == 37
 }
 
-// Is a name `%rec`? Few names begin as it does.
-fn is_rec(name: &[u8]) -> bool
-    ensures { λ r. ⌜ r ≡ same (text "%rec") (now (name .entry)) ⌝ }
-{
-    if is_special(name) {
-        return lines::same_bytes(b"%rec", name);
-    }
-    false
-}
-
 // Of a record: are its limits held, and if so, has it no `%` name, or `%rec` once?
 struct Answers {
     fits: bool,
@@ -149,10 +82,10 @@ fn record_answers(table: &[u8; 256], r: &[u8]) -> Answers
     let mut special = false;
     let mut recs = 0;
     loop {
-        let n = next_field(table, r, i);
+        let n = records::next_field(table, r, i);
         let NextField::At {
             start,
-            name,
+            named,
             value,
             end,
         } = n
@@ -172,7 +105,7 @@ fn record_answers(table: &[u8; 256], r: &[u8]) -> Answers
         let len = value_bound(&r[value..end]);
         let c = Record {
             fields,
-            name: name - start,
+            name: named - start,
             value: len,
         };
         if c.fits() {} else {
@@ -181,17 +114,16 @@ fn record_answers(table: &[u8; 256], r: &[u8]) -> Answers
                 once: false,
             };
         }
-        let first = is_special(&r[start..name]);
+        let first = is_special(&r[start..named]);
         special = special | first;
-        let here = is_rec(&r[start..name]);
+        let here = records::is_rec(&r[start..named]);
         recs += one_if(here);
         i = end;
     }
 }
 
 // One more field of a descriptor, counted: a `%typedef`, a `%type`, or the words of a list of names.
-fn counted(table: &[u8; 256], d: Descriptor, name: &[u8], value: &[u8]) -> Descriptor
-    requires { ⌜ now table ≡ classTable ⌝ }
+fn counted(d: Descriptor, name: &[u8], value: &[u8]) -> Descriptor
     requires { ⌜ total d ≤ 2 * fileBytes ⌝ }
     requires { ⌜ length (now value) ≤ fileBytes ⌝ }
     ensures { λ r. ⌜ (r ≡ countOn d (now (name .entry)) (valueFrom (now (value .entry)))) × (total r ≤ total d + 1 + length (now (value .entry))) ⌝ }
@@ -206,19 +138,19 @@ fn counted(table: &[u8; 256], d: Descriptor, name: &[u8], value: &[u8]) -> Descr
         return c;
     }
     if lines::same_bytes(b"%mandatory", name) {
-        c.mandatory += count_words(table, value);
+        c.mandatory += count_words(value);
         return c;
     }
     if lines::same_bytes(b"%prohibit", name) {
-        c.prohibited += count_words(table, value);
+        c.prohibited += count_words(value);
         return c;
     }
     if lines::same_bytes(b"%allowed", name) {
-        c.allowed += count_words(table, value);
+        c.allowed += count_words(value);
         return c;
     }
     if lines::same_bytes(b"%unique", name) {
-        c.unique += count_words(table, value);
+        c.unique += count_words(value);
         return c;
     }
     c
@@ -234,17 +166,17 @@ pub fn rules_fit(table: &[u8; 256], d: &[u8]) -> bool
     let mut i = 0;
     let mut c = Descriptor::new();
     loop {
-        let n = next_field(table, d, i);
+        let n = records::next_field(table, d, i);
         let NextField::At {
             start,
-            name,
+            named,
             value,
             end,
         } = n
         else {
             return c.fits();
         };
-        c = counted(table, c, &d[start..name], &d[value..end]);
+        c = counted(c, &d[start..named], &d[value..end]);
         i = end;
     }
 }

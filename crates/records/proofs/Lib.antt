@@ -5,9 +5,11 @@ pub mod Readings
 pub mod Steps
 pub mod Firsts
 pub mod Looks
+pub mod NextFields
 pub mod Fields
 pub mod Words
 pub mod Searches
+pub mod Cuts
 pub mod Members
 pub mod Views
 pub mod Parting

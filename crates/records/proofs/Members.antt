@@ -12,7 +12,8 @@ use Rattle.format.specs.Sets.{valuesOf, RecSet, enters, sets, setsOf}
 use Rattle.format.specs.Words.{firstWord}
 use Rattle.format.specs.Plain.{stepOn, indexBy, indexOf, membersAt, membersIn, membersOf, recordAt}
 use Rattle.format.proofs.Sets.{GoodSets, good-sets}
-use Rattle.records.specs.Places.{isReadable, Placed, placesOf, isThere, isDescriptor, firstPlace, namesSet, descriptorPlace, setPlace, recordBy, recordPlace, countBefore}
+use Rattle.format.proofs.Walking.{isFilled}
+use Rattle.records.specs.Places.{isReadable, Placed, placesOf, isDescriptor, firstPlace, namesSet, descriptorPlace, setPlace, recordBy, recordPlace, countBefore}
 use Rattle.records.specs.Walk.{readOf}
 use Rattle.records.specs.declared.Place.{Place}
 use Rattle.records.specs.declared.NextRecord.{NextRecord}
@@ -55,7 +56,7 @@ pub stands : (s : Bytes) → isReadable s ≡ true → Stands s (placesOf s)
 stands s e = stands-at s (placesOf s) 0 (omega arith) e (sym (places-all s))
 
 -- The first set of records: none behind a descriptor.
-members-enter : (vs : List Bytes) (r : Record) (ss : List RecSet) → membersAt 0 (enters vs r ss) ≡ pick (isThere vs) [] (r ∷ membersAt 0 ss)
+members-enter : (vs : List Bytes) (r : Record) (ss : List RecSet) → membersAt 0 (enters vs r ss) ≡ pick (isFilled vs) [] (r ∷ membersAt 0 ss)
 members-enter [] r [] = refl
 members-enter [] r (s ∷ ss) = refl
 members-enter (v ∷ vs) r [] = refl

@@ -10,8 +10,9 @@ use Rattle.format.specs.Bytes.{Bytes, text, pick}
 use Rattle.format.specs.Pieces.{Piece}
 use Rattle.format.specs.Records.{Record, fieldsOf}
 use Rattle.format.specs.Sets.{valuesOf}
+use Rattle.format.proofs.Walking.{isFilled}
 use Rattle.lines.proofs.Cuts.{rest}
-use Rattle.records.specs.Places.{isReadable, Placed, placesOf, isThere, isDescriptor, placeOf, firstPlace, namesSet, descriptorPlace, setPlace, recordBy, recordPlace, countBefore}
+use Rattle.records.specs.Places.{isReadable, Placed, placesOf, isDescriptor, placeOf, firstPlace, namesSet, descriptorPlace, setPlace, recordBy, recordPlace, countBefore}
 use Rattle.records.specs.Walk.{opensSet}
 use Rattle.records.specs.declared.Place.{Place}
 use Rattle.records.specs.declared.NextRecord.{NextRecord}
@@ -145,7 +146,7 @@ module _ (s : Bytes) (i : ℕ) where
         ∙ ap (λ (x : Place). pick (namesSet n (valuesOf (text "%rec") (m .here .fields))) (FoundSet.At (i + x .after)) (descriptorPlace n (placesAt s (i + q .after)))) (m .is)
 
     -- a record that is no descriptor names no set
-    no-name : (n : Bytes) (vs : List Bytes) → isThere vs ≡ false → namesSet n vs ≡ false
+    no-name : (n : Bytes) (vs : List Bytes) → isFilled vs ≡ false → namesSet n vs ≡ false
     no-name n [] e = refl
     no-name n (v ∷ vs) e = absurd (false≢true (sym e))
 

@@ -17,7 +17,8 @@ use Rattle.format.specs.Plain.{plainOf, stepOn, indexBy, indexOf, membersAt, in
 use Rattle.format.proofs.Elements.{Filled}
 use Rattle.format.proofs.Sets.{GoodSets, good-sets}
 use Rattle.format.proofs.Splices.{spliced, gapBytes, front-bytes}
-use Rattle.records.specs.Places.{isReadable, Placed, placesOf, isThere, isDescriptor, namesSet, descriptorPlace, setPlace}
+use Rattle.format.proofs.Walking.{isFilled}
+use Rattle.records.specs.Places.{isReadable, Placed, placesOf, isDescriptor, namesSet, descriptorPlace, setPlace}
 use Rattle.records.specs.Walk.{readOf}
 use Rattle.records.specs.declared.FoundSet.{FoundSet}
 use Rattle.records.proofs.Shifts.{fieldsIn}
@@ -78,7 +79,7 @@ module _ (s n : Bytes) where
     lasts-named false x e h = lasts-other x e h
 
   lasts-by : (vs : List Bytes) (p : Placed) (ps : List Placed) (x : FoundSet) → valuesOf (text "%rec") (p .fields) ≡ vs → ps ≡ placesAt s (p .after) → Lasts s n ps (firstMembers ps) (others (sets (fieldsIn ps))) x
-      → Lasts s n (p ∷ ps) (pick (isThere vs) [] (p .fields ∷ firstMembers ps)) (othersBy vs (p .fields) (sets (fieldsIn ps))) (pick (namesSet n vs) (FoundSet.At (p .after)) x)
+      → Lasts s n (p ∷ ps) (pick (isFilled vs) [] (p .fields ∷ firstMembers ps)) (othersBy vs (p .fields) (sets (fieldsIn ps))) (pick (namesSet n vs) (FoundSet.At (p .after)) x)
   lasts-by [] p ps x e b h = lasts-member p ps (firstMembers ps) (others (sets (fieldsIn ps))) x h
   lasts-by (v ∷ vs) p ps x e b h = lasts-named p ps v vs e b (others (sets (fieldsIn ps))) (same n (firstWord v)) x refl h
 

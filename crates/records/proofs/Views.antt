@@ -18,7 +18,8 @@ use Rattle.format.specs.Calls.{lead, fromFirst, toLast, Part, noPart, blockPart
 use Rattle.format.proofs.Whole.{bytesOf-append}
 use Rattle.format.proofs.Blocks.{flat-blocks}
 use Rattle.format.proofs.Sets.{GoodSets, good-sets}
-use Rattle.records.specs.Places.{isReadable, Placed, sizeIn, placedAt, placeOn, placesIn, placesOf, isThere, isDescriptor, placeOf, namesSet, descriptorPlace, setPlace, recordBy, recordPlace}
+use Rattle.format.proofs.Walking.{isFilled}
+use Rattle.records.specs.Places.{isReadable, Placed, sizeIn, placedAt, placeOn, placesIn, placesOf, isDescriptor, placeOf, namesSet, descriptorPlace, setPlace, recordBy, recordPlace}
 use Rattle.records.specs.Walk.{readOf}
 use Rattle.records.specs.declared.Place.{Place}
 use Rattle.records.specs.declared.FoundSet.{FoundSet}
@@ -96,7 +97,7 @@ module _ (s n : Bytes) where
     ranked-named false x e h = ranked-other x e h
 
   ranked-by : (vs : List Bytes) (p : Placed) (ps : List Placed) (ss : List RecSet) (x : FoundSet) → valuesOf (text "%rec") (p .fields) ≡ vs → ps ≡ placesAt s (p .after) → Ranked s n ps (membersAt 0 ss) (others ss) x
-      → Ranked s n (p ∷ ps) (pick (isThere vs) [] (p .fields ∷ membersAt 0 ss)) (othersBy vs (p .fields) ss) (pick (namesSet n vs) (FoundSet.At (p .after)) x)
+      → Ranked s n (p ∷ ps) (pick (isFilled vs) [] (p .fields ∷ membersAt 0 ss)) (othersBy vs (p .fields) ss) (pick (namesSet n vs) (FoundSet.At (p .after)) x)
   ranked-by [] p ps ss x e b h = ranked-member p ps (membersAt 0 ss) (others ss) x h
   ranked-by (v ∷ vs) p ps ss x e b h = ranked-named p ps v vs e b (record { name = firstWord v; rules = p .fields; members = membersAt 0 ss }) refl (others ss) (same n (firstWord v)) x refl h
 

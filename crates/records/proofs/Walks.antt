@@ -13,7 +13,8 @@ use Rattle.format.specs.Sets.{keepIf, valuesOf}
 use Rattle.format.specs.Edits.{isRecord}
 use Rattle.format.specs.Calls.{lead, fromFirst, toLast}
 use Rattle.format.proofs.Whole.{bytesOf-append}
-use Rattle.records.specs.Places.{Placed, sizeIn, placedAt, placeOn, placesIn, isThere}
+use Rattle.format.proofs.Walking.{isFilled, isHead}
+use Rattle.records.specs.Places.{Placed, sizeIn, placedAt, placeOn, placesIn}
 use Rattle.records.specs.Walk.{untilBlank, fromBlank, runFrom}
 use Rattle.records.specs.declared.Run.{Run}
 
@@ -120,12 +121,12 @@ places-records at ps = fields-in at (blocks ps)
 abbrev pub endFrom : ℕ → ℕ → Block → ℕ
 endFrom at end b = pick (isRecord (fieldsOf b)) (at + sizeIn (toLast b)) end
 
-there-on : (t : Bool) (v : Bytes) (vs : List Bytes) → isThere (keepIf t v vs) ≡ (t || isThere vs)
+there-on : (t : Bool) (v : Bytes) (vs : List Bytes) → isFilled (keepIf t v vs) ≡ (t || isFilled vs)
 there-on true v vs = refl
 there-on false v vs = refl
 
 abbrev pub hasRec : Block → Bool
-hasRec b = isThere (valuesOf (text "%rec") (fieldsOf b))
+hasRec b = isHead (fieldsOf b)
 
 run-path : (r q : Run) → r .end ≡ q .end → r .after ≡ q .after → r .descriptor ≡ q .descriptor → r ≡ q
 run-path r q a b c = λ i. record { end = a i; after = b i; descriptor = c i }

@@ -1,4 +1,5 @@
 -- Where the records and fields of a file stand.
 pub mod Places
 pub mod Walk
+pub mod Fields
 pub mod Gaps

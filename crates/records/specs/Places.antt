@@ -12,6 +12,7 @@ use Rattle.format.specs.Sets.{valuesOf}
 use Rattle.format.specs.Words.{firstWord}
 use Rattle.format.specs.Edits.{isRecord}
 use Rattle.format.specs.Calls.{lead, fromFirst, toLast}
+use Rattle.format.proofs.Walking.{isHead}
 use Rattle.lines.specs.Piece.{valueAt}
 use Rattle.records.specs.declared.Place.{Place}
 use Rattle.records.specs.declared.NextRecord.{NextRecord}
@@ -54,12 +55,8 @@ placesFrom (some ps) = placesIn 0 (blocks ps)
 unfoldable pub placesOf : Bytes → List Placed
 placesOf s = placesFrom (pieces s)
 
-abbrev pub isThere : List Bytes → Bool
-isThere [] = false
-isThere (v ∷ vs) = true
-
 abbrev pub isDescriptor : Placed → Bool
-isDescriptor p = isThere (valuesOf (text "%rec") (p .fields))
+isDescriptor p = isHead (p .fields)
 
 -- the place alone, with whether the record is a descriptor
 abbrev pub placeOf : Placed → Place

@@ -1,14 +1,15 @@
-// Records: the next one of a part of the file, and the search for a set, a record and an occurrence.
+// Records: the next one of a part of the file, its next field, and the search for a set, a record and an occurrence.
 ghost use mathlib.Core.Path.{_≡_};
 ghost use mathlib.Core.Bool.{true};
-ghost use Prim.Native.Nat.{ℕ, _+_, _<_, _≤_};
-ghost use lib.ListN.{length, take, drop};
-ghost use Rattle.format.specs.Bytes.{classTable, same};
+ghost use Prim.Native.Nat.{_≤_};
+ghost use lib.ListN.{length, drop};
+ghost use Rattle.format.specs.Bytes.{classTable, text, same};
 ghost use Rattle.format.specs.Words.{isGap, notGap, front, behind, firstWord};
 ghost use Rattle.lines.specs.Value.{valueFrom};
 ghost use Rattle.records.specs.Places.{isReadable, placesOf, firstPlace, setPlace, recordPlace, countBefore, fieldPlace};
 ghost use Rattle.records.specs.Walk.{readOf, isRec, runFrom, opensSet};
 ghost use Rattle.records.specs.Gaps.{gapIs};
+ghost use Rattle.records.specs.Fields.{FieldNext};
 use lines::Decoded;
 use lines::Next;
 use lines::Step;
@@ -72,8 +73,15 @@ struct Run {
     descriptor: bool,
 }
 
-// Is the name that s begins with `%rec`?
-fn is_rec(table: &[u8; 256], s: &[u8]) -> bool
+// Is a name `%rec`?
+pub fn is_rec(name: &[u8]) -> bool
+    ensures { λ r. ⌜ r ≡ same (text "%rec") (now (name .entry)) ⌝ }
+{
+    lines::same_bytes(b"%rec", name)
+}
+
+// Is the name that s begins with `%rec`? Few names begin with a percent sign.
+fn rec_here(table: &[u8; 256], s: &[u8]) -> bool
     requires { ⌜ now table ≡ classTable ⌝ }
     ensures { λ r. ⌜ r ≡ isRec (now (s .entry)) ⌝ }
 {
@@ -82,7 +90,7 @@ fn is_rec(table: &[u8; 256], s: &[u8]) -> bool
     }
     let a = 0;
     let e = lines::name_len(table, s);
-    lines::same_bytes(b"%rec", &s[a..e])
+    is_rec(&s[a..e])
 }
 
 // A record that goes on at a byte, behind one of its fields; described: whether a `%rec` was met before.
@@ -102,7 +110,7 @@ fn record_run(table: &[u8; 256], s: &[u8], at: usize, described: bool) -> Run
                 i += size;
             }
             Step::Field { size } => {
-                let here = is_rec(table, &s[i..]);
+                let here = rec_here(table, &s[i..]);
                 descriptor = descriptor | here;
                 i += size;
                 end = i;
@@ -142,7 +150,7 @@ pub fn next_record(table: &[u8; 256], s: &[u8]) -> NextRecord
                 i += size;
             }
             Step::Field { size } => {
-                let here = is_rec(table, &s[i..]);
+                let here = rec_here(table, &s[i..]);
                 let r = record_run(table, s, i + size, here);
                 return NextRecord::At(Place {
                     start: i,
@@ -213,6 +221,51 @@ pub fn find_record(table: &[u8; 256], s: &[u8], k: usize) -> FoundRecord
     }
 }
 
+// Where a field stands in a part: its first byte, the byte behind its name, its value's first byte, the byte behind it.
+pub enum NextField {
+    At {
+        start: usize,
+        named: usize,
+        value: usize,
+        end: usize,
+    },
+    Nothing,
+}
+
+// The first field from byte i on.
+pub fn next_field(table: &[u8; 256], s: &[u8], i: usize) -> NextField
+    requires { ⌜ now table ≡ classTable ⌝ }
+    requires { ⌜ (i ≤ length (now s)) × (isReadable (drop i (now s)) ≡ true) ⌝ }
+    ensures { λ r. ⌜ FieldNext (now (s .entry)) i r ⌝ }
+{
+    let mut at = i;
+    loop {
+        let n = lines::next_piece(table, &s[at..]);
+        match n {
+            Next::Blank { size } => {
+                at += size;
+            }
+            Next::Comment { size } => {
+                at += size;
+            }
+            Next::Field { name, value, size } => {
+                return NextField::At {
+                    start: at,
+                    named: at + name,
+                    value: at + value,
+                    end: at + size,
+                };
+            }
+            Next::End => {
+                return NextField::Nothing;
+            }
+            Next::Fault => {
+                return NextField::Nothing;
+            }
+        }
+    }
+}
+
 // Where a field stands: its first byte, its value's first byte, the byte behind it.
 pub enum FoundField {
     At {
@@ -268,19 +321,6 @@ pub fn find_field(table: &[u8; 256], s: &[u8], name: &[u8], o: usize) -> FoundFi
     }
 }
 
-// Does a byte divide words?
-fn is_gap(b: u8) -> bool
-    ensures { λ r. ⌜ r ≡ isGap b ⌝ }
-{
-    if b == 32 {
-        return true;
-    }
-    if b == 9 {
-        return true;
-    }
-    b == 10
-}
-
 // Where the gaps that the value from i on begins with have been passed, or the bytes that are no gaps.
 pub fn pass(s: &[u8], i: usize, gaps: bool) -> usize
     requires { ⌜ i ≤ length (now s) ⌝ }
@@ -292,7 +332,7 @@ pub fn pass(s: &[u8], i: usize, gaps: bool) -> usize
         let Decoded::Byte { byte, next } = d else {
             return at;
         };
-        if is_gap(byte) == gaps {
+        if words::is_gap(byte) == gaps {
             at = next;
         } else {
             return at;
@@ -311,7 +351,7 @@ pub fn word_here(s: &[u8], i: usize, word: &[u8]) -> bool
         let Decoded::Byte { byte, next } = d else {
             return n == word.len();
         };
-        if is_gap(byte) {
+        if words::is_gap(byte) {
             return n == word.len();
         }
         if n == word.len() {

@@ -12,10 +12,11 @@ use Rattle.lines.specs.Value.{valueFrom}
 use Rattle.records.specs.Walk.{recordIn}
 use Rattle.records.specs.declared.Place.{Place}
 use Rattle.records.proofs.Searches.{Met}
+use Rattle.records.proofs.Cuts.{members-more}
 use Rattle.keys.specs.Keys.{entryOf, keyAt, keysOf, IsEntry, Entries}
 use Rattle.keys.proofs.Prints.{entry-key, entry-is, entries-none, entries-more, keys-more}
 use Rattle.setkeys.specs.Keyed.{firstOf, membersIn, HasOnce, valuesAt, Gathered}
-use Rattle.setkeys.proofs.Following.{members-more, once-rest, keys-on}
+use Rattle.setkeys.proofs.Following.{once-rest, keys-on}
 
 pub record Enters (w s : Bytes) (entries : List ℕ) (n i : ℕ) : Type 0 where
   pub room : n + length (membersIn (drop i s)) ≤ length entries

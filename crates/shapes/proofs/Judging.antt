@@ -1,5 +1,5 @@
 -- When a descriptor is well formed; and question 6 as a walk that keeps the names it has met: each new descriptor is well formed and called like none before it.
-use Prim.Native.Nat.{suc, _≤_}
+use Prim.Native.Nat.{_≤_}
 use native.Mathlib.Omega.{arith}
 use mathlib.Core.Path.{_≡_, refl, sym, ap, _∙_}
 use mathlib.Core.Bool.{Bool, true, false, _&&_, _||_, not, and-eq-true-iff}
@@ -149,12 +149,6 @@ pub walk-fitting : (rs : List Record) → walkFits rs ≡ true → (all isFittin
 walk-fitting rs e =
     let h = and-eq-true-iff (all isFitting rs) (leb (length (heads rs)) descriptors) .0 e in
     (h .0, leb-true (length (heads rs)) descriptors (h .1))
-
-pub heads-member : (qs : List Record) (r : Record) (rs : List Record) → qs ≡ r ∷ rs → isHead r ≡ false → length (heads qs) ≡ length (heads rs)
-heads-member qs r rs e h = ap (λ (x : List Record). length (heads x)) e ∙ ap (λ (b : Bool). length (pick b (r ∷ heads rs) (heads rs))) h
-
-pub heads-more : (qs : List Record) (r : Record) (rs : List Record) → qs ≡ r ∷ rs → isHead r ≡ true → length (heads qs) ≡ suc (length (heads rs))
-heads-more qs r rs e h = ap (λ (x : List Record). length (heads x)) e ∙ ap (λ (b : Bool). length (pick b (r ∷ heads rs) (heads rs))) h
 
 -- no descriptor is left
 

@@ -23,7 +23,7 @@ use Rattle.words.specs.Spans.{span, runEnd}
 use Rattle.words.proofs.Finding.{front-at, behind-at}
 use Rattle.words.specs.declared.Span.{Span}
 use Rattle.shapes.specs.Names.{nameAt, namesAt, Inside, NamedBy}
-use Rattle.shapes.proofs.Scratch.{fits-fields, first-short}
+use Rattle.sizes.proofs.Limits.{fits-fields, first-short}
 
 -- the first word of a text, by its ends
 pub first-span : (t : Bytes) (a e : ℕ) → a ≡ runEnd isGap t 0 → e ≡ runEnd notGap t a → span a e t ≡ firstWord t

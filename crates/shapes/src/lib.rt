@@ -1,17 +1,15 @@
-// Descriptors: is each field of one shaped as its name asks, are no two sets called alike, and is a set's size met?
+// Descriptors: is each field of one shaped as its name asks, and are no two sets called alike?
 ghost use mathlib.Core.Path.{_≡_};
 ghost use mathlib.Core.Bool.{true, false};
-ghost use mathlib.Core.List.{[], _∷_};
-ghost use mathlib.Core.Option.{some};
 ghost use Prim.Native.Nat.{ℕ, _≤_};
 ghost use lib.Dec.{leb};
 ghost use lib.ListN.{length};
-ghost use Rattle.format.specs.Bytes.{classTable, text, all, among, isSome};
+ghost use Rattle.format.specs.Bytes.{classTable, all, among};
 ghost use Rattle.format.specs.Lines.{isName};
 ghost use Rattle.format.specs.Limits.{valueBytes};
 ghost use Rattle.format.specs.Numbers.{bits32};
 ghost use Rattle.format.specs.Records.{records, fieldsOf};
-ghost use Rattle.format.specs.Rules.{isSpecial, one, several, orderOf, sizeBy, sizeRule, meetsSize, isShaped, isWellFormed};
+ghost use Rattle.format.specs.Rules.{isSpecial, one, several, isShaped, isWellFormed};
 ghost use Rattle.format.specs.Sets.{valuesOf};
 ghost use Rattle.format.specs.Questions.{fitsRecord};
 ghost use Rattle.format.specs.Words.{words, firstWord, isTypeName};
@@ -20,11 +18,11 @@ ghost use Rattle.lines.specs.Value.{valueFrom};
 ghost use Rattle.records.specs.Places.{isReadable};
 ghost use Rattle.records.specs.Walk.{readOf};
 ghost use Rattle.words.specs.Spans.{span};
-ghost use Rattle.shapes.specs.Contents.{OnlyWord, sizeAnswer, holds, fieldOf, Asks, sizeAsked};
+ghost use Rattle.sizes.specs.Sizes.{fieldOf};
+ghost use Rattle.shapes.specs.Contents.{OnlyWord, holds, Asks};
 ghost use Rattle.shapes.specs.Names.{namesAt, Inside, NamedBy, Told};
-use lines::Next;
-use numbers::Natural;
 use records::FoundField;
+use records::NextField;
 use records::NextRecord;
 use words::Span;
 use words::Word;
@@ -99,104 +97,6 @@ fn all_names(table: &[u8; 256], s: &[u8]) -> bool
     each_name(table, s)
 }
 
-// A size: how many records a set may have.
-pub enum SizeRule {
-    None,
-    Exactly(u64),
-    Below(u64),
-    AtMost(u64),
-    Above(u64),
-    AtLeast(u64),
-}
-
-// The size that a sign and a number make.
-fn size_by(sign: &[u8], n: u64) -> SizeRule
-    ensures { λ r. ⌜ sizeAnswer r ≡ sizeBy (orderOf (now (sign .entry))) (some n) ⌝ }
-{
-    if lines::same_bytes(sign, b"<") {
-        return SizeRule::Below(n);
-    }
-    if lines::same_bytes(sign, b"<=") {
-        return SizeRule::AtMost(n);
-    }
-    if lines::same_bytes(sign, b">") {
-        return SizeRule::Above(n);
-    }
-    if lines::same_bytes(sign, b">=") {
-        return SizeRule::AtLeast(n);
-    }
-    SizeRule::None
-}
-
-// The size that one word stands for.
-fn size_exactly(w: &[u8]) -> SizeRule
-    ensures { λ r. ⌜ sizeAnswer r ≡ sizeRule bits32 ((now (w .entry)) ∷ []) ⌝ }
-{
-    let x = numbers::number_of(w);
-    match x {
-        Natural::Of(n) => SizeRule::Exactly(n),
-        Natural::Not => SizeRule::None,
-    }
-}
-
-// The size that two words stand for.
-fn size_signed(sign: &[u8], w: &[u8]) -> SizeRule
-    ensures { λ r. ⌜ sizeAnswer r ≡ sizeRule bits32 ((now (sign .entry)) ∷ (now (w .entry)) ∷ []) ⌝ }
-{
-    let x = numbers::number_of(w);
-    match x {
-        Natural::Of(n) => size_by(sign, n),
-        Natural::Not => SizeRule::None,
-    }
-}
-
-// The size that a text stands for.
-pub fn size_rule(s: &[u8]) -> SizeRule
-    ensures { λ r. ⌜ sizeAnswer r ≡ sizeRule bits32 (words (now (s .entry))) ⌝ }
-{
-    let w = words::next_word(s, 0);
-    let Word::At { start, end } = w else {
-        return SizeRule::None;
-    };
-    let x = words::next_word(s, end);
-    let Word::At { start: a, end: e } = x else {
-        return size_exactly(&s[start..end]);
-    };
-    let y = words::next_word(s, e);
-    match y {
-        Word::At { start: _, end: _ } => SizeRule::None,
-        Word::Nothing => size_signed(&s[start..end], &s[a..e]),
-    }
-}
-
-// Is this a size?
-fn is_size(r: SizeRule) -> bool
-    ensures { λ t. ⌜ t ≡ isSome (sizeAnswer r) ⌝ }
-{
-    match r {
-        SizeRule::None => false,
-        SizeRule::Exactly(_) => true,
-        SizeRule::Below(_) => true,
-        SizeRule::AtMost(_) => true,
-        SizeRule::Above(_) => true,
-        SizeRule::AtLeast(_) => true,
-    }
-}
-
-// Is the size met by n records?
-pub fn size_holds(r: SizeRule, n: u64) -> bool
-    ensures { λ t. ⌜ t ≡ meetsSize (sizeAnswer r) n ⌝ }
-{
-    match r {
-        SizeRule::None => true,
-        SizeRule::Exactly(k) => n == k,
-        SizeRule::Below(k) => n < k,
-        SizeRule::AtMost(k) => n <= k,
-        SizeRule::Above(k) => k < n,
-        SizeRule::AtLeast(k) => k <= n,
-    }
-}
-
 // What the value of a field has to be.
 pub enum Content {
     Free,
@@ -266,7 +166,7 @@ pub fn text_holds(table: &[u8; 256], c: Content, s: &[u8]) -> bool
         Content::TypeName => one_type_name(table, s),
         Content::Names => all_names(table, s),
         Content::Name => one_name(table, s),
-        Content::Size => is_size(size_rule(s)),
+        Content::Size => sizes::is_size(sizes::size_rule(s)),
         Content::Fault => false,
     }
 }
@@ -292,30 +192,20 @@ fn all_shaped(table: &[u8; 256], d: &[u8], scratch: &mut [u8]) -> bool
 {
     let mut i = 0;
     loop {
-        let n = lines::next_piece(table, &d[i..]);
-        match n {
-            Next::Blank { size } => {
-                i += size;
-            }
-            Next::Comment { size } => {
-                i += size;
-            }
-            Next::Field { name, value, size } => {
-                let e = i + name;
-                let v = i + value;
-                let f = i + size;
-                if field_shaped(table, &d[i..e], &d[v..f], scratch) {
-                    i = f;
-                } else {
-                    return false;
-                }
-            }
-            Next::End => {
-                return true;
-            }
-            Next::Fault => {
-                return false;
-            }
+        let n = records::next_field(table, d, i);
+        let NextField::At {
+            start,
+            named,
+            value,
+            end,
+        } = n
+        else {
+            return true;
+        };
+        if field_shaped(table, &d[start..named], &d[value..end], scratch) {
+            i = end;
+        } else {
+            return false;
         }
     }
 }
@@ -353,58 +243,6 @@ pub fn well_formed(table: &[u8; 256], d: &[u8], scratch: &mut [u8]) -> bool
         }
     } else {
         false
-    }
-}
-
-// Is what a field says of its set's size met by n records? Only `%size` says anything.
-fn field_met(name: &[u8], value: &[u8], n: u64, scratch: &mut [u8]) -> bool
-    requires { ⌜ length (valueFrom (now value)) ≤ length (now scratch) ⌝ }
-    ensures { λ r. ⌜ ((k : ℕ) → r ≡ sizeAsked n (fieldOf (now (name .entry)) (valueFrom (now (value .entry))) k)) × (length (now (scratch .exit)) ≡ length (now (scratch .entry))) ⌝ }
-{
-    if lines::same_bytes(b"%size", name) {
-        let m = lines::copy_value(value, scratch);
-        let r = size_rule(&scratch[..m]);
-        size_holds(r, n)
-    } else {
-        true
-    }
-}
-
-// Is every size of a descriptor met by count records?
-pub fn size_met(table: &[u8; 256], d: &[u8], count: usize, scratch: &mut [u8]) -> bool
-    requires { ⌜ now table ≡ classTable ⌝ }
-    requires { ⌜ isReadable (now d) ≡ true ⌝ }
-    requires { ⌜ fitsRecord (fieldsOf (readOf (now d))) ≡ true ⌝ }
-    requires { ⌜ valueBytes ≤ length (now scratch) ⌝ }
-    ensures { λ r. ⌜ (r ≡ all (λ v. meetsSize (sizeRule bits32 (words v)) count) (valuesOf (text "%size") (fieldsOf (readOf (now (d .entry)))))) × (length (now (scratch .exit)) ≡ length (now (scratch .entry))) ⌝ }
-{
-    let mut i = 0;
-    loop {
-        let n = lines::next_piece(table, &d[i..]);
-        match n {
-            Next::Blank { size } => {
-                i += size;
-            }
-            Next::Comment { size } => {
-                i += size;
-            }
-            Next::Field { name, value, size } => {
-                let e = i + name;
-                let v = i + value;
-                let f = i + size;
-                if field_met(&d[i..e], &d[v..f], count as u64, scratch) {
-                    i = f;
-                } else {
-                    return false;
-                }
-            }
-            Next::End => {
-                return true;
-            }
-            Next::Fault => {
-                return false;
-            }
-        }
     }
 }
 

@@ -3,11 +3,12 @@ use Prim.Native.Nat.{ℕ, _+_, _-_, _≤_, _<_, max}
 use native.Mathlib.Omega.{arith}
 use mathlib.Core.Path.{_≡_, ap, _∙_}
 use mathlib.Core.List.{_++_, append-assoc}
-use lib.ListN.{length, take, drop, replicate, length-append, length-drop, length-replicate}
+use lib.ListN.{length, take, drop, replicate, length-drop, length-replicate}
 use lib.Seq.{paste, take-paste, drop-paste, length-paste, take-take, take-add, take-append-le, drop-at, drop-drop, length-take-le}
 use borrow.Rule.Slice.PartMut.{putMid, midOf, same-len-mid, mid-len}
 use Rattle.format.specs.Bytes.{Bytes}
 use Rattle.format.specs.Calls.{over, placed}
+use Rattle.format.proofs.Splices.{spliced-length as replaced-length}
 use Rattle.splices.specs.Space.{spliced, behind, Opened}
 
 -- the buffer by its parts: the first bytes as they were, then all that stands behind the room
@@ -65,8 +66,7 @@ drop-take i j l h k =
 pub spliced-length : (b : Bytes) (used at old : ℕ) (t : Bytes) → at + old ≤ used → used ≤ length b → length (spliced (take used b) at old t) ≡ (used - old) + length t
 spliced-length b used at old t inside fits =
     let u : length (take used b) ≡ used = length-take-le used b fits in
-    let f : length (take at (take used b)) ≡ at = length-take-le at (take used b) (omega arith) in
-    simp (length-append, length-drop, f, u) (omega arith)
+    replaced-length (take used b) at (at + old) t (omega arith) (omega arith) ∙ omega arith
 
 -- a text laid into the room: the buffer holds the changed text
 pub placed-spliced : (b : Bytes) (used at old new : ℕ) (b′ t : Bytes) → at + old ≤ used → used ≤ length b → length t ≡ new → Opened b used at old new b′

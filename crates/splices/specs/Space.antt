@@ -4,10 +4,11 @@ use mathlib.Core.Path.{_≡_}
 use mathlib.Core.List.{_++_}
 use lib.ListN.{length, take, drop, replicate}
 use Rattle.format.specs.Bytes.{Bytes}
+use Rattle.format.proofs.Splices.{spliced as replaced}
 
 -- s with t in place of its `old` bytes at `at`
 abbrev pub spliced : Bytes → ℕ → ℕ → Bytes → Bytes
-spliced s at old t = take at s ++ (t ++ drop (at + old) s)
+spliced s at old t = replaced s at (at + old) t
 
 -- what stands behind the room: the text's tail, 0 for bytes that the text gave up, and the buffer's bytes behind the text
 abbrev pub behind : Bytes → ℕ → ℕ → ℕ → ℕ → Bytes

@@ -1,30 +1,25 @@
 -- Typedefs by their numbers: the first of a name, the number that a type's text leads to, and the end of a chain.
 use Prim.Native.Nat.{ℕ, zero, suc, _+_, _-_, _≤_, _<_}
 use native.Mathlib.Omega.{arith}
-use native.Mathlib.Nat.{zero-add}
 use mathlib.Core.Path.{_≡_, refl, sym, ap, _∙_, subst}
-use mathlib.Core.Bool.{Bool, true, false, _&&_}
-use mathlib.Core.List.{List, [], _∷_, _++_, map}
+use mathlib.Core.Bool.{Bool, true, false}
+use mathlib.Core.List.{List, [], _∷_}
 use mathlib.Core.Option.{Option, none, some}
 use borrow.Author.Tests.{le-leb, lt-leb, eq-eqb, ne-eqb}
 use denote.Enum.Declared.{tagOf}
-use lib.Dec.{leb, eqb}
-use lib.ListN.{length, take, drop, getD, length-drop}
-use lib.Seq.{drop-append-le, take-at}
+use lib.ListN.{length, drop, getD}
 use types.Run.{OneOf, miss}
 use Rattle.format.specs.Bytes.{Bytes, pick, same}
-use Rattle.format.specs.Words.{firstWord, afterWord}
-use Rattle.format.specs.Numbers.{bits32}
-use Rattle.format.specs.Types.{Typed, typeOf}
-use Rattle.format.specs.Calls.{over}
+use Rattle.format.specs.Words.{afterWord}
+use Rattle.format.specs.Types.{Typed}
 use Rattle.types.specs.Meaning.{typedIn, typeAnswer, SoundType, Sound, Told}
 use Rattle.types.specs.declared.Shape.{Shape}
 use Rattle.types.specs.declared.TypeOf.{TypeOf}
 use Rattle.types.proofs.Shape.{the-type}
-use Rattle.words.specs.Spans.{span, wordAt}
+use Rattle.words.specs.Spans.{wordAt}
 use Rattle.words.specs.declared.Word.{Word}
 use Rattle.words.proofs.Finding.{afterBy, Within, after-at, word-within}
-use Rattle.typedefs.specs.Targets.{indexFrom, targetBy, onward, followOf}
+use Rattle.typedefs.specs.Targets.{indexFrom, targetBy, followOf}
 use Rattle.typedefs.specs.declared.Followed.{Followed}
 
 -- the first of a name among none, at the head, and behind it
@@ -51,23 +46,6 @@ module _ (s : Bytes) (w : Word) (q : w ≡ wordAt s 0) where
 
   pub no-word : w ≡ Word.Nothing → afterWord s ≡ []
   no-word p = after-at s 0 ∙ ap (afterBy s) (sym q ∙ p)
-
--- a text x of which the first n bytes were decoded
-module _ (v out x : Bytes) (n : ℕ) (e : n ≡ length v) (q : x ≡ over v out) where
-  pub decoded-all : take n x ≡ v
-  decoded-all = ap (take n) q ∙ take-at v (drop (length v) out) n (sym e)
-
-  pub decoded-length : n ≡ length (take n x)
-  decoded-length = e ∙ sym (ap length decoded-all)
-
-  pub decoded-part : (a : ℕ) → a ≤ n → take (n - a) (drop a x) ≡ drop a v
-  decoded-part a h =
-      ap (λ (y : Bytes). take (n - a) (drop a y)) q
-      ∙ ap (take (n - a)) (drop-append-le a v (drop (length v) out) (omega arith))
-      ∙ take-at (drop a v) (drop (length v) out) (n - a) (omega (arith, length-drop a v))
-
-  pub decoded-after : (a : ℕ) → a ≤ n → drop a (take n x) ≡ afterWord (take n x) → take (n - a) (drop a x) ≡ afterWord v
-  decoded-after a h g = decoded-part a h ∙ subst (λ (y : Bytes). drop a y ≡ afterWord y) decoded-all g
 
 -- what a type's text leads to, by its shape
 pub told-none : (s : Bytes) (x : Option Typed) (r : TypeOf) → Told s x r → r ≡ TypeOf.Fault → x ≡ none

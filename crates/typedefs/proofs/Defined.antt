@@ -1,9 +1,8 @@
 -- The question of the typedefs, by the code's numbers: the names are good, and every chain ends. Where some typedef has no type, neither side holds;
 -- where all have one, the definitions' typedefs are those of the values, one by one.
 use Prim.Native.Nat.{ℕ, zero, suc, _+_, _-_, _≤_, _<_}
-use native.Mathlib.Numerals.{add-one}
 use native.Mathlib.Omega.{arith}
-use mathlib.Core.Path.{_≡_, refl, sym, ap, _∙_, subst}
+use mathlib.Core.Path.{_≡_, refl, sym, ap, _∙_}
 use mathlib.Core.Bool.{Bool, true, false, _&&_, not, and-false}
 use mathlib.Core.List.{List, [], _∷_, _++_, map}
 use mathlib.Core.Option.{Option, none, some}
@@ -17,9 +16,8 @@ use Rattle.format.specs.Numbers.{bits32, onward}
 use Rattle.format.specs.Types.{Kind, Typed, Typedef, typeOf, follow, kindOf}
 use Rattle.format.specs.Rules.{joinAll, typedefOf, endKind, isTypedefName, distinct, defines}
 use Rattle.typedefs.specs.Targets.{indexFrom, targetBy, targetIn, followOf, isEnd, endsIn, leads, goodNames, areDefined}
-use Rattle.typedefs.specs.declared.Followed.{Followed}
-use Rattle.typedefs.proofs.Chains.{chain-missing, chain-end, chain-loop, chain-on}
-use Rattle.typedefs.proofs.Following.{typeAt, namesIn, targetsBy, kindOnly, kindBy, index-most, lookup-index, follow-of, follows-end}
+use Rattle.typedefs.proofs.Chains.{chain-missing, chain-loop, chain-on}
+use Rattle.typedefs.proofs.Following.{typeAt, namesIn, targetsBy, index-most, lookup-index, follow-of, follows-end}
 use Rattle.typedefs.proofs.Good.{words-length}
 
 -- four tests in another order

@@ -1,13 +1,13 @@
 -- The names of typedefs: each is one for a typedef and stands once. And the chains of all typedefs, one after another.
-use Prim.Native.Nat.{ℕ, zero, suc, _+_, _-_, _≤_, _<_}
+use Prim.Native.Nat.{ℕ, suc, _+_, _-_, _≤_, _<_}
 use native.Mathlib.Numerals.{add-one}
 use native.Mathlib.Omega.{arith}
-use mathlib.Core.Path.{_≡_, refl, sym, ap, _∙_, subst}
+use mathlib.Core.Path.{_≡_, refl, sym, ap, _∙_}
 use mathlib.Core.Bool.{Bool, true, false, _&&_, _||_, not}
 use mathlib.Core.List.{List, [], _∷_, map}
-use borrow.Author.Tests.{eq-eqb, ne-eqb}
+use borrow.Author.Tests.{ne-eqb}
 use lib.Dec.{eqb}
-use lib.ListN.{length, drop}
+use lib.ListN.{length}
 use Rattle.format.specs.Bytes.{Bytes, text, pick, same, among, all, upFrom}
 use Rattle.format.specs.Words.{firstWord, isTypeName}
 use Rattle.format.specs.Rules.{reserved, isTypedefName}
@@ -15,7 +15,7 @@ use Rattle.lines.specs.Value.{valueFrom}
 use Rattle.words.specs.Spans.{span, wordAt}
 use Rattle.words.specs.declared.Word.{Word}
 use Rattle.words.proofs.Finding.{firstBy, first-at}
-use Rattle.typedefs.specs.Walks.{namesFrom, valuesFrom, ValueHere}
+use Rattle.typedefs.specs.Walks.{namesFrom, ValueHere}
 use Rattle.typedefs.specs.Targets.{indexFrom, followOf, isEnd, endsIn, goodNames}
 use Rattle.typedefs.specs.declared.Followed.{Followed}
 

@@ -1,4 +1,4 @@
-// Typedefs of a descriptor: walks over its fields, the typedef that each type names, and the end of a chain of names.
+// Typedefs of a descriptor: the values of one name among its fields, the typedef that each type names, and the end of a chain of names.
 ghost use mathlib.Core.Path.{_≡_};
 ghost use mathlib.Core.Bool.{true, _&&_, not};
 ghost use mathlib.Core.List.{map};
@@ -12,57 +12,12 @@ ghost use Rattle.format.specs.Rules.{reserved, isTypedefName};
 ghost use Rattle.lines.specs.Value.{valueFrom};
 ghost use Rattle.records.specs.Places.{isReadable};
 ghost use Rattle.words.specs.Spans.{span};
-ghost use Rattle.typedefs.specs.Walks.{FieldNext, ValueNext, valuesFrom, namesFrom, fitFrom};
+ghost use Rattle.typedefs.specs.Walks.{ValueNext, valuesFrom, namesFrom, fitFrom};
 ghost use Rattle.typedefs.specs.Targets.{indexFrom, targetBy, targetIn, followOf, endsIn, goodNames, areDefined};
-use lines::Next;
+use records::NextField;
 use types::Shape;
 use types::TypeOf;
 use words::Word;
-
-// Where a field stands in a part: its first byte, the byte behind its name, its value's first byte, the byte behind it.
-pub enum NextField {
-    At {
-        start: usize,
-        named: usize,
-        value: usize,
-        end: usize,
-    },
-    Nothing,
-}
-
-// The first field from byte i on.
-pub fn next_field(table: &[u8; 256], s: &[u8], i: usize) -> NextField
-    requires { ⌜ now table ≡ classTable ⌝ }
-    requires { ⌜ (i ≤ length (now s)) × (isReadable (drop i (now s)) ≡ true) ⌝ }
-    ensures { λ r. ⌜ FieldNext (now (s .entry)) i r ⌝ }
-{
-    let mut at = i;
-    loop {
-        let n = lines::next_piece(table, &s[at..]);
-        match n {
-            Next::Blank { size } => {
-                at += size;
-            }
-            Next::Comment { size } => {
-                at += size;
-            }
-            Next::Field { name, value, size } => {
-                return NextField::At {
-                    start: at,
-                    named: at + name,
-                    value: at + value,
-                    end: at + size,
-                };
-            }
-            Next::End => {
-                return NextField::Nothing;
-            }
-            Next::Fault => {
-                return NextField::Nothing;
-            }
-        }
-    }
-}
 
 // Where a value stands in a part: its first byte, and the byte behind its field.
 pub enum NextValue {
@@ -78,7 +33,7 @@ pub fn next_value(table: &[u8; 256], s: &[u8], name: &[u8], i: usize) -> NextVal
 {
     let mut at = i;
     loop {
-        let f = next_field(table, s, at);
+        let f = records::next_field(table, s, at);
         let NextField::At {
             start,
             named,

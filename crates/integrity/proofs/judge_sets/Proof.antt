@@ -16,8 +16,8 @@ use Rattle.records.specs.Places.{isReadable}
 use Rattle.records.specs.Walk.{readOf}
 use Rattle.records.proofs.Readings.{part-readable}
 use Rattle.records.proofs.Searches.{meets}
-use Rattle.limits.proofs.Records.{recordsFrom, heads-met}
-use Rattle.limits.proofs.Spots.{between-length}
+use Rattle.records.proofs.Cuts.{recordsFrom, heads-met}
+use Rattle.words.proofs.Spans.{span-length}
 use Rattle.integrity.proofs.Granting.{Right, granted-each, right-met, rules-met, members-fit, sets-on, heads-none, sets-end}
 use Rattle.integrity.proofs.judge_sets.Statement.{statement}
 use Rattle.integrity.proofs.judge_sets.Tie as tie
@@ -173,7 +173,7 @@ judge-part-requires c κs =
     let at-next-record = c .before .before .before .before .before .before .before .before .before .before .before .next-record in
     let at-n = c .before .before .before .before .before .before .before .before .before .n in
     let at-pre = c .before .before .before .before .before .before .before .before .before .before .before .before .before .before .before .before .before .before .before .pre in
-    let m = meets (at-args .s .now) (at-loop .i) (at-next-record .result) (at-loop .inv .0) (at-loop .inv .1) (at-next-record .ensures) (at-n .given .1) in let f = right-met (at-args .s .now) (at-loop .i) (at-n .given .0 .0) m (at-loop .inv .2) in let q = at-n .given .0 .0 in (at-pre .0, ((rules-met (at-args .s .now) (at-loop .i) (at-n .given .0 .0) m (f .0), omega (arith, between-length (at-args .s .now) (at-loop .i + q .start) (at-loop .i + q .end) (omega (arith, m .stand .filled)) (omega (arith, m .stand .within, m .stand .inside)), m .stand .within, m .stand .inside, at-pre .1 .0 .1)), ((part-readable (at-args .s .now) (at-loop .i + q .after) (m .stand .readable), omega (arith, ap length (rest (at-args .s .now) (at-loop .i + q .after)), length-drop (at-loop .i + q .after) (at-args .s .now), at-pre .1 .0 .1), members-fit (at-args .s .now) (at-loop .i + q .after) (f .1)), (omega (arith, at-pre .1 .1 .1 .1 .0, at-loop .inv .4), omega (arith, at-pre .1 .1 .1 .1 .1, at-loop .inv .5), omega (arith, at-pre .1 .1 .1 .1 .2, at-loop .inv .6)))))
+    let m = meets (at-args .s .now) (at-loop .i) (at-next-record .result) (at-loop .inv .0) (at-loop .inv .1) (at-next-record .ensures) (at-n .given .1) in let f = right-met (at-args .s .now) (at-loop .i) (at-n .given .0 .0) m (at-loop .inv .2) in let q = at-n .given .0 .0 in (at-pre .0, ((rules-met (at-args .s .now) (at-loop .i) (at-n .given .0 .0) m (f .0), omega (arith, span-length (at-args .s .now) (at-loop .i + q .start) (at-loop .i + q .end) (omega (arith, m .stand .filled)) (omega (arith, m .stand .within, m .stand .inside)), m .stand .within, m .stand .inside, at-pre .1 .0 .1)), ((part-readable (at-args .s .now) (at-loop .i + q .after) (m .stand .readable), omega (arith, ap length (rest (at-args .s .now) (at-loop .i + q .after)), length-drop (at-loop .i + q .after) (at-args .s .now), at-pre .1 .0 .1), members-fit (at-args .s .now) (at-loop .i + q .after) (f .1)), (omega (arith, at-pre .1 .1 .1 .1 .0, at-loop .inv .4), omega (arith, at-pre .1 .1 .1 .1 .1, at-loop .inv .5), omega (arith, at-pre .1 .1 .1 .1 .2, at-loop .inv .6)))))
 
 lesser-requires : tie.Need-lesser-requires Inv-loop μ-loop
 lesser-requires c κs = search needs

@@ -14,7 +14,7 @@ use Rattle.records.specs.Places.{isReadable}
 use Rattle.records.specs.Walk.{readOf}
 use Rattle.records.proofs.Readings.{part-readable, reads-readable}
 use Rattle.records.proofs.Searches.{meets}
-use Rattle.limits.proofs.Records.{recordsFrom, heads-met}
+use Rattle.records.proofs.Cuts.{recordsFrom, heads-met}
 use Rattle.integrity.proofs.Granting.{Fits, fits-each, fits-met, few-met, types-stop, types-on, heads-none, types-end}
 use Rattle.integrity.proofs.types_defined.Statement.{statement}
 use Rattle.integrity.proofs.types_defined.Tie as tie

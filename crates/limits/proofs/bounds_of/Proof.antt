@@ -14,8 +14,8 @@ use Rattle.records.specs.Walk.{readOf}
 use Rattle.records.proofs.Readings.{part-readable, reads-readable}
 use Rattle.records.proofs.Searches.{meets}
 use Rattle.limits.specs.Bounds.{BoundedAs}
-use Rattle.limits.proofs.Spots.{between-length}
-use Rattle.limits.proofs.Records.{recordsFrom, recordAt, records-none, records-met, head-met, heads-met}
+use Rattle.words.proofs.Spans.{span-length}
+use Rattle.records.proofs.Cuts.{recordsFrom, recordAt, records-none, records-met, head-met, heads-met}
 use Rattle.limits.proofs.Questions.{allFit, fit-on, once-held, fit-stop, past-told, outcome-told}
 use Rattle.limits.proofs.bounds_of.Statement.{statement}
 use Rattle.limits.proofs.bounds_of.Tie as tie
@@ -127,7 +127,7 @@ part-answers-requires c κs =
     let at-pre = c .before .before .before .before .before .before .before .before .before .before .pre in
     let q = at-n .given .0 .0 in
     let m = meets (at-args .s .now) (at-loop .i) (at-next-record .result) (at-loop .inv .0) (at-loop .inv .1) (at-next-record .ensures) (at-n .given .1) in
-    (at-pre .0, (reads-readable (m .stand .own-reads), omega (arith, between-length (at-args .s .now) (at-loop .i + q .start) (at-loop .i + q .end) (omega (arith, m .stand .filled)) (omega (arith, m .stand .within, m .stand .inside)), m .stand .within, m .stand .inside, at-pre .1 .1)))
+    (at-pre .0, (reads-readable (m .stand .own-reads), omega (arith, span-length (at-args .s .now) (at-loop .i + q .start) (at-loop .i + q .end) (omega (arith, m .stand .filled)) (omega (arith, m .stand .within, m .stand .inside)), m .stand .within, m .stand .inside, at-pre .1 .1)))
 
 returns-2 : tie.Need-returns-2 Inv-loop μ-loop
 returns-2 c =

@@ -13,15 +13,15 @@ use Rattle.limits.proofs.count_words.Statement.{statement}
 use Rattle.limits.proofs.count_words.Tie as tie
 use Rattle.limits.proofs.count_words.Reads as reads
 use Rattle.limits.proofs.count_words.Lts as lts
-use Rattle.limits.proofs.is_gap.Reads as is-gap-reads
+use Rattle.words.proofs.is_gap.Reads as is-gap-reads
 use Rattle.limits.proofs.one_if.Reads as one-if-reads
 use Rattle.lines.proofs.value_byte.Reads as value-byte-reads
 
 abbrev Inv-loop : tie.InvT-loop
-Inv-loop table s i₀ n₀ gap₀ i n gap = (i ≤ length s) × (n ≤ i) × (length (words (valueFrom s)) ≡ n + wordsFrom gap (valueFrom (drop i s)))
+Inv-loop s i₀ n₀ gap₀ i n gap = (i ≤ length s) × (n ≤ i) × (length (words (valueFrom s)) ≡ n + wordsFrom gap (valueFrom (drop i s)))
 
 abbrev μ-loop : tie.MeasureT-loop
-μ-loop table s i₀ n₀ gap₀ i n gap = length s - i
+μ-loop s i₀ n₀ gap₀ i n gap = length s - i
 
 loop-holds : tie.Need-loop-holds Inv-loop μ-loop
 loop-holds c =

@@ -22,7 +22,7 @@ same-bytes-requires c κs = search needs
 add-c : tie.Need-add-c
 add-c c =
     let at-pre = c .before .before .before .before .before .before .pre in
-    omega (arith, at-pre .1 .0)
+    omega (arith, at-pre .0)
 
 returns : tie.Need-returns
 unfolding countOn
@@ -42,7 +42,7 @@ same-bytes-requires-2 c κs = search needs
 add-c-2 : tie.Need-add-c-2
 add-c-2 c =
     let at-pre = c .before .before .before .before .before .before .before .before .before .pre in
-    omega (arith, at-pre .1 .0)
+    omega (arith, at-pre .0)
 
 returns-2 : tie.Need-returns-2
 unfolding countOn
@@ -66,7 +66,7 @@ add-c-3 : tie.Need-add-c-3
 add-c-3 c =
     let at-pre = c .before .before .before .before .before .before .before .before .before .before .before .before .before .pre in
     let at-count-words = c .before .count-words in
-    omega (arith, at-pre .1 .0, at-pre .1 .1, at-count-words .ensures .1)
+    omega (arith, at-pre .0, at-pre .1, at-count-words .ensures .1)
 
 returns-3 : tie.Need-returns-3
 unfolding countOn
@@ -91,7 +91,7 @@ add-c-4 : tie.Need-add-c-4
 add-c-4 c =
     let at-pre = c .before .before .before .before .before .before .before .before .before .before .before .before .before .before .before .before .pre in
     let at-count-words2 = c .before .count-words2 in
-    omega (arith, at-pre .1 .0, at-pre .1 .1, at-count-words2 .ensures .1)
+    omega (arith, at-pre .0, at-pre .1, at-count-words2 .ensures .1)
 
 returns-4 : tie.Need-returns-4
 unfolding countOn
@@ -116,7 +116,7 @@ add-c-5 : tie.Need-add-c-5
 add-c-5 c =
     let at-pre = c .before .before .before .before .before .before .before .before .before .before .before .before .before .before .before .before .before .before .before .pre in
     let at-count-words3 = c .before .count-words3 in
-    omega (arith, at-pre .1 .0, at-pre .1 .1, at-count-words3 .ensures .1)
+    omega (arith, at-pre .0, at-pre .1, at-count-words3 .ensures .1)
 
 returns-5 : tie.Need-returns-5
 unfolding countOn
@@ -141,7 +141,7 @@ add-c-6 : tie.Need-add-c-6
 add-c-6 c =
     let at-pre = c .before .before .before .before .before .before .before .before .before .before .before .before .before .before .before .before .before .before .before .before .before .before .pre in
     let at-count-words4 = c .before .count-words4 in
-    omega (arith, at-pre .1 .0, at-pre .1 .1, at-count-words4 .ensures .1)
+    omega (arith, at-pre .0, at-pre .1, at-count-words4 .ensures .1)
 
 returns-6 : tie.Need-returns-6
 unfolding countOn

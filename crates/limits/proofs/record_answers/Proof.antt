@@ -13,8 +13,8 @@ use Rattle.format.specs.Records.{fieldsOf}
 use Rattle.format.specs.Questions.{fitsRecord, hasRecOnce}
 use Rattle.records.specs.Places.{isReadable}
 use Rattle.records.specs.Walk.{readOf}
-use Rattle.limits.specs.Spots.{fieldsFrom, fieldBetween}
-use Rattle.limits.proofs.Spots.{next-told}
+use Rattle.records.specs.Fields.{fieldsFrom, fieldBetween}
+use Rattle.records.proofs.NextFields.{next-told}
 use Rattle.limits.proofs.Fits.{fitsFrom, fits-start, fits-end, fits-on, fits-stop, fits-asked}
 use Rattle.limits.proofs.Once.{onceFrom, once-start, once-end, once-on}
 use Rattle.limits.proofs.record_answers.Statement.{statement}
@@ -22,9 +22,9 @@ use Rattle.limits.proofs.record_answers.Tie as tie
 use Rattle.limits.proofs.record_answers.Reads as reads
 use Rattle.limits.proofs.record_answers.Lts as lts
 use Rattle.format.proofs.Record.fits.Reads as fits-reads
-use Rattle.limits.proofs.is_rec.Reads as is-rec-reads
+use Rattle.records.proofs.is_rec.Reads as is-rec-reads
 use Rattle.limits.proofs.is_special.Reads as is-special-reads
-use Rattle.limits.proofs.next_field.Reads as next-field-reads
+use Rattle.records.proofs.next_field.Reads as next-field-reads
 use Rattle.limits.proofs.one_if.Reads as one-if-reads
 use Rattle.limits.proofs.value_bound.Reads as value-bound-reads
 
@@ -114,7 +114,7 @@ sub-is-special c =
     let at-next-field = c .before .before .before .before .before .next-field in
     let at-n = c .before .before .before .n in
     let f = next-told (at-args .r .now) (at-loop .i) (at-next-field .result) (at-next-field .ensures) (at-n .given .1) in
-    omega (arith, f .name-from)
+    omega (arith, f .named)
 
 fits-requires : tie.Need-fits-requires Inv-loop μ-loop
 fits-requires c κs = search needs
@@ -140,7 +140,7 @@ sub-is-special-2 c =
     let at-next-field = c .before .before .before .before .before .before .before .next-field in
     let at-n = c .before .before .before .before .before .n in
     let f = next-told (at-args .r .now) (at-loop .i) (at-next-field .result) (at-next-field .ensures) (at-n .given .1) in
-    omega (arith, f .name-from)
+    omega (arith, f .named)
 
 part-is-special-start : tie.Need-part-is-special-start Inv-loop μ-loop
 part-is-special-start c =
@@ -149,7 +149,7 @@ part-is-special-start c =
     let at-next-field = c .before .before .before .before .before .before .before .next-field in
     let at-n = c .before .before .before .before .before .n in
     let f = next-told (at-args .r .now) (at-loop .i) (at-next-field .result) (at-next-field .ensures) (at-n .given .1) in
-    omega (arith, f .name-from)
+    omega (arith, f .named)
 
 part-is-special-end : tie.Need-part-is-special-end Inv-loop μ-loop
 part-is-special-end c =
@@ -170,7 +170,7 @@ sub-is-rec c =
     let at-next-field = c .before .before .before .before .before .before .before .before .before .next-field in
     let at-n = c .before .before .before .before .before .before .before .n in
     let f = next-told (at-args .r .now) (at-loop .i) (at-next-field .result) (at-next-field .ensures) (at-n .given .1) in
-    omega (arith, f .name-from)
+    omega (arith, f .named)
 
 part-is-rec-start : tie.Need-part-is-rec-start Inv-loop μ-loop
 part-is-rec-start c =
@@ -179,7 +179,7 @@ part-is-rec-start c =
     let at-next-field = c .before .before .before .before .before .before .before .before .before .next-field in
     let at-n = c .before .before .before .before .before .before .before .n in
     let f = next-told (at-args .r .now) (at-loop .i) (at-next-field .result) (at-next-field .ensures) (at-n .given .1) in
-    omega (arith, f .name-from)
+    omega (arith, f .named)
 
 part-is-rec-end : tie.Need-part-is-rec-end Inv-loop μ-loop
 part-is-rec-end c =
@@ -209,7 +209,7 @@ loop-less c =
     let at-next-field = c .before .before .before .before .before .before .before .before .before .before .before .before .next-field in
     let at-n = c .before .before .before .before .before .before .before .before .before .before .n in
     let f = next-told (at-args .r .now) (at-loop .i) (at-next-field .result) (at-next-field .ensures) (at-n .given .1) in
-    omega (arith, f .onward, f .moves, f .inside)
+    omega (arith, f .begins, f .moves, f .inside)
 
 loop-again : tie.Need-loop-again Inv-loop μ-loop
 loop-again c =

@@ -10,9 +10,10 @@ use Rattle.format.specs.Records.{fieldsOf}
 use Rattle.format.specs.declared.Descriptor.{Descriptor}
 use Rattle.records.specs.Places.{isReadable}
 use Rattle.records.specs.Walk.{readOf}
-use Rattle.limits.specs.Spots.{fieldsFrom, fieldBetween}
+use Rattle.records.specs.Fields.{fieldsFrom, fieldBetween}
 use Rattle.limits.specs.Counts.{total}
-use Rattle.limits.proofs.Spots.{between-length, next-told}
+use Rattle.records.proofs.NextFields.{next-told}
+use Rattle.words.proofs.Spans.{span-length}
 use Rattle.limits.proofs.Tallies.{counts-path, countFrom, fitsCounts, noCounts, rules-counts, count-end, count-on}
 use Rattle.limits.proofs.rules_fit.Statement.{statement}
 use Rattle.limits.proofs.rules_fit.Tie as tie
@@ -21,7 +22,7 @@ use Rattle.limits.proofs.rules_fit.Lts as lts
 use Rattle.format.proofs.Descriptor.fits.Reads as fits-reads
 use Rattle.format.proofs.Descriptor.new.Reads as new-reads
 use Rattle.limits.proofs.counted.Reads as counted-reads
-use Rattle.limits.proofs.next_field.Reads as next-field-reads
+use Rattle.records.proofs.next_field.Reads as next-field-reads
 
 abbrev Inv-loop : tie.InvT-loop
 Inv-loop table d i₀ c₀ i c = (i ≤ length d) × (isReadable (drop i d) ≡ true) × (total c ≤ 2 * i) × (countFrom noCounts (fieldsOf (readOf d)) ≡ countFrom c (fieldsFrom d i))
@@ -71,7 +72,7 @@ sub-counted c =
     let at-next-field = c .before .before .before .next-field in
     let at-n = c .before .n in
     let f = next-told (at-args .d .now) (at-loop .i) (at-next-field .result) (at-next-field .ensures) (at-n .given .1) in
-    omega (arith, f .name-from)
+    omega (arith, f .named)
 
 part-counted-start : tie.Need-part-counted-start Inv-loop μ-loop
 part-counted-start c =
@@ -80,7 +81,7 @@ part-counted-start c =
     let at-next-field = c .before .before .before .next-field in
     let at-n = c .before .n in
     let f = next-told (at-args .d .now) (at-loop .i) (at-next-field .result) (at-next-field .ensures) (at-n .given .1) in
-    omega (arith, f .name-from)
+    omega (arith, f .named)
 
 part-counted-end : tie.Need-part-counted-end Inv-loop μ-loop
 part-counted-end c =
@@ -127,7 +128,7 @@ counted-requires c κs =
     let at-pre = c .before .before .before .before .before .before .before .before .before .pre in
     let g = at-n .given in
     let f = next-told (at-args .d .now) (at-loop .i) (at-next-field .result) (at-next-field .ensures) (at-n .given .1) in
-    (at-pre .0, (omega (arith, at-loop .inv .0, at-loop .inv .2, at-pre .1 .1), omega (arith, between-length (at-args .d .now) (g .0 .1 .1 .0) (g .0 .1 .1 .1 .0) (f .value-inside) (f .inside), f .inside, at-pre .1 .1)))
+    (omega (arith, at-loop .inv .0, at-loop .inv .2, at-pre .1 .1), omega (arith, span-length (at-args .d .now) (g .0 .1 .1 .0) (g .0 .1 .1 .1 .0) (f .value-inside) (f .inside), f .inside, at-pre .1 .1))
 
 loop-less : tie.Need-loop-less Inv-loop μ-loop
 loop-less c =
@@ -136,7 +137,7 @@ loop-less c =
     let at-next-field = c .before .before .before .before .before .before .next-field in
     let at-n = c .before .before .before .before .n in
     let f = next-told (at-args .d .now) (at-loop .i) (at-next-field .result) (at-next-field .ensures) (at-n .given .1) in
-    omega (arith, f .onward, f .moves, f .inside)
+    omega (arith, f .begins, f .moves, f .inside)
 
 loop-again : tie.Need-loop-again Inv-loop μ-loop
 loop-again c =
@@ -148,7 +149,7 @@ loop-again c =
     let g = at-n .given in
     let f = next-told (at-args .d .now) (at-loop .i) (at-next-field .result) (at-next-field .ensures) (at-n .given .1) in
     let rest = fieldsFrom (at-args .d .now) (g .0 .1 .1 .1 .0) in
-    (f .inside, f .readable, omega (arith, at-loop .inv .2, at-counted .ensures .1, between-length (at-args .d .now) (g .0 .1 .1 .0) (g .0 .1 .1 .1 .0) (f .value-inside) (f .inside), f .onward, f .moves, f .value-from), at-loop .inv .3 ∙ ap (countFrom (at-loop .c)) (f .fields) ∙ count-on (at-loop .c) (fieldBetween (at-args .d .now) (g .0 .0) (g .0 .1 .0) (g .0 .1 .1 .0) (g .0 .1 .1 .1 .0)) rest ∙ ap (λ (x : Descriptor). countFrom x rest) (sym (at-counted .ensures .0)))
+    (f .inside, f .readable, omega (arith, at-loop .inv .2, at-counted .ensures .1, span-length (at-args .d .now) (g .0 .1 .1 .0) (g .0 .1 .1 .1 .0) (f .value-inside) (f .inside), f .begins, f .moves, f .value-behind), at-loop .inv .3 ∙ ap (countFrom (at-loop .c)) (f .fields) ∙ count-on (at-loop .c) (fieldBetween (at-args .d .now) (g .0 .0) (g .0 .1 .0) (g .0 .1 .1 .0) (g .0 .1 .1 .1 .0)) rest ∙ ap (λ (x : Descriptor). countFrom x rest) (sym (at-counted .ensures .0)))
 
 pub rules-fit-spec : {M : Type 1} → statement M
 rules-fit-spec =

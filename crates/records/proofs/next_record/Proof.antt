@@ -18,7 +18,7 @@ use Rattle.records.proofs.next_record.Tie as tie
 use Rattle.records.proofs.next_record.Reads as reads
 use Rattle.records.proofs.next_record.Lts as lts
 use Rattle.lines.proofs.next_step.Reads as next-step-reads
-use Rattle.records.proofs.is_rec.Reads as is-rec-reads
+use Rattle.records.proofs.rec_here.Reads as rec-here-reads
 use Rattle.records.proofs.record_run.Reads as record-run-reads
 
 abbrev Inv-loop : tie.InvT-loop
@@ -110,17 +110,17 @@ loop-again-2 c =
 enum-known-n-3 : tie.Need-enum-known-n-3 Inv-loop μ-loop
 enum-known-n-3 c = search needs
 
-sub-is-rec : tie.Need-sub-is-rec Inv-loop μ-loop
-sub-is-rec c = search needs
+sub-rec-here : tie.Need-sub-rec-here Inv-loop μ-loop
+sub-rec-here c = search needs
 
-part-is-rec-start : tie.Need-part-is-rec-start Inv-loop μ-loop
-part-is-rec-start c = search needs
+part-rec-here-start : tie.Need-part-rec-here-start Inv-loop μ-loop
+part-rec-here-start c = search needs
 
-part-is-rec-end : tie.Need-part-is-rec-end Inv-loop μ-loop
-part-is-rec-end c = search needs
+part-rec-here-end : tie.Need-part-rec-here-end Inv-loop μ-loop
+part-rec-here-end c = search needs
 
-is-rec-requires : tie.Need-is-rec-requires Inv-loop μ-loop
-is-rec-requires c κs = search needs
+rec-here-requires : tie.Need-rec-here-requires Inv-loop μ-loop
+rec-here-requires c κs = search needs
 
 add-record-run : tie.Need-add-record-run Inv-loop μ-loop
 add-record-run c =
@@ -147,11 +147,11 @@ returns c =
     let at-loop = c .before .before .before .before .before .before .before .before .loop in
     let at-next-step = c .before .before .before .before .before .before .next-step in
     let at-n3 = c .before .before .before .before .n3 in
-    let at-is-rec = c .before .is-rec in
+    let at-rec-here = c .before .rec-here in
     let at-record-run = c .record-run in
     let at-pre = c .before .before .before .before .before .before .before .before .before .before .pre in
     let p = walks (at-args .s .now) (at-loop .i) (at-next-step .result) (at-loop .inv .1) (at-next-step .ensures) (at-n3 .given .1) in
-    sym (next-found (at-args .s .now) (at-loop .i) (p .0) (at-n3 .given .0 .0) (at-is-rec .result) (at-record-run .result) (at-pre .1) (at-loop .inv .2) (p .1) (at-is-rec .ensures) (at-record-run .ensures))
+    sym (next-found (at-args .s .now) (at-loop .i) (p .0) (at-n3 .given .0 .0) (at-rec-here .result) (at-record-run .result) (at-pre .1) (at-loop .inv .2) (p .1) (at-rec-here .ensures) (at-record-run .ensures))
 
 enum-told : tie.Need-enum-told Inv-loop μ-loop
 enum-told c = search needs
@@ -186,10 +186,10 @@ next-record-spec =
     loop-less-2
     loop-again-2
     enum-known-n-3
-    sub-is-rec
-    part-is-rec-start
-    part-is-rec-end
-    is-rec-requires
+    sub-rec-here
+    part-rec-here-start
+    part-rec-here-end
+    rec-here-requires
     add-record-run
     record-run-requires
     returns

@@ -16,7 +16,7 @@ use Rattle.records.proofs.pass.Tie as tie
 use Rattle.records.proofs.pass.Reads as reads
 use Rattle.records.proofs.pass.Lts as lts
 use Rattle.lines.proofs.value_byte.Reads as value-byte-reads
-use Rattle.records.proofs.is_gap.Reads as is-gap-reads
+use Rattle.words.proofs.is_gap.Reads as is-gap-reads
 
 abbrev Inv-loop : tie.InvT-loop
 Inv-loop s i gaps at₀ at = (i ≤ at) × (at ≤ length s) × (behind (gapIs gaps) (valueFrom (drop at s)) ≡ behind (gapIs gaps) (valueFrom (drop i s)))

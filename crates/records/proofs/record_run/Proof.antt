@@ -15,7 +15,7 @@ use Rattle.records.proofs.record_run.Tie as tie
 use Rattle.records.proofs.record_run.Reads as reads
 use Rattle.records.proofs.record_run.Lts as lts
 use Rattle.lines.proofs.next_step.Reads as next-step-reads
-use Rattle.records.proofs.is_rec.Reads as is-rec-reads
+use Rattle.records.proofs.rec_here.Reads as rec-here-reads
 
 abbrev Inv-loop : tie.InvT-loop
 Inv-loop table s at described end₀ i₀ descriptor₀ end i descriptor = (i ≤ length s) × (isReadable (drop i s) ≡ true) × (runFrom at at described (readOf (drop at s)) ≡ runFrom i end descriptor (readOf (drop i s)))
@@ -76,17 +76,17 @@ loop-again c =
 enum-known-n-2 : tie.Need-enum-known-n-2 Inv-loop μ-loop
 enum-known-n-2 c = search needs
 
-sub-is-rec : tie.Need-sub-is-rec Inv-loop μ-loop
-sub-is-rec c = search needs
+sub-rec-here : tie.Need-sub-rec-here Inv-loop μ-loop
+sub-rec-here c = search needs
 
-part-is-rec-start : tie.Need-part-is-rec-start Inv-loop μ-loop
-part-is-rec-start c = search needs
+part-rec-here-start : tie.Need-part-rec-here-start Inv-loop μ-loop
+part-rec-here-start c = search needs
 
-part-is-rec-end : tie.Need-part-is-rec-end Inv-loop μ-loop
-part-is-rec-end c = search needs
+part-rec-here-end : tie.Need-part-rec-here-end Inv-loop μ-loop
+part-rec-here-end c = search needs
 
-is-rec-requires : tie.Need-is-rec-requires Inv-loop μ-loop
-is-rec-requires c κs = search needs
+rec-here-requires : tie.Need-rec-here-requires Inv-loop μ-loop
+rec-here-requires c κs = search needs
 
 add-i-2 : tie.Need-add-i-2 Inv-loop μ-loop
 add-i-2 c =
@@ -112,9 +112,9 @@ loop-again-2 c =
     let at-loop = c .before .before .before .before .before .before .before .loop in
     let at-next-step = c .before .before .before .before .before .next-step in
     let at-n2 = c .before .before .before .n2 in
-    let at-is-rec = c .is-rec in
+    let at-rec-here = c .rec-here in
     let p = walks (at-args .s .now) (at-loop .i) (at-next-step .result) (at-loop .inv .1) (at-next-step .ensures) (at-n2 .given .1) in
-    (p .1 .passed .inside, p .1 .passed .readable, at-loop .inv .2 ∙ run-field (at-args .s .now) (at-loop .i) (at-loop .end) (at-loop .descriptor) (p .0) (at-n2 .given .0 .0) (at-is-rec .result) (p .1) (at-is-rec .ensures))
+    (p .1 .passed .inside, p .1 .passed .readable, at-loop .inv .2 ∙ run-field (at-args .s .now) (at-loop .i) (at-loop .end) (at-loop .descriptor) (p .0) (at-n2 .given .0 .0) (at-rec-here .result) (p .1) (at-rec-here .ensures))
 
 enum-told : tie.Need-enum-told Inv-loop μ-loop
 enum-told c = search needs
@@ -156,10 +156,10 @@ record-run-spec =
     loop-less
     loop-again
     enum-known-n-2
-    sub-is-rec
-    part-is-rec-start
-    part-is-rec-end
-    is-rec-requires
+    sub-rec-here
+    part-rec-here-start
+    part-rec-here-end
+    rec-here-requires
     add-i-2
     loop-less-2
     loop-again-2

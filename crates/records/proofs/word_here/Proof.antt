@@ -1,7 +1,7 @@
 -- `records::word_here` meets its contract. The invariant: the word from n on is the same as the first word of the value from at on if the whole ones are, and only then.
 -- The measure is what is left of the length.
 use borrow.Author.Needs.{needs}
-use Prim.Native.Nat.{_+_, _-_, _≤_}
+use Prim.Native.Nat.{_-_, _≤_}
 use native.Mathlib.Omega.{arith}
 use mathlib.Core.Path.{_≡_, refl, sym, ap, _∙_}
 use lib.ListN.{length, drop}
@@ -15,7 +15,7 @@ use Rattle.records.proofs.word_here.Tie as tie
 use Rattle.records.proofs.word_here.Reads as reads
 use Rattle.records.proofs.word_here.Lts as lts
 use Rattle.lines.proofs.value_byte.Reads as value-byte-reads
-use Rattle.records.proofs.is_gap.Reads as is-gap-reads
+use Rattle.words.proofs.is_gap.Reads as is-gap-reads
 
 abbrev Inv-loop : tie.InvT-loop
 Inv-loop s i word at₀ n₀ at n = (n ≤ length word) × (same (drop n word) (front notGap (valueFrom (drop at s))) ≡ same word (front notGap (valueFrom (drop i s))))

@@ -1,5 +1,5 @@
 -- `records::word_is` meets its contract: behind the gaps the first word is compared.
-use mathlib.Core.Path.{_≡_, ap, _∙_}
+use mathlib.Core.Path.{ap, _∙_}
 use Rattle.format.specs.Bytes.{same}
 use Rattle.format.specs.Words.{notGap, front}
 use borrow.Author.Needs.{needs}

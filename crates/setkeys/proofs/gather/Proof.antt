@@ -10,7 +10,8 @@ use Rattle.records.specs.Places.{isReadable}
 use Rattle.records.proofs.Readings.{part-readable}
 use Rattle.records.proofs.Searches.{meets}
 use Rattle.setkeys.specs.Keyed.{wordIn}
-use Rattle.setkeys.proofs.Following.{members-end, members-stop, value-some}
+use Rattle.records.proofs.Cuts.{members-end, members-stop}
+use Rattle.setkeys.proofs.Following.{value-some}
 use Rattle.setkeys.proofs.Gathering.{Enters, enters-start, enters-end, enters-room, enters-more}
 use Rattle.setkeys.proofs.gather.Statement.{statement}
 use Rattle.setkeys.proofs.gather.Tie as tie

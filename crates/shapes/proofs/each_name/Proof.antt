@@ -10,7 +10,7 @@ use Rattle.format.specs.Lines.{isName}
 use Rattle.format.specs.Words.{words}
 use Rattle.words.specs.Spans.{span}
 use Rattle.words.proofs.Finding.{found, not-found}
-use Rattle.shapes.proofs.Folds.{all-more, all-stop}
+use Rattle.sizes.proofs.Folds.{all-more, all-stop}
 use Rattle.shapes.proofs.each_name.Statement.{statement}
 use Rattle.shapes.proofs.each_name.Tie as tie
 use Rattle.shapes.proofs.each_name.Reads as reads

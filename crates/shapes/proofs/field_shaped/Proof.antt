@@ -2,7 +2,7 @@
 use mathlib.Core.Path.{sym, ap, _∙_}
 use Rattle.lines.specs.Value.{valueFrom}
 use Rattle.shapes.specs.Contents.{holds}
-use Rattle.shapes.proofs.Scratch.{front-text, front-size, same-size}
+use Rattle.words.proofs.Decoded.{decoded-all, decoded-length, scratch-length}
 use borrow.Author.Needs.{needs}
 use Rattle.shapes.proofs.field_shaped.Statement.{statement}
 use Rattle.shapes.proofs.field_shaped.Tie as tie
@@ -25,7 +25,7 @@ slice-aggregate-text-holds : tie.Need-slice-aggregate-text-holds
 slice-aggregate-text-holds c =
     let at-args = c .before .before .before .before .before .before .before .before .before .args in
     let at-copy-value = c .before .before .before .copy-value in
-    front-size (valueFrom (at-args .value .now)) (at-args .scratch .now) (at-copy-value .last .1 .0) (at-copy-value .result) (at-copy-value .ensures .0) (at-copy-value .ensures .1)
+    decoded-length (valueFrom (at-args .value .now)) (at-args .scratch .now) (at-copy-value .last .1 .0) (at-copy-value .result) (at-copy-value .ensures .0) (at-copy-value .ensures .1)
 
 text-holds-requires : tie.Need-text-holds-requires
 text-holds-requires c κs = search needs
@@ -40,7 +40,7 @@ returns c =
     let at-args = c .before .before .before .before .before .before .before .before .before .before .args in
     let at-copy-value = c .before .before .before .before .copy-value in
     let at-pre = c .before .before .before .before .before .before .before .before .before .before .pre in
-    ((λ k. at-text-holds .ensures ∙ ap (holds (at-content-of .result)) (front-text (valueFrom (at-args .value .now)) (at-args .scratch .now) (at-copy-value .last .1 .0) (at-copy-value .result) (at-copy-value .ensures .0) (at-copy-value .ensures .1)) ∙ sym (at-content-of .ensures (valueFrom (at-args .value .now)) k)), same-size (valueFrom (at-args .value .now)) (at-args .scratch .now) (at-copy-value .last .1 .0) (at-copy-value .result) (at-copy-value .ensures .0) (at-copy-value .ensures .1) (at-pre .1))
+    ((λ k. at-text-holds .ensures ∙ ap (holds (at-content-of .result)) (decoded-all (valueFrom (at-args .value .now)) (at-args .scratch .now) (at-copy-value .last .1 .0) (at-copy-value .result) (at-copy-value .ensures .0) (at-copy-value .ensures .1)) ∙ sym (at-content-of .ensures (valueFrom (at-args .value .now)) k)), scratch-length (valueFrom (at-args .value .now)) (at-args .scratch .now) (at-copy-value .last .1 .0) (at-copy-value .result) (at-copy-value .ensures .0) (at-copy-value .ensures .1) (at-pre .1))
 
 pub field-shaped-spec : {M : Type 1} → statement M
 field-shaped-spec =

@@ -9,7 +9,7 @@ use Rattle.lines.specs.Value.{valueFrom}
 use Rattle.records.specs.Walk.{readOf}
 use Rattle.words.specs.Spans.{span}
 use Rattle.shapes.specs.Names.{namesAt}
-use Rattle.shapes.proofs.Scratch.{front-text, front-size, front-inside, same-size}
+use Rattle.words.proofs.Decoded.{decoded-all, decoded-length, decoded-inside, scratch-length}
 use Rattle.shapes.proofs.Naming.{name-inside, name-part, value-part}
 use Rattle.shapes.proofs.Judging.{fault-told, taken-told, new-told}
 use borrow.Author.Needs.{needs}
@@ -108,7 +108,7 @@ slice-reshare-prefix-is-taken c =
     let at-well-formed = c .before .before .before .before .before .before .before .before .before .before .before .before .well-formed in
     let at-copy-value = c .before .before .copy-value in
     let at-pre = c .before .before .before .before .before .before .before .before .before .before .before .before .before .before .before .before .before .before .before .pre in
-    front-inside (valueFrom (span (at-args .a + at-rec-value .result .start) (at-args .a + at-rec-value .result .end) (at-args .s .now))) (at-well-formed .last .1 .1 .0) (at-copy-value .last .1 .0) (at-copy-value .result) (at-copy-value .ensures .0) (at-copy-value .ensures .1) (omega (arith, value-part (at-args .s .now) (at-args .a) (at-args .e) (at-rec-value .result) (at-pre .1 .0 .0) (at-pre .1 .0 .1) (at-rec-value .ensures) (at-pre .1 .1 .1 .0), at-pre .1 .1 .1 .1 .1, at-well-formed .ensures .1))
+    decoded-inside (valueFrom (span (at-args .a + at-rec-value .result .start) (at-args .a + at-rec-value .result .end) (at-args .s .now))) (at-well-formed .last .1 .1 .0) (at-copy-value .last .1 .0) (at-copy-value .result) (at-copy-value .ensures .0) (at-copy-value .ensures .1) (omega (arith, value-part (at-args .s .now) (at-args .a) (at-args .e) (at-rec-value .result) (at-pre .1 .0 .0) (at-pre .1 .0 .1) (at-rec-value .ensures) (at-pre .1 .1 .1 .0), at-pre .1 .1 .1 .1 .1, at-well-formed .ensures .1))
 
 slice-aggregate-is-taken : tie.Need-slice-aggregate-is-taken
 slice-aggregate-is-taken c =
@@ -116,7 +116,7 @@ slice-aggregate-is-taken c =
     let at-rec-value = c .before .before .before .before .before .before .before .before .rec-value in
     let at-well-formed = c .before .before .before .before .before .before .before .before .before .before .before .before .before .well-formed in
     let at-copy-value = c .before .before .before .copy-value in
-    front-size (valueFrom (span (at-args .a + at-rec-value .result .start) (at-args .a + at-rec-value .result .end) (at-args .s .now))) (at-well-formed .last .1 .1 .0) (at-copy-value .last .1 .0) (at-copy-value .result) (at-copy-value .ensures .0) (at-copy-value .ensures .1)
+    decoded-length (valueFrom (span (at-args .a + at-rec-value .result .start) (at-args .a + at-rec-value .result .end) (at-args .s .now))) (at-well-formed .last .1 .1 .0) (at-copy-value .last .1 .0) (at-copy-value .result) (at-copy-value .ensures .0) (at-copy-value .ensures .1)
 
 is-taken-requires : tie.Need-is-taken-requires
 is-taken-requires c κs =
@@ -130,7 +130,7 @@ same-length c =
     let at-well-formed = c .before .before .before .before .before .before .before .before .before .before .before .before .before .before .before .well-formed in
     let at-copy-value = c .before .before .before .before .before .copy-value in
     let at-pre = c .before .before .before .before .before .before .before .before .before .before .before .before .before .before .before .before .before .before .before .before .before .before .pre in
-    same-size (valueFrom (span (at-args .a + at-rec-value .result .start) (at-args .a + at-rec-value .result .end) (at-args .s .now))) (at-well-formed .last .1 .1 .0) (at-copy-value .last .1 .0) (at-copy-value .result) (at-copy-value .ensures .0) (at-copy-value .ensures .1) (omega (arith, value-part (at-args .s .now) (at-args .a) (at-args .e) (at-rec-value .result) (at-pre .1 .0 .0) (at-pre .1 .0 .1) (at-rec-value .ensures) (at-pre .1 .1 .1 .0), at-pre .1 .1 .1 .1 .1, at-well-formed .ensures .1)) ∙ at-well-formed .ensures .1
+    scratch-length (valueFrom (span (at-args .a + at-rec-value .result .start) (at-args .a + at-rec-value .result .end) (at-args .s .now))) (at-well-formed .last .1 .1 .0) (at-copy-value .last .1 .0) (at-copy-value .result) (at-copy-value .ensures .0) (at-copy-value .ensures .1) (omega (arith, value-part (at-args .s .now) (at-args .a) (at-args .e) (at-rec-value .result) (at-pre .1 .0 .0) (at-pre .1 .0 .1) (at-rec-value .ensures) (at-pre .1 .1 .1 .0), at-pre .1 .1 .1 .1 .1, at-well-formed .ensures .1)) ∙ at-well-formed .ensures .1
 
 returns : tie.Need-returns
 returns c =
@@ -142,7 +142,7 @@ returns c =
     let at-pre = c .before .before .before .before .before .before .before .before .before .before .before .before .before .before .before .before .before .before .before .before .before .before .pre in
     let at-if1 = c .before .before .before .before .before .before .before .before .before .before .before .before .if1 in
     let at-if2 = c .if2 in
-    (taken-told (fieldsOf (readOf (span (at-args .a) (at-args .e) (at-args .s .now)))) (namesAt (at-args .s .now) (at-args .starts .now) (at-args .ends .now)) (at-well-formed .result) (at-well-formed .ensures .0) (at-is-taken .result) (firstWord (take (at-copy-value .result) (at-copy-value .last .1 .0))) (at-is-taken .ensures) (ap firstWord (front-text (valueFrom (span (at-args .a + at-rec-value .result .start) (at-args .a + at-rec-value .result .end) (at-args .s .now))) (at-well-formed .last .1 .1 .0) (at-copy-value .last .1 .0) (at-copy-value .result) (at-copy-value .ensures .0) (at-copy-value .ensures .1)) ∙ name-part (at-args .s .now) (at-args .a) (at-args .e) (at-rec-value .result) (at-pre .1 .0 .0) (at-pre .1 .0 .1) (at-rec-value .ensures)) (at-if1 .taken) (at-if2 .taken), same-size (valueFrom (span (at-args .a + at-rec-value .result .start) (at-args .a + at-rec-value .result .end) (at-args .s .now))) (at-well-formed .last .1 .1 .0) (at-copy-value .last .1 .0) (at-copy-value .result) (at-copy-value .ensures .0) (at-copy-value .ensures .1) (omega (arith, value-part (at-args .s .now) (at-args .a) (at-args .e) (at-rec-value .result) (at-pre .1 .0 .0) (at-pre .1 .0 .1) (at-rec-value .ensures) (at-pre .1 .1 .1 .0), at-pre .1 .1 .1 .1 .1, at-well-formed .ensures .1)) ∙ at-well-formed .ensures .1)
+    (taken-told (fieldsOf (readOf (span (at-args .a) (at-args .e) (at-args .s .now)))) (namesAt (at-args .s .now) (at-args .starts .now) (at-args .ends .now)) (at-well-formed .result) (at-well-formed .ensures .0) (at-is-taken .result) (firstWord (take (at-copy-value .result) (at-copy-value .last .1 .0))) (at-is-taken .ensures) (ap firstWord (decoded-all (valueFrom (span (at-args .a + at-rec-value .result .start) (at-args .a + at-rec-value .result .end) (at-args .s .now))) (at-well-formed .last .1 .1 .0) (at-copy-value .last .1 .0) (at-copy-value .result) (at-copy-value .ensures .0) (at-copy-value .ensures .1)) ∙ name-part (at-args .s .now) (at-args .a) (at-args .e) (at-rec-value .result) (at-pre .1 .0 .0) (at-pre .1 .0 .1) (at-rec-value .ensures)) (at-if1 .taken) (at-if2 .taken), scratch-length (valueFrom (span (at-args .a + at-rec-value .result .start) (at-args .a + at-rec-value .result .end) (at-args .s .now))) (at-well-formed .last .1 .1 .0) (at-copy-value .last .1 .0) (at-copy-value .result) (at-copy-value .ensures .0) (at-copy-value .ensures .1) (omega (arith, value-part (at-args .s .now) (at-args .a) (at-args .e) (at-rec-value .result) (at-pre .1 .0 .0) (at-pre .1 .0 .1) (at-rec-value .ensures) (at-pre .1 .1 .1 .0), at-pre .1 .1 .1 .1 .1, at-well-formed .ensures .1)) ∙ at-well-formed .ensures .1)
 
 same-length-2 : tie.Need-same-length-2
 same-length-2 c =
@@ -151,7 +151,7 @@ same-length-2 c =
     let at-well-formed = c .before .before .before .before .before .before .before .before .before .before .before .before .before .before .before .well-formed in
     let at-copy-value = c .before .before .before .before .before .copy-value in
     let at-pre = c .before .before .before .before .before .before .before .before .before .before .before .before .before .before .before .before .before .before .before .before .before .before .pre in
-    same-size (valueFrom (span (at-args .a + at-rec-value .result .start) (at-args .a + at-rec-value .result .end) (at-args .s .now))) (at-well-formed .last .1 .1 .0) (at-copy-value .last .1 .0) (at-copy-value .result) (at-copy-value .ensures .0) (at-copy-value .ensures .1) (omega (arith, value-part (at-args .s .now) (at-args .a) (at-args .e) (at-rec-value .result) (at-pre .1 .0 .0) (at-pre .1 .0 .1) (at-rec-value .ensures) (at-pre .1 .1 .1 .0), at-pre .1 .1 .1 .1 .1, at-well-formed .ensures .1)) ∙ at-well-formed .ensures .1
+    scratch-length (valueFrom (span (at-args .a + at-rec-value .result .start) (at-args .a + at-rec-value .result .end) (at-args .s .now))) (at-well-formed .last .1 .1 .0) (at-copy-value .last .1 .0) (at-copy-value .result) (at-copy-value .ensures .0) (at-copy-value .ensures .1) (omega (arith, value-part (at-args .s .now) (at-args .a) (at-args .e) (at-rec-value .result) (at-pre .1 .0 .0) (at-pre .1 .0 .1) (at-rec-value .ensures) (at-pre .1 .1 .1 .0), at-pre .1 .1 .1 .1 .1, at-well-formed .ensures .1)) ∙ at-well-formed .ensures .1
 
 returns-2 : tie.Need-returns-2
 returns-2 c =
@@ -163,7 +163,7 @@ returns-2 c =
     let at-pre = c .before .before .before .before .before .before .before .before .before .before .before .before .before .before .before .before .before .before .before .before .before .before .pre in
     let at-if1 = c .before .before .before .before .before .before .before .before .before .before .before .before .if1 in
     let at-if2 = c .if2 in
-    ((new-told (fieldsOf (readOf (span (at-args .a) (at-args .e) (at-args .s .now)))) (namesAt (at-args .s .now) (at-args .starts .now) (at-args .ends .now)) (at-well-formed .result) (at-well-formed .ensures .0) (at-is-taken .result) (firstWord (take (at-copy-value .result) (at-copy-value .last .1 .0))) (at-is-taken .ensures) (ap firstWord (front-text (valueFrom (span (at-args .a + at-rec-value .result .start) (at-args .a + at-rec-value .result .end) (at-args .s .now))) (at-well-formed .last .1 .1 .0) (at-copy-value .last .1 .0) (at-copy-value .result) (at-copy-value .ensures .0) (at-copy-value .ensures .1)) ∙ name-part (at-args .s .now) (at-args .a) (at-args .e) (at-rec-value .result) (at-pre .1 .0 .0) (at-pre .1 .0 .1) (at-rec-value .ensures)) (at-if1 .taken) (at-if2 .left), omega (arith, at-rec-value .ensures .0), name-inside (at-args .s .now) (at-args .a) (at-args .e) (at-rec-value .result) (at-pre .1 .0 .0) (at-pre .1 .0 .1) (at-rec-value .ensures), name-part (at-args .s .now) (at-args .a) (at-args .e) (at-rec-value .result) (at-pre .1 .0 .0) (at-pre .1 .0 .1) (at-rec-value .ensures)), same-size (valueFrom (span (at-args .a + at-rec-value .result .start) (at-args .a + at-rec-value .result .end) (at-args .s .now))) (at-well-formed .last .1 .1 .0) (at-copy-value .last .1 .0) (at-copy-value .result) (at-copy-value .ensures .0) (at-copy-value .ensures .1) (omega (arith, value-part (at-args .s .now) (at-args .a) (at-args .e) (at-rec-value .result) (at-pre .1 .0 .0) (at-pre .1 .0 .1) (at-rec-value .ensures) (at-pre .1 .1 .1 .0), at-pre .1 .1 .1 .1 .1, at-well-formed .ensures .1)) ∙ at-well-formed .ensures .1)
+    ((new-told (fieldsOf (readOf (span (at-args .a) (at-args .e) (at-args .s .now)))) (namesAt (at-args .s .now) (at-args .starts .now) (at-args .ends .now)) (at-well-formed .result) (at-well-formed .ensures .0) (at-is-taken .result) (firstWord (take (at-copy-value .result) (at-copy-value .last .1 .0))) (at-is-taken .ensures) (ap firstWord (decoded-all (valueFrom (span (at-args .a + at-rec-value .result .start) (at-args .a + at-rec-value .result .end) (at-args .s .now))) (at-well-formed .last .1 .1 .0) (at-copy-value .last .1 .0) (at-copy-value .result) (at-copy-value .ensures .0) (at-copy-value .ensures .1)) ∙ name-part (at-args .s .now) (at-args .a) (at-args .e) (at-rec-value .result) (at-pre .1 .0 .0) (at-pre .1 .0 .1) (at-rec-value .ensures)) (at-if1 .taken) (at-if2 .left), omega (arith, at-rec-value .ensures .0), name-inside (at-args .s .now) (at-args .a) (at-args .e) (at-rec-value .result) (at-pre .1 .0 .0) (at-pre .1 .0 .1) (at-rec-value .ensures), name-part (at-args .s .now) (at-args .a) (at-args .e) (at-rec-value .result) (at-pre .1 .0 .0) (at-pre .1 .0 .1) (at-rec-value .ensures)), scratch-length (valueFrom (span (at-args .a + at-rec-value .result .start) (at-args .a + at-rec-value .result .end) (at-args .s .now))) (at-well-formed .last .1 .1 .0) (at-copy-value .last .1 .0) (at-copy-value .result) (at-copy-value .ensures .0) (at-copy-value .ensures .1) (omega (arith, value-part (at-args .s .now) (at-args .a) (at-args .e) (at-rec-value .result) (at-pre .1 .0 .0) (at-pre .1 .0 .1) (at-rec-value .ensures) (at-pre .1 .1 .1 .0), at-pre .1 .1 .1 .1 .1, at-well-formed .ensures .1)) ∙ at-well-formed .ensures .1)
 
 same-length-3 : tie.Need-same-length-3
 same-length-3 c = search needs

@@ -5,6 +5,7 @@ use mathlib.Core.Path.{ap, _∙_}
 use lib.ListN.{length}
 use Rattle.format.specs.Bytes.{Bytes, among}
 use Rattle.format.specs.Words.{isGap, notGap}
+use Rattle.words.specs.Spans.{span}
 use Rattle.words.proofs.Finding.{run-end-le}
 use Rattle.shapes.specs.Names.{namesAt}
 use Rattle.shapes.proofs.Naming.{first-span}
@@ -55,7 +56,11 @@ returns c =
     let at-args = c .before .before .before .before .before .before .before .before .args in
     let at-gap-end = c .before .before .before .gap-end in
     let at-word-end = c .before .before .word-end in
-    at-is-named .ensures ∙ ap (λ (w : Bytes). among w (namesAt (at-args .s .now) (at-args .starts .now) (at-args .ends .now))) (first-span (at-args .t .now) (at-gap-end .result) (at-word-end .result) (at-gap-end .ensures) (at-word-end .ensures))
+    let t = at-args .t .now in
+    let a = at-gap-end .result in
+    let e = at-word-end .result in
+    let names = namesAt (at-args .s .now) (at-args .starts .now) (at-args .ends .now) in
+    _∙_ {b = among (span a e t) names} (at-is-named .ensures) (ap (λ (w : Bytes). among w names) (first-span t a e (at-gap-end .ensures) (at-word-end .ensures)))
 
 pub is-taken-spec : {M : Type 1} → statement M
 is-taken-spec =

@@ -1,12 +1,13 @@
 -- `shapes::one_word` meets its contract: there is a word, and none behind it.
 use native.Mathlib.Omega.{arith}
 use mathlib.Core.Path.{ap}
+use mathlib.Core.List.{[], _∷_}
 use lib.ListN.{drop}
 use Rattle.format.specs.Rules.{one}
 use Rattle.format.specs.Words.{words}
 use Rattle.words.specs.Spans.{span}
 use Rattle.words.proofs.Finding.{found, not-found}
-use Rattle.shapes.proofs.Wording.{one-only, two-words}
+use Rattle.sizes.proofs.Wording.{words-then}
 use borrow.Author.Needs.{needs}
 use Rattle.shapes.proofs.one_word.Statement.{statement}
 use Rattle.shapes.proofs.one_word.Tie as tie
@@ -55,7 +56,7 @@ returns-2 c =
     let h = at-enum-told2 .given in
     let f = found s 0 (at-next-word .ensures) (g .1) (omega arith) in
     let b = found s (g .0 .1 .0) (at-next-word2 .ensures) (h .1) (f .2) in
-    λ p. ap (one p) (two-words (words s) (span (g .0 .0) (g .0 .1 .0) s) (words (drop (g .0 .1 .0) s)) (f .3) (span (h .0 .0) (h .0 .1 .0) s) (words (drop (h .0 .1 .0) s)) (b .3))
+    λ p. ap (one p) (words-then (words s) (span (g .0 .0) (g .0 .1 .0) s) (words (drop (g .0 .1 .0) s)) (f .3) (span (h .0 .0) (h .0 .1 .0) s ∷ words (drop (h .0 .1 .0) s)) (b .3))
 
 returns-3 : tie.Need-returns-3
 returns-3 c =
@@ -67,7 +68,7 @@ returns-3 c =
     let s = at-args .s .now in
     let g = at-w .given in
     let f = found s 0 (at-next-word .ensures) (g .1) (omega arith) in
-    (f .1, f .2, one-only (words s) (span (g .0 .0) (g .0 .1 .0) s) (words (drop (g .0 .1 .0) s)) (f .3) (not-found s (g .0 .1 .0) (at-next-word2 .ensures) (at-enum-told3 .given .1)))
+    (f .1, f .2, words-then (words s) (span (g .0 .0) (g .0 .1 .0) s) (words (drop (g .0 .1 .0) s)) (f .3) [] (not-found s (g .0 .1 .0) (at-next-word2 .ensures) (at-enum-told3 .given .1)))
 
 pub one-word-spec : {M : Type 1} → statement M
 one-word-spec =

@@ -1,12 +1,12 @@
 -- `typedefs::name_at` meets its contract.
-use mathlib.Core.Path.{_≡_, sym, ap, _∙_}
-use native.Mathlib.Omega.{arith}
+use mathlib.Core.Path.{ap, _∙_}
+use lib.ListN.{take}
 use Rattle.format.specs.Bytes.{Bytes}
 use Rattle.format.specs.Words.{firstWord}
 use Rattle.lines.specs.Value.{valueFrom}
 use Rattle.words.specs.Spans.{span}
 use Rattle.typedefs.specs.Walks.{namesFrom}
-use Rattle.typedefs.proofs.Chains.{decoded-all, decoded-length}
+use Rattle.words.proofs.Decoded.{decoded-all, decoded-length}
 use Rattle.typedefs.proofs.Good.{goodBefore}
 use borrow.Author.Needs.{needs}
 use Rattle.typedefs.proofs.name_at.Statement.{statement}
@@ -52,8 +52,12 @@ returns c =
     let at-args = c .before .before .before .before .before .before .before .before .before .args in
     let at-copy-value = c .before .before .before .before .copy-value in
     let at-name-good = c .name-good in
-    let g = decoded-all (valueFrom (span (at-args .value) (at-args .end) (at-args .d .now))) (at-args .scratch .now) _ (at-copy-value .result) (at-copy-value .ensures .0) (at-copy-value .ensures .1) in
-    at-name-good .ensures ∙ ap (λ (u : Bytes). goodBefore (namesFrom (at-args .d .now) (at-args .end)) (firstWord u)) g
+    let d = at-args .d .now in
+    let v = valueFrom (span (at-args .value) (at-args .end) d) in
+    let n = at-copy-value .result in
+    let x = at-copy-value .last .1 .0 in
+    let names = namesFrom d (at-args .end) in
+    _∙_ {b = goodBefore names (firstWord (take n x))} (at-name-good .ensures) (ap (λ (u : Bytes). goodBefore names (firstWord u)) (decoded-all v (at-args .scratch .now) x n (at-copy-value .ensures .0) (at-copy-value .ensures .1)))
 
 pub name-at-spec : {M : Type 1} → statement M
 name-at-spec =

@@ -1,9 +1,6 @@
 -- `typedefs::name_good` meets its contract.
-use mathlib.Core.Path.{_≡_, sym, ap, _∙_}
+use mathlib.Core.Path.{sym, ap, _∙_}
 use native.Mathlib.Omega.{arith}
-use lib.Dec.{eqb}
-use Rattle.format.specs.Bytes.{Bytes}
-use Rattle.format.specs.Words.{firstWord}
 use Rattle.words.specs.Spans.{span}
 use Rattle.words.proofs.Finding.{found}
 use Rattle.typedefs.specs.Walks.{namesFrom}

@@ -8,13 +8,14 @@ use mathlib.Core.Bool.{true}
 use lib.ListN.{length, drop}
 use Rattle.records.specs.Places.{isReadable}
 use Rattle.typedefs.specs.Walks.{valuesFrom}
-use Rattle.typedefs.proofs.Walking.{field-told, values-none, values-other, value-here}
+use Rattle.records.proofs.NextFields.{next-told}
+use Rattle.typedefs.proofs.Walking.{values-none, values-other, value-here}
 use Rattle.typedefs.proofs.next_value.Statement.{statement}
 use Rattle.typedefs.proofs.next_value.Tie as tie
 use Rattle.typedefs.proofs.next_value.Reads as reads
 use Rattle.typedefs.proofs.next_value.Lts as lts
 use Rattle.lines.proofs.same_bytes.Reads as same-bytes-reads
-use Rattle.typedefs.proofs.next_field.Reads as next-field-reads
+use Rattle.records.proofs.next_field.Reads as next-field-reads
 
 abbrev Inv-loop : tie.InvT-loop
 Inv-loop table s name i at₀ at = (i ≤ at) × (at ≤ length s) × (isReadable (drop at s) ≡ true) × (valuesFrom s name i ≡ valuesFrom s name at)
@@ -45,7 +46,7 @@ returns c =
     let at-args = c .before .before .before .before .before .before .args in
     let at-next-field = c .before .before .next-field in
     let at-enum-told = c .enum-told in
-    at-loop .inv .3 ∙ values-none (at-args .s .now) (at-args .name .now) (at-loop .at) (field-told (at-args .s .now) (at-loop .at) (at-next-field .result) (at-next-field .ensures) (at-enum-told .given .1))
+    at-loop .inv .3 ∙ values-none (at-args .s .now) (at-args .name .now) (at-loop .at) (next-told (at-args .s .now) (at-loop .at) (at-next-field .result) (at-next-field .ensures) (at-enum-told .given .1))
 
 sub-same-bytes : tie.Need-sub-same-bytes Inv-loop μ-loop
 sub-same-bytes c =
@@ -53,7 +54,7 @@ sub-same-bytes c =
     let at-loop = c .before .before .before .before .loop in
     let at-next-field = c .before .before .before .next-field in
     let at-f = c .before .f in
-    let h = field-told (at-args .s .now) (at-loop .at) (at-next-field .result) (at-next-field .ensures) (at-f .given .1) in
+    let h = next-told (at-args .s .now) (at-loop .at) (at-next-field .result) (at-next-field .ensures) (at-f .given .1) in
     omega (arith, h .named)
 
 part-same-bytes-start : tie.Need-part-same-bytes-start Inv-loop μ-loop
@@ -62,7 +63,7 @@ part-same-bytes-start c =
     let at-loop = c .before .before .before .before .loop in
     let at-next-field = c .before .before .before .next-field in
     let at-f = c .before .f in
-    let h = field-told (at-args .s .now) (at-loop .at) (at-next-field .result) (at-next-field .ensures) (at-f .given .1) in
+    let h = next-told (at-args .s .now) (at-loop .at) (at-next-field .result) (at-next-field .ensures) (at-f .given .1) in
     omega (arith, h .named, h .name-inside, h .inside)
 
 part-same-bytes-end : tie.Need-part-same-bytes-end Inv-loop μ-loop
@@ -71,7 +72,7 @@ part-same-bytes-end c =
     let at-loop = c .before .before .before .before .loop in
     let at-next-field = c .before .before .before .next-field in
     let at-f = c .before .f in
-    let h = field-told (at-args .s .now) (at-loop .at) (at-next-field .result) (at-next-field .ensures) (at-f .given .1) in
+    let h = next-told (at-args .s .now) (at-loop .at) (at-next-field .result) (at-next-field .ensures) (at-f .given .1) in
     omega (arith, h .named, h .name-inside, h .inside)
 
 same-bytes-requires : tie.Need-same-bytes-requires Inv-loop μ-loop
@@ -86,7 +87,7 @@ returns-2 c =
     let at-same-bytes = c .before .same-bytes in
     let at-if1 = c .if1 in
     let g = at-f .given in
-    let h = field-told (at-args .s .now) (at-loop .at) (at-next-field .result) (at-next-field .ensures) (g .1) in
+    let h = next-told (at-args .s .now) (at-loop .at) (at-next-field .result) (at-next-field .ensures) (g .1) in
     value-here (at-args .s .now) (at-args .name .now) (at-loop .at) (g .0 .0) (g .0 .1 .0) (g .0 .1 .1 .0) (g .0 .1 .1 .1 .0) h (at-args .i) (at-loop .inv .0) (at-loop .inv .3) (sym (at-same-bytes .ensures) ∙ at-if1 .taken)
 
 loop-less : tie.Need-loop-less Inv-loop μ-loop
@@ -95,7 +96,7 @@ loop-less c =
     let at-loop = c .before .before .before .before .before .before .before .loop in
     let at-next-field = c .before .before .before .before .before .before .next-field in
     let at-f = c .before .before .before .before .f in
-    let h = field-told (at-args .s .now) (at-loop .at) (at-next-field .result) (at-next-field .ensures) (at-f .given .1) in
+    let h = next-told (at-args .s .now) (at-loop .at) (at-next-field .result) (at-next-field .ensures) (at-f .given .1) in
     omega (arith, h .begins, h .moves, h .inside)
 
 loop-again : tie.Need-loop-again Inv-loop μ-loop
@@ -107,7 +108,7 @@ loop-again c =
     let at-same-bytes = c .before .same-bytes in
     let at-if1 = c .if1 in
     let g = at-f .given in
-    let h = field-told (at-args .s .now) (at-loop .at) (at-next-field .result) (at-next-field .ensures) (g .1) in
+    let h = next-told (at-args .s .now) (at-loop .at) (at-next-field .result) (at-next-field .ensures) (g .1) in
     (omega (arith, at-loop .inv .0, h .begins, h .moves), h .inside, h .readable, at-loop .inv .3 ∙ values-other (at-args .s .now) (at-args .name .now) (at-loop .at) (g .0 .0) (g .0 .1 .0) (g .0 .1 .1 .0) (g .0 .1 .1 .1 .0) h (sym (at-same-bytes .ensures) ∙ at-if1 .left))
 
 pub next-value-spec : {M : Type 1} → statement M

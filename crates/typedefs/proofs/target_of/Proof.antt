@@ -1,5 +1,5 @@
 -- `typedefs::target_of` meets its contract.
-use mathlib.Core.Path.{_≡_, sym, ap, _∙_}
+use mathlib.Core.Path.{ap, _∙_}
 use native.Mathlib.Omega.{arith}
 use Rattle.format.specs.Bytes.{Bytes}
 use Rattle.format.specs.Numbers.{bits32}
@@ -8,7 +8,7 @@ use Rattle.lines.specs.Value.{valueFrom}
 use Rattle.words.specs.Spans.{span}
 use Rattle.typedefs.specs.Walks.{namesFrom}
 use Rattle.typedefs.specs.Targets.{targetBy}
-use Rattle.typedefs.proofs.Chains.{decoded-length, decoded-after}
+use Rattle.words.proofs.Decoded.{decoded-length, decoded-after}
 use borrow.Author.Needs.{needs}
 use Rattle.typedefs.proofs.target_of.Statement.{statement}
 use Rattle.typedefs.proofs.target_of.Tie as tie

@@ -1,15 +1,15 @@
 -- `typedefs::typedefs_well` meets its contract.
 use Prim.Native.Nat.{ℕ}
-use mathlib.Core.Path.{_≡_, sym, ap, _∙_}
+use mathlib.Core.Path.{sym, ap, _∙_}
 use mathlib.Core.Bool.{Bool, _&&_}
 use mathlib.Core.List.{List, map}
 use native.Mathlib.Omega.{arith}
-use lib.ListN.{length, take}
+use lib.ListN.{length}
 use lib.Seq.{length-take-le}
 use Rattle.format.specs.Bytes.{text, all, upFrom}
 use Rattle.format.specs.Words.{firstWord}
-use Rattle.typedefs.specs.Walks.{valuesFrom, namesFrom, fitFrom}
-use Rattle.typedefs.specs.Targets.{targetIn, endsIn, goodNames}
+use Rattle.typedefs.specs.Walks.{valuesFrom, fitFrom}
+use Rattle.typedefs.specs.Targets.{targetIn, endsIn}
 use Rattle.typedefs.proofs.Defined.{well-split}
 use borrow.Author.Needs.{needs}
 use Rattle.typedefs.proofs.typedefs_well.Statement.{statement}
