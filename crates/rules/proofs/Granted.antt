@@ -14,7 +14,7 @@ use Rattle.format.specs.Limits.{valueBytes, typedefs, typeFields, listWords}
 use Rattle.format.specs.Rules.{mandatory, prohibited, allowed, unique}
 use Rattle.format.specs.Questions.{fitsField, fitsRecord, fitsRules}
 use Rattle.format.proofs.Elements.{Each, each-all, each-imp, all-each}
-use Rattle.shapes.proofs.Scratch.{fits-fields, fits-value}
+use Rattle.sizes.proofs.Limits.{fits-fields, fits-value}
 use Rattle.typedefs.specs.Walks.{fits}
 use Rattle.typed.specs.Meets.{fieldFits}
 

@@ -27,9 +27,9 @@ use Rattle.records.proofs.Members.{count-sets}
 use Rattle.lists.specs.Names.{namesNo}
 use Rattle.lists.proofs.Judged.{names-no}
 use Rattle.lists.proofs.Leasts.{least-none, least-assoc}
-use Rattle.shapes.proofs.Meeting.{part-fields}
+use Rattle.records.proofs.Cuts.{part-fields}
 use Rattle.setkeys.specs.Keyed.{membersIn}
-use Rattle.setkeys.proofs.Following.{members-end, members-stop, members-more}
+use Rattle.records.proofs.Cuts.{members-end, members-stop, members-more}
 use Rattle.typed.specs.Meets.{fieldFits}
 use Rattle.rules.specs.Described.{AllFit, AllAsked}
 use Rattle.rules.proofs.Fronts.{Front, front-none, front-more, front-readable, front-fields}

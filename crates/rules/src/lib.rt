@@ -67,7 +67,7 @@ fn judge_members(
 // Question 12 of all fields of a part, by the type rules of a descriptor; without such rules it asks nothing.
 fn all_typed(table: &[u8; 256], d: &[u8], s: &[u8], scratch: &mut [u8], other: &mut [u8]) -> bool
     requires { ⌜ now table ≡ classTable ⌝ }
-    requires { ⌜ IsRules (now d) × (valueBytes ≤ length (now other)) ⌝ }
+    requires { ⌜ IsRules (now d) × (length (now d) ≤ fileBytes) × (valueBytes ≤ length (now other)) ⌝ }
     requires { ⌜ (isReadable (now s) ≡ true) × (all (fieldFits (length (now scratch))) (recordIn (now s)) ≡ true) ⌝ }
     ensures { λ r. ⌜ r ≡ allTyped bits32 (recordIn (now (d .entry))) (recordIn (now (s .entry))) ⌝ }
 {
@@ -75,7 +75,7 @@ fn all_typed(table: &[u8; 256], d: &[u8], s: &[u8], scratch: &mut [u8], other: &
     if types.count == 0 {
         return true;
     }
-    typed::record_typed(table, d, types, s, &mut *scratch, &mut *other)
+    typed::part_typed(table, d, types, s, &mut *scratch, &mut *other)
 }
 
 // Questions 13 and 14 of a set whose records have its key: the number of the first that says no, else 0.
@@ -109,7 +109,7 @@ fn judge_whole(
         return 0;
     };
     let n = records::count_records(table, rest);
-    if shapes::size_met(table, d, n, &mut *scratch) {} else {
+    if sizes::size_met(table, d, n, &mut *scratch) {} else {
         return 14;
     }
     0

@@ -3,3 +3,4 @@ pub mod Readiness
 pub mod Kinded
 pub mod Ruled
 pub mod Rows
+pub mod Walked

@@ -1,26 +1,25 @@
--- The types of a field, rule by rule, and the fields of a record, one by one.
-use Prim.Native.Nat.{ℕ, suc, _+_, _≤_, _<_}
-use native.Mathlib.Numerals.{add-one}
+-- The types of a field, rule by rule and name by name.
+use Prim.Native.Nat.{ℕ, zero, suc, _+_, _-_, _≤_, _<_}
 use native.Mathlib.Omega.{arith}
 use mathlib.Core.Path.{_≡_, refl, sym, ap, _∙_}
-use mathlib.Core.Bool.{Bool, true, false, _&&_, _||_, not, and-assoc}
+use mathlib.Core.Bool.{Bool, true, false, _&&_, _||_, not}
 use mathlib.Core.List.{List, [], _∷_, _++_, map}
 use mathlib.Core.Option.{Option, none, some}
-use borrow.Author.Tests.{leb-true}
 use lib.ListN.{length, drop, getD, drop-of-length-le}
 use lib.Seq.{drop-cons}
-use Rattle.format.specs.Bytes.{Bytes, all, among}
+use Rattle.format.specs.Bytes.{Bytes, all, among, same}
 use Rattle.format.specs.Numbers.{bits32}
 use Rattle.format.specs.Types.{Kind, Typedef}
 use Rattle.format.specs.Records.{Field, Record}
 use Rattle.format.specs.Rules.{TypeRule, joinAll, typedNames, typeRuleBy, endKind, isTyped, typeRules}
 use Rattle.format.proofs.Elements.{all-alike, all-yes}
 use Rattle.lines.specs.Value.{valueFrom}
-use Rattle.words.specs.Spans.{span}
-use Rattle.typedefs.specs.Walks.{fieldsFrom, fieldBy, FieldHere}
-use Rattle.typedefs.proofs.Filling.{both-true}
-use Rattle.typed.specs.Meets.{meetsKind, defsFrom, typesFrom, ruleMet, fieldFits}
-use Rattle.typed.specs.Rules.{NextRow, typedFrom}
+use Rattle.records.proofs.Steps.{drop-take}
+use Rattle.names.specs.Entries.{Entry, entryOf, textTo, Rows, entriesFrom, entriesAt}
+use Rattle.typedefs.specs.Walks.{fieldsFrom}
+use Rattle.typed.specs.Meets.{meetsKind, defsFrom, typesFrom, ruleMet}
+use Rattle.typed.specs.Rules.{Listed}
+use Rattle.typed.specs.Asked.{rowMet, entryMet}
 
 or-true : (b : Bool) → (b || true) ≡ true
 or-true true = refl
@@ -52,52 +51,42 @@ typed-free d fs e =
     no-types [] z = refl
     no-types (v ∷ vs) z = absurd (omega arith)
 
-pub typed-start : (d : Bytes) (fs : Record) → all (isTyped bits32 (typeRules bits32 (fieldsFrom d 0))) fs ≡ typedFrom d 0 fs
-typed-start d [] = refl
-typed-start d (f ∷ fs) = ap (λ (b : Bool). b && all (isTyped bits32 (typeRules bits32 (fieldsFrom d 0))) fs) (typed-rules d f)
+-- a field meets a rule if it meets each of the names that it lists
+both-names : (a b m x : Bool) → ((not a || m) && ((not b || m) && x)) ≡ ((not (a || b) || m) && x)
+both-names true b true x = ap (λ (t : Bool). t && x) (or-true (not b))
+both-names true b false x = refl
+both-names false b m x = refl
 
--- a rule that does not name the field, and one that does
-module _ (ds : List Typedef) (name v w : Bytes) where
-  pub rule-other : among name (typedNames w) ≡ false → ruleMet ds name v w ≡ true
-  rule-other e = ap (λ (b : Bool). not b || meetsKind (endKind bits32 ds w) v) e
+names-met : (d name v : Bytes) (row : ℕ) (ns : List Bytes) (xs : List Entry)
+    → all (entryMet d name v) (map (entryOf row) ns ++ xs) ≡ ((not (among name ns) || rowMet d row v) && all (entryMet d name v) xs)
+names-met d name v row [] xs = refl
+names-met d name v row (n ∷ ns) xs =
+    ap (λ (b : Bool). (not (same name n) || rowMet d row v) && b) (names-met d name v row ns xs)
+    ∙ both-names (same name n) (among name ns) (rowMet d row v) (all (entryMet d name v) xs)
 
-  pub rule-named : among name (typedNames w) ≡ true → ruleMet ds name v w ≡ meetsKind (endKind bits32 ds w) v
-  rule-named e = ap (λ (b : Bool). not b || meetsKind (endKind bits32 ds w) v) e
+module _ (d : Bytes) (values ends : List ℕ) (n : ℕ) (h : Listed d values ends n) where
+  pub listed-rows : length d ≤ 65536 → Rows d values ends n
+  listed-rows l = record { short = l; few = h .few; ordered = λ i k. h .row i k .ordered; inside = λ i k. h .row i k .inside }
 
--- one field of a record more
-module _ (d s : Bytes) (i a n v e k : ℕ) (f : FieldHere s i a n v e) where
-  pub field-fits : (m : ℕ) → all (fieldFits m) (fieldsFrom s i) ≡ true → (length (valueFrom (span v e s)) ≤ m) × (all (fieldFits m) (fieldsFrom s e) ≡ true)
-  field-fits m h =
-      let b = both-true (fieldFits m (fieldBy s a n v e (f .count))) (all (fieldFits m) (fieldsFrom s e)) (sym (ap (all (fieldFits m)) (f .fields)) ∙ h) in
-      (leb-true (length (valueFrom (span v e s))) m (b .0), b .1)
+  row-value : (row : ℕ) → row < n → valueFrom (drop (getD values row 0) (textTo d ends row)) ≡ getD (typesFrom d) row []
+  row-value row l = ap valueFrom (drop-take (getD values row 0) (getD ends row 0) d) ∙ h .row row l .reads
 
-  abbrev rulesFrom : ℕ → Bool
-  rulesFrom j = all (ruleMet (defsFrom d) (span a n s) (valueFrom (span v e s))) (drop j (typesFrom d))
+  entries-rules : (name v : Bytes) (row m : ℕ) → row + m ≡ n → all (entryMet d name v) (entriesFrom d values ends row m) ≡ all (ruleMet (defsFrom d) name v) (drop row (typesFrom d))
+  entries-rules name v row zero e =
+      let l : length (typesFrom d) ≤ row = omega (arith, h .count) in
+      sym (ap (all (ruleMet (defsFrom d) name v)) (drop-of-length-le (typesFrom d) l))
+  entries-rules name v row (suc m) e =
+      let l : row < n = omega arith in
+      let k : row < length (typesFrom d) = omega (arith, h .count) in
+      let xs : List Entry = entriesFrom d values ends (suc row) m in
+      names-met d name v row (typedNames (valueFrom (drop (getD values row 0) (textTo d ends row)))) xs
+      ∙ ap (λ (w : Bytes). (not (among name (typedNames w)) || rowMet d row v) && all (entryMet d name v) xs) (row-value row l)
+      ∙ ap (λ (b : Bool). ruleMet (defsFrom d) name v (getD (typesFrom d) row []) && b) (entries-rules name v (suc row) m (omega arith))
+      ∙ sym (ap (all (ruleMet (defsFrom d) name v)) (drop-cons (typesFrom d) row [] k))
 
-  abbrev behind : Bool
-  behind = all (isTyped bits32 (typeRules bits32 (fieldsFrom d 0))) (fieldsFrom s e)
-
-  from-cut : (j : ℕ) → typedFrom d j (fieldsFrom s i) ≡ (rulesFrom j && behind)
-  from-cut j = ap (typedFrom d j) (f .fields)
-
-  module _ (r : ℕ) (h : NextRow d (span a n s) k r) where
-    row-cut : typedFrom d k (fieldsFrom s i) ≡ (rulesFrom r && behind)
-    row-cut = from-cut k ∙ ap (λ (b : Bool). b && behind) (h .passed (valueFrom (span v e s)))
-
-    -- no row names it
-    pub field-passed : length (typesFrom d) ≤ r → typedFrom d k (fieldsFrom s i) ≡ typedFrom d 0 (fieldsFrom s e)
-    field-passed l =
-        row-cut ∙ ap (λ (ws : List Bytes). all (ruleMet (defsFrom d) (span a n s) (valueFrom (span v e s))) ws && behind) (drop-of-length-le (typesFrom d) l)
-        ∙ typed-start d (fieldsFrom s e)
-
-    -- row r names it
-    pub field-named : r < length (typesFrom d) → typedFrom d k (fieldsFrom s i) ≡ (meetsKind (endKind bits32 (defsFrom d) (getD (typesFrom d) r [])) (valueFrom (span v e s)) && typedFrom d (r + 1) (fieldsFrom s i))
-    field-named l =
-        let w : Bytes = getD (typesFrom d) r [] in
-        let x : Bytes = valueFrom (span v e s) in
-        row-cut
-        ∙ ap (λ (ws : List Bytes). all (ruleMet (defsFrom d) (span a n s) x) ws && behind) (drop-cons (typesFrom d) r [] l)
-        ∙ ap (λ (b : Bool). (b && rulesFrom (suc r)) && behind) (rule-named (defsFrom d) (span a n s) x w (h .names l))
-        ∙ and-assoc (meetsKind (endKind bits32 (defsFrom d) w) x) (rulesFrom (suc r)) behind
-        ∙ ap (λ (j : ℕ). meetsKind (endKind bits32 (defsFrom d) w) x && (rulesFrom j && behind)) (sym (add-one r))
-        ∙ ap (λ (b : Bool). meetsKind (endKind bits32 (defsFrom d) w) x && b) (sym (from-cut (r + 1)))
+  -- question 12 by the names from the first place on
+  pub typed-names : (row at : ℕ) (fs : Record) → entriesAt d values ends n row at ≡ entriesFrom d values ends 0 (n - 0)
+      → all (isTyped bits32 (typeRules bits32 (fieldsFrom d 0))) fs ≡ all (λ (f : Field). all (entryMet d (f .name) (f .value)) (entriesAt d values ends n row at)) fs
+  typed-names row at fs e =
+      all-alike (isTyped bits32 (typeRules bits32 (fieldsFrom d 0))) (λ (f : Field). all (entryMet d (f .name) (f .value)) (entriesAt d values ends n row at))
+      (λ f. typed-rules d f ∙ sym (entries-rules (f .name) (f .value) 0 (n - 0) (omega arith)) ∙ sym (ap (all (entryMet d (f .name) (f .value))) e)) fs

@@ -1,14 +1,14 @@
-// Question 12: does each field of a record meet the types that its descriptor gives it?
+// Question 12: does each field of a part meet the types that a descriptor gives it?
 // The types of a descriptor are read once, into a table of rules; what stands in text stays there, and the table says where.
 ghost use mathlib.Core.Path.{_≡_};
 ghost use mathlib.Core.Bool.{true};
 ghost use Prim.Native.Nat.{_≤_};
 ghost use lib.ListN.{length, drop};
-ghost use Rattle.format.specs.Bytes.{classTable, text, all, among, isSome};
+ghost use Rattle.format.specs.Bytes.{classTable, text, all, isSome};
 ghost use Rattle.format.specs.Words.{afterWord};
 ghost use Rattle.format.specs.Numbers.{bits32};
 ghost use Rattle.format.specs.Records.{fieldsOf};
-ghost use Rattle.format.specs.Rules.{typedNames, endKind, isTypedWell};
+ghost use Rattle.format.specs.Rules.{endKind, isTypedWell};
 ghost use Rattle.format.specs.Questions.{allTyped};
 ghost use Rattle.lines.specs.Value.{valueFrom};
 ghost use Rattle.words.specs.Spans.{span};
@@ -17,15 +17,16 @@ ghost use Rattle.records.specs.Walk.{readOf};
 ghost use Rattle.types.specs.Meaning.{Sound, meetsIn};
 ghost use Rattle.typedefs.specs.Walks.{fieldsFrom, valuesFrom, fitFrom};
 ghost use Rattle.typed.specs.Meets.{Ready, defsFrom, fieldFits};
-ghost use Rattle.typed.specs.Rules.{ReadAt, FirstOf, KindOf, Listed, NextRow, TypedNext, Ruled};
-use lines::Decoded;
+ghost use Rattle.names.specs.Entries.{Reached};
+ghost use Rattle.names.specs.Index.{stored, Indexed};
+ghost use Rattle.typed.specs.Rules.{ReadAt, KindOf, Ruled};
+ghost use Rattle.typed.specs.Asked.{meetsTo, InRows, TypedNext, Chunked};
 use records::FoundField;
 use typedefs::Followed;
-use typedefs::NextField;
+use records::NextField;
 use typedefs::NextValue;
 use types::Shape;
 use types::TypeOf;
-use typing::Part;
 
 // A kind, and where the value stands that holds its type: that of a `%typedef` field, or of the `%type` field itself.
 pub struct Typedef {
@@ -34,12 +35,11 @@ pub struct Typedef {
     pub kind: Shape,
 }
 
-// The rules of a descriptor, one for each `%type` field: where its value stands, whose first word lists names of fields, the first
-// byte of the name if it lists one only, and the kind at the end of its type.
+// The rules of a descriptor, one row for each `%type` field: where its value stands, whose first word lists names of fields, and the
+// kind at the end of its type.
 pub struct Rules {
     pub values: [usize; 32],
     pub ends: [usize; 32],
-    pub firsts: [u8; 32],
     pub kinds: [Typedef; 32],
     pub count: usize,
 }
@@ -109,28 +109,6 @@ fn kind_of(
     typedef_at(table, d, from, to, &mut *scratch)
 }
 
-// The first byte of the name that a `%type` value lists; 0 where it lists several.
-fn first_of(s: &[u8]) -> u8
-    ensures { λ r. ⌜ FirstOf (valueFrom (now (s .entry))) r ⌝ }
-{
-    let i = records::word_start(s);
-    let d = lines::value_byte(s, i);
-    let Decoded::Byte { byte, next: _ } = d else {
-        return 0;
-    };
-    if words::is_gap(byte) {
-        return 0;
-    }
-    if byte == 44 {
-        return 0;
-    }
-    let p = typing::part_next(s, i);
-    let Part::Nothing = p else {
-        return 0;
-    };
-    byte
-}
-
 // The rules of a descriptor, by the targets of its typedefs.
 fn fill_rules(table: &[u8; 256], d: &[u8], targets: &[usize], scratch: &mut [u8]) -> Rules
     requires { ⌜ now table ≡ classTable ⌝ }
@@ -142,7 +120,6 @@ fn fill_rules(table: &[u8; 256], d: &[u8], targets: &[usize], scratch: &mut [u8]
 {
     let mut values = [0; 32];
     let mut ends = [0; 32];
-    let mut firsts = [0; 32];
     let mut kinds = [Typedef {
         value: 0,
         end: 0,
@@ -156,7 +133,6 @@ fn fill_rules(table: &[u8; 256], d: &[u8], targets: &[usize], scratch: &mut [u8]
             return Rules {
                 values,
                 ends,
-                firsts,
                 kinds,
                 count,
             };
@@ -164,7 +140,6 @@ fn fill_rules(table: &[u8; 256], d: &[u8], targets: &[usize], scratch: &mut [u8]
         let k = kind_of(table, d, targets, value, end, &mut *scratch);
         values[count] = value;
         ends[count] = end;
-        firsts[count] = first_of(&d[value..end]);
         kinds[count] = k;
         count += 1;
         i = end;
@@ -186,80 +161,40 @@ pub fn read_rules(table: &[u8; 256], d: &[u8], scratch: &mut [u8]) -> Rules
     fill_rules(table, d, &rows[..count], &mut *scratch)
 }
 
-// Does the `%type` value from one place to another name a field? Its only name's first byte, where there is one, decides most cases.
-fn row_names(d: &[u8], value: usize, end: usize, first: u8, name: &[u8]) -> bool
-    requires { ⌜ (value ≤ end) × (end ≤ length (now d)) ⌝ }
-    requires { ⌜ FirstOf (valueFrom (span value end (now d))) first ⌝ }
-    ensures { λ r. ⌜ r ≡ among (now (name .entry)) (typedNames (valueFrom (span value end (now (d .entry))))) ⌝ }
-{
-    if first == 0 {
-        return typing::names_field(&d[value..end], name);
-    }
-    if lines::byte(name, 0) != first {
-        return false;
-    }
-    typing::names_field(&d[value..end], name)
-}
-
-// The first row from `from` on whose `%type` field names a field; the number of rows where none does.
-fn next_row<'a>(
-    d: &[u8],
-    values: &'a [usize; 32],
-    ends: &'a [usize; 32],
-    firsts: &'a [u8; 32],
-    count: usize,
-    from: usize,
-    name: &[u8],
-) -> usize
-    requires { ⌜ Listed (now d) (now values) (now ends) (now firsts) count ⌝ }
-    requires { ⌜ from ≤ count ⌝ }
-    ensures { λ r. ⌜ NextRow (now (d .entry)) (now (name .entry)) from r ⌝ }
-{
-    let mut k = from;
-    while k < count {
-        let a = values[k];
-        let e = ends[k];
-        let b = firsts[k];
-        if row_names(d, a, e, b, name) {
-            return k;
-        }
-        k += 1;
-    }
-    k
-}
-
-// A field that a row names: where it is looked for, where its value stands, the byte behind it, and the row.
+// A field that an entry names: where it is looked for, where its value stands, the byte behind it, and the link to the entry.
 pub enum NextTyped {
     At {
         from: usize,
         value: usize,
         end: usize,
-        row: usize,
+        hit: usize,
     },
     Nothing,
 }
 
-// The first field from byte i on that a row names; of the first one, only rows from k on are asked.
-fn next_typed<'a>(
+// The first field from byte i on that one of `count` entries names, the last such entry; of the first field only k entries are asked.
+fn next_typed(
     table: &[u8; 256],
     d: &[u8],
-    values: &'a [usize; 32],
-    ends: &'a [usize; 32],
-    firsts: &'a [u8; 32],
+    ends: &[usize; 32],
+    places: &[u32],
+    rows: &[u8],
+    links: &[u32],
+    heads: &[u32],
     count: usize,
     s: &[u8],
     i: usize,
     k: usize,
 ) -> NextTyped
     requires { ⌜ now table ≡ classTable ⌝ }
-    requires { ⌜ Listed (now d) (now values) (now ends) (now firsts) count ⌝ }
+    requires { ⌜ Indexed (now d) (now ends) (now places) (now rows) (now links) (now heads) count ⌝ }
     requires { ⌜ (i ≤ length (now s)) × (isReadable (drop i (now s)) ≡ true) × (k ≤ count) ⌝ }
-    ensures { λ r. ⌜ TypedNext (now (d .entry)) (now (s .entry)) i k r ⌝ }
+    ensures { λ r. ⌜ TypedNext (now (d .entry)) (stored (now (d .entry)) (now (ends .entry)) (now (places .entry)) (now (rows .entry))) count (now (s .entry)) i k r ⌝ }
 {
     let mut at = i;
-    let mut from = k;
+    let mut asked = k;
     loop {
-        let f = typedefs::next_field(table, s, at);
+        let f = records::next_field(table, s, at);
         let NextField::At {
             start,
             named,
@@ -269,17 +204,28 @@ fn next_typed<'a>(
         else {
             return NextTyped::Nothing;
         };
-        let row = next_row(d, values, ends, firsts, count, from, &s[start..named]);
-        if row < count {
+        let hit = names::last_hit(
+            d,
+            ends,
+            places,
+            rows,
+            links,
+            heads,
+            count,
+            asked,
+            &s[start..named],
+            0,
+        );
+        if 0 < hit {
             return NextTyped::At {
                 from: at,
                 value,
                 end,
-                row,
+                hit,
             };
         }
         at = end;
-        from = 0;
+        asked = count;
     }
 }
 
@@ -309,8 +255,129 @@ fn kind_met(
     }
 }
 
-// Question 12 of a record, by the rules of its descriptor.
-pub fn record_typed(
+// Do all fields of a part meet the `count` entries of an index?
+fn fields_typed(
+    table: &[u8; 256],
+    d: &[u8],
+    rules: Rules,
+    places: &[u32],
+    rows: &[u8],
+    links: &[u32],
+    heads: &[u32],
+    count: usize,
+    s: &[u8],
+    scratch: &mut [u8],
+    other: &mut [u8],
+) -> bool
+    requires { ⌜ now table ≡ classTable ⌝ }
+    requires { ⌜ isReadable (now s) ≡ true ⌝ }
+    requires { ⌜ all (fieldFits (length (now scratch))) (fieldsFrom (now s) 0) ≡ true ⌝ }
+    requires { ⌜ Ruled (length (now other)) (now d) rules ⌝ }
+    requires { ⌜ Indexed (now d) (rules .ends) (now places) (now rows) (now links) (now heads) count × InRows (now rows) count (rules .count) ⌝ }
+    ensures { λ r. ⌜ r ≡ all (meetsTo (now (d .entry)) (stored (now (d .entry)) (rules .ends) (now (places .entry)) (now (rows .entry))) count) (fieldsFrom (now (s .entry)) 0) ⌝ }
+{
+    let mut i = 0;
+    let mut k = count;
+    loop {
+        let f = next_typed(
+            table,
+            d,
+            &rules.ends,
+            places,
+            rows,
+            links,
+            heads,
+            count,
+            s,
+            i,
+            k,
+        );
+        let NextTyped::At {
+            from,
+            value,
+            end,
+            hit,
+        } = f
+        else {
+            return true;
+        };
+        let n = lines::copy_value(&s[value..end], &mut *scratch);
+        let q = hit - 1;
+        let row = rows[q] as usize;
+        let t = rules.kinds[row];
+        let kind = t.kind;
+        if kind_met(table, d, t.value, t.end, kind, &scratch[..n], &mut *other) {} else {
+            return false;
+        }
+        i = from;
+        k = q;
+    }
+}
+
+// Do all fields of a part meet the entries of one index, and where does the first name behind them stand?
+pub struct Chunk {
+    pub typed: bool,
+    pub row: usize,
+    pub at: usize,
+}
+
+// Of the names from a place on, as many as an index has room for.
+fn chunk_typed(
+    table: &[u8; 256],
+    d: &[u8],
+    rules: Rules,
+    row: usize,
+    at: usize,
+    s: &[u8],
+    scratch: &mut [u8],
+    other: &mut [u8],
+) -> Chunk
+    requires { ⌜ now table ≡ classTable ⌝ }
+    requires { ⌜ isReadable (now s) ≡ true ⌝ }
+    requires { ⌜ all (fieldFits (length (now scratch))) (fieldsFrom (now s) 0) ≡ true ⌝ }
+    requires { ⌜ Ruled (length (now other)) (now d) rules × (length (now d) ≤ 65536) ⌝ }
+    requires { ⌜ Reached (rules .ends) (rules .count) row at ⌝ }
+    ensures { λ r. ⌜ Chunked (now (d .entry)) rules (fieldsFrom (now (s .entry)) 0) row at r ⌝ }
+{
+    let mut places = [0u32; 2048];
+    let mut rows = [0u8; 2048];
+    let mut links = [0u32; 2048];
+    let mut heads = [0u32; 1024];
+    let count = rules.count;
+    let f = names::fill(
+        d,
+        &rules.values,
+        &rules.ends,
+        count,
+        row,
+        at,
+        &mut places,
+        &mut rows,
+        &mut links,
+        &mut heads,
+    );
+    let typed = fields_typed(
+        table,
+        d,
+        rules,
+        &places,
+        &rows,
+        &links,
+        &heads,
+        f.count,
+        s,
+        &mut *scratch,
+        &mut *other,
+    );
+    Chunk {
+        typed,
+        row: f.row,
+        at: f.at,
+    }
+}
+
+// Question 12 of a part, by the rules of its descriptor.
+pub fn part_typed(
     table: &[u8; 256],
     d: &[u8],
     rules: Rules,
@@ -322,39 +389,20 @@ pub fn record_typed(
     requires { ⌜ isReadable (now s) ≡ true ⌝ }
     requires { ⌜ all (fieldFits (length (now scratch))) (fieldsFrom (now s) 0) ≡ true ⌝ }
     requires { ⌜ Ruled (length (now other)) (now d) rules ⌝ }
+    requires { ⌜ length (now d) ≤ 65536 ⌝ }
     ensures { λ r. ⌜ r ≡ allTyped bits32 (fieldsOf (readOf (now (d .entry)))) (fieldsOf (readOf (now (s .entry)))) ⌝ }
 {
     let count = rules.count;
-    let mut i = 0;
-    let mut k = 0;
-    loop {
-        let f = next_typed(
-            table,
-            d,
-            &rules.values,
-            &rules.ends,
-            &rules.firsts,
-            count,
-            s,
-            i,
-            k,
-        );
-        let NextTyped::At {
-            from,
-            value,
-            end,
-            row,
-        } = f
-        else {
-            return true;
-        };
-        let n = lines::copy_value(&s[value..end], &mut *scratch);
-        let t = rules.kinds[row];
-        let kind = t.kind;
-        if kind_met(table, d, t.value, t.end, kind, &scratch[..n], &mut *other) {} else {
+    let first = names::row_start(d, &rules.values, &rules.ends, count, 0);
+    let mut row = first.row;
+    let mut at = first.at;
+    while row < count {
+        let c = chunk_typed(table, d, rules, row, at, s, &mut *scratch, &mut *other);
+        if c.typed {} else {
             return false;
         }
-        i = from;
-        k = row + 1;
+        row = c.row;
+        at = c.at;
     }
+    true
 }

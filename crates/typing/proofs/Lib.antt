@@ -1,3 +1,2 @@
--- Laws of the names of a rule, and of question 7.
-pub mod Naming
+-- Laws of question 7.
 pub mod Deciding

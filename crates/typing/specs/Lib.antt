@@ -1,3 +1,2 @@
 -- What the rules of a descriptor's types stand for.
-pub mod Names
 pub mod Ends

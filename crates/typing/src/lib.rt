@@ -1,9 +1,9 @@
-// Types of fields: which rules of a descriptor name a field, and whether its value meets them.
+// Types of fields: are the typedefs and the types of a descriptor well formed?
 ghost use mathlib.Core.Path.{_≡_};
 ghost use mathlib.Core.Bool.{true};
 ghost use Prim.Native.Nat.{_≤_};
 ghost use lib.ListN.{length};
-ghost use Rattle.format.specs.Bytes.{classTable, text, same, among, all};
+ghost use Rattle.format.specs.Bytes.{classTable, text, all};
 ghost use Rattle.format.specs.Lines.{isName};
 ghost use Rattle.format.specs.Words.{split};
 ghost use Rattle.format.specs.Numbers.{bits32};
@@ -14,83 +14,11 @@ ghost use Rattle.words.specs.Spans.{span};
 ghost use Rattle.records.specs.Places.{isReadable};
 ghost use Rattle.records.specs.Walk.{readOf};
 ghost use Rattle.typedefs.specs.Walks.{valuesFrom, namesFrom, fitFrom};
-ghost use Rattle.typing.specs.Names.{partsFrom, Behind};
 ghost use Rattle.typedefs.specs.Targets.{leads};
 ghost use Rattle.typing.specs.Ends.{wellBy};
-use lines::Decoded;
 use typedefs::Followed;
 use typedefs::NextValue;
 use words::Word;
-
-// Is the part of a word, in the value from i on, up to a comma or the word's end, this name?
-fn part_is(s: &[u8], i: usize, name: &[u8]) -> bool
-    ensures { λ r. ⌜ r ≡ same (now (name .entry)) (partsFrom (now (s .entry)) i .first) ⌝ }
-{
-    let mut at = i;
-    let mut n = 0;
-    loop {
-        let d = lines::value_byte(s, at);
-        let Decoded::Byte { byte, next } = d else {
-            return n == name.len();
-        };
-        if words::is_gap(byte) {
-            return n == name.len();
-        }
-        if byte == 44 {
-            return n == name.len();
-        }
-        if n == name.len() {
-            return false;
-        }
-        if name[n] != byte {
-            return false;
-        }
-        n += 1;
-        at = next;
-    }
-}
-
-// Where the part behind the next comma of the word begins.
-pub enum Part {
-    At(usize),
-    Nothing,
-}
-
-pub fn part_next(s: &[u8], i: usize) -> Part
-    ensures { λ r. ⌜ Behind (now (s .entry)) i r ⌝ }
-{
-    let mut at = i;
-    loop {
-        let d = lines::value_byte(s, at);
-        let Decoded::Byte { byte, next } = d else {
-            return Part::Nothing;
-        };
-        if words::is_gap(byte) {
-            return Part::Nothing;
-        }
-        if byte == 44 {
-            return Part::At(next);
-        }
-        at = next;
-    }
-}
-
-// Is a name among those, joined by commas, of the first word of the value that begins where s does?
-pub fn names_field(s: &[u8], name: &[u8]) -> bool
-    ensures { λ r. ⌜ r ≡ among (now (name .entry)) (typedNames (valueFrom (now (s .entry)))) ⌝ }
-{
-    let mut i = records::word_start(s);
-    loop {
-        if part_is(s, i, name) {
-            return true;
-        }
-        let p = part_next(s, i);
-        let Part::At(k) = p else {
-            return false;
-        };
-        i = k;
-    }
-}
 
 // Is every part, between commas, of a word a name?
 fn parts_named(table: &[u8; 256], s: &[u8]) -> bool

@@ -16,13 +16,13 @@ use Rattle.rules.proofs.all_typed.Tie as tie
 use Rattle.rules.proofs.all_typed.Reads as reads
 use Rattle.rules.proofs.all_typed.Lts as lts
 use Rattle.typed.proofs.read_rules.Reads as read-rules-reads
-use Rattle.typed.proofs.record_typed.Reads as record-typed-reads
+use Rattle.typed.proofs.part_typed.Reads as part-typed-reads
 
 read-rules-requires : tie.Need-read-rules-requires
 read-rules-requires c κs =
     let at-args = c .before .before .before .before .before .args in
     let at-pre = c .before .before .before .before .before .pre in
-    let fit : (n : Bytes) → all (fits (length (at-args .other .now))) (valuesOf n (recordIn (at-args .d .now))) ≡ true = λ n. values-fit (length (at-args .other .now)) (at-pre .1 .0 .1) n (recordIn (at-args .d .now)) (at-pre .1 .0 .0 .fits) in
+    let fit : (n : Bytes) → all (fits (length (at-args .other .now))) (valuesOf n (recordIn (at-args .d .now))) ≡ true = λ n. values-fit (length (at-args .other .now)) (at-pre .1 .0 .2) n (recordIn (at-args .d .now)) (at-pre .1 .0 .0 .fits) in
     (at-pre .0, (at-pre .1 .0 .0 .reads, ((few-typedefs (recordIn (at-args .d .now)) (at-pre .1 .0 .0 .few), few-types (recordIn (at-args .d .now)) (at-pre .1 .0 .0 .few)), ((fit (text "%typedef"), fit (text "%type")), at-pre .1 .0 .0 .typed))))
 
 same-length : tie.Need-same-length
@@ -35,13 +35,13 @@ returns c =
     let at-if1 = c .if1 in
     sym (typed-free (at-args .d .now) (recordIn (at-args .s .now)) (sym (at-read-rules .ensures .listed .count) ∙ at-if1 .taken))
 
-record-typed-requires : tie.Need-record-typed-requires
-record-typed-requires c κs =
+part-typed-requires : tie.Need-part-typed-requires
+part-typed-requires c κs =
     let at-pre = c .before .before .before .before .before .before .before .before .before .before .before .before .pre in
     let at-args = c .before .before .before .before .before .before .before .before .before .before .before .before .args in
     let at-read-rules = c .before .before .before .before .before .before .read-rules in
     let at-other = c .before .before .before .before .before .other in
-    (at-pre .0, (at-pre .1 .1 .0, (at-pre .1 .1 .1, subst (λ (n : ℕ). Ruled n (at-args .d .now) (at-read-rules .result)) (sym (at-other .given)) (at-read-rules .ensures))))
+    (at-pre .0, (at-pre .1 .1 .0, (at-pre .1 .1 .1, (subst (λ (n : ℕ). Ruled n (at-args .d .now) (at-read-rules .result)) (sym (at-other .given)) (at-read-rules .ensures), at-pre .1 .0 .1))))
 
 same-length-2 : tie.Need-same-length-2
 same-length-2 c = search needs
@@ -59,7 +59,7 @@ all-typed-spec =
     read-rules-requires
     same-length
     returns
-    record-typed-requires
+    part-typed-requires
     same-length-2
     same-length-3
     returns-2)

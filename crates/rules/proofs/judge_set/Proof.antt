@@ -73,7 +73,7 @@ all-typed-requires c κs =
     let at-pre = c .before .before .before .before .before .before .before .before .before .before .before .before .before .before .before .before .before .before .before .before .before .pre in
     let at-judge-members = c .before .before .before .before .before .judge-members in
     let at-args = c .before .before .before .before .before .before .before .before .before .before .before .before .before .before .before .before .before .before .before .before .before .args in
-    (at-pre .0, ((at-pre .1 .0 .0, at-pre .1 .1 .1 .1), (at-judge-members .ensures .reads, ap (all (fieldFits (length (at-args .scratch .now)))) (at-judge-members .ensures .fields) ∙ values-short (length (at-args .scratch .now)) (at-pre .1 .1 .1 .0) (membersIn (at-args .rest .now)) (at-pre .1 .1 .0 .2))))
+    (at-pre .0, ((at-pre .1 .0 .0, at-pre .1 .0 .1, at-pre .1 .1 .1 .1), (at-judge-members .ensures .reads, ap (all (fieldFits (length (at-args .scratch .now)))) (at-judge-members .ensures .fields) ∙ values-short (length (at-args .scratch .now)) (at-pre .1 .1 .1 .0) (membersIn (at-args .rest .now)) (at-pre .1 .1 .0 .2))))
 
 same-length : tie.Need-same-length
 same-length c = search needs

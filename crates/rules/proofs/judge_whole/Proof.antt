@@ -17,7 +17,7 @@ use Rattle.rules.proofs.judge_whole.Lts as lts
 use Rattle.records.proofs.count_records.Reads as count-records-reads
 use Rattle.records.proofs.find_field.Reads as find-field-reads
 use Rattle.setkeys.proofs.keys_distinct.Reads as keys-distinct-reads
-use Rattle.shapes.proofs.size_met.Reads as size-met-reads
+use Rattle.sizes.proofs.size_met.Reads as size-met-reads
 
 keys-distinct-requires : tie.Need-keys-distinct-requires
 keys-distinct-requires c κs =

@@ -23,23 +23,20 @@ use Rattle.typed.proofs.fill_rules.Statement.{statement}
 use Rattle.typed.proofs.fill_rules.Tie as tie
 use Rattle.typed.proofs.fill_rules.Reads as reads
 use Rattle.typed.proofs.fill_rules.Lts as lts
-use Rattle.typed.proofs.first_of.Reads as first-of-reads
 use Rattle.typed.proofs.kind_of.Reads as kind-of-reads
 use Rattle.typedefs.proofs.next_value.Reads as next-value-reads
 
 abbrev Inv-loop : tie.InvT-loop
-Inv-loop table d targets scratch₀ values₀ ends₀ firsts₀ kinds₀ i₀ count₀ t15 scratch values ends firsts kinds i count =
-    (i ≤ length d) × (isReadable (drop i d) ≡ true) × (drop count (typesFrom d) ≡ valuesFrom d (text "%type") i) × (count ≤ length (typesFrom d)) × (length scratch ≡ length scratch₀) × (fitFrom (length scratch₀) d (text "%type") i ≡ true) × (areKinds d (valuesFrom d (text "%type") i) ≡ true) × (length values ≡ 32) × (length ends ≡ 32) × (length kinds ≡ 32) × (length firsts ≡ 32) × Filled (length scratch₀) d values ends firsts kinds count
+Inv-loop table d targets scratch₀ values₀ ends₀ kinds₀ i₀ count₀ t14 scratch values ends kinds i count = (i ≤ length d) × (isReadable (drop i d) ≡ true) × (drop count (typesFrom d) ≡ valuesFrom d (text "%type") i) × (count ≤ length (typesFrom d)) × (length scratch ≡ length scratch₀) × (fitFrom (length scratch₀) d (text "%type") i ≡ true) × (areKinds d (valuesFrom d (text "%type") i) ≡ true) × (length values ≡ 32) × (length ends ≡ 32) × (length kinds ≡ 32) × Filled (length scratch₀) d values ends kinds count
 
 abbrev μ-loop : tie.MeasureT-loop
-μ-loop table d targets scratch₀ values₀ ends₀ firsts₀ kinds₀ i₀ count₀ t15 scratch values ends firsts kinds i count =
-    length d - i
+μ-loop table d targets scratch₀ values₀ ends₀ kinds₀ i₀ count₀ t14 scratch values ends kinds i count = length d - i
 
 loop-holds : tie.Need-loop-holds Inv-loop μ-loop
 loop-holds c =
     let at-pre = c .before .before .before .pre in
     let at-args = c .before .before .before .args in
-    (omega arith, at-pre .1 .0, refl, omega arith, refl, at-pre .1 .1 .1 .0 .1, at-pre .1 .1 .1 .1 .used, refl, refl, refl, refl, filled-none (length (at-args .scratch .now)) (at-args .d .now) _ _ _ _)
+    (omega arith, at-pre .1 .0, refl, omega arith, refl, at-pre .1 .1 .1 .0 .1, at-pre .1 .1 .1 .1 .used, refl, refl, refl, filled-none (length (at-args .scratch .now)) (at-args .d .now) _ _ _)
 
 slice-aggregate-next-value : tie.Need-slice-aggregate-next-value Inv-loop μ-loop
 slice-aggregate-next-value c = search needs
@@ -69,7 +66,7 @@ returns c =
     let d = at-args .d .now in
     let h = value-told d (text "%type") (at-loop .i) (at-next-value .result) (at-next-value .ensures) (at-enum-told .given .1) in
     let n = rest-none (typesFrom d) (at-loop .count) (at-loop .inv .3) (at-loop .inv .2 ∙ h) in
-    record { listed = record { few = omega (arith, at-loop .inv .3, at-pre .1 .1 .0); count = n; row = λ i l. at-loop .inv .11 i l .place }; kind = λ i other l. at-loop .inv .11 i l .kind other }
+    record { listed = record { few = omega (arith, at-loop .inv .3, at-pre .1 .1 .0); count = n; row = λ i l. at-loop .inv .10 i l .place }; kind = λ i other l. at-loop .inv .10 i l .kind other }
 
 kind-of-requires : tie.Need-kind-of-requires Inv-loop μ-loop
 kind-of-requires c κs =
@@ -143,69 +140,13 @@ array-write-ends c =
     let r = rest-head (typesFrom d) (at-loop .count) w (valuesFrom d (text "%type") (g .0 .1 .0)) (at-loop .inv .2 ∙ h .values) in
     omega (arith, r .0, at-pre .1 .1 .0)
 
-sub-first-of : tie.Need-sub-first-of Inv-loop μ-loop
-sub-first-of c =
-    let at-args = c .before .before .before .before .before .before .before .before .before .before .before .before .before .args in
-    let at-v = c .before .before .before .before .before .v in
-    let at-loop = c .before .before .before .before .before .before .before .before .before .loop in
-    let at-next-value = c .before .before .before .before .before .before .before .next-value in
-    let d = at-args .d .now in
-    let g = at-v .given in
-    let h = value-told d (text "%type") (at-loop .i) (at-next-value .result) (at-next-value .ensures) (g .1) in
-    let w = valueFrom (span (g .0 .0) (g .0 .1 .0) d) in
-    let r = rest-head (typesFrom d) (at-loop .count) w (valuesFrom d (text "%type") (g .0 .1 .0)) (at-loop .inv .2 ∙ h .values) in
-    h .within
-
-part-first-of-start : tie.Need-part-first-of-start Inv-loop μ-loop
-part-first-of-start c =
-    let at-args = c .before .before .before .before .before .before .before .before .before .before .before .before .before .args in
-    let at-v = c .before .before .before .before .before .v in
-    let at-loop = c .before .before .before .before .before .before .before .before .before .loop in
-    let at-next-value = c .before .before .before .before .before .before .before .next-value in
-    let d = at-args .d .now in
-    let g = at-v .given in
-    let h = value-told d (text "%type") (at-loop .i) (at-next-value .result) (at-next-value .ensures) (g .1) in
-    let w = valueFrom (span (g .0 .0) (g .0 .1 .0) d) in
-    let r = rest-head (typesFrom d) (at-loop .count) w (valuesFrom d (text "%type") (g .0 .1 .0)) (at-loop .inv .2 ∙ h .values) in
-    h .within
-
-part-first-of-end : tie.Need-part-first-of-end Inv-loop μ-loop
-part-first-of-end c =
-    let at-args = c .before .before .before .before .before .before .before .before .before .before .before .before .before .args in
-    let at-v = c .before .before .before .before .before .v in
-    let at-loop = c .before .before .before .before .before .before .before .before .before .loop in
-    let at-next-value = c .before .before .before .before .before .before .before .next-value in
-    let d = at-args .d .now in
-    let g = at-v .given in
-    let h = value-told d (text "%type") (at-loop .i) (at-next-value .result) (at-next-value .ensures) (g .1) in
-    let w = valueFrom (span (g .0 .0) (g .0 .1 .0) d) in
-    let r = rest-head (typesFrom d) (at-loop .count) w (valuesFrom d (text "%type") (g .0 .1 .0)) (at-loop .inv .2 ∙ h .values) in
-    h .inside
-
-first-of-requires : tie.Need-first-of-requires Inv-loop μ-loop
-first-of-requires c κs = search needs
-
-array-write-firsts : tie.Need-array-write-firsts Inv-loop μ-loop
-array-write-firsts c =
-    let at-args = c .before .before .before .before .before .before .before .before .before .before .before .before .before .before .before .args in
-    let at-v = c .before .before .before .before .before .before .before .v in
-    let at-loop = c .before .before .before .before .before .before .before .before .before .before .before .loop in
-    let at-next-value = c .before .before .before .before .before .before .before .before .before .next-value in
-    let at-pre = c .before .before .before .before .before .before .before .before .before .before .before .before .before .before .before .pre in
-    let d = at-args .d .now in
-    let g = at-v .given in
-    let h = value-told d (text "%type") (at-loop .i) (at-next-value .result) (at-next-value .ensures) (g .1) in
-    let w = valueFrom (span (g .0 .0) (g .0 .1 .0) d) in
-    let r = rest-head (typesFrom d) (at-loop .count) w (valuesFrom d (text "%type") (g .0 .1 .0)) (at-loop .inv .2 ∙ h .values) in
-    omega (arith, r .0, at-pre .1 .1 .0)
-
 mul-kinds : tie.Need-mul-kinds Inv-loop μ-loop
 mul-kinds c =
-    let at-args = c .before .before .before .before .before .before .before .before .before .before .before .before .before .before .before .args in
-    let at-v = c .before .before .before .before .before .before .before .v in
-    let at-loop = c .before .before .before .before .before .before .before .before .before .before .before .loop in
-    let at-next-value = c .before .before .before .before .before .before .before .before .before .next-value in
-    let at-pre = c .before .before .before .before .before .before .before .before .before .before .before .before .before .before .before .pre in
+    let at-args = c .before .before .before .before .before .before .before .before .before .before .before .before .before .args in
+    let at-v = c .before .before .before .before .before .v in
+    let at-loop = c .before .before .before .before .before .before .before .before .before .loop in
+    let at-next-value = c .before .before .before .before .before .before .before .next-value in
+    let at-pre = c .before .before .before .before .before .before .before .before .before .before .before .before .before .pre in
     let d = at-args .d .now in
     let g = at-v .given in
     let h = value-told d (text "%type") (at-loop .i) (at-next-value .result) (at-next-value .ensures) (g .1) in
@@ -215,11 +156,11 @@ mul-kinds c =
 
 array-set-from-kinds : tie.Need-array-set-from-kinds Inv-loop μ-loop
 array-set-from-kinds c =
-    let at-args = c .before .before .before .before .before .before .before .before .before .before .before .before .before .before .before .args in
-    let at-v = c .before .before .before .before .before .before .before .v in
-    let at-loop = c .before .before .before .before .before .before .before .before .before .before .before .loop in
-    let at-next-value = c .before .before .before .before .before .before .before .before .before .next-value in
-    let at-pre = c .before .before .before .before .before .before .before .before .before .before .before .before .before .before .before .pre in
+    let at-args = c .before .before .before .before .before .before .before .before .before .before .before .before .before .args in
+    let at-v = c .before .before .before .before .before .v in
+    let at-loop = c .before .before .before .before .before .before .before .before .before .loop in
+    let at-next-value = c .before .before .before .before .before .before .before .next-value in
+    let at-pre = c .before .before .before .before .before .before .before .before .before .before .before .before .before .pre in
     let d = at-args .d .now in
     let g = at-v .given in
     let h = value-told d (text "%type") (at-loop .i) (at-next-value .result) (at-next-value .ensures) (g .1) in
@@ -229,11 +170,11 @@ array-set-from-kinds c =
 
 add-count : tie.Need-add-count Inv-loop μ-loop
 add-count c =
-    let at-args = c .before .before .before .before .before .before .before .before .before .before .before .before .before .before .before .args in
-    let at-v = c .before .before .before .before .before .before .before .v in
-    let at-loop = c .before .before .before .before .before .before .before .before .before .before .before .loop in
-    let at-next-value = c .before .before .before .before .before .before .before .before .before .next-value in
-    let at-pre = c .before .before .before .before .before .before .before .before .before .before .before .before .before .before .before .pre in
+    let at-args = c .before .before .before .before .before .before .before .before .before .before .before .before .before .args in
+    let at-v = c .before .before .before .before .before .v in
+    let at-loop = c .before .before .before .before .before .before .before .before .before .loop in
+    let at-next-value = c .before .before .before .before .before .before .before .next-value in
+    let at-pre = c .before .before .before .before .before .before .before .before .before .before .before .before .before .pre in
     let d = at-args .d .now in
     let g = at-v .given in
     let h = value-told d (text "%type") (at-loop .i) (at-next-value .result) (at-next-value .ensures) (g .1) in
@@ -243,10 +184,10 @@ add-count c =
 
 loop-less : tie.Need-loop-less Inv-loop μ-loop
 loop-less c =
-    let at-args = c .before .before .before .before .before .before .before .before .before .before .before .before .before .before .before .args in
-    let at-v = c .before .before .before .before .before .before .before .v in
-    let at-loop = c .before .before .before .before .before .before .before .before .before .before .before .loop in
-    let at-next-value = c .before .before .before .before .before .before .before .before .before .next-value in
+    let at-args = c .before .before .before .before .before .before .before .before .before .before .before .before .before .args in
+    let at-v = c .before .before .before .before .before .v in
+    let at-loop = c .before .before .before .before .before .before .before .before .before .loop in
+    let at-next-value = c .before .before .before .before .before .before .before .next-value in
     let d = at-args .d .now in
     let g = at-v .given in
     let h = value-told d (text "%type") (at-loop .i) (at-next-value .result) (at-next-value .ensures) (g .1) in
@@ -256,14 +197,13 @@ loop-less c =
 
 loop-again : tie.Need-loop-again Inv-loop μ-loop
 loop-again c =
-    let at-args = c .before .before .before .before .before .before .before .before .before .before .before .before .before .before .before .args in
-    let at-v = c .before .before .before .before .before .before .before .v in
-    let at-loop = c .before .before .before .before .before .before .before .before .before .before .before .loop in
-    let at-next-value = c .before .before .before .before .before .before .before .before .before .next-value in
-    let at-first-of = c .first-of in
-    let at-kind-of = c .before .before .before .before .kind-of in
-    let at-scratch = c .before .before .before .scratch in
-    let at-pre = c .before .before .before .before .before .before .before .before .before .before .before .before .before .before .before .pre in
+    let at-args = c .before .before .before .before .before .before .before .before .before .before .before .before .before .args in
+    let at-v = c .before .before .before .before .before .v in
+    let at-loop = c .before .before .before .before .before .before .before .before .before .loop in
+    let at-next-value = c .before .before .before .before .before .before .before .next-value in
+    let at-kind-of = c .before .before .kind-of in
+    let at-scratch = c .before .scratch in
+    let at-pre = c .before .before .before .before .before .before .before .before .before .before .before .before .before .pre in
     let d = at-args .d .now in
     let g = at-v .given in
     let h = value-told d (text "%type") (at-loop .i) (at-next-value .result) (at-next-value .ensures) (g .1) in
@@ -271,10 +211,10 @@ loop-again c =
     let r = rest-head (typesFrom d) (at-loop .count) w (valuesFrom d (text "%type") (g .0 .1 .0)) (at-loop .inv .2 ∙ h .values) in
     let f = fit-here (length (at-args .scratch .now)) (valuesFrom d (text "%type") (at-loop .i)) w (valuesFrom d (text "%type") (g .0 .1 .0)) (at-loop .inv .5) (h .values) in
     let k = both-true (isSome (endKind bits32 (defsFrom d) w)) (areKinds d (valuesFrom d (text "%type") (g .0 .1 .0))) (sym (ap (areKinds d) (h .values)) ∙ at-loop .inv .6) in
-    let p : TypeAt d (at-loop .count) (g .0 .0) (g .0 .1 .0) (at-first-of .result) = record { ordered = h .within; inside = h .inside; reads = sym (r .1); first = at-first-of .ensures } in
+    let p : TypeAt d (at-loop .count) (g .0 .0) (g .0 .1 .0) = record { ordered = h .within; inside = h .inside; reads = sym (r .1) } in
     let q = subst (λ (m : ℕ). KindOf m d w (at-kind-of .result)) (at-loop .inv .4) (at-kind-of .ensures) in
     let e = subst (λ (x : Bytes). KindOf (length (at-args .scratch .now)) d x (at-kind-of .result)) (sym (r .1)) q in
-    (h .inside, h .readable, rw (add-one (at-loop .count)) (r .2), omega (arith, r .0), omega (arith, at-scratch .given, at-loop .inv .4), f .1, k .1, simp length-set (at-loop .inv .7), simp length-set (at-loop .inv .8), simp length-set (at-loop .inv .9), simp length-set (at-loop .inv .10), filled-more (length (at-args .scratch .now)) d (at-loop .values) (at-loop .ends) (at-loop .firsts) (at-loop .kinds) (at-loop .count) (g .0 .0) (g .0 .1 .0) (at-first-of .result) (at-kind-of .result) (omega (arith, r .0, at-pre .1 .1 .0, at-loop .inv .7)) (omega (arith, r .0, at-pre .1 .1 .0, at-loop .inv .8)) (omega (arith, r .0, at-pre .1 .1 .0, at-loop .inv .10)) (omega (arith, r .0, at-pre .1 .1 .0, at-loop .inv .9)) p e (at-loop .inv .11))
+    (h .inside, h .readable, rw (add-one (at-loop .count)) (r .2), omega (arith, r .0), omega (arith, at-scratch .given, at-loop .inv .4), f .1, k .1, simp length-set (at-loop .inv .7), simp length-set (at-loop .inv .8), simp length-set (at-loop .inv .9), filled-more (length (at-args .scratch .now)) d (at-loop .values) (at-loop .ends) (at-loop .kinds) (at-loop .count) (g .0 .0) (g .0 .1 .0) (at-kind-of .result) (omega (arith, r .0, at-pre .1 .1 .0, at-loop .inv .7)) (omega (arith, r .0, at-pre .1 .1 .0, at-loop .inv .8)) (omega (arith, r .0, at-pre .1 .1 .0, at-loop .inv .9)) p e (at-loop .inv .10))
 
 pub fill-rules-spec : {M : Type 1} → statement M
 fill-rules-spec =
@@ -294,11 +234,6 @@ fill-rules-spec =
     array-write-values
     mul-ends
     array-write-ends
-    sub-first-of
-    part-first-of-start
-    part-first-of-end
-    first-of-requires
-    array-write-firsts
     mul-kinds
     array-set-from-kinds
     add-count

@@ -7,7 +7,7 @@ use Rattle.lines.specs.Value.{valueFrom}
 use Rattle.words.specs.Spans.{span}
 use Rattle.types.specs.Meaning.{Sound, meetsIn}
 use Rattle.types.specs.declared.Shape.{Shape}
-use Rattle.typedefs.proofs.Chains.{decoded-length, decoded-after}
+use Rattle.words.proofs.Decoded.{decoded-length, decoded-after}
 use Rattle.typed.proofs.Kinded.{placeless}
 use borrow.Author.Needs.{needs}
 use Rattle.typed.proofs.kind_met.Statement.{statement}

@@ -1,4 +1,4 @@
--- `typed::next_typed` meets its contract. The invariant: the fields from i on, asked of rows from k on, are typed if those from `at` on are, asked of rows from `from` on.
+-- `typed::next_typed` meets its contract. The invariant: the fields from i on, the first asked of k entries, meet them if those from `at` on do, the first asked of `asked` entries.
 -- The measure is what is left of the length.
 use borrow.Author.Needs.{needs}
 use Prim.Native.Nat.{ℕ, _-_, _≤_}
@@ -8,32 +8,33 @@ use mathlib.Core.Bool.{true}
 use lib.ListN.{length, drop}
 use Rattle.format.specs.Bytes.{all}
 use Rattle.records.specs.Places.{isReadable}
+use Rattle.names.specs.Index.{stored}
 use Rattle.typedefs.specs.Walks.{fieldsFrom}
-use Rattle.typedefs.proofs.Walking.{field-told}
+use Rattle.records.proofs.NextFields.{next-told}
 use Rattle.typed.specs.Meets.{fieldFits}
-use Rattle.typed.specs.Rules.{typedFrom}
-use Rattle.typed.proofs.Ruled.{field-fits, field-passed, field-named}
+use Rattle.typed.specs.Asked.{typedFrom}
+use Rattle.typed.proofs.Walked.{field-fits, field-passed, field-named}
 use Rattle.typed.proofs.next_typed.Statement.{statement}
 use Rattle.typed.proofs.next_typed.Tie as tie
 use Rattle.typed.proofs.next_typed.Reads as reads
 use Rattle.typed.proofs.next_typed.Lts as lts
-use Rattle.typed.proofs.next_row.Reads as next-row-reads
-use Rattle.typedefs.proofs.next_field.Reads as next-field-reads
+use Rattle.names.proofs.last_hit.Reads as last-hit-reads
+use Rattle.records.proofs.next_field.Reads as next-field-reads
 
 abbrev Inv-loop : tie.InvT-loop
-Inv-loop table d values ends firsts count s i k at₀ from₀ at from = (i ≤ at) × (at ≤ length s) × (isReadable (drop at s) ≡ true) × (from ≤ count) × (at ≤ i → k ≤ from) × ((m : ℕ) → all (fieldFits m) (fieldsFrom s i) ≡ true → all (fieldFits m) (fieldsFrom s at) ≡ true) × (typedFrom d k (fieldsFrom s i) ≡ typedFrom d from (fieldsFrom s at))
+Inv-loop table d ends places rows links heads count s i k at₀ asked₀ at asked = (i ≤ at) × (at ≤ length s) × (isReadable (drop at s) ≡ true) × (asked ≤ count) × (at ≤ i → asked ≤ k) × ((m : ℕ) → all (fieldFits m) (fieldsFrom s i) ≡ true → all (fieldFits m) (fieldsFrom s at) ≡ true) × (typedFrom d (stored d ends places rows) count k (fieldsFrom s i) ≡ typedFrom d (stored d ends places rows) count asked (fieldsFrom s at))
 
 abbrev μ-loop : tie.MeasureT-loop
-μ-loop table d values ends firsts count s i k at₀ from₀ at from = length s - at
+μ-loop table d ends places rows links heads count s i k at₀ asked₀ at asked = length s - at
 
 loop-holds : tie.Need-loop-holds Inv-loop μ-loop
 loop-holds c =
-    let at-pre = c .before .before .pre in
+    let at-pre = c .before .before .before .before .before .before .pre in
     (omega arith, at-pre .1 .1 .0, at-pre .1 .1 .1, at-pre .1 .1 .2, (λ q. omega arith), (λ m q. q), refl)
 
 next-field-requires : tie.Need-next-field-requires Inv-loop μ-loop
 next-field-requires c κs =
-    let at-pre = c .before .before .before .pre in
+    let at-pre = c .before .before .before .before .before .before .before .pre in
     let at-loop = c .loop in
     (at-pre .0, (at-loop .inv .1, at-loop .inv .2))
 
@@ -45,107 +46,97 @@ enum-told c = search needs
 
 returns : tie.Need-returns Inv-loop μ-loop
 returns c =
-    let at-args = c .before .before .before .before .before .before .args in
+    let at-args = c .before .before .before .before .before .before .before .before .before .before .args in
     let at-loop = c .before .before .before .loop in
     let at-next-field = c .before .before .next-field in
     let at-enum-told = c .enum-told in
-    let h = field-told (at-args .s .now) (at-loop .at) (at-next-field .result) (at-next-field .ensures) (at-enum-told .given .1) in
-    at-loop .inv .6 ∙ ap (typedFrom (at-args .d .now) (at-loop .from)) h
+    let es = stored (at-args .d .now) (at-args .ends .now) (at-args .places .now) (at-args .rows .now) in
+    let h = next-told (at-args .s .now) (at-loop .at) (at-next-field .result) (at-next-field .ensures) (at-enum-told .given .1) in
+    at-loop .inv .6 ∙ ap (typedFrom (at-args .d .now) es (at-args .count) (at-loop .asked)) h
 
-sub-next-row : tie.Need-sub-next-row Inv-loop μ-loop
-sub-next-row c =
-    let at-args = c .before .before .before .before .before .before .before .args in
-    let at-f = c .before .f in
+sub-last-hit : tie.Need-sub-last-hit Inv-loop μ-loop
+sub-last-hit c =
+    let at-args = c .before .before .before .before .before .before .before .before .before .before .before .args in
     let at-loop = c .before .before .before .before .loop in
     let at-next-field = c .before .before .before .next-field in
-    let s = at-args .s .now in
-    let d = at-args .d .now in
-    let g = at-f .given in
-    let h = field-told s (at-loop .at) (at-next-field .result) (at-next-field .ensures) (g .1) in
+    let at-f = c .before .f in
+    let h = next-told (at-args .s .now) (at-loop .at) (at-next-field .result) (at-next-field .ensures) (at-f .given .1) in
     omega (arith, h .named, h .name-inside, h .inside)
 
-part-next-row-start : tie.Need-part-next-row-start Inv-loop μ-loop
-part-next-row-start c =
-    let at-args = c .before .before .before .before .before .before .before .args in
-    let at-f = c .before .f in
+part-last-hit-start : tie.Need-part-last-hit-start Inv-loop μ-loop
+part-last-hit-start c =
+    let at-args = c .before .before .before .before .before .before .before .before .before .before .before .args in
     let at-loop = c .before .before .before .before .loop in
     let at-next-field = c .before .before .before .next-field in
-    let s = at-args .s .now in
-    let d = at-args .d .now in
-    let g = at-f .given in
-    let h = field-told s (at-loop .at) (at-next-field .result) (at-next-field .ensures) (g .1) in
+    let at-f = c .before .f in
+    let h = next-told (at-args .s .now) (at-loop .at) (at-next-field .result) (at-next-field .ensures) (at-f .given .1) in
     omega (arith, h .named, h .name-inside, h .inside)
 
-part-next-row-end : tie.Need-part-next-row-end Inv-loop μ-loop
-part-next-row-end c =
-    let at-args = c .before .before .before .before .before .before .before .args in
-    let at-f = c .before .f in
+part-last-hit-end : tie.Need-part-last-hit-end Inv-loop μ-loop
+part-last-hit-end c =
+    let at-args = c .before .before .before .before .before .before .before .before .before .before .before .args in
     let at-loop = c .before .before .before .before .loop in
     let at-next-field = c .before .before .before .next-field in
-    let s = at-args .s .now in
-    let d = at-args .d .now in
-    let g = at-f .given in
-    let h = field-told s (at-loop .at) (at-next-field .result) (at-next-field .ensures) (g .1) in
+    let at-f = c .before .f in
+    let h = next-told (at-args .s .now) (at-loop .at) (at-next-field .result) (at-next-field .ensures) (at-f .given .1) in
     omega (arith, h .named, h .name-inside, h .inside)
 
-next-row-requires : tie.Need-next-row-requires Inv-loop μ-loop
-next-row-requires c κs =
-    let at-pre = c .before .before .before .before .before .before .before .before .pre in
+last-hit-requires : tie.Need-last-hit-requires Inv-loop μ-loop
+last-hit-requires c κs =
+    let at-pre = c .before .before .before .before .before .before .before .before .before .before .before .before .pre in
     let at-loop = c .before .before .before .before .before .loop in
     (at-pre .1 .0, at-loop .inv .3)
 
 returns-2 : tie.Need-returns-2 Inv-loop μ-loop
 returns-2 c =
-    let at-args = c .before .before .before .before .before .before .before .before .before .before .args in
+    let at-args = c .before .before .before .before .before .before .before .before .before .before .before .before .before .before .args in
     let at-f = c .before .before .before .before .f in
     let at-loop = c .before .before .before .before .before .before .before .loop in
     let at-next-field = c .before .before .before .before .before .before .next-field in
-    let at-next-row = c .before .next-row in
+    let at-last-hit = c .before .last-hit in
     let at-if1 = c .if1 in
-    let at-pre = c .before .before .before .before .before .before .before .before .before .before .pre in
     let s = at-args .s .now in
     let d = at-args .d .now in
+    let es = stored d (at-args .ends .now) (at-args .places .now) (at-args .rows .now) in
     let g = at-f .given in
-    let h = field-told s (at-loop .at) (at-next-field .result) (at-next-field .ensures) (g .1) in
-    let n = at-next-row .ensures in
+    let h = next-told s (at-loop .at) (at-next-field .result) (at-next-field .ensures) (g .1) in
+    let n = at-last-hit .ensures in
     record {
       begins = at-loop .inv .0;
-      later = λ q. omega (arith, at-loop .inv .4 q, n .begins);
+      later = λ q. omega (arith, at-loop .inv .4 q, n .below);
       start = at-loop .inv .1;
       readable = at-loop .inv .2;
       ordered = h .value-inside;
       inside = h .inside;
-      listed = omega (arith, at-if1 .taken, at-pre .1 .0 .count);
-      fits = λ m q. (field-fits d s (at-loop .at) (g .0 .0) (g .0 .1 .0) (g .0 .1 .1 .0) (g .0 .1 .1 .1 .0) (at-loop .from) h m (at-loop .inv .5 m q) .0, at-loop .inv .5 m q);
-      cut = at-loop .inv .6 ∙ field-named d s (at-loop .at) (g .0 .0) (g .0 .1 .0) (g .0 .1 .1 .0) (g .0 .1 .1 .1 .0) (at-loop .from) h (at-next-row .result) n (omega (arith, at-if1 .taken, at-pre .1 .0 .count));
+      there = at-if1 .taken;
+      few = omega (arith, n .below, at-loop .inv .3);
+      fits = λ m q. (field-fits s (at-loop .at) (g .0 .0) (g .0 .1 .0) (g .0 .1 .1 .0) (g .0 .1 .1 .1 .0) h m (at-loop .inv .5 m q) .0, at-loop .inv .5 m q);
+      cut = at-loop .inv .6 ∙ field-named s (at-loop .at) (g .0 .0) (g .0 .1 .0) (g .0 .1 .1 .0) (g .0 .1 .1 .1 .0) h d es (at-args .count) (at-loop .asked) (at-last-hit .result) (at-loop .inv .2) n (at-if1 .taken);
     }
 
 loop-less : tie.Need-loop-less Inv-loop μ-loop
 loop-less c =
-    let at-args = c .before .before .before .before .before .before .before .before .before .before .args in
-    let at-f = c .before .before .before .before .f in
+    let at-args = c .before .before .before .before .before .before .before .before .before .before .before .before .before .before .args in
     let at-loop = c .before .before .before .before .before .before .before .loop in
     let at-next-field = c .before .before .before .before .before .before .next-field in
-    let s = at-args .s .now in
-    let d = at-args .d .now in
-    let g = at-f .given in
-    let h = field-told s (at-loop .at) (at-next-field .result) (at-next-field .ensures) (g .1) in
+    let at-f = c .before .before .before .before .f in
+    let h = next-told (at-args .s .now) (at-loop .at) (at-next-field .result) (at-next-field .ensures) (at-f .given .1) in
     omega (arith, h .begins, h .moves, h .inside)
 
 loop-again : tie.Need-loop-again Inv-loop μ-loop
 loop-again c =
-    let at-args = c .before .before .before .before .before .before .before .before .before .before .args in
+    let at-args = c .before .before .before .before .before .before .before .before .before .before .before .before .before .before .args in
     let at-f = c .before .before .before .before .f in
     let at-loop = c .before .before .before .before .before .before .before .loop in
     let at-next-field = c .before .before .before .before .before .before .next-field in
-    let at-next-row = c .before .next-row in
+    let at-last-hit = c .before .last-hit in
     let at-if1 = c .if1 in
-    let at-pre = c .before .before .before .before .before .before .before .before .before .before .pre in
     let s = at-args .s .now in
     let d = at-args .d .now in
+    let es = stored d (at-args .ends .now) (at-args .places .now) (at-args .rows .now) in
     let g = at-f .given in
-    let h = field-told s (at-loop .at) (at-next-field .result) (at-next-field .ensures) (g .1) in
-    (omega (arith, at-loop .inv .0, h .begins, h .moves), h .inside, h .readable, omega arith, (λ q. absurd (omega (arith, at-loop .inv .0, h .begins, h .moves, q))), (λ m q. field-fits d s (at-loop .at) (g .0 .0) (g .0 .1 .0) (g .0 .1 .1 .0) (g .0 .1 .1 .1 .0) (at-loop .from) h m (at-loop .inv .5 m q) .1), at-loop .inv .6 ∙ field-passed d s (at-loop .at) (g .0 .0) (g .0 .1 .0) (g .0 .1 .1 .0) (g .0 .1 .1 .1 .0) (at-loop .from) h (at-next-row .result) (at-next-row .ensures) (omega (arith, at-if1 .left, at-pre .1 .0 .count)))
+    let h = next-told s (at-loop .at) (at-next-field .result) (at-next-field .ensures) (g .1) in
+    (omega (arith, at-loop .inv .0, h .begins, h .moves), h .inside, h .readable, omega arith, (λ q. absurd (omega (arith, at-loop .inv .0, h .begins, h .moves, q))), (λ m q. field-fits s (at-loop .at) (g .0 .0) (g .0 .1 .0) (g .0 .1 .1 .0) (g .0 .1 .1 .1 .0) h m (at-loop .inv .5 m q) .1), at-loop .inv .6 ∙ field-passed s (at-loop .at) (g .0 .0) (g .0 .1 .0) (g .0 .1 .1 .0) (g .0 .1 .1 .1 .0) h d es (at-args .count) (at-loop .asked) (at-last-hit .result) (at-loop .inv .2) (at-last-hit .ensures) (omega (arith, at-if1 .left)))
 
 pub next-typed-spec : {M : Type 1} → statement M
 next-typed-spec =
@@ -158,10 +149,10 @@ next-typed-spec =
     enum-known-f
     enum-told
     returns
-    sub-next-row
-    part-next-row-start
-    part-next-row-end
-    next-row-requires
+    sub-last-hit
+    part-last-hit-start
+    part-last-hit-end
+    last-hit-requires
     returns-2
     loop-less
     loop-again)

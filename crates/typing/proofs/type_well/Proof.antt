@@ -11,7 +11,7 @@ use Rattle.lines.specs.Value.{valueFrom}
 use Rattle.words.specs.Spans.{span}
 use Rattle.typedefs.specs.Walks.{namesFrom}
 use Rattle.typedefs.specs.Targets.{targetBy, targetIn, leads}
-use Rattle.typedefs.proofs.Chains.{decoded-all, decoded-length, decoded-after}
+use Rattle.words.proofs.Decoded.{decoded-all, decoded-length, decoded-after}
 use Prim.Native.Nat.{ℕ}
 use borrow.Author.Needs.{needs}
 use Rattle.typing.proofs.type_well.Statement.{statement}

@@ -1,4 +1,4 @@
--- `typing::part_next` meets its contract. The invariant: the parts behind the first one of the word from at on are those of the word from i on.
+-- `names::part_next` meets its contract. The invariant: the parts behind the first one of the word from at on are those of the word from i on.
 -- The measure is what is left of the length.
 use borrow.Author.Needs.{needs}
 use Prim.Native.Nat.{_-_, _≤_}
@@ -10,12 +10,12 @@ use Rattle.format.specs.Words.{notGap, front}
 use Rattle.lines.specs.Value.{valueFrom}
 use Rattle.lines.proofs.Decoding.{ended, goes-on}
 use Rattle.records.proofs.Words.{word-ended, word-on}
-use Rattle.typing.specs.Names.{wordFrom, partsFrom}
-use Rattle.typing.proofs.Naming.{parts-none, parts-comma, parts-on}
-use Rattle.typing.proofs.part_next.Statement.{statement}
-use Rattle.typing.proofs.part_next.Tie as tie
-use Rattle.typing.proofs.part_next.Reads as reads
-use Rattle.typing.proofs.part_next.Lts as lts
+use Rattle.names.specs.Names.{wordFrom, partsFrom}
+use Rattle.names.proofs.Naming.{parts-none, parts-comma, parts-on}
+use Rattle.names.proofs.part_next.Statement.{statement}
+use Rattle.names.proofs.part_next.Tie as tie
+use Rattle.names.proofs.part_next.Reads as reads
+use Rattle.names.proofs.part_next.Lts as lts
 use Rattle.lines.proofs.value_byte.Reads as value-byte-reads
 use Rattle.words.proofs.is_gap.Reads as is-gap-reads
 
