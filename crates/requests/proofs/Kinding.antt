@@ -23,7 +23,7 @@ use Rattle.requests.specs.declared.kinds.Action.{Action}
 use Rattle.requests.specs.declared.kinds.RequestOf.{RequestOf}
 use Rattle.requests.specs.Fields.{bytesOf, InSpan, fieldsFrom, NoText, TextAt, NumberAt, PlaceAt}
 use Rattle.requests.specs.Pairs.{pairsFrom, listOf, withPair, PairAt}
-use Rattle.requests.specs.Kinds.{Kind, insertKind, deletes, deleteKind, adds, addKind, asks, sets, setKind, drops, dropKind, renames, renameKind, requestAnswer, Inside, Reads}
+use Rattle.requests.specs.Kinds.{Kind, insertKind, deletes, deleteKind, adds, addKind, asks, sets, setKind, drops, dropKind, renames, renameKind, editOf, requestAnswer, InAction, Inside, Reads, Ends}
 use Rattle.requests.proofs.Tagging.{Ample, fields-ample, fields-end}
 use Rattle.requests.proofs.Reading.{span-length, span-first, onward-none, text-then, text-none, ends-here, ends-more}
 
@@ -55,15 +55,19 @@ module _ (s : Bytes) (k t : ℕ) (f : Bytes → Asked) where
   last-none : NoText t (fieldsFrom s k) → onward (withText t lastly) (fieldsFrom s k) ≡ none
   last-none h = text-none t lastly (fieldsFrom s k) h
 
-  module _ (p : Span) (h : TextAt s k t (Text.At p)) where
-    last-text : onward (withText t lastly) (fieldsFrom s k) ≡ onward (ends (f (bytesOf s p))) (fieldsFrom s (p .end))
-    last-text = ap (onward (withText t lastly)) (h .0) ∙ text-then t lastly (bytesOf s p) (fieldsFrom s (p .end))
+  last-text : (p : Span) → TextAt s k t (Text.At p) → onward (withText t lastly) (fieldsFrom s k) ≡ onward (ends (f (bytesOf s p))) (fieldsFrom s (p .end))
+  last-text p h = ap (onward (withText t lastly)) (h .0) ∙ text-then t lastly (bytesOf s p) (fieldsFrom s (p .end))
 
-    last-more : p .end < length s → onward (withText t lastly) (fieldsFrom s k) ≡ none
-    last-more l = last-text ∙ ends-more (f (bytesOf s p)) s (p .end) l
+-- a request that ends where its last field does, or goes on
+module _ (s : Bytes) (set : Span) (r : ℕ) (a : Action) (k : ℕ) where
+  abbrev asked : Asked
+  asked = record { set = bytesOf s set; row = r; edit = editOf s a }
 
-    last-here : length s ≤ p .end → onward (withText t lastly) (fieldsFrom s k) ≡ some (f (bytesOf s p))
-    last-here l = last-text ∙ ends-here (f (bytesOf s p)) s (p .end) l
+  pub goes-on : k < length s → Ends s set r a k RequestOf.Fault
+  goes-on l = (sym (ends-more asked s k l), tt)
+
+  pub ends-there : InSpan s set → InAction s a → length s ≤ k → Ends s set r a k (RequestOf.Is (record { set = set; row = r; action = a }))
+  ends-there h q l = (sym (ends-here asked s k l), (h, q))
 
 module _ (s : Bytes) (set : Span) (i : ℕ) where
   abbrev b : Bytes
@@ -88,24 +92,14 @@ module _ (s : Bytes) (set : Span) (i : ℕ) where
   add-fault h = (sym (h (λ (r : ℕ). withPair (adds b r))), tt)
 
   module _ (r k : ℕ) (h : NumberAt s i 3 (Number.Is r k)) where
-    pub delete-more : k < length s → Reads deleteKind s set i RequestOf.Fault
-    delete-more l = (sym (h .0 (deletes b) ∙ ends-more (record { set = b; row = r; edit = Edit.delete }) s k l), tt)
-
-    pub delete-reads : InSpan s set → length s ≤ k → Reads deleteKind s set i (of r Action.Delete)
-    delete-reads q l = (sym (h .0 (deletes b) ∙ ends-here (record { set = b; row = r; edit = Edit.delete }) s k l), (q, tt))
+    pub delete-reads : (x : RequestOf) → Ends s set r Action.Delete k x → Reads deleteKind s set i x
+    delete-reads x e = (e .0 ∙ sym (h .0 (deletes b)), e .1)
 
     pub add-no-pair : PairAt s k Pair.End → Reads addKind s set i RequestOf.Fault
     add-no-pair p = (sym (h .0 (λ (x : ℕ). withPair (adds b x)) ∙ p .1 (adds b r)), tt)
 
-    module _ (n v : Span) (e : ℕ) (p : PairAt s k (Pair.At n v e)) where
-      abbrev added : Asked
-      added = record { set = b; row = r; edit = Edit.add (record { name = bytesOf s n; value = bytesOf s v }) }
-
-      pub add-more : e < length s → Reads addKind s set i RequestOf.Fault
-      add-more l = (sym (h .0 (λ (x : ℕ). withPair (adds b x)) ∙ p .1 (adds b r) ∙ ends-more added s e l), tt)
-
-      pub add-reads : InSpan s set → length s ≤ e → Reads addKind s set i (of r (Action.Add n v))
-      add-reads q l = (sym (h .0 (λ (x : ℕ). withPair (adds b x)) ∙ p .1 (adds b r) ∙ ends-here added s e l), (q, (p .3, p .5)))
+    pub add-reads : (n v : Span) (j : ℕ) → PairAt s k (Pair.At n v j) → (x : RequestOf) → Ends s set r (Action.Add n v) j x → Reads addKind s set i x
+    add-reads n v j p x e = (e .0 ∙ sym (h .0 (λ (y : ℕ). withPair (adds b y)) ∙ p .1 (adds b r)), e .1)
 
   pub set-fault : PlaceAt s i Place.Fault → Reads setKind s set i RequestOf.Fault
   set-fault h = (sym (h b (sets b)), tt)
@@ -123,11 +117,8 @@ module _ (s : Bytes) (set : Span) (i : ℕ) where
     abbrev named : Bytes → Asked
     named m = asks b (bytesOf s n) r o (Change.name m)
 
-    pub drop-more : k < length s → Reads dropKind s set i RequestOf.Fault
-    drop-more l = (sym (h .0 b (drops b) ∙ ends-more (asks b (bytesOf s n) r o Change.dropped) s k l), tt)
-
-    pub drop-reads : InSpan s set → length s ≤ k → Reads dropKind s set i (of r (Action.Drop n o))
-    drop-reads q l = (sym (h .0 b (drops b) ∙ ends-here (asks b (bytesOf s n) r o Change.dropped) s k l), (q, h .1))
+    pub drop-reads : (x : RequestOf) → Ends s set r (Action.Drop n o) k x → Reads dropKind s set i x
+    drop-reads x e = (e .0 ∙ sym (h .0 b (drops b)), e .1)
 
     pub set-no-value : NoText 6 (fieldsFrom s k) → Reads setKind s set i RequestOf.Fault
     set-no-value x = (sym (h .0 b (sets b) ∙ last-none s k 6 valued x), tt)
@@ -135,17 +126,11 @@ module _ (s : Bytes) (set : Span) (i : ℕ) where
     pub rename-no-name : NoText 7 (fieldsFrom s k) → Reads renameKind s set i RequestOf.Fault
     rename-no-name x = (sym (h .0 b (renames b) ∙ last-none s k 7 named x), tt)
 
-    pub set-more : (v : Span) → TextAt s k 6 (Text.At v) → v .end < length s → Reads setKind s set i RequestOf.Fault
-    set-more v x l = (sym (h .0 b (sets b) ∙ last-more s k 6 valued v x l), tt)
+    pub set-reads : (v : Span) → TextAt s k 6 (Text.At v) → (x : RequestOf) → Ends s set r (Action.Set n o v) (v .end) x → Reads setKind s set i x
+    set-reads v h6 x e = (e .0 ∙ sym (h .0 b (sets b) ∙ last-text s k 6 valued v h6), e .1)
 
-    pub set-reads : (v : Span) → TextAt s k 6 (Text.At v) → InSpan s set → length s ≤ v .end → Reads setKind s set i (of r (Action.Set n o v))
-    set-reads v x q l = (sym (h .0 b (sets b) ∙ last-here s k 6 valued v x l), (q, (h .1, x .2)))
-
-    pub rename-more : (m : Span) → TextAt s k 7 (Text.At m) → m .end < length s → Reads renameKind s set i RequestOf.Fault
-    rename-more m x l = (sym (h .0 b (renames b) ∙ last-more s k 7 named m x l), tt)
-
-    pub rename-reads : (m : Span) → TextAt s k 7 (Text.At m) → InSpan s set → length s ≤ m .end → Reads renameKind s set i (of r (Action.Rename n o m))
-    rename-reads m x q l = (sym (h .0 b (renames b) ∙ last-here s k 7 named m x l), (q, (h .1, x .2)))
+    pub rename-reads : (m : Span) → TextAt s k 7 (Text.At m) → (x : RequestOf) → Ends s set r (Action.Rename n o m) (m .end) x → Reads renameKind s set i x
+    rename-reads m h7 x e = (e .0 ∙ sym (h .0 b (renames b) ∙ last-text s k 7 named m h7), e .1)
 
 -- one kind by its number
 onward-same : (f g : List Tagged → Option Asked) (x : Option (List Tagged)) → ((fs : List Tagged) → f fs ≡ g fs) → onward f x ≡ onward g x

@@ -84,3 +84,7 @@ Inside s RequestOf.Fault = Unit {0}
 -- a request of a kind, by its fields from a place on
 abbrev pub Reads : Kind → Bytes → Span → ℕ → RequestOf → Type 0
 Reads kind s set i r = (requestAnswer s r ≡ onward (kind (bytesOf s set)) (fieldsFrom s i)) × Inside s r
+
+-- a request of a set, a record and what becomes of it, whose last field ends at k
+abbrev pub Ends : Bytes → Span → ℕ → Action → ℕ → RequestOf → Type 0
+Ends s set row a k r = (requestAnswer s r ≡ onward (ends (record { set = bytesOf s set; row = row; edit = editOf s a })) (fieldsFrom s k)) × Inside s r

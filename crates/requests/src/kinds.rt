@@ -3,7 +3,7 @@ ghost use mathlib.Core.Path.{_≡_};
 ghost use mathlib.Core.List.{[], _∷_};
 ghost use Rattle.format.specs.Requests.{byKind, requestOf};
 ghost use Rattle.requests.specs.Fields.{InSpan};
-ghost use Rattle.requests.specs.Kinds.{insertKind, deleteKind, addKind, setKind, dropKind, renameKind, requestAnswer, Inside, Reads};
+ghost use Rattle.requests.specs.Kinds.{insertKind, deleteKind, addKind, setKind, dropKind, renameKind, requestAnswer, InAction, Inside, Reads, Ends};
 use super::fields::Number;
 use super::fields::Place;
 use super::fields::Span;
@@ -70,6 +70,17 @@ fn insert_at(req: &[u8], set: Span, i: usize) -> RequestOf
     RequestOf::Fault
 }
 
+// A request whose last field ends at `end`: nothing may stand behind it.
+fn ending(req: &[u8], set: Span, row: usize, action: Action, end: usize) -> RequestOf
+    requires { ⌜ InSpan (now req) set × InAction (now req) action ⌝ }
+    ensures { λ r. ⌜ Ends (now (req .entry)) set row action end r ⌝ }
+{
+    if end < req.len() {
+        return RequestOf::Fault;
+    }
+    RequestOf::Is(Request { set, row, action })
+}
+
 fn delete_at(req: &[u8], set: Span, i: usize) -> RequestOf
     requires { ⌜ InSpan (now req) set ⌝ }
     ensures { λ r. ⌜ Reads deleteKind (now (req .entry)) set i r ⌝ }
@@ -78,14 +89,7 @@ fn delete_at(req: &[u8], set: Span, i: usize) -> RequestOf
     let Number::Is { value: row, next } = a else {
         return RequestOf::Fault;
     };
-    if next < req.len() {
-        return RequestOf::Fault;
-    }
-    RequestOf::Is(Request {
-        set,
-        row,
-        action: Action::Delete,
-    })
+    ending(req, set, row, Action::Delete, next)
 }
 
 fn add_at(req: &[u8], set: Span, i: usize) -> RequestOf
@@ -105,14 +109,8 @@ fn add_at(req: &[u8], set: Span, i: usize) -> RequestOf
     else {
         return RequestOf::Fault;
     };
-    if end < req.len() {
-        return RequestOf::Fault;
-    }
-    RequestOf::Is(Request {
-        set,
-        row,
-        action: Action::Add { name, value },
-    })
+    let action = Action::Add { name, value };
+    ending(req, set, row, action, end)
 }
 
 fn set_at(req: &[u8], set: Span, i: usize) -> RequestOf
@@ -133,18 +131,12 @@ fn set_at(req: &[u8], set: Span, i: usize) -> RequestOf
     let Text::At(value) = v else {
         return RequestOf::Fault;
     };
-    if value.end < req.len() {
-        return RequestOf::Fault;
-    }
-    RequestOf::Is(Request {
-        set,
-        row,
-        action: Action::Set {
-            name,
-            occurrence,
-            value,
-        },
-    })
+    let action = Action::Set {
+        name,
+        occurrence,
+        value,
+    };
+    ending(req, set, row, action, value.end)
 }
 
 fn drop_at(req: &[u8], set: Span, i: usize) -> RequestOf
@@ -161,14 +153,8 @@ fn drop_at(req: &[u8], set: Span, i: usize) -> RequestOf
     else {
         return RequestOf::Fault;
     };
-    if next < req.len() {
-        return RequestOf::Fault;
-    }
-    RequestOf::Is(Request {
-        set,
-        row,
-        action: Action::Drop { name, occurrence },
-    })
+    let action = Action::Drop { name, occurrence };
+    ending(req, set, row, action, next)
 }
 
 fn rename_at(req: &[u8], set: Span, i: usize) -> RequestOf
@@ -189,18 +175,12 @@ fn rename_at(req: &[u8], set: Span, i: usize) -> RequestOf
     let Text::At(new) = n else {
         return RequestOf::Fault;
     };
-    if new.end < req.len() {
-        return RequestOf::Fault;
-    }
-    RequestOf::Is(Request {
-        set,
-        row,
-        action: Action::Rename {
-            name,
-            occurrence,
-            new,
-        },
-    })
+    let action = Action::Rename {
+        name,
+        occurrence,
+        new,
+    };
+    ending(req, set, row, action, new.end)
 }
 
 // The fields behind the kind and the set.
