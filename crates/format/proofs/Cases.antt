@@ -39,9 +39,6 @@ insertTo set pairs = begin 1 set ++ pairs
 abbrev pub deleteOf : String → ℕ → Bytes
 deleteOf set r = begin 2 set ++ tag 3 (short r)
 
-abbrev pub addTo : String → ℕ → String → String → Bytes
-addTo set r n v = begin 3 set ++ tag 3 (short r) ++ pair n v
-
 abbrev pub field : ℕ → String → ℕ → String → ℕ → Bytes
 field kind set r n o = begin kind set ++ tag 3 (short r) ++ tag 4 (text n) ++ tag 5 (short o)
 

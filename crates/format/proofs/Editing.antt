@@ -16,7 +16,7 @@ use Rattle.format.proofs.Blocks.{flat-blocks, blocks-flat, chopped, fla
 
 -- the fields of an edited block
 
-fields-append : (a b : Block) → fieldsOf (a ++ b) ≡ fieldsOf a ++ fieldsOf b
+pub fields-append : (a b : Block) → fieldsOf (a ++ b) ≡ fieldsOf a ++ fieldsOf b
 fields-append [] b = refl
 fields-append (Piece.blank l ∷ a) b = fields-append a b
 fields-append (Piece.comment l ∷ a) b = fields-append a b

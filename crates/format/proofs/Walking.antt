@@ -74,9 +74,6 @@ head-by : (vs : List Bytes) → isFilled vs ≡ leb 1 (length vs)
 head-by [] = refl
 head-by (v ∷ vs) = sym (leb·suc-suc 0 (length vs) ∙ leb·zero (length vs))
 
-pub head-occurs : (r : Record) → isHead r ≡ leb 1 (occurrences (text "%rec") r)
-head-occurs r = head-by (recValues r)
-
 -- a test of the rules of each set, of the members of each, and of both
 
 rules-by : (f : RecSet → Bool) (b : Bool) (s : RecSet) (ss : List RecSet) → all f (pick b (s ∷ ss) ss) ≡ ((not b || f s) && all f ss)

@@ -70,13 +70,3 @@ inside-some len Next.Fault h q = absurd (q refl)
 inside-some len (Next.Blank k) h q = h .0
 inside-some len (Next.Comment k) h q = h .0
 inside-some len (Next.Field n v k) h q = omega arith
-
-pub next-size : (s : Bytes) → isEnded s ≡ true → 0 < length s → sizeOf (nextOf s) ≤ length s
-next-size s e h = inside-size (length s) (nextOf s) (next-inside s e h)
-
-pub next-some : (s : Bytes) → isEnded s ≡ true → 0 < length s → nextOf s ≢ Next.Fault → 0 < sizeOf (nextOf s)
-next-some s e h q = inside-some (length s) (nextOf s) (next-inside s e h) q
-
--- the same of the rest from i on
-pub next-inside-at : (s : Bytes) (i : ℕ) → isEnded s ≡ true → i < length s → Inside (length s - i) (nextOf (drop i s))
-next-inside-at s i e h = rw (← length-drop i s) (next-inside (drop i s) (ended-drop s i e) (simp length-drop (omega arith)))

@@ -127,10 +127,3 @@ next-cut s e h =
     ap (λ (x : List Line). piecesIn (readFrom Mode.closed x)) (lines-cut s h)
     ∙ line-cut field-value s l ls (first-clean s h) (first-bytes s e h) refl (form l) refl
     ∙ ap (λ (x : Next). onPiece (pieceOf x s) (pieces (drop (sizeOf x) s))) (sym (next-first s h))
-
-pub next-fault : (s : Bytes) → isEnded s ≡ true → 0 < length s → nextOf s ≡ Next.Fault → pieces s ≡ none
-next-fault s e h q = next-cut s e h ∙ rw q
-
--- the same of the rest from i on
-pub next-cut-at : (s : Bytes) (i : ℕ) → isEnded s ≡ true → i < length s → pieces (drop i s) ≡ onPiece (pieceOf (nextOf (drop i s)) (drop i s)) (pieces (drop (i + sizeOf (nextOf (drop i s))) s))
-next-cut-at s i e h = next-cut (drop i s) (ended-drop s i e) (simp length-drop (omega arith)) ∙ rw (drop-drop (sizeOf (nextOf (drop i s))) i s)

@@ -133,13 +133,6 @@ module _ (t : Bytes) (apart : getD t 0 0 ≡ 43 → ⊥) where
   decodes (l ∷ ls) Mode.opened h = rw (regroup l ls) (opened-value l (bytes ls ++ t) (readFrom (after (form l)) ls) (h .0) (decodes ls (after (form l)) (h .1)))
   decodes (l ∷ ls) Mode.joined h = rw (regroup l ls) (part-value l (bytes ls ++ t) (readFrom (joinedIf (joins l)) ls) (h .0) (decodes ls (joinedIf (joins l)) (h .1)))
 
-  -- what lines add to a field that is open before them, one whose line is ended or one that takes the next line on
-  pub opened-lines : (ls : List Line) (r : Reading) → Each Clean ls → readFrom Mode.opened ls ≡ some r → r .value ≡ valueFrom (10 ∷ (bytes ls ++ t))
-  opened-lines ls r h e = subst (Decodes Mode.opened (bytes ls ++ t)) e (decodes ls Mode.opened h)
-
-  pub joined-lines : (ls : List Line) (r : Reading) → Each Clean ls → readFrom Mode.joined ls ≡ some r → r .value ≡ valueFrom (bytes ls ++ t)
-  joined-lines ls r h e = subst (Decodes Mode.joined (bytes ls ++ t)) e (decodes ls Mode.joined h)
-
   module _ (n v w : Bytes) (l : Line) (own : List Line) where
     whole-in : (x : Option Reading) → Clean w → Decodes (joinedIf (joins w)) (bytes own ++ t) x → takeIn (Form.field n w) l x ≡ some (alone (Piece.field n v (l ∷ own) ∷ [])) → v ≡ valueFrom (w ++ (10 ∷ (bytes own ++ t)))
     whole-in none c d e = absurd (Option·none-ne-some (alone (Piece.field n v (l ∷ own) ∷ [])) e)

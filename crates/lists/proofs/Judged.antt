@@ -98,10 +98,3 @@ module _ (rules r : Record) where
   pub names-no : (b : Bounds) → isWellFormed b rules ≡ true → namesNo rules r ≡ firstNo (take 4 (recordRows b rules)) r
   unfolding namesNo
   names-no b w = (λ i. pick (absent-row i) (pick (alone-row b w i) (pick (present-row i) (pick (single-row i) 0 11) 10) 9) 8)
-
-  -- so a record's number is it, or that of question 12
-  pub record-no : (b : Bounds) → isWellFormed b rules ≡ true → recordNo b rules r ≡ pick (eqb (namesNo rules r) 0) (pick (allTyped b rules r) 0 12) (namesNo rules r)
-  unfolding recordNo
-  record-no b w =
-      first-append (take 4 (recordRows b rules)) (record { number = 12; asks = allTyped b rules } ∷ []) r (omega arith)
-      ∙ ap (λ (n : ℕ). pick (eqb n 0) (pick (allTyped b rules r) 0 12) n) (sym (names-no b w))

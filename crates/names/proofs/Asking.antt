@@ -12,7 +12,7 @@ use Rattle.format.specs.Words.{split}
 use Rattle.format.specs.Rules.{typedNames}
 use Rattle.lines.specs.Value.{valueFrom}
 use Rattle.names.specs.Names.{wordFrom}
-use Rattle.names.specs.Entries.{Entry, entryOf, textTo, entriesFrom, entriesIn, entriesAt, Reached}
+use Rattle.names.specs.Entries.{Entry, entryOf, textTo, entriesFrom, entriesIn, entriesAt}
 use Rattle.names.specs.Index.{allTo, Fills}
 use Rattle.names.specs.declared.Filled.{Filled}
 

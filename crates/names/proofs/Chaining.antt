@@ -3,7 +3,7 @@ use Prim.Native.Nat.{ℕ, suc, _-_, _≤_, _<_}
 use native.Mathlib.Omega.{arith}
 use mathlib.Core.Path.{_≡_, refl, sym, ap, _∙_}
 use mathlib.Core.Bool.{Bool, true, false, _&&_, and-eq-true-iff}
-use lib.Dec.{leb, eqb, ltb}
+use lib.Dec.{leb, eqb}
 use borrow.Author.Tests.{le-leb, leb-true, leb-false, eqb-true, eqb-false}
 use Rattle.format.specs.Bytes.{Bytes, same}
 use Rattle.format.proofs.Listing.{same-true}
@@ -44,29 +44,30 @@ module _ (es : ℕ → Entry) (name : Bytes) (count n : ℕ) where
     last-is : suc last ≡ j
     last-is = omega arith
 
-    pub walk-hit : (leb j n && same name (es last .name)) ≡ true → Hit es name n j
-    walk-hit e =
-        let b = and-eq-true-iff (leb j n) (same name (es last .name)) .0 e in
+    -- t: the entry that the link leads to is asked, and has the name
+    pub walk-hit : (t : Bool) → t ≡ (leb j n && same name (es last .name)) → t ≡ true → Hit es name n j
+    walk-hit t g h =
+        let b = and-eq-true-iff (leb j n) (same name (es last .name)) .0 (sym g ∙ h) in
         record {
           below = leb-true j n (b .0);
           passed = w .passed;
           there = λ q z. let z' : q ≡ last = omega arith in ap (λ (k : ℕ). same name (es k .name)) z' ∙ b .1;
         }
 
-    pub walk-on : (l : ℕ) → Chain es (bucketOf (es last .name)) last l → (leb j n && same name (es last .name)) ≡ false → Walked es name count n l
-    walk-on l c e =
+    pub walk-on : (l : ℕ) (t : Bool) → Chain es (bucketOf (es last .name)) last l → t ≡ (leb j n && same name (es last .name)) → t ≡ false → Walked es name count n l
+    walk-on l t c g h =
         record {
           below = omega (arith, c .below, w .below);
           passed = λ q k m. past q k m (leb j q) refl (eqb q last) refl;
           there = λ q z. c .there q z ∙ w .there last last-is;
         }
       where
-        past : (q : ℕ) → l ≤ q → q < n → (t : Bool) → leb j q ≡ t → (u : Bool) → eqb q last ≡ u → same name (es q .name) ≡ false
+        past : (q : ℕ) → l ≤ q → q < n → (y : Bool) → leb j q ≡ y → (u : Bool) → eqb q last ≡ u → same name (es q .name) ≡ false
         past q k m true x u y = w .passed q (leb-true j q x) m
         past q k m false x true y =
             let z : q ≡ last = eqb-true q last y in
             let f : j ≤ n = omega (arith, last-is) in
-            ap (λ (i : ℕ). same name (es i .name)) z ∙ sym (ap (λ (t : Bool). t && same name (es last .name)) (le-leb j n f)) ∙ e
+            ap (λ (i : ℕ). same name (es i .name)) z ∙ sym (ap (λ (t : Bool). t && same name (es last .name)) (le-leb j n f)) ∙ sym g ∙ h
         past q k m false x false y =
             let f : q < last = omega (arith, leb-false j q x, eqb-false q last y) in
             other-bucket name (es q .name) (λ z. c .passed q k f (z ∙ sym (w .there last last-is)))

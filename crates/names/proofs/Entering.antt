@@ -3,14 +3,14 @@ use Prim.Native.Nat.{ℕ, suc, _+_, _-_, _≤_, _<_}
 use native.Mathlib.Numerals.{add-one}
 use native.Mathlib.Omega.{arith}
 use mathlib.Core.Path.{_≡_, refl, sym, ap, _∙_}
-use mathlib.Core.List.{List, [], _∷_, _++_, map}
+use mathlib.Core.List.{List, _∷_, _++_, map}
 use lib.ListN.{length, drop, getD}
 use lib.Seq.{length-take-le}
 use Rattle.format.specs.Bytes.{Bytes}
 use Rattle.format.specs.Words.{notGap, isGap, front, behind, split}
 use Rattle.lines.specs.Value.{valueFrom}
-use Rattle.names.specs.Names.{wordFrom, nameFrom, partsFrom, Behind}
-use Rattle.names.specs.Entries.{Entry, entryOf, textTo, entryAt, Listed, Rows, entriesFrom, entriesIn, entriesAt, left, Reached, Starts, Goes}
+use Rattle.names.specs.Names.{wordFrom, Behind}
+use Rattle.names.specs.Entries.{Entry, entryOf, textTo, entryAt, InRow, Rows, entriesFrom, entriesIn, entriesAt, Starts, Goes}
 use Rattle.names.specs.declared.Cursor.{Cursor}
 use Rattle.names.specs.declared.Part.{Part}
 
@@ -28,7 +28,7 @@ module _ (d : Bytes) (values ends : List ℕ) (n : ℕ) (h : Rows d values ends 
   pub text-length : row < n → length text ≡ getD ends row 0
   text-length l = length-take-le (getD ends row 0) d (h .inside row l)
 
-  pub is-listed : (at : ℕ) → row < n → at ≤ getD ends row 0 → Listed d ends row at
+  pub is-listed : (at : ℕ) → row < n → at ≤ getD ends row 0 → InRow d ends row at
   is-listed at l k = record { few = omega (arith, h .few); ordered = k; inside = h .inside row l }
 
   -- a row that is none

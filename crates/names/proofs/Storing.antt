@@ -1,18 +1,18 @@
 -- An index with one entry more, and an entry that is in it already.
-use Prim.Native.Nat.{ℕ, zero, suc, _+_, _-_, _≤_, _<_}
+use Prim.Native.Nat.{ℕ, suc, _+_, _-_, _≤_, _<_}
 use native.Mathlib.Numerals.{add-one}
 use native.Mathlib.Omega.{arith}
 use mathlib.Core.Path.{_≡_, refl, sym, ap, _∙_, subst}
 use mathlib.Core.Bool.{Bool, true, false, _&&_, and-assoc}
 use mathlib.Core.List.{List}
 use lib.Dec.{eqb}
-use lib.ListN.{length, getD, set, length-set}
+use lib.ListN.{getD, set, length-set}
 use lib.Seq.{getD-set-same, getD-set-other}
 use borrow.Author.Tests.{eqb-true, eqb-false}
-use Rattle.format.specs.Bytes.{Bytes, all, same}
+use Rattle.format.specs.Bytes.{Bytes, all}
 use Rattle.format.proofs.Listing.{same-true}
 use Rattle.names.specs.Names.{nameFrom, bucketOf}
-use Rattle.names.specs.Entries.{Entry, entryOf, textTo, entryAt, Listed, entriesAt, Goes}
+use Rattle.names.specs.Entries.{Entry, entryOf, textTo, entryAt, InRow, entriesAt, Goes}
 use Rattle.names.specs.Index.{stored, allTo, Chain, Stands, Room, Empty, Indexed, Hit, Put}
 use Rattle.names.specs.declared.Cursor.{Cursor}
 use Rattle.names.proofs.Asking.{all-same, all-asked}
@@ -86,7 +86,7 @@ module _ (d : Bytes) (ends places rows links heads : List ℕ) (n row at b : ℕ
         asks = λ p. ap (allTo p fs) (add-one n) ∙ ap (λ (t : Bool). t && p (fs n)) (all-same p es fs n entry-old) ∙ ap (λ (y : Entry). allTo p es n && p y) entry-new;
       }
 
-  module _ (e : b ≡ bucketOf (nameFrom (textTo d ends row) at)) (below : b < 1024) (stands : Listed d ends row at) where
+  module _ (e : b ≡ bucketOf (nameFrom (textTo d ends row) at)) (below : b < 1024) (stands : InRow d ends row at) where
     bucket-new : bucketOf (fs n .name) ≡ b
     bucket-new = ap (λ (y : Entry). bucketOf (y .name)) entry-new ∙ sym e
 
@@ -96,11 +96,11 @@ module _ (d : Bytes) (ends places rows links heads : List ℕ) (n row at b : ℕ
         go : (t : Bool) → eqb q n ≡ t → Stands d ends (set places n at) (set rows n row) q
         go true z =
             subst (Stands d ends (set places n at) (set rows n row)) (sym (eqb-true q n z))
-            (subst (λ (y : ℕ). Listed d ends y (getD (set places n at) n 0)) (sym row-new) (subst (Listed d ends row) (sym place-new) stands))
+            (subst (λ (y : ℕ). InRow d ends y (getD (set places n at) n 0)) (sym row-new) (subst (InRow d ends row) (sym place-new) stands))
         go false z =
             let o : q ≡ n → ⊥ = eqb-false q n z in
-            subst (λ (y : ℕ). Listed d ends y (getD (set places n at) q 0)) (sym (getD-set-other rows n q row 0 o))
-            (subst (Listed d ends (getD rows q 0)) (sym (getD-set-other places n q at 0 o)) (x .row q (omega (arith, o))))
+            subst (λ (y : ℕ). InRow d ends y (getD (set places n at) q 0)) (sym (getD-set-other rows n q row 0 o))
+            (subst (InRow d ends (getD rows q 0)) (sym (getD-set-other places n q at 0 o)) (x .row q (omega (arith, o))))
 
     link-all : (q : ℕ) → q < n + 1 → Chain fs (bucketOf (fs q .name)) q (getD links' q 0)
     link-all q l = go (eqb q n) refl

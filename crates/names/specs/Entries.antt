@@ -26,7 +26,7 @@ abbrev pub entryAt : Bytes → List ℕ → ℕ → ℕ → Entry
 entryAt d ends row at = entryOf row (nameFrom (textTo d ends row) at)
 
 -- that place is inside
-pub record Listed (d : Bytes) (ends : List ℕ) (row at : ℕ) : Type 0 where
+pub record InRow (d : Bytes) (ends : List ℕ) (row at : ℕ) : Type 0 where
   pub few : row < 32
   pub ordered : at ≤ getD ends row 0
   pub inside : getD ends row 0 ≤ length d

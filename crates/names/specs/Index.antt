@@ -7,7 +7,7 @@ use mathlib.Core.List.{List}
 use lib.ListN.{length, getD}
 use Rattle.format.specs.Bytes.{Bytes, all, same}
 use Rattle.names.specs.Names.{bucketOf}
-use Rattle.names.specs.Entries.{Entry, entryAt, Listed, entriesAt, Reached, left}
+use Rattle.names.specs.Entries.{Entry, entryAt, InRow, entriesAt, Reached, left}
 use Rattle.names.specs.declared.Filled.{Filled}
 
 -- entry q of the table
@@ -27,7 +27,7 @@ pub record Chain (es : ℕ → Entry) (b i l : ℕ) : Type 0 where
 
 -- entry q of the table stands in the text
 abbrev pub Stands : Bytes → List ℕ → List ℕ → List ℕ → ℕ → Type 0
-Stands d ends places rows q = Listed d ends (getD rows q 0) (getD places q 0)
+Stands d ends places rows q = InRow d ends (getD rows q 0) (getD places q 0)
 
 -- room for 2048 entries
 pub record Room (places rows links heads : List ℕ) : Type 0 where
@@ -57,6 +57,10 @@ pub record Hit (es : ℕ → Entry) (name : Bytes) (n r : ℕ) : Type 0 where
 pub record Put (es fs : ℕ → Entry) (n : ℕ) (x : Entry) (r : ℕ) : Type 0 where
   pub more : r ≤ n + 1
   pub asks : (p : Entry → Bool) → allTo p fs r ≡ (allTo p es n && p x)
+
+abbrev pub Puts : Bytes → List ℕ → List ℕ → List ℕ → ℕ → ℕ → ℕ → List ℕ → List ℕ → List ℕ → List ℕ → ℕ → Type 0
+Puts d ends places rows n row at places' rows' links' heads' r =
+    Indexed d ends places' rows' links' heads' r × Put (stored d ends places rows) (stored d ends places' rows') n (entryAt d ends row at) r
 
 -- the entries from a place on are those of the table and those from the next place on
 pub record Fills (d : Bytes) (values ends : List ℕ) (n row at : ℕ) (es : ℕ → Entry) (r : Filled) : Type 0 where

@@ -1,7 +1,7 @@
 -- The names of a `%type` field, part by part.
 use Prim.Native.Nat.{ℕ, _≤_, _<_, _+_, _*_, _/_, _%_}
 use mathlib.Core.Path.{_≡_}
-use mathlib.Core.List.{List, [], _∷_}
+use mathlib.Core.List.{[], _∷_}
 use lib.ListN.{length, drop}
 use Rattle.format.specs.Bytes.{Bytes}
 use Rattle.format.specs.Words.{notGap, front, Parts, partsBy, split}

@@ -8,8 +8,8 @@ ghost use lib.ListN.{length, getD};
 ghost use lib.Dec.{leb};
 ghost use Rattle.format.specs.Bytes.{same};
 ghost use Rattle.names.specs.Names.{nameFrom, NameByte, Behind, bucketOf};
-ghost use Rattle.names.specs.Entries.{entryAt, Listed, Rows, Reached, Starts, Goes};
-ghost use Rattle.names.specs.Index.{stored, Stands, Room, Empty, Indexed, Hit, Put, Fills};
+ghost use Rattle.names.specs.Entries.{InRow, Rows, Reached, Starts, Goes};
+ghost use Rattle.names.specs.Index.{stored, Stands, Room, Empty, Indexed, Hit, Puts, Fills};
 use lines::Decoded;
 
 // The byte of a name, which ends before a gap, a comma or the value's end, that is looked for at i.
@@ -216,8 +216,8 @@ fn store(
     at: usize,
 ) -> usize
     requires { ⌜ Indexed (now d) (now ends) (now places) (now rows) (now links) (now heads) n ⌝ }
-    requires { ⌜ (n < 2048) × (length (now d) ≤ 65536) × Listed (now d) (now ends) row at ⌝ }
-    ensures { λ r. ⌜ Indexed (now (d .entry)) (now (ends .entry)) (now (places .exit)) (now (rows .exit)) (now (links .exit)) (now (heads .exit)) r × Put (stored (now (d .entry)) (now (ends .entry)) (now (places .entry)) (now (rows .entry))) (stored (now (d .entry)) (now (ends .entry)) (now (places .exit)) (now (rows .exit))) n (entryAt (now (d .entry)) (now (ends .entry)) row at) r ⌝ }
+    requires { ⌜ (n < 2048) × (length (now d) ≤ 65536) × InRow (now d) (now ends) row at ⌝ }
+    ensures { λ r. ⌜ Puts (now (d .entry)) (now (ends .entry)) (now (places .entry)) (now (rows .entry)) n row at (now (places .exit)) (now (rows .exit)) (now (links .exit)) (now (heads .exit)) r ⌝ }
 {
     let e = ends[row];
     let b = bucket(&d[..e], at);
@@ -241,8 +241,8 @@ fn put(
     at: usize,
 ) -> usize
     requires { ⌜ Indexed (now d) (now ends) (now places) (now rows) (now links) (now heads) n ⌝ }
-    requires { ⌜ (n < 2048) × (length (now d) ≤ 65536) × Listed (now d) (now ends) row at ⌝ }
-    ensures { λ r. ⌜ Indexed (now (d .entry)) (now (ends .entry)) (now (places .exit)) (now (rows .exit)) (now (links .exit)) (now (heads .exit)) r × Put (stored (now (d .entry)) (now (ends .entry)) (now (places .entry)) (now (rows .entry))) (stored (now (d .entry)) (now (ends .entry)) (now (places .exit)) (now (rows .exit))) n (entryAt (now (d .entry)) (now (ends .entry)) row at) r ⌝ }
+    requires { ⌜ (n < 2048) × (length (now d) ≤ 65536) × InRow (now d) (now ends) row at ⌝ }
+    ensures { λ r. ⌜ Puts (now (d .entry)) (now (ends .entry)) (now (places .entry)) (now (rows .entry)) n row at (now (places .exit)) (now (rows .exit)) (now (links .exit)) (now (heads .exit)) r ⌝ }
 {
     let e = ends[row];
     let h = last_hit(

@@ -13,6 +13,7 @@ pub mod Cuts
 pub mod Members
 pub mod Views
 pub mod Parting
+pub mod Fronts
 pub mod Unfielding
 pub mod Splicing
 pub mod RecordEdits

@@ -95,7 +95,7 @@ unfielded-bare (Piece.blank l ∷ b) e = ap {B = Block} (λ x. Piece.blank l ∷
 unfielded-bare (Piece.comment l ∷ b) e = ap {B = Block} (λ x. Piece.comment l ∷ x) (unfielded-bare b e)
 unfielded-bare (Piece.field n v ls ∷ b) e = absurd (let z : _≡_ {A = ℕ} 0 1 = cc in omega arith)
 
-lead-bare : (b : Block) → fieldsOf (lead b) ≡ []
+pub lead-bare : (b : Block) → fieldsOf (lead b) ≡ []
 lead-bare [] = refl
 lead-bare (Piece.blank l ∷ b) = lead-bare b
 lead-bare (Piece.comment l ∷ b) = lead-bare b

@@ -1,4 +1,3 @@
--- The front of a part with its records, what a descriptor's granted questions mean for the walks, and a set's number from its records'.
-pub mod Fronts
+-- What a descriptor's granted questions mean for the walks, and a set's number from its records'.
 pub mod Granted
 pub mod Members

@@ -32,7 +32,7 @@ use Rattle.setkeys.specs.Keyed.{membersIn}
 use Rattle.records.proofs.Cuts.{members-end, members-stop, members-more}
 use Rattle.typed.specs.Meets.{fieldFits}
 use Rattle.rules.specs.Described.{AllFit, AllAsked}
-use Rattle.rules.proofs.Fronts.{Front, front-none, front-more, front-readable, front-fields}
+use Rattle.records.proofs.Fronts.{Front, front-none, front-more, front-readable, front-fields}
 use Rattle.rules.proofs.Granted.{fields-fit}
 
 -- no record of some has a number where the least is 0

@@ -10,9 +10,8 @@ use Rattle.format.specs.Bytes.{Bytes, pick}
 use Rattle.format.specs.Records.{Record}
 use Rattle.format.specs.Numbers.{Bounds}
 use Rattle.format.specs.Rules.{mandatory, unique, key, isWellFormed}
-use Rattle.format.specs.Questions.{occurrences, noneProhibited, allAllowed, allPresent, noneRepeated, allTyped}
+use Rattle.format.specs.Questions.{occurrences, noneProhibited, allAllowed, allPresent, noneRepeated}
 use Rattle.format.proofs.Elements.{Each, each-parts, each-imp, each-both, all-each}
-use Rattle.format.proofs.Judging.{recordNo}
 use Rattle.lists.specs.Names.{namesNo}
 use Rattle.lists.proofs.Judged.{names-no}
 use Rattle.setkeys.specs.Keyed.{HaveKeys}
@@ -37,20 +36,11 @@ module _ (rules r : Record) where
       (each-both (λ (w : Bytes). some w ≡ true) (λ (w : Bytes). few w ≡ true) (key rules) a b)
 
   module _ (b : Bounds) where
-    record-once : recordNo b rules r ≡ 0 → Each (λ (w : Bytes). occurrences w r ≡ 1) (key rules)
-    unfolding recordNo
-    record-once e =
-        let h = passed-all (noneProhibited rules r) (allAllowed rules r) (allPresent rules r) (noneRepeated rules r) (pick (allTyped b rules r) 0 12) e in
-        key-once (h .0) (h .1)
-
     names-once : isWellFormed b rules ≡ true → namesNo rules r ≡ 0 → Each (λ (w : Bytes). occurrences w r ≡ 1) (key rules)
     names-once f e =
         let h = passed-all (noneProhibited rules r) (allAllowed rules r) (allPresent rules r) (noneRepeated rules r) 0 (sym (names-no rules r b f) ∙ e) in
         key-once (h .0) (h .1)
 
--- members without a number, that of questions 8 to 12 or that of 8 to 11
-pub have-keys : (b : Bounds) (rules : Record) (ms : List Record) → Each (λ (r : Record). recordNo b rules r ≡ 0) ms → HaveKeys rules ms
-have-keys b rules ms h = each-imp (λ (r : Record). recordNo b rules r ≡ 0) (λ (r : Record). Each (λ (w : Bytes). occurrences w r ≡ 1) (key rules)) (λ r e. record-once rules r b e) ms h
-
-pub have-keys-named : (b : Bounds) (rules : Record) (ms : List Record) → isWellFormed b rules ≡ true → Each (λ (r : Record). namesNo rules r ≡ 0) ms → HaveKeys rules ms
-have-keys-named b rules ms f h = each-imp (λ (r : Record). namesNo rules r ≡ 0) (λ (r : Record). Each (λ (w : Bytes). occurrences w r ≡ 1) (key rules)) (λ r e. names-once rules r b f e) ms h
+-- members that questions 8 to 11 pass
+pub have-keys : (b : Bounds) (rules : Record) (ms : List Record) → isWellFormed b rules ≡ true → Each (λ (r : Record). namesNo rules r ≡ 0) ms → HaveKeys rules ms
+have-keys b rules ms f h = each-imp (λ (r : Record). namesNo rules r ≡ 0) (λ (r : Record). Each (λ (w : Bytes). occurrences w r ≡ 1) (key rules)) (λ r e. names-once rules r b f e) ms h

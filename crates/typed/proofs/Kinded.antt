@@ -158,5 +158,6 @@ placeless s Shape.Uuid h = record { sound = tt; meets = λ v. refl }
 placeless s (Shape.Alias a e) h = absurd (miss others 9 tt h)
 
 -- what a kind that was read asks of a value is what the definitions' kind asks
-pub kind-asks : (m : ℕ) (d w v : Bytes) (t : Row) → (k : KindOf m d w t) → meetsIn (typeText d (t .value) (t .end)) (t .kind) v ≡ meetsKind (endKind bits32 (defsFrom d) w) v
-kind-asks m d w v t k = ap (λ (x : Typed). meetsTyped x v) (k .read) ∙ ap (λ (x : Option Kind). meetsKind x v) (sym (k .is))
+pub kind-asks : (m : ℕ) (d w v u : Bytes) (t : Row) (r : Bool) → KindOf m d w t → u ≡ v → r ≡ meetsIn (typeText d (t .value) (t .end)) (t .kind) u → r ≡ meetsKind (endKind bits32 (defsFrom d) w) v
+kind-asks m d w v u t r k e h =
+    h ∙ ap (meetsIn (typeText d (t .value) (t .end)) (t .kind)) e ∙ ap (λ (x : Typed). meetsTyped x v) (k .read) ∙ ap (λ (x : Option Kind). meetsKind x v) (sym (k .is))

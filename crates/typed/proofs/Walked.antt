@@ -1,5 +1,5 @@
 -- The fields of a part, one by one, against the entries of an index.
-use Prim.Native.Nat.{ℕ, zero, suc, _+_, _-_, _*_, _≤_, _<_}
+use Prim.Native.Nat.{ℕ, suc, _+_, _-_, _*_, _≤_, _<_}
 use native.Mathlib.Omega.{arith}
 use mathlib.Core.Path.{_≡_, refl, sym, ap, _∙_, subst}
 use mathlib.Core.Bool.{Bool, true, false, _&&_, _||_, not, and-assoc, and-comm}
@@ -28,9 +28,10 @@ use Rattle.names.proofs.Asking.{all-passed}
 use Rattle.records.specs.Fields.{fieldsFrom, fieldBetween, FieldHere}
 use Rattle.typedefs.proofs.Filling.{both-true}
 use Rattle.typed.specs.Meets.{fieldFits}
-use Rattle.typed.specs.Asked.{rowMet, entryMet, meetsTo, meetsFrom, typedFrom, TypedNext}
+use Rattle.typed.specs.Asked.{rowMet, entryMet, meetsTo, meetsFrom, typedFrom, TypedHere, TypedNext, Chunked}
 use Rattle.typed.specs.declared.Rules.{Rules}
 use Rattle.typed.specs.declared.NextTyped.{NextTyped}
+use Rattle.typed.specs.declared.Chunk.{Chunk}
 
 -- the names of a readable part's fields are names
 names-sound : (ps : List Piece) → Each Sound ps → Each (λ (f : Field). isName (f .name) ≡ true) (fieldsOf ps)
@@ -103,6 +104,17 @@ module _ (s : Bytes) (i a n v e : ℕ) (f : FieldHere s i a n v e) where
 pub typed-told : (d : Bytes) (es : ℕ → Entry) (n : ℕ) (s : Bytes) (i k : ℕ) {r q : NextTyped} → TypedNext d es n s i k r → r ≡ q → TypedNext d es n s i k q
 typed-told d es n s i k h e = subst (TypedNext d es n s i k) e h
 
+-- the value that a field has is held to the row of that entry: x is what the walk so far asks, and t what the row says
+module _ {d : Bytes} {es : ℕ → Entry} {n : ℕ} {s : Bytes} {i k from v e hit : ℕ} (h : TypedHere d es n s i k from v e hit) {x t : Bool} (g : x ≡ typedFrom d es n k (fieldsFrom s i)) (u : t ≡ rowMet d (es (hit - 1) .row) (valueFrom (span v e s))) where
+  typed-by : x ≡ (t && typedFrom d es n (hit - 1) (fieldsFrom s from))
+  typed-by = g ∙ h .cut ∙ ap (λ (b : Bool). b && typedFrom d es n (hit - 1) (fieldsFrom s from)) (sym u)
+
+  pub typed-on : t ≡ true → x ≡ typedFrom d es n (hit - 1) (fieldsFrom s from)
+  typed-on q = typed-by ∙ ap (λ (b : Bool). b && typedFrom d es n (hit - 1) (fieldsFrom s from)) q
+
+  pub typed-off : t ≡ false → x ≡ false
+  typed-off q = typed-by ∙ ap (λ (b : Bool). b && typedFrom d es n (hit - 1) (fieldsFrom s from)) q
+
 -- the walk goes on: to a later field, or of the same one to an earlier entry
 pub walk-less : (n i from k hit : ℕ) → i ≤ from → from ≤ n → (from ≤ i → hit ≤ k) → 0 < hit → hit ≤ 2048 → 2049 * (n - from) + (hit - 1) < 2049 * (n - i) + k
 walk-less n i from k hit a b later h l = go (leb from i) refl
@@ -111,12 +123,25 @@ walk-less n i from k hit a b later h l = go (leb from i) refl
     go true e = omega (arith, later (leb-true from i e), leb-true from i e)
     go false e = omega (arith, leb-false from i e)
 
--- the names from a place on, asked of all fields: those of an index, and those from the next place on
-pub chunk-cut : (d : Bytes) (r : Rules) (fs : Record) (row at : ℕ) (es : ℕ → Entry) (c : Filled) → Fills d (r .values) (r .ends) (r .count) row at es c
-    → all (meetsFrom d r row at) fs ≡ (all (meetsTo d es (c .count)) fs && all (meetsFrom d r (c .row) (c .at)) fs)
-chunk-cut d r fs row at es c h =
-    all-alike (meetsFrom d r row at) (λ (f : Field). meetsTo d es (c .count) f && meetsFrom d r (c .row) (c .at) f) (λ f. h .asks (entryMet d (f .name) (f .value))) fs
-    ∙ all-both (meetsTo d es (c .count)) (meetsFrom d r (c .row) (c .at)) fs
+-- the names from a place on, asked of all fields: t of them by an index, and those from the next place on
+pub chunked : {d : Bytes} {r : Rules} {fs : Record} {row at : ℕ} {es : ℕ → Entry} {t : Bool} (c : Filled) → Fills d (r .values) (r .ends) (r .count) row at es c → t ≡ all (meetsTo d es (c .count)) fs
+    → Chunked d r fs row at (record { typed = t; row = c .row; at = c .at })
+chunked {d} {r} {fs} {row} {at} {es} {t} c h e =
+    record {
+      reached = h .reached;
+      less = h .less;
+      cut =
+          all-alike (meetsFrom d r row at) (λ (f : Field). meetsTo d es (c .count) f && meetsFrom d r (c .row) (c .at) f) (λ f. h .asks (entryMet d (f .name) (f .value))) fs
+          ∙ all-both (meetsTo d es (c .count)) (meetsFrom d r (c .row) (c .at)) fs
+          ∙ ap (λ (b : Bool). b && all (meetsFrom d r (c .row) (c .at)) fs) (sym e);
+    }
+
+module _ {d : Bytes} {r : Rules} {fs : Record} {row at : ℕ} {c : Chunk} (h : Chunked d r fs row at c) {x : Bool} (g : x ≡ all (meetsFrom d r row at) fs) where
+  pub chunk-on : c .typed ≡ true → x ≡ all (meetsFrom d r (c .row) (c .at)) fs
+  chunk-on q = g ∙ h .cut ∙ ap (λ (b : Bool). b && all (meetsFrom d r (c .row) (c .at)) fs) q
+
+  pub chunk-off : c .typed ≡ false → x ≡ false
+  chunk-off q = g ∙ h .cut ∙ ap (λ (b : Bool). b && all (meetsFrom d r (c .row) (c .at)) fs) q
 
 -- behind the last row no name is asked
 pub none-left : (d : Bytes) (r : Rules) (fs : Record) (row at : ℕ) → r .count ≤ row → all (meetsFrom d r row at) fs ≡ true

@@ -12,9 +12,6 @@ use Rattle.lines.specs.Line.{lineLen}
 use Rattle.types.specs.Meaning.{typedIn, Sound, meetsTyped, meetsIn}
 use Rattle.types.specs.declared.Shape.{Shape}
 
-pub meets-kind : (s v : Bytes) (k : Shape) {K : Kind} → typedIn s k ≡ Typed.kind K → meetsIn s k v ≡ meets bits32 K v
-meets-kind s v k e = ap (λ (t : Typed). meetsTyped t v) e
-
 pub meets-shape : (s v : Bytes) {k j : Shape} → k ≡ j → meetsIn s j v ≡ meetsIn s k v
 meets-shape s v e = ap (λ (k : Shape). meetsIn s k v) (sym e)
 

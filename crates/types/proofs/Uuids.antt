@@ -53,9 +53,6 @@ last-more true x y z a b e = e
 last-more false true y z a b e = sym (and-false a)
 last-more false false y z a b e = sym (and-false a)
 
-dash-last : (x : Bool) → ((x && true) && false) ≡ false
-dash-last x = and-false (x && true)
-
 group-last : (n : ℕ) (s : Bytes) → hexGroups (n ∷ []) (split 45 s) ≡ eqb (length s) n && all isHex s
 group-last n [] = and-true (eqb 0 n && true)
 group-last zero (c ∷ s) = go (eqb c 45) refl

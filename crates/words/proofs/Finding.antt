@@ -191,9 +191,6 @@ module _ (s : Bytes) (i : ℕ) where
       (λ h q. rw behind-at (behind-at notGap s first))
       (λ h. rw (behind-at, drop-of-length-le s h))
 
-  pub word-plain : Plain s (wordAt s i)
-  word-plain = by-word (Plain s) (λ h q. rw add-sub-cancel-left (run-passes notGap (drop first s))) (λ h. tt)
-
   pub word-within : i ≤ length s → Within s i (wordAt s i)
   word-within l =
       by-word (Within s i)

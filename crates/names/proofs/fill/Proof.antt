@@ -6,7 +6,7 @@ use native.Mathlib.Omega.{arith}
 use mathlib.Core.Path.{_≡_, refl}
 use mathlib.Core.Bool.{Bool, _&&_}
 use Rattle.format.specs.Bytes.{all}
-use Rattle.names.specs.Entries.{Entry, entryAt, entriesAt, left, Reached}
+use Rattle.names.specs.Entries.{Entry, entriesAt, left, Reached}
 use Rattle.names.specs.Index.{stored, allTo, Indexed}
 use Rattle.names.proofs.Entering.{is-listed}
 use Rattle.names.proofs.Storing.{none-indexed, put-first}

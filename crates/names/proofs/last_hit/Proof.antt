@@ -3,7 +3,7 @@
 use borrow.Author.Needs.{needs}
 use Prim.Native.Nat.{_-_}
 use native.Mathlib.Omega.{arith}
-use mathlib.Core.Path.{_≡_, sym, _∙_, subst}
+use mathlib.Core.Path.{_≡_, subst}
 use Rattle.names.specs.Names.{nameFrom}
 use Rattle.names.specs.Index.{stored}
 use Rattle.names.proofs.Chaining.{Walked, walk-starts, walk-none, walk-hit, walk-on}
@@ -61,7 +61,7 @@ returns c =
     let at-loop-test = c .before .before .loop-test in
     let at-is-hit = c .before .is-hit in
     let at-if1 = c .if1 in
-    walk-hit (stored (at-args .d .now) (at-args .ends .now) (at-args .places .now) (at-args .rows .now)) (nameFrom (at-args .name .now) (at-args .i)) (at-args .count) (at-args .n) (at-loop .j) (at-loop-test .taken) (at-loop .inv) (sym (at-is-hit .ensures) ∙ at-if1 .taken)
+    walk-hit (stored (at-args .d .now) (at-args .ends .now) (at-args .places .now) (at-args .rows .now)) (nameFrom (at-args .name .now) (at-args .i)) (at-args .count) (at-args .n) (at-loop .j) (at-loop-test .taken) (at-loop .inv) (at-is-hit .result) (at-is-hit .ensures) (at-if1 .taken)
 
 sub-j : tie.Need-sub-j Inv-loop μ-loop
 sub-j c = search needs
@@ -97,10 +97,10 @@ loop-again c =
     let at-args = c .before .before .before .before .before .before .before .before .before .before .before .before .before .args in
     let at-loop = c .before .before .before .before .loop in
     let at-loop-test = c .before .before .before .loop-test in
-    let at-pre = c .before .before .before .before .before .before .before .before .before .before .before .before .before .pre in
     let at-is-hit = c .before .before .is-hit in
+    let at-pre = c .before .before .before .before .before .before .before .before .before .before .before .before .before .pre in
     let at-if1 = c .before .if1 in
-    walk-on (stored (at-args .d .now) (at-args .ends .now) (at-args .places .now) (at-args .rows .now)) (nameFrom (at-args .name .now) (at-args .i)) (at-args .count) (at-args .n) (at-loop .j) (at-loop-test .taken) (at-loop .inv) _ (at-pre .0 .link (at-loop .j - 1) (omega (arith, at-loop-test .taken, at-loop .inv .below))) (sym (at-is-hit .ensures) ∙ at-if1 .left)
+    walk-on (stored (at-args .d .now) (at-args .ends .now) (at-args .places .now) (at-args .rows .now)) (nameFrom (at-args .name .now) (at-args .i)) (at-args .count) (at-args .n) (at-loop .j) (at-loop-test .taken) (at-loop .inv) _ (at-is-hit .result) (at-pre .0 .link (at-loop .j - 1) (omega (arith, at-loop-test .taken, at-loop .inv .below))) (at-is-hit .ensures) (at-if1 .left)
 
 returns-2 : tie.Need-returns-2 Inv-loop μ-loop
 returns-2 c =

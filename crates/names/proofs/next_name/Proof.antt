@@ -1,5 +1,4 @@
 -- `names::next_name` meets its contract.
-use native.Mathlib.Omega.{arith}
 use mathlib.Core.Path.{sym}
 use Rattle.names.specs.Entries.{textTo}
 use Rattle.names.proofs.Naming.{behind-told}

@@ -1,7 +1,6 @@
 -- `names::row_start` meets its contract.
 use native.Mathlib.Omega.{arith}
 use mathlib.Core.Path.{sym}
-use lib.ListN.{length}
 use Rattle.names.proofs.Entering.{text-length, starts-none, starts-row}
 use borrow.Author.Needs.{needs}
 use Rattle.names.proofs.row_start.Statement.{statement}

@@ -9,7 +9,7 @@ use Rattle.format.specs.Numbers.{bits32}
 use Rattle.records.specs.Walk.{recordIn}
 use Rattle.lists.proofs.Listed.{entries-fit}
 use Rattle.setkeys.specs.Keyed.{membersIn}
-use Rattle.setkeys.proofs.Asked.{have-keys-named}
+use Rattle.setkeys.proofs.Asked.{have-keys}
 use Rattle.typed.specs.Meets.{fieldFits}
 use Rattle.rules.proofs.Members.{values-short, names-none, set-names, set-types, set-whole}
 use borrow.Author.Needs.{needs}
@@ -108,7 +108,7 @@ judge-whole-requires c κs =
     let at-if1 = c .before .before .before .before .before .before .before .before .before .before .before .before .before .before .if1 in
     let at-read-lists = c .before .before .before .before .before .before .before .before .before .before .before .before .before .before .before .before .before .before .before .before .before .before .before .read-lists in
     let at-scratch = c .before .before .before .before .before .before .before .before .before .scratch in
-    let keys = have-keys-named bits32 (recordIn (at-args .d .now)) (membersIn (at-args .rest .now)) (at-pre .1 .0 .0 .well) (names-none (recordIn (at-args .d .now)) (at-pre .1 .0 .0 .well) (membersIn (at-args .rest .now)) (at-judge-members .result .number) (at-judge-members .ensures .least) (at-if1 .left)) in
+    let keys = have-keys bits32 (recordIn (at-args .d .now)) (membersIn (at-args .rest .now)) (at-pre .1 .0 .0 .well) (names-none (recordIn (at-args .d .now)) (at-pre .1 .0 .0 .well) (membersIn (at-args .rest .now)) (at-judge-members .result .number) (at-judge-members .ensures .least) (at-if1 .left)) in
     (at-pre .0, ((at-pre .1 .0 .0, at-read-lists .ensures), ((at-pre .1 .1 .0 .0, at-pre .1 .1 .0 .1, keys), (omega (arith, at-scratch .given, at-pre .1 .1 .1 .0), at-pre .1 .1 .1 .2))))
 
 same-length-3 : tie.Need-same-length-3

@@ -1,15 +1,9 @@
 -- `typed::chunk_typed` meets its contract.
 use Prim.Native.Nat.{ℕ}
-use mathlib.Core.Path.{ap, sym, _∙_}
-use mathlib.Core.Bool.{Bool, _&&_}
 use lib.ListN.{length-replicate, getD-replicate}
-use Rattle.format.specs.Bytes.{all}
-use Rattle.names.specs.Index.{stored}
 use Rattle.names.proofs.Asking.{in-rows}
-use Rattle.typedefs.specs.Walks.{fieldsFrom}
-use Rattle.typed.specs.Asked.{meetsFrom}
 use Rattle.typed.proofs.Ruled.{listed-rows}
-use Rattle.typed.proofs.Walked.{chunk-cut}
+use Rattle.typed.proofs.Walked.{chunked}
 use borrow.Author.Needs.{needs}
 use Rattle.typed.proofs.chunk_typed.Statement.{statement}
 use Rattle.typed.proofs.chunk_typed.Tie as tie
@@ -71,17 +65,9 @@ same-length-2 c = search needs
 
 returns : tie.Need-returns
 returns c =
-    let at-args = c .before .before .before .before .before .before .before .before .before .before .before .before .before .before .before .before .before .before .before .before .before .before .before .before .before .before .before .args in
     let at-fill = c .before .before .before .before .before .before .before .before .before .before .before .before .before .before .before .fill in
     let at-fields-typed = c .before .before .before .before .fields-typed in
-    let r = at-args .t3 in
-    let x = at-fill .ensures in
-    let fs = fieldsFrom (at-args .s .now) 0 in
-    record {
-      reached = x .1 .reached;
-      less = x .1 .less;
-      cut = chunk-cut (at-args .d .now) r fs (at-args .row) (at-args .at) _ (at-fill .result) (x .1) ∙ ap (λ (b : Bool). b && all (meetsFrom (at-args .d .now) r (at-fill .result .row) (at-fill .result .at)) fs) (sym (at-fields-typed .ensures));
-    }
+    chunked (at-fill .result) (at-fill .ensures .1) (at-fields-typed .ensures)
 
 pub chunk-typed-spec : {M : Type 1} → statement M
 chunk-typed-spec =

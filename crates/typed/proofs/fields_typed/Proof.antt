@@ -1,25 +1,23 @@
 -- `typed::fields_typed` meets its contract. The invariant: all fields meet the entries if those from i on do, of the first of which the first k entries are asked only.
 -- The measure falls with every field passed, and with every entry of one field.
 use borrow.Author.Needs.{needs}
-use Prim.Native.Nat.{_+_, _*_, _-_, _≤_, _<_}
+use Prim.Native.Nat.{_+_, _*_, _-_, _≤_}
 use native.Mathlib.Omega.{arith}
-use mathlib.Core.Path.{_≡_, refl, sym, ap, _∙_}
-use mathlib.Core.Bool.{Bool, true, _&&_}
+use mathlib.Core.Path.{_≡_, refl, sym, _∙_}
+use mathlib.Core.Bool.{true}
 use mathlib.Core.List.{[]}
 use lib.ListN.{length, drop, getD}
 use Rattle.format.specs.Bytes.{all}
 use Rattle.lines.specs.Value.{valueFrom}
 use Rattle.words.specs.Spans.{span}
 use Rattle.records.specs.Places.{isReadable}
-use Rattle.types.specs.Meaning.{meetsIn}
 use Rattle.names.specs.Index.{stored}
 use Rattle.typedefs.specs.Walks.{fieldsFrom}
 use Rattle.words.proofs.Decoded.{decoded-all, decoded-length}
 use Rattle.typed.specs.Meets.{typesFrom, fieldFits}
-use Rattle.typed.specs.Rules.{typeText}
 use Rattle.typed.specs.Asked.{meetsTo, typedFrom}
 use Rattle.typed.proofs.Kinded.{kind-asks}
-use Rattle.typed.proofs.Walked.{typed-start, typed-told, walk-less}
+use Rattle.typed.proofs.Walked.{typed-start, typed-told, typed-on, typed-off, walk-less}
 use Rattle.typed.proofs.fields_typed.Statement.{statement}
 use Rattle.typed.proofs.fields_typed.Tie as tie
 use Rattle.typed.proofs.fields_typed.Reads as reads
@@ -221,8 +219,8 @@ returns-2 c =
     let v = valueFrom (span (g .0 .1 .0) (g .0 .1 .1 .0) s) in
     let a = decoded-all v (at-loop .scratch) _ (at-copy-value .result) (at-copy-value .ensures .0) (at-copy-value .ensures .1) in
     let t = getD (at-args .t3 .kinds) row _ in
-    let m = at-kind-met .ensures ∙ ap (meetsIn (typeText d (t .value) (t .end)) (t .kind)) a ∙ kind-asks (length (at-args .other .now)) d (getD (typesFrom d) row []) v t k in
-    sym (at-loop .inv .6 ∙ h .cut ∙ ap (λ (b : Bool). b && typedFrom d es (at-args .count) q (fieldsFrom s (g .0 .0))) (sym m ∙ at-if1 .left))
+    let m = kind-asks (length (at-args .other .now)) d (getD (typesFrom d) row []) v _ t (at-kind-met .result) k a (at-kind-met .ensures) in
+    sym (typed-off h (at-loop .inv .6) m (at-if1 .left))
 
 loop-less : tie.Need-loop-less Inv-loop μ-loop
 loop-less c =
@@ -235,7 +233,7 @@ loop-less c =
     let g = at-f .given in
     let h = typed-told (at-args .d .now) es (at-args .count) (at-args .s .now) (at-loop .i) (at-loop .k) (at-next-typed .ensures) (g .1) in
     let x = at-pre .1 .1 .1 .1 .0 in
-    walk-less (length (at-args .s .now)) (at-loop .i) (g .0 .0) (at-loop .k) (g .0 .1 .1 .1 .0) (h .begins) (h .start) (h .later) (h .there) (omega (arith, h .few, x .few))
+    omega (arith, walk-less (length (at-args .s .now)) (at-loop .i) (g .0 .0) (at-loop .k) (g .0 .1 .1 .1 .0) (h .begins) (h .start) (h .later) (h .there) (omega (arith, h .few, x .few)))
 
 loop-again : tie.Need-loop-again Inv-loop μ-loop
 loop-again c =
@@ -261,8 +259,8 @@ loop-again c =
     let v = valueFrom (span (g .0 .1 .0) (g .0 .1 .1 .0) s) in
     let a = decoded-all v (at-loop .scratch) _ (at-copy-value .result) (at-copy-value .ensures .0) (at-copy-value .ensures .1) in
     let t = getD (at-args .t3 .kinds) row _ in
-    let m = at-kind-met .ensures ∙ ap (meetsIn (typeText d (t .value) (t .end)) (t .kind)) a ∙ kind-asks (length (at-args .other .now)) d (getD (typesFrom d) row []) v t k in
-    let e = at-loop .inv .6 ∙ h .cut ∙ ap (λ (b : Bool). b && typedFrom d es (at-args .count) q (fieldsFrom s (g .0 .0))) (sym m ∙ at-if1 .taken) in
+    let m = kind-asks (length (at-args .other .now)) d (getD (typesFrom d) row []) v _ t (at-kind-met .result) k a (at-kind-met .ensures) in
+    let e = typed-on h (at-loop .inv .6) m (at-if1 .taken) in
     (h .start, h .readable, omega (arith, h .few), omega (arith, at-scratch .given, at-loop .inv .3), omega (arith, at-other .given, at-loop .inv .4), h .fits (length (at-args .scratch .now)) (at-loop .inv .5) .1, e)
 
 pub fields-typed-spec : {M : Type 1} → statement M

@@ -4,7 +4,6 @@ use borrow.Author.Needs.{needs}
 use Prim.Native.Nat.{ℕ}
 use native.Mathlib.Omega.{arith}
 use mathlib.Core.Path.{_≡_, refl, sym, ap, _∙_, subst}
-use mathlib.Core.Bool.{Bool, true, _&&_}
 use lib.ListN.{length}
 use Rattle.format.specs.Bytes.{all}
 use Rattle.format.specs.Numbers.{bits32}
@@ -15,7 +14,7 @@ use Rattle.typed.specs.Meets.{fieldFits}
 use Rattle.typed.specs.Rules.{Ruled}
 use Rattle.typed.specs.Asked.{meetsFrom}
 use Rattle.typed.proofs.Ruled.{listed-rows, typed-names}
-use Rattle.typed.proofs.Walked.{none-left}
+use Rattle.typed.proofs.Walked.{chunk-on, chunk-off, none-left}
 use Rattle.typed.proofs.part_typed.Statement.{statement}
 use Rattle.typed.proofs.part_typed.Tie as tie
 use Rattle.typed.proofs.part_typed.Reads as reads
@@ -60,11 +59,10 @@ same-length-2 c = search needs
 
 returns : tie.Need-returns Inv-loop μ-loop
 returns c =
-    let at-loop = c .before .before .before .before .before .before .before .before .before .loop in
     let at-chunk-typed = c .before .before .before .before .before .chunk-typed in
-    let at-args = c .before .before .before .before .before .before .before .before .before .before .before .before .before .before .before .before .before .before .args in
+    let at-loop = c .before .before .before .before .before .before .before .before .before .loop in
     let at-if1 = c .if1 in
-    sym (at-loop .inv .3 ∙ at-chunk-typed .ensures .cut ∙ ap (λ (b : Bool). b && all (meetsFrom (at-args .d .now) (at-args .t3) (at-chunk-typed .result .row) (at-chunk-typed .result .at)) (fieldsFrom (at-args .s .now) 0)) (at-if1 .left))
+    sym (chunk-off (at-chunk-typed .ensures) (at-loop .inv .3) (at-if1 .left))
 
 loop-less : tie.Need-loop-less Inv-loop μ-loop
 loop-less c =
@@ -78,10 +76,9 @@ loop-again c =
     let at-scratch = c .before .before .before .before .scratch in
     let at-loop = c .before .before .before .before .before .before .before .before .before .loop in
     let at-other = c .before .before .other in
-    let at-args = c .before .before .before .before .before .before .before .before .before .before .before .before .before .before .before .before .before .before .args in
     let at-if1 = c .if1 in
     let x = at-chunk-typed .ensures in
-    (omega (arith, at-scratch .given, at-loop .inv .0), omega (arith, at-other .given, at-loop .inv .1), x .reached, at-loop .inv .3 ∙ x .cut ∙ ap (λ (b : Bool). b && all (meetsFrom (at-args .d .now) (at-args .t3) (at-chunk-typed .result .row) (at-chunk-typed .result .at)) (fieldsFrom (at-args .s .now) 0)) (at-if1 .taken))
+    (omega (arith, at-scratch .given, at-loop .inv .0), omega (arith, at-other .given, at-loop .inv .1), x .reached, chunk-on x (at-loop .inv .3) (at-if1 .taken))
 
 same-length-3 : tie.Need-same-length-3 Inv-loop μ-loop
 same-length-3 c = search needs

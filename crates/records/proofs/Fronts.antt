@@ -8,30 +8,20 @@ use lib.ListN.{length, take, drop}
 use lib.Seq.{take-add}
 use Rattle.format.specs.Bytes.{Bytes}
 use Rattle.format.specs.Pieces.{Piece, bytesOf}
-use Rattle.format.specs.Records.{Record, Block, countOf, fieldsOf}
+use Rattle.format.specs.Records.{Record, Block, fieldsOf}
 use Rattle.format.specs.Calls.{lead, fromFirst}
 use Rattle.format.proofs.Elements.{each-append}
 use Rattle.format.proofs.Whole.{bytesOf-append, Sound}
+use Rattle.format.proofs.Editing.{fields-append}
 use Rattle.records.specs.Places.{isReadable, Placed, sizeIn, placesOf}
 use Rattle.records.specs.Walk.{readOf, recordIn, untilBlank, fromBlank}
 use Rattle.records.specs.declared.Place.{Place}
 use Rattle.records.proofs.Walks.{size-append, placesRun, places-walk}
 use Rattle.records.proofs.Shifts.{raise}
 use Rattle.records.proofs.Readings.{Reads, reads-readable, reads-of, readable-reads, reads-take, places-read}
 use Rattle.records.proofs.Firsts.{lead-first, until-from}
+use Rattle.records.proofs.Parting.{lead-bare}
 use Rattle.records.proofs.Searches.{Met}
-
-fields-append : (a b : Block) → fieldsOf (a ++ b) ≡ fieldsOf a ++ fieldsOf b
-fields-append [] b = refl
-fields-append (Piece.blank l ∷ a) b = fields-append a b
-fields-append (Piece.comment l ∷ a) b = fields-append a b
-fields-append (Piece.field n v ls ∷ a) b = ap {B = Record} (λ r. record { name = n; value = v; count = countOf ls } ∷ r) (fields-append a b)
-
-lead-bare : (ps : List Piece) → fieldsOf (lead ps) ≡ []
-lead-bare [] = refl
-lead-bare (Piece.blank l ∷ ps) = lead-bare ps
-lead-bare (Piece.comment l ∷ ps) = lead-bare ps
-lead-bare (Piece.field n v ls ∷ ps) = refl
 
 -- the first n bytes of a part read as pieces with the fields r
 pub record Front (s : Bytes) (n : ℕ) (r : Record) : Type 0 where
