@@ -7,7 +7,7 @@ use lib.Dec.{leb, eqb}
 use borrow.Author.Tests.{le-leb, leb-true, leb-false, eqb-true, eqb-false}
 use Rattle.format.specs.Bytes.{Bytes, same}
 use Rattle.format.proofs.Listing.{same-true}
-use Rattle.names.specs.Names.{bucketOf}
+use Rattle.names.specs.Names.{bucketOf, printOf}
 use Rattle.names.specs.Entries.{Entry}
 use Rattle.names.specs.Index.{Chain, Hit}
 
@@ -17,6 +17,14 @@ other-bucket x y h = go (same x y) refl
   where
     go : (t : Bool) → same x y ≡ t → same x y ≡ false
     go true e = absurd (h (ap bucketOf (sym (same-true x y e))))
+    go false e = e
+
+-- names with two prints are two names
+pub other-print : (x y : Bytes) → (printOf y ≡ printOf x → ⊥) → same x y ≡ false
+other-print x y h = go (same x y) refl
+  where
+    go : (t : Bool) → same x y ≡ t → same x y ≡ false
+    go true e = absurd (h (ap printOf (sym (same-true x y e))))
     go false e = e
 
 -- link j of the chain of a name among `count` entries, of which the first n are asked

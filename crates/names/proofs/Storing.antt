@@ -1,5 +1,5 @@
 -- An index with one entry more, and an entry that is in it already.
-use Prim.Native.Nat.{ℕ, suc, _+_, _-_, _≤_, _<_}
+use Prim.Native.Nat.{ℕ, suc, _+_, _-_, _/_, _%_, _≤_, _<_}
 use native.Mathlib.Numerals.{add-one}
 use native.Mathlib.Omega.{arith}
 use mathlib.Core.Path.{_≡_, refl, sym, ap, _∙_, subst}
@@ -11,9 +11,9 @@ use lib.Seq.{getD-set-same, getD-set-other}
 use borrow.Author.Tests.{eqb-true, eqb-false}
 use Rattle.format.specs.Bytes.{Bytes, all}
 use Rattle.format.proofs.Listing.{same-true}
-use Rattle.names.specs.Names.{nameFrom, bucketOf}
+use Rattle.names.specs.Names.{nameFrom, bucketOf, printOf}
 use Rattle.names.specs.Entries.{Entry, entryOf, textTo, entryAt, InRow, entriesAt, Goes}
-use Rattle.names.specs.Index.{stored, allTo, Chain, Stands, Room, Empty, Indexed, Hit, Put}
+use Rattle.names.specs.Index.{stored, allTo, Chain, Stands, Printed, Room, Empty, Indexed, Hit, Put}
 use Rattle.names.specs.declared.Cursor.{Cursor}
 use Rattle.names.proofs.Asking.{all-same, all-asked}
 
@@ -45,17 +45,18 @@ none-indexed d ends places rows links heads r z =
       room = r;
       few = omega arith;
       row = λ q l. absurd (omega arith);
+      print = λ q l. absurd (omega arith);
       link = λ q l. absurd (omega arith);
       head = λ b l. subst (Chain (stored d ends places rows) b 0) (sym (z b l)) (record { below = omega arith; passed = λ q k m. absurd (omega arith); there = λ q e. absurd (omega arith) });
     }
 
--- one entry more
-module _ (d : Bytes) (ends places rows links heads : List ℕ) (n row at b : ℕ) (x : Indexed d ends places rows links heads n) (here : n < 2048) where
+-- one entry more: w holds its place and its print
+module _ (d : Bytes) (ends places rows links heads : List ℕ) (n row at b w : ℕ) (x : Indexed d ends places rows links heads n) (here : n < 2048) (place : w % 131072 ≡ at) where
   abbrev es : ℕ → Entry
   es = stored d ends places rows
 
   abbrev fs : ℕ → Entry
-  fs = stored d ends (set places n at) (set rows n row)
+  fs = stored d ends (set places n w) (set rows n row)
 
   abbrev heads' : List ℕ
   heads' = set heads b (n + 1)
@@ -63,8 +64,11 @@ module _ (d : Bytes) (ends places rows links heads : List ℕ) (n row at b : ℕ
   abbrev links' : List ℕ
   links' = set links n (getD heads b 0)
 
-  place-new : getD (set places n at) n 0 ≡ at
-  place-new = getD-set-same places n at 0 (omega (arith, x .room .placed))
+  word-new : getD (set places n w) n 0 ≡ w
+  word-new = getD-set-same places n w 0 (omega (arith, x .room .placed))
+
+  place-new : getD (set places n w) n 0 % 131072 ≡ at
+  place-new = ap (λ (y : ℕ). y % 131072) word-new ∙ place
 
   row-new : getD (set rows n row) n 0 ≡ row
   row-new = getD-set-same rows n row 0 (omega (arith, x .room .listed))
@@ -76,8 +80,8 @@ module _ (d : Bytes) (ends places rows links heads : List ℕ) (n row at b : ℕ
   entry-old q l =
       let o : q ≡ n → ⊥ = λ z. omega arith in
       let e : getD (set rows n row) q 0 ≡ getD rows q 0 = getD-set-other rows n q row 0 o in
-      let f : getD (set places n at) q 0 ≡ getD places q 0 = getD-set-other places n q at 0 o in
-      (λ i. entryAt d ends (e i) (f i))
+      let f : getD (set places n w) q 0 ≡ getD places q 0 = getD-set-other places n q w 0 o in
+      (λ i. entryAt d ends (e i) (f i % 131072))
 
   pub put-more : Put es fs n (entryAt d ends row at) (n + 1)
   put-more =
@@ -86,21 +90,33 @@ module _ (d : Bytes) (ends places rows links heads : List ℕ) (n row at b : ℕ
         asks = λ p. ap (allTo p fs) (add-one n) ∙ ap (λ (t : Bool). t && p (fs n)) (all-same p es fs n entry-old) ∙ ap (λ (y : Entry). allTo p es n && p y) entry-new;
       }
 
-  module _ (e : b ≡ bucketOf (nameFrom (textTo d ends row) at)) (below : b < 1024) (stands : InRow d ends row at) where
+  module _ (e : b ≡ bucketOf (nameFrom (textTo d ends row) at)) (below : b < 1024) (stands : InRow d ends row at) (print : w / 131072 ≡ printOf (nameFrom (textTo d ends row) at)) where
     bucket-new : bucketOf (fs n .name) ≡ b
     bucket-new = ap (λ (y : Entry). bucketOf (y .name)) entry-new ∙ sym e
 
-    stands-all : (q : ℕ) → q < n + 1 → Stands d ends (set places n at) (set rows n row) q
+    stands-all : (q : ℕ) → q < n + 1 → Stands d ends (set places n w) (set rows n row) q
     stands-all q l = go (eqb q n) refl
       where
-        go : (t : Bool) → eqb q n ≡ t → Stands d ends (set places n at) (set rows n row) q
+        go : (t : Bool) → eqb q n ≡ t → Stands d ends (set places n w) (set rows n row) q
         go true z =
-            subst (Stands d ends (set places n at) (set rows n row)) (sym (eqb-true q n z))
-            (subst (λ (y : ℕ). InRow d ends y (getD (set places n at) n 0)) (sym row-new) (subst (InRow d ends row) (sym place-new) stands))
+            subst (Stands d ends (set places n w) (set rows n row)) (sym (eqb-true q n z))
+            (subst (λ (y : ℕ). InRow d ends y (getD (set places n w) n 0 % 131072)) (sym row-new) (subst (InRow d ends row) (sym place-new) stands))
         go false z =
             let o : q ≡ n → ⊥ = eqb-false q n z in
-            subst (λ (y : ℕ). InRow d ends y (getD (set places n at) q 0)) (sym (getD-set-other rows n q row 0 o))
-            (subst (InRow d ends (getD rows q 0)) (sym (getD-set-other places n q at 0 o)) (x .row q (omega (arith, o))))
+            subst (λ (y : ℕ). InRow d ends y (getD (set places n w) q 0 % 131072)) (sym (getD-set-other rows n q row 0 o))
+            (subst (λ (y : ℕ). InRow d ends (getD rows q 0) (y % 131072)) (sym (getD-set-other places n q w 0 o)) (x .row q (omega (arith, o))))
+
+    printed-all : (q : ℕ) → q < n + 1 → Printed d ends (set places n w) (set rows n row) q
+    printed-all q l = go (eqb q n) refl
+      where
+        go : (t : Bool) → eqb q n ≡ t → Printed d ends (set places n w) (set rows n row) q
+        go true z =
+            subst (Printed d ends (set places n w) (set rows n row)) (sym (eqb-true q n z))
+            (ap (λ (y : ℕ). y / 131072) word-new ∙ print ∙ sym (ap (λ (y : Entry). printOf (y .name)) entry-new))
+        go false z =
+            let o : q ≡ n → ⊥ = eqb-false q n z in
+            let k : q < n = omega (arith, o) in
+            ap (λ (y : ℕ). y / 131072) (getD-set-other places n q w 0 o) ∙ x .print q k ∙ sym (ap (λ (y : Entry). printOf (y .name)) (entry-old q k))
 
     link-all : (q : ℕ) → q < n + 1 → Chain fs (bucketOf (fs q .name)) q (getD links' q 0)
     link-all q l = go (eqb q n) refl
@@ -147,7 +163,7 @@ module _ (d : Bytes) (ends places rows links heads : List ℕ) (n row at b : ℕ
             let o : a ≡ b → ⊥ = eqb-false a b z in
             subst (Chain fs a (n + 1)) (sym (getD-set-other heads b a (n + 1) 0 o)) (head-other a l o)
 
-    pub more-indexed : Indexed d ends (set places n at) (set rows n row) links' heads' (n + 1)
+    pub more-indexed : Indexed d ends (set places n w) (set rows n row) links' heads' (n + 1)
     more-indexed =
         record {
           room = record {
@@ -158,6 +174,7 @@ module _ (d : Bytes) (ends places rows links heads : List ℕ) (n row at b : ℕ
           };
           few = omega arith;
           row = stands-all;
+          print = printed-all;
           link = link-all;
           head = head-all;
         }

@@ -1,18 +1,18 @@
 -- An index of entries: a table of them, in order, and for each bucket the chain of those in it, from the last one down.
 -- A link is 1 more than the number of an entry, or 0.
-use Prim.Native.Nat.{ℕ, zero, suc, _+_, _≤_, _<_}
+use Prim.Native.Nat.{ℕ, zero, suc, _+_, _/_, _%_, _≤_, _<_}
 use mathlib.Core.Path.{_≡_}
 use mathlib.Core.Bool.{Bool, true, false, _&&_}
 use mathlib.Core.List.{List}
 use lib.ListN.{length, getD}
 use Rattle.format.specs.Bytes.{Bytes, all, same}
-use Rattle.names.specs.Names.{bucketOf}
+use Rattle.names.specs.Names.{bucketOf, printOf}
 use Rattle.names.specs.Entries.{Entry, entryAt, InRow, entriesAt, Reached, left}
 use Rattle.names.specs.declared.Filled.{Filled}
 
--- entry q of the table
+-- entry q of the table, which holds a print above each place
 abbrev pub stored : Bytes → List ℕ → List ℕ → List ℕ → ℕ → Entry
-stored d ends places rows q = entryAt d ends (getD rows q 0) (getD places q 0)
+stored d ends places rows q = entryAt d ends (getD rows q 0) (getD places q 0 % 131072)
 
 -- do the first n entries pass a test
 abbrev pub allTo : (Entry → Bool) → (ℕ → Entry) → ℕ → Bool
@@ -27,7 +27,10 @@ pub record Chain (es : ℕ → Entry) (b i l : ℕ) : Type 0 where
 
 -- entry q of the table stands in the text
 abbrev pub Stands : Bytes → List ℕ → List ℕ → List ℕ → ℕ → Type 0
-Stands d ends places rows q = InRow d ends (getD rows q 0) (getD places q 0)
+Stands d ends places rows q = InRow d ends (getD rows q 0) (getD places q 0 % 131072)
+
+abbrev pub Printed : Bytes → List ℕ → List ℕ → List ℕ → ℕ → Type 0
+Printed d ends places rows q = getD places q 0 / 131072 ≡ printOf (stored d ends places rows q .name)
 
 -- room for 2048 entries
 pub record Room (places rows links heads : List ℕ) : Type 0 where
@@ -44,6 +47,7 @@ pub record Indexed (d : Bytes) (ends places rows links heads : List ℕ) (n : �
   pub room : Room places rows links heads
   pub few : n ≤ 2048
   pub row : (q : ℕ) → q < n → Stands d ends places rows q
+  pub print : (q : ℕ) → q < n → Printed d ends places rows q
   pub link : (q : ℕ) → q < n → Chain (stored d ends places rows) (bucketOf (stored d ends places rows q .name)) q (getD links q 0)
   pub head : (b : ℕ) → b < 1024 → Chain (stored d ends places rows) b n (getD heads b 0)
 

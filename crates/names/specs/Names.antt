@@ -39,3 +39,7 @@ mixed h (b ∷ v) = mixed ((h + b) * 2654435761 % 4294967296) v
 -- the bucket of a name, one of 1024: the upper bits of that number
 unfoldable pub bucketOf : Bytes → ℕ
 bucketOf v = mixed 2166136261 v / 4194304
+
+-- its print: the lower bits
+unfoldable pub printOf : Bytes → ℕ
+printOf v = mixed 2166136261 v % 32768

@@ -7,9 +7,9 @@ ghost use Prim.Native.Nat.{_-_, _≤_, _<_};
 ghost use lib.ListN.{length, getD};
 ghost use lib.Dec.{leb};
 ghost use Rattle.format.specs.Bytes.{same};
-ghost use Rattle.names.specs.Names.{nameFrom, NameByte, Behind, bucketOf};
+ghost use Rattle.names.specs.Names.{nameFrom, NameByte, Behind, mixed, printOf};
 ghost use Rattle.names.specs.Entries.{InRow, Rows, Reached, Starts, Goes};
-ghost use Rattle.names.specs.Index.{stored, Stands, Room, Empty, Indexed, Hit, Puts, Fills};
+ghost use Rattle.names.specs.Index.{stored, Stands, Printed, Room, Empty, Indexed, Hit, Puts, Fills};
 use lines::Decoded;
 
 // The byte of a name, which ends before a gap, a comma or the value's end, that is looked for at i.
@@ -61,16 +61,16 @@ fn wide_byte(x: u8) -> usize
     x as usize
 }
 
-// The bucket of the name from i on.
-fn bucket(s: &[u8], i: usize) -> usize
-    ensures { λ r. ⌜ (r ≡ bucketOf (nameFrom (now (s .entry)) i)) × (r < 1024) ⌝ }
+// The bytes of the name from i on, mixed into one number: its upper bits are the name's bucket, its lower bits the name's print.
+fn mix(s: &[u8], i: usize) -> usize
+    ensures { λ r. ⌜ (r ≡ mixed 2166136261 (nameFrom (now (s .entry)) i)) × (r < 4294967296) ⌝ }
 {
     let mut h: usize = 2166136261;
     let mut at = i;
     loop {
         let d = name_byte(s, at);
         let Decoded::Byte { byte, next } = d else {
-            return h / 4194304;
+            return h;
         };
         h = (h + wide_byte(byte)) * 2654435761 % 4294967296;
         at = next;
@@ -150,7 +150,7 @@ fn next_name<'a>(
     Cursor { row, at: k }
 }
 
-// Does link j lead to one of the first n entries, and has that the name from i on?
+// Does link j lead to one of the first n entries, and has that the name from i on, whose print is given? Bytes are compared only where the prints agree.
 fn is_hit(
     d: &[u8],
     ends: &[usize; 32],
@@ -160,16 +160,22 @@ fn is_hit(
     n: usize,
     name: &[u8],
     i: usize,
+    print: usize,
 ) -> bool
     requires { ⌜ (0 < j) × (j ≤ length (now places)) × (j ≤ length (now rows)) × Stands (now d) (now ends) (now places) (now rows) (j - 1) ⌝ }
+    requires { ⌜ (print ≡ printOf (nameFrom (now name) i)) × Printed (now d) (now ends) (now places) (now rows) (j - 1) ⌝ }
     ensures { λ r. ⌜ r ≡ (leb j n && same (nameFrom (now (name .entry)) i) (stored (now (d .entry)) (now (ends .entry)) (now (places .entry)) (now (rows .entry)) (j - 1) .name)) ⌝ }
 {
     if n < j {
         return false;
     }
     let q = j - 1;
+    let x = places[q] as usize;
+    if x / 131072 != print {
+        return false;
+    }
     let row = rows[q] as usize;
-    let at = places[q] as usize;
+    let at = x % 131072;
     let e = ends[row];
     let text = &d[..e];
     same_name(name, i, text, at)
@@ -192,10 +198,10 @@ pub fn last_hit(
     requires { ⌜ n ≤ count ⌝ }
     ensures { λ r. ⌜ Hit (stored (now (d .entry)) (now (ends .entry)) (now (places .entry)) (now (rows .entry))) (nameFrom (now (name .entry)) i) n r ⌝ }
 {
-    let b = bucket(name, i);
-    let mut j = heads[b] as usize;
+    let h = mix(name, i);
+    let mut j = heads[h / 4194304] as usize;
     while 0 < j {
-        if is_hit(d, ends, places, rows, j, n, name, i) {
+        if is_hit(d, ends, places, rows, j, n, name, i, h % 32768) {
             return j;
         }
         j = links[j - 1] as usize;
@@ -220,8 +226,9 @@ fn store(
     ensures { λ r. ⌜ Puts (now (d .entry)) (now (ends .entry)) (now (places .entry)) (now (rows .entry)) n row at (now (places .exit)) (now (rows .exit)) (now (links .exit)) (now (heads .exit)) r ⌝ }
 {
     let e = ends[row];
-    let b = bucket(&d[..e], at);
-    places[n] = at as u32;
+    let h = mix(&d[..e], at);
+    let b = h / 4194304;
+    places[n] = (at + 131072 * (h % 32768)) as u32;
     rows[n] = row as u8;
     links[n] = heads[b];
     heads[b] = (n + 1) as u32;

@@ -1,58 +1,61 @@
 -- `names::last_hit` meets its contract. The invariant: the entries from link j on that are asked have another name, and the one it leads to is in the name's bucket.
 -- The measure is the link, which falls along a chain.
 use borrow.Author.Needs.{needs}
-use Prim.Native.Nat.{_-_}
+use Prim.Native.Nat.{ℕ, _-_, _/_, _%_}
 use native.Mathlib.Omega.{arith}
-use mathlib.Core.Path.{_≡_, subst}
-use Rattle.names.specs.Names.{nameFrom}
+use mathlib.Core.Path.{_≡_, ap, subst}
+use Rattle.names.specs.Names.{nameFrom, bucketOf, printOf}
 use Rattle.names.specs.Index.{stored}
 use Rattle.names.proofs.Chaining.{Walked, walk-starts, walk-none, walk-hit, walk-on}
 use Rattle.names.proofs.last_hit.Statement.{statement}
 use Rattle.names.proofs.last_hit.Tie as tie
 use Rattle.names.proofs.last_hit.Reads as reads
 use Rattle.names.proofs.last_hit.Lts as lts
-use Rattle.names.proofs.bucket.Reads as bucket-reads
 use Rattle.names.proofs.is_hit.Reads as is-hit-reads
+use Rattle.names.proofs.mix.Reads as mix-reads
 
 abbrev Inv-loop : tie.InvT-loop
-Inv-loop d ends places rows links heads count n name i b j₀ j = Walked (stored d ends places rows) (nameFrom name i) count n j
+Inv-loop d ends places rows links heads count n name i h j₀ j = Walked (stored d ends places rows) (nameFrom name i) count n j
 
 abbrev μ-loop : tie.MeasureT-loop
-μ-loop d ends places rows links heads count n name i b j₀ j = j
+μ-loop d ends places rows links heads count n name i h j₀ j = j
 
-bucket-requires : tie.Need-bucket-requires Inv-loop μ-loop
-bucket-requires c κs = search needs
+mix-requires : tie.Need-mix-requires Inv-loop μ-loop
+mix-requires c κs = search needs
 
 mul-j : tie.Need-mul-j Inv-loop μ-loop
 mul-j c =
-    let at-bucket = c .bucket in
-    omega (arith, at-bucket .ensures .1)
+    let at-mix = c .mix in
+    omega (arith, at-mix .ensures .1)
 
 shared-slice-read-j : tie.Need-shared-slice-read-j Inv-loop μ-loop
 shared-slice-read-j c =
-    let at-bucket = c .before .bucket in
+    let at-mix = c .before .mix in
     let at-pre = c .before .before .before .before .before .before .before .before .pre in
-    omega (arith, at-bucket .ensures .1, at-pre .0 .room .headed)
+    omega (arith, at-mix .ensures .1, at-pre .0 .room .headed)
 
 cast-j : tie.Need-cast-j Inv-loop μ-loop
 cast-j c =
     let at-shared-slice-known7 = c .shared-slice-known7 in
-    let at-bucket = c .before .bucket in
-    omega (arith, at-shared-slice-known7 .given (at-bucket .result))
+    let at-mix = c .before .mix in
+    omega (arith, at-shared-slice-known7 .given (at-mix .result / 4194304))
 
 loop-holds : tie.Need-loop-holds Inv-loop μ-loop
+unfolding bucketOf
 loop-holds c =
     let at-args = c .before .before .before .before .before .before .before .before .args in
-    let at-bucket = c .before .bucket in
+    let at-mix = c .before .mix in
     let at-pre = c .before .before .before .before .before .before .before .before .pre in
-    walk-starts (stored (at-args .d .now) (at-args .ends .now) (at-args .places .now) (at-args .rows .now)) (nameFrom (at-args .name .now) (at-args .i)) (at-args .count) (at-args .n) (at-bucket .result) _ (at-pre .1) (at-bucket .ensures .0) (at-pre .0 .head (at-bucket .result) (at-bucket .ensures .1))
+    walk-starts (stored (at-args .d .now) (at-args .ends .now) (at-args .places .now) (at-args .rows .now)) (nameFrom (at-args .name .now) (at-args .i)) (at-args .count) (at-args .n) (at-mix .result / 4194304) _ (at-pre .1) (ap (λ (y : ℕ). y / 4194304) (at-mix .ensures .0)) (at-pre .0 .head (at-mix .result / 4194304) (omega (arith, at-mix .ensures .1)))
 
 is-hit-requires : tie.Need-is-hit-requires Inv-loop μ-loop
+unfolding printOf
 is-hit-requires c κs =
     let at-loop-test = c .loop-test in
     let at-loop = c .before .loop in
     let at-pre = c .before .before .before .before .before .before .before .before .before .before .pre in
-    (at-loop-test .taken, omega (arith, at-loop .inv .below, at-pre .0 .few, at-pre .0 .room .placed), omega (arith, at-loop .inv .below, at-pre .0 .few, at-pre .0 .room .listed), at-pre .0 .row (at-loop .j - 1) (omega (arith, at-loop-test .taken, at-loop .inv .below)))
+    let at-mix = c .before .before .before .mix in
+    ((at-loop-test .taken, omega (arith, at-loop .inv .below, at-pre .0 .few, at-pre .0 .room .placed), omega (arith, at-loop .inv .below, at-pre .0 .few, at-pre .0 .room .listed), at-pre .0 .row (at-loop .j - 1) (omega (arith, at-loop-test .taken, at-loop .inv .below))), (ap (λ (y : ℕ). y % 32768) (at-mix .ensures .0), at-pre .0 .print (at-loop .j - 1) (omega (arith, at-loop-test .taken, at-loop .inv .below))))
 
 returns : tie.Need-returns Inv-loop μ-loop
 returns c =
@@ -116,7 +119,7 @@ last-hit-spec =
     (tie.spec
     Inv-loop
     μ-loop
-    bucket-requires
+    mix-requires
     mul-j
     shared-slice-read-j
     cast-j

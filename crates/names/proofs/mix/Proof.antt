@@ -1,16 +1,16 @@
--- `names::bucket` meets its contract. The invariant: the name from at on, mixed into h, gives the whole name mixed, and h is below 4294967296.
+-- `names::mix` meets its contract. The invariant: the name from at on, mixed into h, gives the whole name mixed, and h is below 4294967296.
 -- The measure is what is left of the text.
 use borrow.Author.Needs.{needs}
-use Prim.Native.Nat.{ℕ, _<_, _-_, _/_}
+use Prim.Native.Nat.{_<_, _-_}
 use native.Mathlib.Omega.{arith}
-use mathlib.Core.Path.{_≡_, refl, ap}
+use mathlib.Core.Path.{_≡_, refl}
 use lib.ListN.{length}
-use Rattle.names.specs.Names.{nameFrom, mixed, bucketOf}
+use Rattle.names.specs.Names.{nameFrom, mixed}
 use Rattle.names.proofs.Naming.{byte-told}
-use Rattle.names.proofs.bucket.Statement.{statement}
-use Rattle.names.proofs.bucket.Tie as tie
-use Rattle.names.proofs.bucket.Reads as reads
-use Rattle.names.proofs.bucket.Lts as lts
+use Rattle.names.proofs.mix.Statement.{statement}
+use Rattle.names.proofs.mix.Tie as tie
+use Rattle.names.proofs.mix.Reads as reads
+use Rattle.names.proofs.mix.Lts as lts
 use Rattle.names.proofs.name_byte.Reads as name-byte-reads
 use Rattle.names.proofs.wide_byte.Reads as wide-byte-reads
 
@@ -33,14 +33,14 @@ enum-told : tie.Need-enum-told Inv-loop μ-loop
 enum-told c = search needs
 
 returns : tie.Need-returns Inv-loop μ-loop
-unfolding mixed bucketOf
+unfolding mixed
 returns c =
     let at-args = c .before .before .before .before .before .args in
     let at-loop = c .before .before .before .loop in
     let at-name-byte = c .before .before .name-byte in
     let at-enum-told = c .enum-told in
     let e = byte-told (at-args .s .now) (at-loop .at) (at-name-byte .result) (at-name-byte .ensures) (at-enum-told .given .1) in
-    (ap (λ (h : ℕ). h / 4194304) (rw e at (at-loop .inv .1)), omega (arith, at-loop .inv .0))
+    (rw e at (at-loop .inv .1), at-loop .inv .0)
 
 wide-byte-requires : tie.Need-wide-byte-requires Inv-loop μ-loop
 wide-byte-requires c κs = search needs
@@ -71,8 +71,8 @@ loop-again c =
     let u = byte-told (at-args .s .now) (at-loop .at) (at-name-byte .result) (at-name-byte .ensures) (at-d .given .1) in
     (omega arith, rw (at-wide-byte .ensures .0) (rw (u .0) at (at-loop .inv .1)))
 
-pub bucket-spec : {M : Type 1} → statement M
-bucket-spec =
+pub mix-spec : {M : Type 1} → statement M
+mix-spec =
     tie.close
     (tie.spec
     Inv-loop
