@@ -57,10 +57,28 @@ def crafted(limit):
     return filled(b'%rec: Scan\n%key: K\n\n', lambda n: b'K: ' + keys[n - 1] + b'\n\n', limit)
 
 
+LETTERS = b'ABCDEFGHIJKLMNOPQRSTUVWXYZabcdefghijklmnopqrstuvwxyz'
+
+
+def listing(rows, fields, limit):
+    """Records of 200 fields, none of them named in the rows of names that `%type` fields list."""
+    head = b'%rec: Scan\n' + b''.join(b'%type: ' + b','.join(names) + b' line\n' for names in rows) + b'\n'
+    return filled(head, lambda n: b''.join(fields[i % len(fields)] + b':\n' for i in range(200 * n, 200 * n + 200)) + b'\n', limit)
+
+
 def many_names(limit):
-    """Records of many fields under `%type` fields that list many names, none of which is a field's."""
-    head = b'%rec: Scan\n' + (b'%type: ' + b','.join([b'Bb'] * 1340) + b' line\n') * 8 + b'\n'
-    return filled(head, lambda n: b'Ba:\n' * 200 + b'\n', limit)
+    """8 `%type` fields of 1,340 names each."""
+    names = [bytes((a, b)) for a in LETTERS for b in LETTERS + b'0123456789' if a != b]
+    return listing([[names[(1340 * row + i) % len(names)] for i in range(1340)] for row in range(8)], [b'zz'], limit)
+
+
+def crafted_names(limit):
+    """Listed names and fields' names that all fall into one bucket of the index: the upper ten bits of what their bytes are mixed into."""
+    m, size, names = 2654435761, 1 << 32, []
+    for a, b, c in ((a, b, c) for a in LETTERS for b in LETTERS for c in LETTERS):
+        h = (((2166136261 + a) * m + b) * m + c) * m
+        names += [bytes((a, b, c, d)) for d in LETTERS if (h + d) * m % size >> 22 == 7]
+    return listing([names[i:i + 800] for i in range(0, 6400, 800)], names[6400:], limit)
 
 
 def run(*words):
@@ -110,7 +128,7 @@ def main():
 
     files = {}
     for name, (text, count) in {
-        'book 1 KB': book(1024), 'book 8 KB': book(8192), 'book 64 KB': book(65000), 'keys 64 KB': only_keys(65536), 'crafted 64 KB': crafted(65536), 'names 64 KB': many_names(65536),
+        'book 1 KB': book(1024), 'book 8 KB': book(8192), 'book 64 KB': book(65000), 'keys 64 KB': only_keys(65536), 'crafted 64 KB': crafted(65536), 'names 64 KB': many_names(65536), 'crafted names': crafted_names(65536),
     }.items():
         path = os.path.join(OUT, name.replace(' ', '-') + '.rec')
         with open(path, 'wb') as f:
