@@ -7,6 +7,7 @@ use mathlib.Core.List.{List, [], _∷_}
 use lib.Dec.{ltb, leb}
 use lib.ListN.{length, take, drop, length-drop, length-append}
 use borrow.Author.Tests.{lt-ltb, le-ltb, le-leb, lt-leb}
+use Rattle.format.specs.Lists.{isFilled}
 use Rattle.format.specs.Bytes.{Bytes, text, pick}
 use Rattle.format.specs.Pieces.{Piece}
 use Rattle.format.specs.Records.{Record, fieldsOf}
@@ -17,7 +18,6 @@ use Rattle.format.specs.Calls.{Answer, fileThen, partsOf, over, Filled, filled}
 use Rattle.format.proofs.Sets.{GoodSets, good-sets}
 use Rattle.lines.specs.Value.{valueFrom}
 use Rattle.lines.proofs.Decoding.{value-length}
-use Rattle.format.proofs.Walking.{isFilled}
 use Rattle.records.specs.Places.{isReadable, Placed, placesOf}
 use Rattle.records.specs.Walk.{recordIn}
 use Rattle.records.specs.declared.Place.{Place}

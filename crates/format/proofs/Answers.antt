@@ -7,7 +7,7 @@ use mathlib.Core.Option.{Option, none, some}
 use lib.ListN.{length, take}
 use Rattle.format.specs.Bytes.{Bytes}
 use Rattle.format.specs.Pieces.{Piece, bytesOf, pieces}
-use Rattle.format.specs.Numbers.{bits32}
+use Rattle.format.specs.Numbers.{intBounds}
 use Rattle.format.specs.Questions.{firstNo, verdict}
 use Rattle.format.specs.Requests.{Request, requestOf}
 use Rattle.format.specs.Plain.{plainOf, apply, editQuestions, stepBy, stepOf, step}
@@ -34,19 +34,19 @@ module _ (buffer : Bytes) (used : ℕ) (request : Bytes) where
     unfolding step
     answer-fault e =
         let r = verdict-reads buffer used v in
-        answer-read (r .0) (r .1) ∙ ap (λ (x : Option Request). editedStep (stepOf bits32 (length buffer) (plainOf (r .0)) x) buffer used) e
+        answer-read (r .0) (r .1) ∙ ap (λ (x : Option Request). editedStep (stepOf intBounds (length buffer) (plainOf (r .0)) x) buffer used) e
 
     module _ (ps : List Piece) (r : pieces (take used buffer) ≡ some ps) (q : Request) (e : requestOf request ≡ some q) where
-      answer-by : (n : ℕ) → firstNo (editQuestions bits32) (asked (length buffer) (plainOf ps) q) ≡ n → editAnswer buffer used request ≡ editedStep (stepBy n (plainOf ps) (apply q (plainOf ps))) buffer used
+      answer-by : (n : ℕ) → firstNo (editQuestions intBounds) (asked (length buffer) (plainOf ps) q) ≡ n → editAnswer buffer used request ≡ editedStep (stepBy n (plainOf ps) (apply q (plainOf ps))) buffer used
       unfolding step
       answer-by n z =
           answer-read ps r
-          ∙ ap (λ (x : Option Request). editedStep (stepOf bits32 (length buffer) (plainOf ps) x) buffer used) e
+          ∙ ap (λ (x : Option Request). editedStep (stepOf intBounds (length buffer) (plainOf ps) x) buffer used) e
           ∙ ap (λ (x : ℕ). editedStep (stepBy x (plainOf ps) (apply q (plainOf ps))) buffer used) z
 
       -- the edit's number, by that of questions 21 to 25
       module _ (k : ℕ) (z : firstNo placeRows (asked (length buffer) (plainOf ps) q) ≡ k) where
-        number : firstNo (editQuestions bits32) (asked (length buffer) (plainOf ps) q) ≡ editNo (length buffer) k (bytesOf (apply q (plainOf ps) .pieces))
+        number : firstNo (editQuestions intBounds) (asked (length buffer) (plainOf ps) q) ≡ editNo (length buffer) k (bytesOf (apply q (plainOf ps) .pieces))
         number = edit-number buffer used (plainOf ps) (holds-start buffer used ps v r) (length buffer) q (request-pairs request q e) k z
 
         pub answer-refused : (n : ℕ) → 0 < n → editNo (length buffer) k (bytesOf (apply q (plainOf ps) .pieces)) ≡ n → editAnswer buffer used request ≡ refusedEdit n buffer used

@@ -9,7 +9,7 @@ use lib.Dec.{leb, ltb}
 use borrow.Author.Tests.{leb-true, ltb-true}
 use Rattle.format.specs.Bytes.{Bytes, pick, all}
 use Rattle.format.specs.Limits.{fileBytes}
-use Rattle.format.specs.Numbers.{Bounds, bits32}
+use Rattle.format.specs.Numbers.{Bounds, intBounds}
 use Rattle.format.specs.Questions.{Row, firstNo, fileOf, questions, verdictIn, verdict}
 use Rattle.format.specs.Requests.{Request, requestOf}
 use Rattle.format.specs.Plain.{Plain, size, apply, Asked, editQuestions, Step, stepBy, stepOf, step}
@@ -41,13 +41,13 @@ module _ {A : Type 0} where
   yes-first (r ∷ rs) a h = ap (λ (b : Bool). pick b (firstNo rs a) (r .number)) (h .0) ∙ yes-first rs a (h .1)
 
 -- a file passes where all its questions say yes
-pub verdict-yes : (buffer : Bytes) (used : ℕ) → verdict buffer used ≡ 0 → Each (Yes (fileOf buffer used)) (questions bits32)
+pub verdict-yes : (buffer : Bytes) (used : ℕ) → verdict buffer used ≡ 0 → Each (Yes (fileOf buffer used)) (questions intBounds)
 unfolding verdict verdictIn
-verdict-yes buffer used e = first-yes (questions bits32) (fileOf buffer used) refl e
+verdict-yes buffer used e = first-yes (questions intBounds) (fileOf buffer used) refl e
 
-pub yes-verdict : (buffer : Bytes) (used : ℕ) → Each (Yes (fileOf buffer used)) (questions bits32) → verdict buffer used ≡ 0
+pub yes-verdict : (buffer : Bytes) (used : ℕ) → Each (Yes (fileOf buffer used)) (questions intBounds) → verdict buffer used ≡ 0
 unfolding verdict verdictIn
-yes-verdict buffer used h = yes-first (questions bits32) (fileOf buffer used) h
+yes-verdict buffer used h = yes-first (questions intBounds) (fileOf buffer used) h
 
 -- an edit's questions, 21 to 25 among them
 pub yes-granted : (b : Bounds) (a : Asked) → Each (Yes a) (editQuestions b) → Granted a
@@ -61,7 +61,7 @@ asked room p q = record { room = room; file = p; request = q; result = apply q p
 pub record Accepted (room : ℕ) (p : Plain) (request : Bytes) (file : Plain) : Type 0 where
   pub asks : Request
   pub reads : requestOf request ≡ some asks
-  pub yes : Each (Yes (asked room p asks)) (editQuestions bits32)
+  pub yes : Each (Yes (asked room p asks)) (editQuestions intBounds)
   pub makes : file ≡ apply asks p
 
 pub accepted-pairs : (room : ℕ) (p : Plain) (request : Bytes) (file : Plain) (a : Accepted room p request file) → HasPairs (a .asks .edit)
@@ -76,13 +76,13 @@ accepted-fits room p request file a =
 abbrev Answered : ℕ → Plain → Bytes → Step → Type 0
 Answered room p request s = (s .number ≡ 0 → Accepted room p request (s .file)) × ((k : ℕ) → s .number ≡ suc k → s .file ≡ p)
 
-answered-by : (room : ℕ) (p : Plain) (request : Bytes) (q : Request) (n : ℕ) → requestOf request ≡ some q → firstNo (editQuestions bits32) (asked room p q) ≡ n → Answered room p request (stepBy n p (apply q p))
-answered-by room p request q zero e h = (λ z. record { asks = q; reads = e; yes = first-yes (editQuestions bits32) (asked room p q) refl h; makes = refl }, λ k z. absurd (omega arith))
+answered-by : (room : ℕ) (p : Plain) (request : Bytes) (q : Request) (n : ℕ) → requestOf request ≡ some q → firstNo (editQuestions intBounds) (asked room p q) ≡ n → Answered room p request (stepBy n p (apply q p))
+answered-by room p request q zero e h = (λ z. record { asks = q; reads = e; yes = first-yes (editQuestions intBounds) (asked room p q) refl h; makes = refl }, λ k z. absurd (omega arith))
 answered-by room p request q (suc n) e h = (λ z. absurd (omega arith), λ k z. refl)
 
-answered-of : (room : ℕ) (p : Plain) (request : Bytes) (x : Option Request) → requestOf request ≡ x → Answered room p request (stepOf bits32 room p x)
+answered-of : (room : ℕ) (p : Plain) (request : Bytes) (x : Option Request) → requestOf request ≡ x → Answered room p request (stepOf intBounds room p x)
 answered-of room p request none e = (λ z. absurd (omega arith), λ k z. refl)
-answered-of room p request (some q) e = answered-by room p request q (firstNo (editQuestions bits32) (asked room p q)) e refl
+answered-of room p request (some q) e = answered-by room p request q (firstNo (editQuestions intBounds) (asked room p q)) e refl
 
 pub step-accepted : (room : ℕ) (p : Plain) (request : Bytes) → step room p request .number ≡ 0 → Accepted room p request (step room p request .file)
 unfolding step

@@ -1,12 +1,13 @@
 -- Pieces and their blocks: each comes back from the other, also after an edit.
 use mathlib.Core.Path.{_≡_, refl, sym, ap, _∙_}
 use mathlib.Core.List.{List, [], _∷_, _++_, append-assoc, map}
+use Rattle.format.specs.Lists.{flat}
 use Rattle.format.specs.Bytes.{Bytes}
 use Rattle.format.specs.Lines.{Line}
 use Rattle.format.specs.Pieces.{Piece}
 use Rattle.format.specs.Records.{Record, Block, onto, place, blocks, fieldsOf, close, recordsIn, records}
 use Rattle.format.specs.Written.{Pair, newPiece}
-use Rattle.format.specs.Edits.{Change, Edit, Turn, fieldTurn, atPiece, changePiece, unfielded, lastThen, addLast, inBlock, flat, blockTurn, atBlock}
+use Rattle.format.specs.Edits.{Change, Edit, Turn, fieldTurn, atPiece, changePiece, unfielded, lastThen, addLast, inBlock, blockTurn, atBlock}
 use Rattle.format.proofs.Elements.{Each, each-append, Filled}
 
 -- blocks as they are cut: no blank line but at the head of each but the first

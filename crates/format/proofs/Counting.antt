@@ -4,12 +4,13 @@ use native.Mathlib.Omega.{arith}
 use mathlib.Core.Path.{_≡_, refl, sym, ap, _∙_}
 use mathlib.Core.List.{List, [], _∷_, _++_}
 use lib.ListN.{length, length-append}
+use Rattle.format.specs.Lists.{flat, sum}
 use Rattle.format.specs.Lines.{Line, bytes}
 use Rattle.format.specs.Pieces.{Piece, allLines, bytesOf}
 use Rattle.format.specs.Records.{Record, Block, blocks, countOf, fieldsOf, close, recordsIn, records}
 use Rattle.format.specs.Sets.{RecSet, sets, setsOf}
-use Rattle.format.specs.Edits.{flat, flatSets}
-use Rattle.format.specs.Plain.{sum, recordCount, looseCount, plainOf, size}
+use Rattle.format.specs.Edits.{flatSets}
+use Rattle.format.specs.Plain.{recordCount, looseCount, plainOf, size}
 use Rattle.format.proofs.Lines.{bytes-append}
 use Rattle.format.proofs.Blocks.{flat-blocks}
 use Rattle.format.proofs.Sets.{flat-sets}

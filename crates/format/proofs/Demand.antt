@@ -11,7 +11,7 @@ use borrow.Author.Tests.{eqb-true, eqb-false}
 use Rattle.format.specs.Bytes.{Bytes, pick, same}
 use Rattle.format.specs.Pieces.{Piece, bytesOf, pieces}
 use Rattle.format.specs.Sets.{RecSet}
-use Rattle.format.specs.Numbers.{bits32}
+use Rattle.format.specs.Numbers.{intBounds}
 use Rattle.format.specs.Edits.{Edit}
 use Rattle.format.specs.Questions.{nameOf, verdict}
 use Rattle.format.specs.Requests.{Request, requestOf}
@@ -59,7 +59,7 @@ number-at a g s k e i false h = ap (λ ms. length ms + 0) (apply-others (a .requ
 accepted-number : (room : ℕ) (p : Plain) (q : Bytes) (p′ : Plain) → Agrees p → Accepted room p q p′ → (i : ℕ) → recordsHeld i p′ + asksOf deletes (p .parts) i (requestOf q) ≡ recordsHeld i p + asksOf inserts (p .parts) i (requestOf q)
 accepted-number room p q p′ s a i =
     let c : Asked = asked room p (a .asks) in
-    let g = yes-granted bits32 c (a .yes) in
+    let g = yes-granted intBounds c (a .yes) in
     let k : ℕ = granted-set c g .0 in
     let e = granted-set c g .1 in
     let o : (f : Edit → ℕ) → asksOf f (p .parts) i (requestOf q) ≡ pick (eqb k i) (f (a .asks .edit)) 0 = λ f. ap (asksOf f (p .parts) i) (a .reads) ∙ ap (λ (x : Option ℕ). ofSet i x (f (a .asks .edit))) e in

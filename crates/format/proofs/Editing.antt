@@ -2,12 +2,13 @@
 use Prim.Native.Nat.{ℕ, zero, suc}
 use mathlib.Core.Path.{_≡_, refl, sym, ap, _∙_, subst}
 use mathlib.Core.List.{List, [], _∷_, _++_, map}
+use Rattle.format.specs.Lists.{flat, isFilled}
 use Rattle.format.specs.Bytes.{Bytes}
 use Rattle.format.specs.Lines.{Line}
 use Rattle.format.specs.Pieces.{Piece}
 use Rattle.format.specs.Records.{Field, Record, Block, blocks, fieldsOf, close, recordsIn, records}
 use Rattle.format.specs.Written.{Pair, newField, newPiece}
-use Rattle.format.specs.Edits.{Change, Edit, Turn, turn, fieldTurn, atField, fieldOf, atPiece, changePiece, changeField, unfielded, lastThen, addLast, addField, newline, inBlock, inRecord, flat, isRecord, blockTurn, atBlock, onPieces, onRecords}
+use Rattle.format.specs.Edits.{Change, Edit, Turn, turn, fieldTurn, atField, fieldOf, atPiece, changePiece, changeField, unfielded, lastThen, addLast, addField, newline, inBlock, inRecord, blockTurn, atBlock, onPieces, onRecords}
 use Rattle.format.proofs.Elements.{Each, each-append, each-parts, each-map}
 use Rattle.format.proofs.Whole.{Sound}
 use Rattle.format.proofs.Writing.{field-new, fields-new}
@@ -57,7 +58,7 @@ in-records (Edit.add p) b f r h q = ap (λ (x : Record). close x []) (fields-add
 in-records (Edit.change n o c) b f r h q = ap (λ (x : Record). close x []) (fields-at (fieldTurn n o (fieldsOf b)) n c b h) ∙ ap (inRecord (Edit.change n o c)) q
 
 -- the edit comes to the block of the record that it is for
-at-step : (e : Edit) (b : Block) (bs : List Block) (k : ℕ) (r : Record) → Each Sound b → fieldsOf b ≡ r → ((j : ℕ) → recordsIn (atBlock (blockTurn j bs) (inBlock e) bs) ≡ onRecords j e (recordsIn bs)) → recordsIn (atBlock (turn (isRecord r) k) (inBlock e) (b ∷ bs)) ≡ onRecords k e (close r (recordsIn bs))
+at-step : (e : Edit) (b : Block) (bs : List Block) (k : ℕ) (r : Record) → Each Sound b → fieldsOf b ≡ r → ((j : ℕ) → recordsIn (atBlock (blockTurn j bs) (inBlock e) bs) ≡ onRecords j e (recordsIn bs)) → recordsIn (atBlock (turn (isFilled r) k) (inBlock e) (b ∷ bs)) ≡ onRecords k e (close r (recordsIn bs))
 at-step e b bs k [] h q ih = ap (λ (x : Record). close x (recordsIn (atBlock (blockTurn k bs) (inBlock e) bs))) q ∙ ih k
 at-step e b bs zero (f ∷ r) h q ih = recordsIn-append (inBlock e b) bs ∙ ap (λ (x : List Record). x ++ recordsIn bs) (in-records e b f r h q)
 at-step e b bs (suc k) (f ∷ r) h q ih = ap (λ (x : Record). close x (recordsIn (atBlock (blockTurn k bs) (inBlock e) bs))) q ∙ ap {B = List Record} (λ x. (f ∷ r) ∷ x) (ih k)

@@ -13,7 +13,7 @@ use Rattle.format.specs.Pieces.{Piece, pieces}
 use Rattle.format.specs.Records.{Record}
 use Rattle.format.specs.Sets.{RecSet, setsOf}
 use Rattle.format.specs.Limits.{fileBytes}
-use Rattle.format.specs.Numbers.{Bounds, bits32}
+use Rattle.format.specs.Numbers.{Bounds, intBounds}
 use Rattle.format.specs.Rules.{distinct}
 use Rattle.format.specs.Questions.{Row, firstNo, askOf, File, setsIn, fileOf, noneProhibited, allAllowed, allPresent, noneRepeated, allTyped, keysOf, sizeMet, limitRows, descriptorRows, ruleRows, questions, verdictIn, verdict}
 use Rattle.format.proofs.Least.{leasts, eachOf, Rise, first-leasts, first-append}
@@ -29,9 +29,9 @@ first-ask f (r ∷ rs) a = ap (λ (n : ℕ). pick (r .asks (f a)) n (r .number))
 -- the sets' number, or 3 where the file does not read
 abbrev pub readNo : Option (List Piece) → ℕ
 readNo none = 3
-readNo (some ps) = firstNo (setQuestions bits32) (setsOf ps)
+readNo (some ps) = firstNo (setQuestions intBounds) (setsOf ps)
 
-read-no : (x : Option (List Piece)) → pick (isSome x) (firstNo (setQuestions bits32) (setsIn x)) 3 ≡ readNo x
+read-no : (x : Option (List Piece)) → pick (isSome x) (firstNo (setQuestions intBounds) (setsIn x)) 3 ≡ readNo x
 read-no none = refl
 read-no (some ps) = refl
 
@@ -45,7 +45,7 @@ unfolding verdict verdictIn fileOf textNo
 verdict-text buffer used =
     let s : Bytes = take used buffer in
     let f : File = fileOf buffer used in
-    let e : firstNo (askOf (λ (g : File). g .parts) (setQuestions bits32)) f ≡ firstNo (setQuestions bits32) (setsIn (pieces s)) = first-ask (λ (g : File). g .parts) (setQuestions bits32) f in
+    let e : firstNo (askOf (λ (g : File). g .parts) (setQuestions intBounds)) f ≡ firstNo (setQuestions intBounds) (setsIn (pieces s)) = first-ask (λ (g : File). g .parts) (setQuestions intBounds) f in
     ap (λ (n : ℕ). pick (leb used (length buffer) && leb used fileBytes) (pick (all isAllowed s && isEnded s) (pick (isSome (pieces s)) n 3) 2) 1) e
     ∙ ap (λ (n : ℕ). pick (leb used (length buffer) && leb used fileBytes) (pick (all isAllowed s && isEnded s) n 2) 1) (read-no (pieces s))
 

@@ -7,11 +7,12 @@ use mathlib.Core.List.{List, [], _∷_, _++_, map}
 use lib.Dec.{eqb, eqb·suc-zero}
 use lib.ListN.{length}
 use borrow.Author.Tests.{eqb-true, eqb-false, eq-eqb, ne-eqb}
+use Rattle.format.specs.Lists.{flat}
 use Rattle.format.specs.Bytes.{Bytes, pick, all, any, same, among}
 use Rattle.format.specs.Words.{words}
 use Rattle.format.specs.Records.{Field, Record}
 use Rattle.format.specs.Sets.{keepIf, valuesOf}
-use Rattle.format.specs.Rules.{joinAll, listed, prohibited}
+use Rattle.format.specs.Rules.{listed, prohibited}
 use Rattle.format.specs.Questions.{noneProhibited, occurrences}
 use Rattle.format.proofs.Elements.{all-both, all-yes, all-alike}
 
@@ -38,7 +39,7 @@ same-swap (x ∷ s) [] = refl
 same-swap (x ∷ s) (y ∷ t) = (λ i. eqb-swap x y i && same-swap s t i)
 
 -- one more field in front: the words that it lists, and its occurrence
-listed-by : (b : Bool) (v : Bytes) (vs : List Bytes) → joinAll (map words (keepIf b v vs)) ≡ pick b (words v) [] ++ joinAll (map words vs)
+listed-by : (b : Bool) (v : Bytes) (vs : List Bytes) → flat (map words (keepIf b v vs)) ≡ pick b (words v) [] ++ flat (map words vs)
 listed-by true v vs = refl
 listed-by false v vs = refl
 

@@ -14,7 +14,7 @@ use Rattle.format.specs.Lines.{isEnded}
 use Rattle.format.specs.Pieces.{Piece, allLines, bytesOf, pieces}
 use Rattle.format.specs.Sets.{RecSet, setsOf}
 use Rattle.format.specs.Limits.{fileBytes}
-use Rattle.format.specs.Numbers.{bits32}
+use Rattle.format.specs.Numbers.{intBounds}
 use Rattle.format.specs.Questions.{setsIn, fileOf, limitRows, descriptorRows, ruleRows, verdict}
 use Rattle.format.specs.Requests.{Request}
 use Rattle.format.specs.Plain.{Plain, plainOf, size, apply, editQuestions, step}
@@ -31,7 +31,7 @@ use Rattle.format.proofs.Describing.{describes-once, describes-well, ty
 
 -- questions 4 to 14 say yes of sets
 abbrev pub SetsPass : List RecSet → Type 0
-SetsPass ss = Each (Yes ss) (limitRows ++ descriptorRows bits32 ++ ruleRows bits32)
+SetsPass ss = Each (Yes ss) (limitRows ++ descriptorRows intBounds ++ ruleRows intBounds)
 
 -- what a used buffer that passes is
 pub record Passes (buffer : Bytes) (used : ℕ) (ps : List Piece) : Type 0 where
@@ -102,18 +102,18 @@ placed-take s used buffer = take-append-seam s (replicate (used - length s) 0 ++
 
 -- an accepted request: the result passes, and reads as what the request makes of the plain file
 module _ (buffer : Bytes) (used : ℕ) (p : Plain) (request : Bytes) (h : Holds buffer used p) where
-  result-sets : (q : Request) → SetsPass (p .parts) → GoodSets (p .parts) → Each (Yes (asked (length buffer) p q)) (editQuestions bits32) → SetsPass (apply q p .parts)
+  result-sets : (q : Request) → SetsPass (p .parts) → GoodSets (p .parts) → Each (Yes (asked (length buffer) p q)) (editQuestions intBounds) → SetsPass (apply q p .parts)
   result-sets q s g y =
       let m = y .1 .1 .1 .1 .1 .1 in
-      (m .0, (describes-once q p (y .1 .1 .1 .1 .0) g (s .1 .0), (describes-well bits32 q p ∙ s .1 .1 .0, (types-well bits32 q p ∙ s .1 .1 .1 .0, m .1))))
+      (m .0, (describes-once q p (y .1 .1 .1 .1 .0) g (s .1 .0), (describes-well intBounds q p ∙ s .1 .1 .0, (types-well intBounds q p ∙ s .1 .1 .1 .0, m .1))))
 
-  result-holds : (q : Request) → HasPairs (q .edit) → Each (Yes (asked (length buffer) p q)) (editQuestions bits32) → Holds (placed (bytesOf (apply q p .pieces)) used buffer) (length (bytesOf (apply q p .pieces))) (apply q p)
+  result-holds : (q : Request) → HasPairs (q .edit) → Each (Yes (asked (length buffer) p q)) (editQuestions intBounds) → Holds (placed (bytesOf (apply q p .pieces)) used buffer) (length (bytesOf (apply q p .pieces))) (apply q p)
   result-holds q f y =
       let r : Plain = apply q p in
       let s : Bytes = bytesOf (r .pieces) in
       let c = holds-passes buffer used p h in
       let a = holds-agrees buffer used p h in
-      let g = yes-granted bits32 (asked (length buffer) p q) y in
+      let g = yes-granted intBounds (asked (length buffer) p q) y in
       let b : Agrees r = apply-agrees (asked (length buffer) p q) f g a in
       let n : size r ≡ length s = agrees-size r b in
       let k = and-eq-true-iff (leb (size r) (length buffer)) (leb (size r) fileBytes) .0 (y .1 .1 .1 .1 .1 .0) in

@@ -6,9 +6,9 @@ use mathlib.Core.List.{List, [], _∷_}
 use mathlib.Core.Option.{Option, none, some}
 use lib.Dec.{eqb, leb}
 use lib.ListN.{length}
+use Rattle.format.specs.Lists.{onward}
 use Rattle.format.specs.Bytes.{Bytes, pick, same}
 use Rattle.format.specs.Limits.{fileBytes}
-use Rattle.format.specs.Numbers.{onward}
 use Rattle.format.specs.Written.{Pair}
 use Rattle.format.specs.Edits.{Edit}
 use Rattle.format.specs.Requests.{Tagged, tagged, Request, withText, twoBytes, withNumber, ends, pairsOf, inserts, changes, byKind, requestOf}

@@ -3,14 +3,15 @@ use Prim.Native.Nat.{ℕ, zero, suc, _+_}
 use native.Mathlib.Omega.{arith}
 use mathlib.Core.Path.{_≡_, refl, ap, _∙_}
 use mathlib.Core.List.{List, [], _∷_, _++_, map}
+use Rattle.format.specs.Lists.{flat, isFilled, sum}
 use Rattle.format.specs.Bytes.{Bytes}
 use Rattle.format.specs.Lines.{Line}
 use Rattle.format.specs.Pieces.{Piece}
 use Rattle.format.specs.Records.{Record, Block, blocks, countOf, fieldsOf, close, recordsIn, records}
 use Rattle.format.specs.Sets.{RecSet, setsOf}
 use Rattle.format.specs.Written.{Pair, newPiece}
-use Rattle.format.specs.Edits.{Change, Edit, Turn, turn, fieldTurn, atPiece, changePiece, unfielded, lastThen, addLast, newline, inBlock, flat, isRecord, blockTurn, atBlock, onPieces, onSet, gap, inFront}
-use Rattle.format.specs.Plain.{sum, looseCount, restOf, gapCount}
+use Rattle.format.specs.Edits.{Change, Edit, Turn, turn, fieldTurn, atPiece, changePiece, unfielded, lastThen, addLast, newline, inBlock, blockTurn, atBlock, onPieces, onSet, gap, inFront}
+use Rattle.format.specs.Plain.{looseCount, restOf, gapCount}
 use Rattle.format.proofs.Elements.{Has}
 use Rattle.format.proofs.Blocks.{flat-blocks, flat-append}
 use Rattle.format.proofs.Counting.{sum-append, rulesCount}
@@ -71,7 +72,7 @@ Found t [] = ⊥
 Found Turn.here (b ∷ bs) = Unit {0}
 Found (Turn.later k) (b ∷ bs) = Found (blockTurn k bs) bs
 
-found-step : (b : Block) (bs : List Block) (k : ℕ) (r : Record) → ((j : ℕ) → Has (recordsIn bs) j → Found (blockTurn j bs) bs) → Has (close r (recordsIn bs)) k → Found (turn (isRecord r) k) (b ∷ bs)
+found-step : (b : Block) (bs : List Block) (k : ℕ) (r : Record) → ((j : ℕ) → Has (recordsIn bs) j → Found (blockTurn j bs) bs) → Has (close r (recordsIn bs)) k → Found (turn (isFilled r) k) (b ∷ bs)
 found-step b bs k [] ih h = ih k h
 found-step b bs zero (f ∷ r) ih h = tt
 found-step b bs (suc k) (f ∷ r) ih h = ih k h

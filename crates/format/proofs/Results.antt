@@ -13,7 +13,7 @@ use Rattle.format.specs.Lines.{isEnded}
 use Rattle.format.specs.Pieces.{Piece, bytesOf, pieces}
 use Rattle.format.specs.Sets.{RecSet, setsOf}
 use Rattle.format.specs.Limits.{fileBytes}
-use Rattle.format.specs.Numbers.{bits32}
+use Rattle.format.specs.Numbers.{intBounds}
 use Rattle.format.specs.Questions.{Row, firstNo, askOf, fitsLimits, describesOnce, describesWell, typesWell, limitRows, ruleRows}
 use Rattle.format.specs.Requests.{Request}
 use Rattle.format.specs.Plain.{Plain, size, apply, Asked, resultFits, raised, editQuestions}
@@ -29,7 +29,7 @@ use Rattle.format.proofs.Judging.{setQuestions, first-ask, readNo, text
 
 -- questions 21 to 25
 abbrev pub placeRows : List (Row Asked)
-placeRows = take 5 (editQuestions bits32)
+placeRows = take 5 (editQuestions intBounds)
 
 -- "numbered 104 and 108 to 114"
 abbrev pub raisedNo : ℕ → ℕ
@@ -54,12 +54,12 @@ first-raised (r ∷ rs) a h = ap (λ (n : ℕ). pick (r .asks a) n (100 + r .num
 
 -- questions 26 on
 abbrev resultNo : Asked → ℕ
-resultNo a = pick (resultFits a) (raisedNo (firstNo (limitRows ++ ruleRows bits32) (a .result .parts))) 26
+resultNo a = pick (resultFits a) (raisedNo (firstNo (limitRows ++ ruleRows intBounds) (a .result .parts))) 26
 
-cut-number : (a : Asked) → firstNo (editQuestions bits32) a ≡ pick (eqb (firstNo placeRows a) 0) (resultNo a) (firstNo placeRows a)
+cut-number : (a : Asked) → firstNo (editQuestions intBounds) a ≡ pick (eqb (firstNo placeRows a) 0) (resultNo a) (firstNo placeRows a)
 cut-number a =
     let parts : Asked → List RecSet = λ (x : Asked). x .result .parts in
-    let rows : List (Row (List RecSet)) = limitRows ++ ruleRows bits32 in
+    let rows : List (Row (List RecSet)) = limitRows ++ ruleRows intBounds in
     let e : firstNo (askOf parts (map raised rows)) a ≡ raisedNo (firstNo rows (parts a)) = first-ask parts (map raised rows) a ∙ first-raised rows (parts a) (omega arith) in
     first-append placeRows (record { number = 26; asks = resultFits } ∷ askOf parts (map raised rows)) a (omega arith)
     ∙ ap (λ (n : ℕ). pick (eqb (firstNo placeRows a) 0) (pick (resultFits a) n 26) (firstNo placeRows a)) e
@@ -71,9 +71,9 @@ place-granted a e =
     record { set = y .0; row = y .1 .0; occurrence = y .1 .1 .0; left = y .1 .1 .1 .0; legal = y .1 .1 .1 .1 .0 }
 
 -- of sets whose descriptors pass, questions 4 to 14 are 4 and 8 to 14
-skip-descriptors : (ss : List RecSet) → describesOnce ss ≡ true → describesWell bits32 ss ≡ true → typesWell bits32 ss ≡ true → firstNo (setQuestions bits32) ss ≡ firstNo (limitRows ++ ruleRows bits32) ss
+skip-descriptors : (ss : List RecSet) → describesOnce ss ≡ true → describesWell intBounds ss ≡ true → typesWell intBounds ss ≡ true → firstNo (setQuestions intBounds) ss ≡ firstNo (limitRows ++ ruleRows intBounds) ss
 skip-descriptors ss a b c =
-    let n : ℕ = firstNo (ruleRows bits32) ss in
+    let n : ℕ = firstNo (ruleRows intBounds) ss in
     λ i. pick (fitsLimits ss) (pick (a i) (pick (b i) (pick (c i) n 7) 6) 5) 4
 
 -- a file that passes, a request, and what it makes of the plain file
@@ -89,7 +89,7 @@ module _ (buffer : Bytes) (used : ℕ) (p : Plain) (h : Holds buffer used p) (ro
   result-size = agrees-size (apply q p) agrees
 
   -- the number of its bytes is that of questions 4 and 8 to 14
-  result-text : textNo (bytesOf (apply q p .pieces)) ≡ firstNo (limitRows ++ ruleRows bits32) (apply q p .parts)
+  result-text : textNo (bytesOf (apply q p .pieces)) ≡ firstNo (limitRows ++ ruleRows intBounds) (apply q p .parts)
   unfolding textNo
   result-text =
       let r : Plain = apply q p in
@@ -101,21 +101,21 @@ module _ (buffer : Bytes) (used : ℕ) (p : Plain) (h : Holds buffer used p) (ro
       let clear : (all isAllowed s && isEnded s) ≡ true = and-eq-true-iff (all isAllowed s) (isEnded s) .1 (allowed, bytes-ended (r .pieces)) in
       ap (λ (b : Bool). pick b (readNo (pieces s)) 2) clear
       ∙ ap readNo (sound-pieces (r .pieces) (agrees .0))
-      ∙ ap (firstNo (setQuestions bits32)) (agrees-parts r agrees)
-      ∙ skip-descriptors (r .parts) (describes-once q p (granted .legal) (agrees-good p a) (old .1 .0)) (describes-well bits32 q p ∙ old .1 .1 .0) (types-well bits32 q p ∙ old .1 .1 .1 .0)
+      ∙ ap (firstNo (setQuestions intBounds)) (agrees-parts r agrees)
+      ∙ skip-descriptors (r .parts) (describes-once q p (granted .legal) (agrees-good p a) (old .1 .0)) (describes-well intBounds q p ∙ old .1 .1 .0) (types-well intBounds q p ∙ old .1 .1 .1 .0)
 
-  made-number : firstNo (editQuestions bits32) (asked room p q) ≡ editNo room 0 (bytesOf (apply q p .pieces))
+  made-number : firstNo (editQuestions intBounds) (asked room p q) ≡ editNo room 0 (bytesOf (apply q p .pieces))
   made-number =
       cut-number (asked room p q)
       ∙ ap (λ (n : ℕ). pick (eqb n 0) (resultNo (asked room p q)) n) e
       ∙ (λ i. pick (leb (result-size i) room && leb (result-size i) fileBytes) (raisedNo (sym result-text i)) 26)
 
-refused-number : (a : Asked) (k : ℕ) → firstNo placeRows a ≡ suc k → firstNo (editQuestions bits32) a ≡ suc k
+refused-number : (a : Asked) (k : ℕ) → firstNo placeRows a ≡ suc k → firstNo (editQuestions intBounds) a ≡ suc k
 refused-number a k e =
     cut-number a ∙ ap (λ (n : ℕ). pick (eqb n 0) (resultNo a) n) e ∙ ap (λ (b : Bool). pick b (resultNo a) (suc k)) (ne-eqb (suc k) 0 (λ x. omega arith))
 
 -- the number of an edit
-pub edit-number : (buffer : Bytes) (used : ℕ) (p : Plain) → Holds buffer used p → (room : ℕ) (q : Request) → HasPairs (q .edit) → (k : ℕ) → firstNo placeRows (asked room p q) ≡ k → firstNo (editQuestions bits32) (asked room p q) ≡ editNo room k (bytesOf (apply q p .pieces))
+pub edit-number : (buffer : Bytes) (used : ℕ) (p : Plain) → Holds buffer used p → (room : ℕ) (q : Request) → HasPairs (q .edit) → (k : ℕ) → firstNo placeRows (asked room p q) ≡ k → firstNo (editQuestions intBounds) (asked room p q) ≡ editNo room k (bytesOf (apply q p .pieces))
 edit-number buffer used p h room q f zero e = made-number buffer used p h room q f e
 edit-number buffer used p h room q f (suc k) e = refused-number (asked room p q) k e
 
@@ -133,7 +133,7 @@ first-below (r ∷ rs) m a h =
 
 read-below : (x : Option (List Piece)) → readNo x ≤ 14
 read-below none = omega arith
-read-below (some ps) = first-below (setQuestions bits32) 14 (setsOf ps) refl
+read-below (some ps) = first-below (setQuestions intBounds) 14 (setsOf ps) refl
 
 pub text-below : (s : Bytes) → textNo s ≤ 14
 unfolding textNo

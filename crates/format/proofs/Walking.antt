@@ -7,6 +7,7 @@ use mathlib.Core.Option.{some}
 use lib.Dec.{leb, eqb, leb·zero, leb·suc-suc}
 use lib.ListN.{length}
 use borrow.Author.Tests.{not-true}
+use Rattle.format.specs.Lists.{isFilled, filter}
 use Rattle.format.specs.Bytes.{Bytes, text, pick, isAllowed, all, any, same, among}
 use Rattle.format.specs.Lines.{isEnded}
 use Rattle.format.specs.Words.{isGap, notGap, frontIf, front, behind, firstWord, wordOn, words, isTypeName}
@@ -14,10 +15,10 @@ use Rattle.format.specs.Pieces.{Piece, pieces}
 use Rattle.format.specs.Records.{Field, Record, records}
 use Rattle.format.specs.Sets.{keepIf, valuesOf, RecSet, default, enters, sets, setsOf}
 use Rattle.format.specs.Limits.{descriptors}
-use Rattle.format.specs.Numbers.{Bounds, bits32}
+use Rattle.format.specs.Numbers.{Bounds, intBounds}
 use Rattle.format.specs.Rules.{one, isShaped, isWellFormed, isTypedWell, distinct}
 use Rattle.format.specs.Plain.{membersAt}
-use Rattle.format.specs.Questions.{firstNo, fitsRecord, fitsRules, isDescribed, keep, fitsLimits, hasRecOnce, describesOnce, nameOf, describesWell, typesWell, occurrences, ruleRows}
+use Rattle.format.specs.Questions.{firstNo, fitsRecord, fitsRules, fitsLimits, hasRecOnce, describesOnce, nameOf, describesWell, typesWell, occurrences, ruleRows}
 use Rattle.format.proofs.Elements.{Each, all-each, all-both, all-yes, all-alike, Filled}
 use Rattle.format.proofs.Sets.{recValues}
 use Rattle.format.proofs.Least.{least, leasts}
@@ -25,10 +26,6 @@ use Rattle.format.proofs.Judging.{setQuestions, readNo, textNo, wholeRo
 use Rattle.format.proofs.Listing.{same-true}
 
 -- a record with `%rec` is a descriptor; its name is the first word of the first such value
-abbrev pub isFilled : {A : Type 0} → List A → Bool
-isFilled [] = false
-isFilled (x ∷ xs) = true
-
 abbrev pub isHead : Record → Bool
 isHead r = isFilled (recValues r)
 
@@ -40,7 +37,7 @@ abbrev pub headName : Record → Bytes
 headName r = nameIn (recValues r)
 
 abbrev pub heads : List Record → List Record
-heads rs = keep isHead rs
+heads rs = filter isHead rs
 
 abbrev pub headNames : List Record → List Bytes
 headNames rs = map headName (heads rs)
@@ -112,11 +109,14 @@ records-all p e rs =
 
 -- "4. Limits held?"
 
-described-by : (b : Bool) (f : Field) (fs : Record) (s : RecSet) (ss : List RecSet) (hs : List Record) → s .rules ≡ f ∷ fs → length (keep isDescribed ss) ≡ length hs → length (keep isDescribed (pick b (s ∷ ss) ss)) ≡ length (pick b ((f ∷ fs) ∷ hs) hs)
-described-by true f fs s ss hs e h = ap (λ (r : Record). length (pick (any (λ (g : Field). true) r) (s ∷ keep isDescribed ss) (keep isDescribed ss))) e ∙ ap suc h
+abbrev hasRules : RecSet → Bool
+hasRules s = isFilled (s .rules)
+
+described-by : (b : Bool) (f : Field) (fs : Record) (s : RecSet) (ss : List RecSet) (hs : List Record) → s .rules ≡ f ∷ fs → length (filter hasRules ss) ≡ length hs → length (filter hasRules (pick b (s ∷ ss) ss)) ≡ length (pick b ((f ∷ fs) ∷ hs) hs)
+described-by true f fs s ss hs e h = ap (λ (r : Record). length (pick (isFilled r) (s ∷ filter hasRules ss) (filter hasRules ss))) e ∙ ap suc h
 described-by false f fs s ss hs e h = h
 
-described-heads : (rs : List Record) → length (keep isDescribed (headSets rs)) ≡ length (heads rs)
+described-heads : (rs : List Record) → length (filter hasRules (headSets rs)) ≡ length (heads rs)
 described-heads [] = refl
 described-heads ([] ∷ rs) = described-heads rs
 described-heads ((f ∷ fs) ∷ rs) = described-by (isHead (f ∷ fs)) f fs (headSet (f ∷ fs) rs) (headSets rs) (heads rs) refl (described-heads rs)
@@ -130,7 +130,7 @@ limits-walk rs =
     all-both (λ (s : RecSet). fitsRecord (s .rules) && all fitsRecord (s .members)) (λ (s : RecSet). fitsRules (s .rules)) (sets rs)
     ∙ (λ i. records-all fitsRecord refl rs i && rules-all fitsRules refl rs i)
     ∙ sym (all-both fitsRecord (λ (r : Record). not (isHead r) || fitsRules r) rs) in
-    let count : length (keep isDescribed (sets rs)) ≡ length (heads rs) = ap (λ (ss : List RecSet). length (keep isDescribed ss)) (sets-heads rs) ∙ described-heads rs in
+    let count : length (filter hasRules (sets rs)) ≡ length (heads rs) = ap (λ (ss : List RecSet). length (filter hasRules ss)) (sets-heads rs) ∙ described-heads rs in
     (λ i. each i && leb (count i) descriptors)
 
 -- "5. Does a record with a `%` name have `%rec`, once?"
@@ -273,6 +273,6 @@ records-no b rs =
     let rest : firstNo (ruleRows b) (sets rs) ≡ walkNo b rs = rules-no b (sets rs) ∙ sets-walk b rs in
     (λ i. pick (limits-walk rs i) (pick (once-walk rs i) (pick (well-walk b rs i) (pick (types-walk b rs i) (rest i) 7) 6) 5) 4)
 
-pub text-walk : (s : Bytes) (ps : List Piece) → all isAllowed s ≡ true → isEnded s ≡ true → pieces s ≡ some ps → textNo s ≡ recordsNo bits32 (records ps)
+pub text-walk : (s : Bytes) (ps : List Piece) → all isAllowed s ≡ true → isEnded s ≡ true → pieces s ≡ some ps → textNo s ≡ recordsNo intBounds (records ps)
 unfolding textNo setsOf
-text-walk s ps a e r = (λ i. pick (a i && e i) (readNo (r i)) 2) ∙ records-no bits32 (records ps)
+text-walk s ps a e r = (λ i. pick (a i && e i) (readNo (r i)) 2) ∙ records-no intBounds (records ps)

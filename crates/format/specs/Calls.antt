@@ -5,14 +5,14 @@ use mathlib.Core.List.{List, [], _∷_, _++_}
 use mathlib.Core.Option.{Option, none, some}
 use lib.Dec.{leb}
 use lib.ListN.{length, take, drop, replicate}
+use Rattle.format.specs.Lists.{onward, isFilled}
 use Rattle.format.specs.Bytes.{Bytes, pick, all}
 use Rattle.format.specs.Pieces.{Piece, pieces, bytesOf}
 use Rattle.format.specs.Records.{Block, blocks, fieldsOf}
 use Rattle.format.specs.Sets.{RecSet, valuesOf}
 use Rattle.format.specs.Limits.{fileBytes, recordFields}
-use Rattle.format.specs.Numbers.{onward}
 use Rattle.format.specs.Written.{Pair, writtenAll, isLegalPair}
-use Rattle.format.specs.Edits.{Edit, isRecord, ordinal}
+use Rattle.format.specs.Edits.{Edit, ordinal}
 use Rattle.format.specs.Questions.{Row, firstNo, setsIn, verdict}
 use Rattle.format.specs.Requests.{Request, requestOf}
 use Rattle.format.specs.Plain.{plainOf, indexOf, membersOf, recordOf, hasSet, hasRecord, hasOccurrence, Step, step}
@@ -118,7 +118,7 @@ fromFirst (Piece.field n v ls ∷ b) = Piece.field n v ls ∷ b
 
 abbrev pub toLast : Block → Block
 toLast [] = []
-toLast (p ∷ b) = pick (isRecord (fieldsOf (p ∷ b))) (p ∷ toLast b) []
+toLast (p ∷ b) = pick (isFilled (fieldsOf (p ∷ b))) (p ∷ toLast b) []
 
 -- the place and the bytes of a part of the file
 pub record Part : Type 0 where
@@ -139,7 +139,7 @@ partBy true (suc k) here later = later k
 
 abbrev pub partAt : List Block → ℕ → ℕ → Part
 partAt [] at k = noPart
-partAt (b ∷ bs) at k = partBy (isRecord (fieldsOf b)) k (blockPart at b) (λ (j : ℕ). partAt bs (at + length (bytesOf b)) j)
+partAt (b ∷ bs) at k = partBy (isFilled (fieldsOf b)) k (blockPart at b) (λ (j : ℕ). partAt bs (at + length (bytesOf b)) j)
 
 abbrev pub partIn : List RecSet → Option (List Piece) → ℕ → Option ℕ → Part
 partIn ss none row i = noPart

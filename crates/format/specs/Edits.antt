@@ -4,6 +4,7 @@ use mathlib.Core.Bool.{Bool, true, false}
 use mathlib.Core.List.{List, [], _∷_, _++_, map}
 use lib.ListN.{length, drop}
 use Rattle.format.specs.Bytes.{Bytes, same}
+use Rattle.format.specs.Lists.{isFilled, flat}
 use Rattle.format.specs.Lines.{Line}
 use Rattle.format.specs.Pieces.{Piece}
 use Rattle.format.specs.Records.{Field, Record, Block, blocks, countOf, fieldsOf, close}
@@ -112,19 +113,10 @@ inRecord delete r = []
 inRecord (add p) r = close (addField (newField p) r) []
 inRecord (change n o c) r = close (atField (fieldTurn n o r) n (changeField c) r) []
 
--- the pieces again, of blocks
-abbrev pub flat : List Block → List Piece
-flat [] = []
-flat (b ∷ bs) = b ++ flat bs
-
-abbrev pub isRecord : Record → Bool
-isRecord [] = false
-isRecord (f ∷ fs) = true
-
 -- is the first block's record the one, k records still to be passed
 abbrev pub blockTurn : ℕ → List Block → Turn
 blockTurn k [] = later k
-blockTurn k (b ∷ bs) = turn (isRecord (fieldsOf b)) k
+blockTurn k (b ∷ bs) = turn (isFilled (fieldsOf b)) k
 
 abbrev pub atBlock : Turn → (Block → List Block) → List Block → List Block
 atBlock t f [] = []

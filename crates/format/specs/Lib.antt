@@ -1,5 +1,6 @@
 -- What document 01 says, one notion a file, in its order.
 pub mod Bytes
+pub mod Lists
 pub mod Lines
 pub mod Pieces
 pub mod Records

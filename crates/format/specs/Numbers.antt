@@ -6,6 +6,7 @@ use mathlib.Core.Option.{Option, none, some}
 use lib.Dec.{leb, ltb, eqb}
 use lib.ListN.{drop, getD}
 use Rattle.format.specs.Bytes.{Bytes, pick, within, isDigit, all}
+use Rattle.format.specs.Lists.{onlyIf}
 use Rattle.format.specs.Words.{split}
 
 -- a number below zero, or not: −n, n
@@ -19,17 +20,8 @@ pub record Bounds : Type 0 where
   pub greatest : ℕ
 
 -- "−2,147,483,648 to 2,147,483,647"; this is the one place
-abbrev pub bits32 : Bounds
-bits32 = record { least = 2147483648; greatest = 2147483647 }
-
-abbrev pub onlyIf : {A : Type 0} → Bool → A → Option A
-onlyIf true a = some a
-onlyIf false a = none
-
--- what an answer leads to, where there is one
-abbrev pub onward : {A B : Type 0} → (A → Option B) → Option A → Option B
-onward f none = none
-onward f (some a) = f a
+abbrev pub intBounds : Bounds
+intBounds = record { least = 2147483648; greatest = 2147483647 }
 
 -- the value of a digit of either case, 16 of any other byte
 abbrev pub digit : ℕ → ℕ

@@ -6,11 +6,12 @@ use mathlib.Core.Option.{Option, none, some}
 use lib.Dec.{leb, ltb}
 use lib.ListN.{length}
 use Rattle.format.specs.Bytes.{Bytes, all, same, isSome}
+use Rattle.format.specs.Lists.{sum}
 use Rattle.format.specs.Pieces.{Piece}
 use Rattle.format.specs.Records.{Field, Record, countOf}
 use Rattle.format.specs.Sets.{RecSet, setsOf}
 use Rattle.format.specs.Limits.{fileBytes}
-use Rattle.format.specs.Numbers.{Bounds, bits32}
+use Rattle.format.specs.Numbers.{Bounds, intBounds}
 use Rattle.format.specs.Written.{Pair, newField, isLegalName, isLegalValue, isLegalPair}
 use Rattle.format.specs.Edits.{Change, Edit, onPieces, onRecords, ordinal, lastOf, onSet, inFront}
 use Rattle.format.specs.Questions.{Row, firstNo, askOf, occurrences, limitRows, ruleRows}
@@ -21,10 +22,6 @@ pub record Plain : Type 0 where
   pub parts : List RecSet
   pub rest : ℕ
   pub pieces : List Piece
-
-abbrev pub sum : {A : Type 0} → (A → ℕ) → List A → ℕ
-sum f [] = 0
-sum f (x ∷ xs) = f x + sum f xs
 
 abbrev pub fieldCount : Field → ℕ
 fieldCount f = f .count
@@ -219,4 +216,4 @@ stepOf b room p (some q) =
 
 -- a request of any bytes, the buffer's length and the plain file
 unfoldable pub step : ℕ → Plain → Bytes → Step
-step room p request = stepOf bits32 room p (requestOf request)
+step room p request = stepOf intBounds room p (requestOf request)

@@ -5,6 +5,7 @@ use mathlib.Core.List.{List, [], _∷_, _++_, map}
 use mathlib.Core.Option.{Option, none, some}
 use lib.Dec.{leb, eqb}
 use lib.ListN.{length, take}
+use Rattle.format.specs.Lists.{isFilled, filter, flat}
 use Rattle.format.specs.Bytes.{Bytes, text, pick, isAllowed, all, any, same, among, isSome}
 use Rattle.format.specs.Lines.{isEnded}
 use Rattle.format.specs.Pieces.{Piece, pieces}
@@ -12,8 +13,8 @@ use Rattle.format.specs.Records.{Field, Record, records}
 use Rattle.format.specs.Sets.{RecSet, valuesOf, setsOf}
 use Rattle.format.specs.Limits.{fileBytes, nameBytes, valueBytes, recordFields, descriptors, typedefs, typeFields, listWords}
 use Rattle.format.specs.Words.{words}
-use Rattle.format.specs.Numbers.{Bounds, bits32}
-use Rattle.format.specs.Rules.{isSpecial, joinAll, listed, mandatory, prohibited, allowed, unique, key, sizeRule, meetsSize, typeRules, isTyped, isWellFormed, isTypedWell, distinct}
+use Rattle.format.specs.Numbers.{Bounds, intBounds}
+use Rattle.format.specs.Rules.{isSpecial, listed, mandatory, prohibited, allowed, unique, key, sizeRule, meetsSize, typeRules, isTyped, isWellFormed, isTypedWell, distinct}
 
 -- a question and the number of its no
 pub record Row (A : Type 0) : Type 0 where
@@ -76,17 +77,10 @@ fitsRules r =
     && leb (length (allowed r)) listWords
     && leb (length (unique r)) listWords
 
-abbrev pub isDescribed : RecSet → Bool
-isDescribed s = any (λ (f : Field). true) (s .rules)
-
-abbrev pub keep : {A : Type 0} → (A → Bool) → List A → List A
-keep p [] = []
-keep p (x ∷ xs) = pick (p x) (x ∷ keep p xs) (keep p xs)
-
 abbrev pub fitsLimits : List RecSet → Bool
 fitsLimits ss =
     all (λ (s : RecSet). fitsRecord (s .rules) && all fitsRecord (s .members) && fitsRules (s .rules)) ss
-    && leb (length (keep isDescribed ss)) descriptors
+    && leb (length (filter (λ (s : RecSet). isFilled (s .rules)) ss)) descriptors
 
 -- "5. Does a record with a `%` name have `%rec`, once?"
 abbrev pub hasRecOnce : Record → Bool
@@ -140,7 +134,7 @@ allTyped b rules r = all (isTyped b (typeRules b rules)) r
 
 -- "13. Keys distinct?" "no two records of the set have the same bytes there"
 abbrev pub keysOf : RecSet → List Bytes
-keysOf s = joinAll (map (λ (n : Bytes). joinAll (map (valuesOf n) (s .members))) (key (s .rules)))
+keysOf s = flat (map (λ (n : Bytes). flat (map (valuesOf n) (s .members))) (key (s .rules)))
 
 abbrev pub keysDistinct : List RecSet → Bool
 keysDistinct ss = all (λ (s : RecSet). distinct (keysOf s)) ss
@@ -181,4 +175,4 @@ verdictIn b buffer used = firstNo (questions b) (fileOf buffer used)
 
 -- the number of the first question that says no of a used buffer, else 0
 unfoldable pub verdict : Bytes → ℕ → ℕ
-verdict buffer used = verdictIn bits32 buffer used
+verdict buffer used = verdictIn intBounds buffer used

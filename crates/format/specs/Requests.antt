@@ -5,9 +5,9 @@ use mathlib.Core.List.{List, [], _∷_}
 use mathlib.Core.Option.{Option, none, some}
 use lib.Dec.{leb, eqb}
 use lib.ListN.{length}
+use Rattle.format.specs.Lists.{onward}
 use Rattle.format.specs.Bytes.{Bytes, pick, same}
 use Rattle.format.specs.Limits.{fileBytes}
-use Rattle.format.specs.Numbers.{onward}
 use Rattle.format.specs.Written.{Pair}
 use Rattle.format.specs.Edits.{Edit, Change}
 

@@ -5,24 +5,21 @@ use mathlib.Core.List.{List, [], _∷_, _++_, map}
 use mathlib.Core.Option.{Option, none, some}
 use lib.Dec.{leb, ltb, eqb}
 use lib.ListN.{length, getD}
+use Rattle.format.specs.Lists.{onward, flat}
 use Rattle.format.specs.Bytes.{Bytes, text, pick, all, any, same, among, isSome}
 use Rattle.format.specs.Lines.{isName}
 use Rattle.format.specs.Records.{Field, Record}
 use Rattle.format.specs.Sets.{valuesOf}
 use Rattle.format.specs.Words.{firstWord, afterWord, words, split, isTypeName}
-use Rattle.format.specs.Numbers.{Bounds, onward, numberOf}
+use Rattle.format.specs.Numbers.{Bounds, numberOf}
 use Rattle.format.specs.Types.{Kind, Typed, Typedef, typeOf, kindOf, meets}
 
 abbrev pub isSpecial : Bytes → Bool
 isSpecial n = eqb (getD n 0 0) 37
 
 -- "several such fields make a union": the words of all fields of one name
-abbrev pub joinAll : {A : Type 0} → List (List A) → List A
-joinAll [] = []
-joinAll (x ∷ xs) = x ++ joinAll xs
-
 abbrev pub listed : Bytes → Record → List Bytes
-listed n r = joinAll (map words (valuesOf n r))
+listed n r = flat (map words (valuesOf n r))
 
 abbrev pub mandatory : Record → List Bytes
 mandatory r = listed (text "%mandatory") r
@@ -78,7 +75,7 @@ abbrev pub typedefOf : Bounds → Bytes → List Typedef
 typedefOf b v = defines (firstWord v) (typeOf b (afterWord v))
 
 abbrev pub typedefsOf : Bounds → Record → List Typedef
-typedefsOf b r = joinAll (map (typedefOf b) (valuesOf (text "%typedef") r))
+typedefsOf b r = flat (map (typedefOf b) (valuesOf (text "%typedef") r))
 
 -- "`%type`: names joined by commas in one word, then a type"
 pub record TypeRule : Type 0 where
@@ -97,7 +94,7 @@ abbrev pub endKind : Bounds → List Typedef → Bytes → Option Kind
 endKind b ds v = onward (kindOf ds) (typeOf b (afterWord v))
 
 abbrev pub typeRules : Bounds → Record → List TypeRule
-typeRules b r = joinAll (map (λ (v : Bytes). typeRuleBy (typedNames v) (endKind b (typedefsOf b r) v)) (valuesOf (text "%type") r))
+typeRules b r = flat (map (λ (v : Bytes). typeRuleBy (typedNames v) (endKind b (typedefsOf b r) v)) (valuesOf (text "%type") r))
 
 -- "all that name a field hold"
 abbrev pub isTyped : Bounds → List TypeRule → Field → Bool

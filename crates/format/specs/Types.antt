@@ -5,10 +5,11 @@ use mathlib.Core.List.{List, [], _∷_, map}
 use mathlib.Core.Option.{Option, none, some}
 use lib.Dec.{leb, eqb}
 use lib.ListN.{length}
+use Rattle.format.specs.Lists.{onlyIf, onward}
 use Rattle.format.specs.Bytes.{Bytes, text, pick, isLetter, isDigit, isNewline, all, any, same, among, isSome}
 use Rattle.format.specs.Lines.{isName}
 use Rattle.format.specs.Words.{isGap, notGap, front, behind, words, split, trim, isTypeName}
-use Rattle.format.specs.Numbers.{Int, plus, minus, Bounds, onlyIf, onward, isDigitOf, intOf, isAtMost, numberOf, isReal}
+use Rattle.format.specs.Numbers.{Int, plus, minus, Bounds, isDigitOf, intOf, isAtMost, numberOf, isReal}
 
 -- "A type is one of nine kinds, some with numbers"
 pub data Kind : Type 0 where

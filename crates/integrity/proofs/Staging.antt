@@ -11,7 +11,7 @@ use borrow.Author.Tests.{eq-eqb, ne-eqb, leb-true}
 use Rattle.format.specs.Bytes.{Bytes, pick, isAllowed, classOf, all, isSome}
 use Rattle.format.specs.Lines.{isEnded}
 use Rattle.format.specs.Pieces.{Piece, pieces}
-use Rattle.format.specs.Numbers.{bits32}
+use Rattle.format.specs.Numbers.{intBounds}
 use Rattle.format.specs.Records.{Record, records}
 use Rattle.format.specs.Limits.{fileBytes}
 use Rattle.format.specs.Calls.{checkAnswer}
@@ -101,33 +101,33 @@ pub form-readable : (s : Bytes) → formNo s ≡ 0 → isReadable s ≡ true
 unfolding isReadable
 form-readable s h = let f = formed s h in and-eq-true-iff (isEnded s) (isSome (pieces s)) .1 (f .ended, f .reads)
 
-pub form-records : (s : Bytes) → formNo s ≡ 0 → textNo s ≡ recordsNo bits32 (records (readOf s))
+pub form-records : (s : Bytes) → formNo s ≡ 0 → textNo s ≡ recordsNo intBounds (records (readOf s))
 form-records s h = let f = formed s h in text-walk s (readOf s) (f .allowed) (f .ended) (readable-pieces s (form-readable s h))
 
 -- questions 4 to 7, and the rest
 module _ (rs : List Record) where
-  pub limits-no : walkFits rs ≡ false → 4 ≡ recordsNo bits32 rs
+  pub limits-no : walkFits rs ≡ false → 4 ≡ recordsNo intBounds rs
   unfolding recordsNo
-  limits-no h = sym (ap (λ (b : Bool). pick b (pick (walkOnce rs) (pick (walkWell bits32 rs) (pick (walkTypes bits32 rs) (walkNo bits32 rs) 7) 6) 5) 4) h)
+  limits-no h = sym (ap (λ (b : Bool). pick b (pick (walkOnce rs) (pick (walkWell intBounds rs) (pick (walkTypes intBounds rs) (walkNo intBounds rs) 7) 6) 5) 4) h)
 
   module _ (a : walkFits rs ≡ true) where
-    pub once-no : walkOnce rs ≡ false → 5 ≡ recordsNo bits32 rs
+    pub once-no : walkOnce rs ≡ false → 5 ≡ recordsNo intBounds rs
     unfolding recordsNo
-    once-no h = sym (λ i. pick (a i) (pick (h i) (pick (walkWell bits32 rs) (pick (walkTypes bits32 rs) (walkNo bits32 rs) 7) 6) 5) 4)
+    once-no h = sym (λ i. pick (a i) (pick (h i) (pick (walkWell intBounds rs) (pick (walkTypes intBounds rs) (walkNo intBounds rs) 7) 6) 5) 4)
 
     module _ (b : walkOnce rs ≡ true) where
-      pub well-no : walkWell bits32 rs ≡ false → 6 ≡ recordsNo bits32 rs
+      pub well-no : walkWell intBounds rs ≡ false → 6 ≡ recordsNo intBounds rs
       unfolding recordsNo
-      well-no h = sym (λ i. pick (a i) (pick (b i) (pick (h i) (pick (walkTypes bits32 rs) (walkNo bits32 rs) 7) 6) 5) 4)
+      well-no h = sym (λ i. pick (a i) (pick (b i) (pick (h i) (pick (walkTypes intBounds rs) (walkNo intBounds rs) 7) 6) 5) 4)
 
-      module _ (c : walkWell bits32 rs ≡ true) where
-        pub types-no : walkTypes bits32 rs ≡ false → 7 ≡ recordsNo bits32 rs
+      module _ (c : walkWell intBounds rs ≡ true) where
+        pub types-no : walkTypes intBounds rs ≡ false → 7 ≡ recordsNo intBounds rs
         unfolding recordsNo
-        types-no h = sym (λ i. pick (a i) (pick (b i) (pick (c i) (pick (h i) (walkNo bits32 rs) 7) 6) 5) 4)
+        types-no h = sym (λ i. pick (a i) (pick (b i) (pick (c i) (pick (h i) (walkNo intBounds rs) 7) 6) 5) 4)
 
-        pub sets-no : walkTypes bits32 rs ≡ true → walkNo bits32 rs ≡ recordsNo bits32 rs
+        pub sets-no : walkTypes intBounds rs ≡ true → walkNo intBounds rs ≡ recordsNo intBounds rs
         unfolding recordsNo
-        sets-no h = sym (λ i. pick (a i) (pick (b i) (pick (c i) (pick (h i) (walkNo bits32 rs) 7) 6) 5) 4)
+        sets-no h = sym (λ i. pick (a i) (pick (b i) (pick (c i) (pick (h i) (walkNo intBounds rs) 7) 6) 5) 4)
 
 -- question 1, and the used text
 module _ (buffer : Bytes) (used : ℕ) where

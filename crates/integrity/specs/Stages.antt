@@ -6,7 +6,7 @@ use mathlib.Core.List.{List}
 use Rattle.format.specs.Bytes.{Bytes, pick, isAllowed, all, isSome}
 use Rattle.format.specs.Lines.{isEnded}
 use Rattle.format.specs.Pieces.{pieces}
-use Rattle.format.specs.Numbers.{bits32}
+use Rattle.format.specs.Numbers.{intBounds}
 use Rattle.format.specs.Records.{Record}
 use Rattle.format.proofs.Walking.{walkFits, walkWell, walkTypes}
 
@@ -17,5 +17,5 @@ formNo s = pick (all isAllowed s && isEnded s) (pick (isSome (pieces s)) 0 3) 2
 -- questions 4, 6 and 7 say yes of a file's records
 pub record Granted (rs : List Record) : Type 0 where
   pub fit : walkFits rs ≡ true
-  pub well : walkWell bits32 rs ≡ true
-  pub types : walkTypes bits32 rs ≡ true
+  pub well : walkWell intBounds rs ≡ true
+  pub types : walkTypes intBounds rs ≡ true

@@ -6,7 +6,7 @@ ghost use lib.ListN.{length};
 ghost use Rattle.format.specs.Bytes.{classTable, pick, isAllowed, all};
 ghost use Rattle.format.specs.Lines.{isEnded};
 ghost use Rattle.format.specs.Limits.{fileBytes, valueBytes};
-ghost use Rattle.format.specs.Numbers.{bits32};
+ghost use Rattle.format.specs.Numbers.{intBounds};
 ghost use Rattle.format.specs.Records.{records};
 ghost use Rattle.format.specs.Rules.{isTypedWell};
 ghost use Rattle.format.specs.Questions.{fitsRecord, fitsRules};
@@ -70,7 +70,7 @@ fn part_typed(table: &[u8; 256], r: &[u8], descriptor: bool, scratch: &mut [u8])
     requires { ⌜ isReadable (now r) ≡ true ⌝ }
     requires { ⌜ (fitsRecord (recordIn (now r)) ≡ true) × (descriptor ≡ true → fitsRules (recordIn (now r)) ≡ true) ⌝ }
     requires { ⌜ valueBytes ≤ length (now scratch) ⌝ }
-    ensures { λ b. ⌜ b ≡ (not descriptor || isTypedWell bits32 (recordIn (now (r .entry)))) ⌝ }
+    ensures { λ b. ⌜ b ≡ (not descriptor || isTypedWell intBounds (recordIn (now (r .entry)))) ⌝ }
 {
     if descriptor {
         return typing::types_well(table, r, &mut *scratch);
@@ -85,7 +85,7 @@ fn types_defined(table: &[u8; 256], s: &[u8], count: usize, scratch: &mut [u8]) 
     requires { ⌜ walkFits (records (readOf (now s))) ≡ true ⌝ }
     requires { ⌜ count ≡ length (heads (records (readOf (now s)))) ⌝ }
     requires { ⌜ valueBytes ≤ length (now scratch) ⌝ }
-    ensures { λ r. ⌜ r ≡ walkTypes bits32 (records (readOf (now (s .entry)))) ⌝ }
+    ensures { λ r. ⌜ r ≡ walkTypes intBounds (records (readOf (now (s .entry)))) ⌝ }
 {
     let mut i = 0;
     let mut met = 0;
@@ -119,7 +119,7 @@ fn judge_part(
     requires { ⌜ (descriptor ≡ true → IsRules (now r)) × (length (now r) ≤ fileBytes) ⌝ }
     requires { ⌜ (isReadable (now rest) ≡ true) × (length (now rest) ≤ fileBytes) × AllFit (membersIn (now rest)) ⌝ }
     requires { ⌜ (valueBytes ≤ length (now scratch)) × (valueBytes ≤ length (now other)) × (16384 ≤ length (now entries)) ⌝ }
-    ensures { λ n. ⌜ n ≡ pick descriptor (setNo bits32 (ruled (recordIn (now (r .entry))) (membersIn (now (rest .entry))))) 0 ⌝ }
+    ensures { λ n. ⌜ n ≡ pick descriptor (setNo intBounds (ruled (recordIn (now (r .entry))) (membersIn (now (rest .entry))))) 0 ⌝ }
 {
     if descriptor {
         return rules::judge_set(table, r, rest, &mut *scratch, &mut *other, &mut *entries);
@@ -141,7 +141,7 @@ fn judge_sets(
     requires { ⌜ Granted (records (readOf (now s))) ⌝ }
     requires { ⌜ count ≡ length (heads (records (readOf (now s)))) ⌝ }
     requires { ⌜ (valueBytes ≤ length (now scratch)) × (valueBytes ≤ length (now other)) × (16384 ≤ length (now entries)) ⌝ }
-    ensures { λ r. ⌜ r ≡ walkNo bits32 (records (readOf (now (s .entry)))) ⌝ }
+    ensures { λ r. ⌜ r ≡ walkNo intBounds (records (readOf (now (s .entry)))) ⌝ }
 {
     let mut i = 0;
     let mut met = 0;
@@ -175,7 +175,7 @@ fn judge_described(table: &[u8; 256], s: &[u8], count: usize) -> u32
     requires { ⌜ (isReadable (now s) ≡ true) × (length (now s) ≤ fileBytes) ⌝ }
     requires { ⌜ (walkFits (records (readOf (now s))) ≡ true) × (walkOnce (records (readOf (now s))) ≡ true) ⌝ }
     requires { ⌜ count ≡ length (heads (records (readOf (now s)))) ⌝ }
-    ensures { λ r. ⌜ r ≡ recordsNo bits32 (records (readOf (now (s .entry)))) ⌝ }
+    ensures { λ r. ⌜ r ≡ recordsNo intBounds (records (readOf (now (s .entry)))) ⌝ }
 {
     let mut scratch = [0u8; 4096];
     if shapes::described_well(table, s, count, &mut scratch) {} else {
@@ -193,7 +193,7 @@ fn judge_described(table: &[u8; 256], s: &[u8], count: usize) -> u32
 fn judge_records(table: &[u8; 256], s: &[u8]) -> u32
     requires { ⌜ now table ≡ classTable ⌝ }
     requires { ⌜ (isReadable (now s) ≡ true) × (length (now s) ≤ fileBytes) ⌝ }
-    ensures { λ r. ⌜ r ≡ recordsNo bits32 (records (readOf (now (s .entry)))) ⌝ }
+    ensures { λ r. ⌜ r ≡ recordsNo intBounds (records (readOf (now (s .entry)))) ⌝ }
 {
     let b = limits::bounds_of(table, s);
     match b {

@@ -6,11 +6,12 @@ use mathlib.Core.Bool.{Bool, true, false, _&&_}
 use mathlib.Core.List.{List, [], _∷_, map}
 use lib.Dec.{leb}
 use lib.ListN.{length, length-append}
+use Rattle.format.specs.Lists.{flat}
 use Rattle.format.specs.Bytes.{Bytes, text, pick, same}
 use Rattle.format.specs.Words.{words}
 use Rattle.format.specs.Records.{Field, Record}
 use Rattle.format.specs.Sets.{keepIf, valuesOf}
-use Rattle.format.specs.Rules.{joinAll, listed}
+use Rattle.format.specs.Rules.{listed}
 use Rattle.format.specs.Limits.{typedefs, typeFields, listWords}
 use Rattle.format.specs.Questions.{fitsRules}
 use Rattle.format.specs.declared.Descriptor.{Descriptor}
@@ -27,8 +28,8 @@ pub values-one : (b : Bool) (v : Bytes) (vs : List Bytes) → length (keepIf b v
 values-one true v vs = omega arith
 values-one false v vs = omega arith
 
-listed-one : (b : Bool) (v : Bytes) (vs : List Bytes) → length (joinAll (map words (keepIf b v vs))) ≡ pick b (length (words v)) 0 + length (joinAll (map words vs))
-listed-one true v vs = length-append (words v) (joinAll (map words vs))
+listed-one : (b : Bool) (v : Bytes) (vs : List Bytes) → length (flat (map words (keepIf b v vs))) ≡ pick b (length (words v)) 0 + length (flat (map words vs))
+listed-one true v vs = length-append (words v) (flat (map words vs))
 listed-one false v vs = omega arith
 
 -- The names differ, so the number of each name grows by its own field alone.

@@ -3,11 +3,11 @@ use Prim.Native.Nat.{ℕ}
 use mathlib.Core.List.{List, [], _∷_, map}
 use lib.Dec.{eqb}
 use lib.ListN.{getD}
+use Rattle.format.specs.Lists.{flat}
 use Rattle.format.specs.Bytes.{Bytes, text, pick, same}
 use Rattle.format.specs.Words.{words}
 use Rattle.format.specs.Records.{Field, Record}
 use Rattle.format.specs.Sets.{keepIf}
-use Rattle.format.specs.Rules.{joinAll}
 
 -- the list that a field of this name makes, 0 where it makes none
 unfoldable pub listOf : Bytes → ℕ
@@ -35,7 +35,7 @@ fieldEntries f = entriesBy (listOf (f .name)) (words (f .value))
 
 -- the words of all list fields, in order
 unfoldable pub entriesOf : Record → List Entry
-entriesOf r = joinAll (map fieldEntries r)
+entriesOf r = flat (map fieldEntries r)
 
 -- the entry at k
 abbrev pub entryAt : List Entry → ℕ → Entry

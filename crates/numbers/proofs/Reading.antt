@@ -9,8 +9,9 @@ use mathlib.Core.Option.{Option, none, some}
 use borrow.Author.Tests.{lt-ltb, le-ltb, lt-leb, le-leb, leb-true, eq-eqb, ne-eqb}
 use lib.Dec.{leb}
 use lib.ListN.{length, drop, getD, drop-of-length-le}
+use Rattle.format.specs.Lists.{onlyIf}
 use Rattle.format.specs.Bytes.{Bytes, within, all}
-use Rattle.format.specs.Numbers.{Int, minus, plus, Bounds, intOf, unsigned, digit, isDigitOf, numeral, areDigits, natural, onlyIf, upTo}
+use Rattle.format.specs.Numbers.{Int, minus, plus, Bounds, intOf, unsigned, digit, isDigitOf, numeral, areDigits, natural, upTo}
 use Rattle.lines.proofs.Cuts.{at-cons}
 use Rattle.numbers.specs.Meaning.{upToLimit}
 

@@ -2,7 +2,8 @@
 use Prim.Native.Nat.{ℕ}
 use mathlib.Core.Option.{Option, none, some}
 use lib.Dec.{leb}
-use Rattle.format.specs.Numbers.{Int, plus, minus, Bounds, onlyIf}
+use Rattle.format.specs.Lists.{onlyIf}
+use Rattle.format.specs.Numbers.{Int, plus, minus, Bounds}
 use Rattle.numbers.specs.declared.Whole.{Whole}
 use Rattle.numbers.specs.declared.Ends.{Ends}
 use Rattle.numbers.specs.declared.IntOf.{IntOf}

@@ -5,7 +5,7 @@ ghost use Prim.Native.Nat.{_<_, _≤_};
 ghost use lib.ListN.{drop};
 ghost use Rattle.format.specs.Bytes.{within};
 ghost use Rattle.format.specs.Words.{split};
-ghost use Rattle.format.specs.Numbers.{bits32, digit, areDigits, natural, unsigned, intOf, isAtMost, numberOf, isDecimal, isReal};
+ghost use Rattle.format.specs.Numbers.{intBounds, digit, areDigits, natural, unsigned, intOf, isAtMost, numberOf, isDecimal, isReal};
 ghost use Rattle.numbers.specs.Meaning.{intIn, intAnswer, naturalAnswer, boundsIn, upToLimit};
 
 // An int: below zero, or not.
@@ -140,7 +140,7 @@ fn int_within(s: &[u8], ends: Ends) -> IntOf
 
 // The int that a text stands for.
 pub fn int_of(s: &[u8]) -> IntOf
-    ensures { λ r. ⌜ intAnswer r ≡ intOf bits32 (now (s .entry)) ⌝ }
+    ensures { λ r. ⌜ intAnswer r ≡ intOf intBounds (now (s .entry)) ⌝ }
 {
     int_within(
         s,
@@ -153,7 +153,7 @@ pub fn int_of(s: &[u8]) -> IntOf
 
 // The int of at least 0 that a text stands for.
 pub fn number_of(s: &[u8]) -> Natural
-    ensures { λ r. ⌜ naturalAnswer r ≡ numberOf bits32 (now (s .entry)) ⌝ }
+    ensures { λ r. ⌜ naturalAnswer r ≡ numberOf intBounds (now (s .entry)) ⌝ }
 {
     let x = int_of(s);
     let IntOf::Value(w) = x else {

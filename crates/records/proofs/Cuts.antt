@@ -5,10 +5,10 @@ use mathlib.Core.Path.{_≡_, refl, sym, ap, _∙_}
 use mathlib.Core.Bool.{Bool, true, false}
 use mathlib.Core.List.{List, [], _∷_, _++_}
 use lib.ListN.{length, take, drop}
+use Rattle.format.specs.Lists.{flat}
 use Rattle.format.specs.Bytes.{Bytes, pick}
 use Rattle.format.specs.Pieces.{Piece}
 use Rattle.format.specs.Records.{Record, Block, onto, blocks, countOf, fieldsOf, close, recordsIn, records}
-use Rattle.format.specs.Rules.{joinAll}
 use Rattle.format.proofs.Walking.{isHead, heads, before}
 use Rattle.records.specs.Places.{Placed, placesOf}
 use Rattle.records.specs.Walk.{readOf, recordIn}
@@ -34,11 +34,11 @@ records-places s i =
     sym (raise-fields i (placesOf t) ∙ ap (λ (ps : List Placed). fieldsIn ps) (places-read t) ∙ places-records 0 (readOf t))
 
 -- the fields of a part are those of its records
-close-join : (r : Record) (rs : List Record) → joinAll (close r rs) ≡ r ++ joinAll rs
+close-join : (r : Record) (rs : List Record) → flat (close r rs) ≡ r ++ flat rs
 close-join [] rs = refl
 close-join (f ∷ fs) rs = refl
 
-onto-join : (p : Piece) (bs : List Block) → joinAll (recordsIn (onto p bs)) ≡ fieldsOf (p ∷ []) ++ joinAll (recordsIn bs)
+onto-join : (p : Piece) (bs : List Block) → flat (recordsIn (onto p bs)) ≡ fieldsOf (p ∷ []) ++ flat (recordsIn bs)
 onto-join (Piece.blank l) [] = refl
 onto-join (Piece.comment l) [] = refl
 onto-join (Piece.field n v ls) [] = refl
@@ -46,13 +46,13 @@ onto-join (Piece.blank l) (b ∷ bs) = refl
 onto-join (Piece.comment l) (b ∷ bs) = refl
 onto-join (Piece.field n v ls) (b ∷ bs) = ap {B = Record} (λ r. record { name = n; value = v; count = countOf ls } ∷ r) (sym (close-join (fieldsOf b) (recordsIn bs)))
 
-fields-join : (ps : List Piece) → fieldsOf ps ≡ joinAll (recordsIn (blocks ps))
+fields-join : (ps : List Piece) → fieldsOf ps ≡ flat (recordsIn (blocks ps))
 fields-join [] = refl
 fields-join (Piece.blank l ∷ ps) = fields-join ps ∙ sym (onto-join (Piece.blank l) (blocks ps))
 fields-join (Piece.comment l ∷ ps) = fields-join ps ∙ sym (onto-join (Piece.comment l) (blocks ps))
 fields-join (Piece.field n v ls ∷ ps) = ap {B = Record} (λ r. record { name = n; value = v; count = countOf ls } ∷ r) (fields-join ps) ∙ sym (onto-join (Piece.field n v ls) (blocks ps))
 
-pub fields-records : (ps : List Piece) → fieldsOf ps ≡ joinAll (records ps)
+pub fields-records : (ps : List Piece) → fieldsOf ps ≡ flat (records ps)
 unfolding records
 fields-records ps = fields-join ps
 
@@ -109,5 +109,5 @@ module _ (s : Bytes) (i : ℕ) (q : Place) (m : Met s i q) where
   -- the fields from a byte on are the record's, then the others'
   pub fields-met : recordIn (drop i s) ≡ m .here .fields ++ recordIn (drop (i + q .after) s)
   fields-met =
-      fields-records (readOf (drop i s)) ∙ ap (λ (rs : List Record). joinAll rs) records-on
+      fields-records (readOf (drop i s)) ∙ ap (λ (rs : List Record). flat rs) records-on
       ∙ ap (λ (r : Record). m .here .fields ++ r) (sym (fields-records (readOf (drop (i + q .after) s))))

@@ -6,11 +6,11 @@ use mathlib.Core.Bool.{Bool, true, false}
 use mathlib.Core.List.{List, [], _∷_, _++_, append-nil, append-assoc, map}
 use lib.ListN.{length, take, drop, length-append, length-drop}
 use lib.Seq.{drop-drop}
+use Rattle.format.specs.Lists.{isFilled}
 use Rattle.format.specs.Bytes.{Bytes, pick}
 use Rattle.format.specs.Lines.{Line, bytes}
 use Rattle.format.specs.Pieces.{Piece}
 use Rattle.format.specs.Records.{Record, Block, blocks, countOf, fieldsOf}
-use Rattle.format.specs.Edits.{isRecord}
 use Rattle.format.specs.Calls.{lead, fromFirst, toLast}
 use Rattle.format.proofs.Whole.{Sound}
 use Rattle.format.proofs.Renaming.{sound-starts}
@@ -46,14 +46,14 @@ last-on false p b h = (p ∷ b, refl)
 
 pub to-last : (b : Block) → (c : Block) × (toLast b ++ c ≡ b)
 to-last [] = ([], refl)
-to-last (p ∷ b) = last-on (isRecord (fieldsOf (p ∷ b))) p b (to-last b)
+to-last (p ∷ b) = last-on (isFilled (fieldsOf (p ∷ b))) p b (to-last b)
 
 fields-cons : (p : Piece) (a b : Block) → fieldsOf a ≡ fieldsOf b → fieldsOf (p ∷ a) ≡ fieldsOf (p ∷ b)
 fields-cons (Piece.blank l) a b e = e
 fields-cons (Piece.comment l) a b e = e
 fields-cons (Piece.field n v ls) a b e = ap {B = Record} (λ r. record { name = n; value = v; count = countOf ls } ∷ r) e
 
-fields-by : (r : Record) (p : Piece) (b : Block) → fieldsOf (p ∷ b) ≡ r → fieldsOf (p ∷ toLast b) ≡ fieldsOf (p ∷ b) → fieldsOf (pick (isRecord r) (p ∷ toLast b) []) ≡ r
+fields-by : (r : Record) (p : Piece) (b : Block) → fieldsOf (p ∷ b) ≡ r → fieldsOf (p ∷ toLast b) ≡ fieldsOf (p ∷ b) → fieldsOf (pick (isFilled r) (p ∷ toLast b) []) ≡ r
 fields-by [] p b e h = refl
 fields-by (f ∷ fs) p b e h = h ∙ e
 

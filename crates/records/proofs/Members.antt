@@ -6,13 +6,13 @@ use mathlib.Core.Bool.{Bool, true, false}
 use mathlib.Core.List.{List, [], _∷_}
 use mathlib.Core.Option.{Option, none, some}
 use lib.ListN.{length, drop}
+use Rattle.format.specs.Lists.{isFilled}
 use Rattle.format.specs.Bytes.{Bytes, text, pick, same}
 use Rattle.format.specs.Records.{Record}
 use Rattle.format.specs.Sets.{valuesOf, RecSet, enters, sets, setsOf}
 use Rattle.format.specs.Words.{firstWord}
 use Rattle.format.specs.Plain.{stepOn, indexBy, indexOf, membersAt, membersIn, membersOf, recordAt}
 use Rattle.format.proofs.Sets.{GoodSets, good-sets}
-use Rattle.format.proofs.Walking.{isFilled}
 use Rattle.records.specs.Places.{isReadable, Placed, placesOf, isDescriptor, firstPlace, namesSet, descriptorPlace, setPlace, recordBy, recordPlace, countBefore}
 use Rattle.records.specs.Walk.{readOf}
 use Rattle.records.specs.declared.Place.{Place}

@@ -4,11 +4,12 @@ use native.Mathlib.Omega.{arith}
 use mathlib.Core.Path.{_≡_, refl, sym, ap, _∙_}
 use mathlib.Core.Bool.{Bool, true, false, false≢true}
 use mathlib.Core.List.{List, [], _∷_, _++_, append-assoc}
+use Rattle.format.specs.Lists.{isFilled}
 use Rattle.format.specs.Bytes.{Bytes, pick, same}
 use Rattle.format.specs.Lines.{Line}
 use Rattle.format.specs.Pieces.{Piece}
 use Rattle.format.specs.Records.{Record, Block, countOf, fieldsOf}
-use Rattle.format.specs.Edits.{turn, fieldTurn, atPiece, unfielded, lastThen, addLast, isRecord}
+use Rattle.format.specs.Edits.{turn, fieldTurn, atPiece, unfielded, lastThen, addLast}
 use Rattle.format.specs.Calls.{lead, fromFirst, toLast}
 use Rattle.format.proofs.Listing.{same-true}
 use Rattle.records.specs.Places.{sizeIn, fieldBy, fieldIn}
@@ -20,19 +21,19 @@ record Behind (b : Block) : Type 0 where
   last : Block
   whole : toLast b ++ last ≡ b
   bare : fieldsOf last ≡ []
-  added : (q : Piece) → isRecord (fieldsOf b) ≡ true → addLast q b ≡ toLast b ++ (q ∷ last)
+  added : (q : Piece) → isFilled (fieldsOf b) ≡ true → addLast q b ≡ toLast b ++ (q ∷ last)
 
-no-fields : (r : Record) → isRecord r ≡ false → r ≡ []
+no-fields : (r : Record) → isFilled r ≡ false → r ≡ []
 no-fields [] e = refl
 no-fields (f ∷ fs) e = absurd (false≢true (sym e))
 
 last-none : (b : Block) → fieldsOf b ≡ [] → toLast b ≡ []
 last-none [] e = refl
-last-none (p ∷ b) e = ap (λ (r : Record). pick (isRecord r) (p ∷ toLast b) []) e
+last-none (p ∷ b) e = ap (λ (r : Record). pick (isFilled r) (p ∷ toLast b) []) e
 
-behind-loose : (p : Piece) (b : Block) (t : Bool) → fieldsOf (p ∷ b) ≡ fieldsOf b → ((q : Piece) → addLast q (p ∷ b) ≡ p ∷ addLast q b) → isRecord (fieldsOf b) ≡ t → Behind b → Behind (p ∷ b)
+behind-loose : (p : Piece) (b : Block) (t : Bool) → fieldsOf (p ∷ b) ≡ fieldsOf b → ((q : Piece) → addLast q (p ∷ b) ≡ p ∷ addLast q b) → isFilled (fieldsOf b) ≡ t → Behind b → Behind (p ∷ b)
 behind-loose p b true f g e h =
-    let d : isRecord (fieldsOf (p ∷ b)) ≡ true = ap isRecord f ∙ e in
+    let d : isFilled (fieldsOf (p ∷ b)) ≡ true = ap isFilled f ∙ e in
     record {
       last = h .last;
       whole = ap (λ (t : Bool). pick t (p ∷ toLast b) [] ++ h .last) d ∙ ap {B = Block} (λ x. p ∷ x) (h .whole);
@@ -40,7 +41,7 @@ behind-loose p b true f g e h =
       added = λ q k. g q ∙ ap {B = Block} (λ x. p ∷ x) (h .added q e) ∙ sym (ap (λ (t : Bool). pick t (p ∷ toLast b) [] ++ (q ∷ h .last)) d);
     }
 behind-loose p b false f g e h =
-    let d : isRecord (fieldsOf (p ∷ b)) ≡ false = ap isRecord f ∙ e in
+    let d : isFilled (fieldsOf (p ∷ b)) ≡ false = ap isFilled f ∙ e in
     record {
       last = p ∷ b;
       whole = ap (λ (t : Bool). pick t (p ∷ toLast b) [] ++ (p ∷ b)) d;
@@ -63,20 +64,20 @@ behind-field n v ls b (f ∷ fs) e h =
       last = h .last;
       whole = ap {B = Block} (λ x. p ∷ x) (h .whole);
       bare = h .bare;
-      added = λ q k. ap (λ (r : Record). lastThen r q p b (addLast q b)) e ∙ ap {B = Block} (λ x. p ∷ x) (h .added q (ap isRecord e));
+      added = λ q k. ap (λ (r : Record). lastThen r q p b (addLast q b)) e ∙ ap {B = Block} (λ x. p ∷ x) (h .added q (ap isFilled e));
     }
 
 behind : (b : Block) → Behind b
 behind [] = record { last = []; whole = refl; bare = refl; added = λ q k. absurd (false≢true k) }
-behind (Piece.blank l ∷ b) = behind-loose (Piece.blank l) b (isRecord (fieldsOf b)) refl (λ q. refl) refl (behind b)
-behind (Piece.comment l ∷ b) = behind-loose (Piece.comment l) b (isRecord (fieldsOf b)) refl (λ q. refl) refl (behind b)
+behind (Piece.blank l ∷ b) = behind-loose (Piece.blank l) b (isFilled (fieldsOf b)) refl (λ q. refl) refl (behind b)
+behind (Piece.comment l ∷ b) = behind-loose (Piece.comment l) b (isFilled (fieldsOf b)) refl (λ q. refl) refl (behind b)
 behind (Piece.field n v ls ∷ b) = behind-field n v ls b (fieldsOf b) refl (behind b)
 
 -- up to the last field stand what is before the first and what is between
-last-loose : (p : Piece) (b c : Block) (r : Record) → isRecord r ≡ true → toLast b ≡ c → pick (isRecord r) (p ∷ toLast b) [] ≡ p ∷ c
+last-loose : (p : Piece) (b c : Block) (r : Record) → isFilled r ≡ true → toLast b ≡ c → pick (isFilled r) (p ∷ toLast b) [] ≡ p ∷ c
 last-loose p b c r e h = ap (λ (t : Bool). pick t (p ∷ toLast b) []) e ∙ ap {B = Block} (λ x. p ∷ x) h
 
-last-lead : (b : Block) → isRecord (fieldsOf b) ≡ true → toLast b ≡ lead b ++ toLast (fromFirst b)
+last-lead : (b : Block) → isFilled (fieldsOf b) ≡ true → toLast b ≡ lead b ++ toLast (fromFirst b)
 last-lead [] e = refl
 last-lead (Piece.blank l ∷ b) e = last-loose (Piece.blank l) b (lead b ++ toLast (fromFirst b)) (fieldsOf b) e (last-lead b e)
 last-lead (Piece.comment l ∷ b) e = last-loose (Piece.comment l) b (lead b ++ toLast (fromFirst b)) (fieldsOf b) e (last-lead b e)
@@ -111,7 +112,7 @@ pub record Parted (b : Block) : Type 0 where
   pub added : (q : Piece) → addLast q b ≡ lead b ++ (ownOf b ++ (q ∷ last))
   pub deleted : unfielded b ≡ lead b ++ (unfielded (ownOf b) ++ last)
 
-pub parted : (b : Block) → isRecord (fieldsOf b) ≡ true → Parted b
+pub parted : (b : Block) → isFilled (fieldsOf b) ≡ true → Parted b
 parted b e =
     let h = behind b in
     let f = last-lead b e in

@@ -7,12 +7,13 @@ use mathlib.Core.List.{List, [], _∷_}
 use mathlib.Core.Option.{Option, some}
 use lib.ListN.{length, take, drop, getElem?, length-drop}
 use lib.Seq.{length-take-le}
+use Rattle.format.specs.Lists.{isFilled}
 use Rattle.format.specs.Bytes.{Bytes}
 use Rattle.format.specs.Pieces.{Piece, bytesOf}
 use Rattle.format.specs.Records.{Record, Block, blocks, fieldsOf}
 use Rattle.format.specs.Sets.{RecSet, setsOf}
 use Rattle.format.specs.Written.{Pair, written}
-use Rattle.format.specs.Edits.{Change, Edit, isRecord, onPieces, ordinal}
+use Rattle.format.specs.Edits.{Change, Edit, onPieces, ordinal}
 use Rattle.format.specs.Plain.{indexOf}
 use Rattle.format.specs.Calls.{Part, blockPart, partBy, partAt, partIn}
 use Rattle.format.proofs.Splices.{spliced}
@@ -42,7 +43,7 @@ placed-by true (suc k) at b later ps x ih h = ih k h
 
 placed-in : (bs : List Block) (at k : ℕ) (x : Part) → 0 < length (x .bytes) → partAt bs at k ≡ x → PlacedAs (placesIn at bs) k x
 placed-in [] at k x f h = absurd (omega (arith, ap (λ (y : Part). length (y .bytes)) h))
-placed-in (b ∷ bs) at k x f h = placed-by (isRecord (fieldsOf b)) k at b (λ (j : ℕ). partAt bs (at + sizeIn b) j) (placesIn (at + sizeIn b) bs) x (λ j. placed-in bs (at + sizeIn b) j x f) h
+placed-in (b ∷ bs) at k x f h = placed-by (isFilled (fieldsOf b)) k at b (λ (j : ℕ). partAt bs (at + sizeIn b) j) (placesIn (at + sizeIn b) bs) x (λ j. placed-in bs (at + sizeIn b) j x f) h
 
 -- the own part of a record that is found at q from byte a on
 abbrev pub ownPart : Bytes → ℕ → Place → Bytes

@@ -6,6 +6,7 @@ use mathlib.Core.Bool.{Bool, true, false}
 use mathlib.Core.List.{List, [], _∷_, _++_}
 use mathlib.Core.Option.{some, Option·none-ne-some, Option·some-injective}
 use lib.ListN.{drop, getElem?}
+use Rattle.format.specs.Lists.{isFilled}
 use Rattle.format.specs.Bytes.{Bytes, text, pick, same}
 use Rattle.format.specs.Pieces.{bytesOf}
 use Rattle.format.specs.Records.{Record, close}
@@ -17,7 +18,6 @@ use Rattle.format.specs.Plain.{plainOf, stepOn, indexBy, indexOf, membersAt, in
 use Rattle.format.proofs.Elements.{Filled}
 use Rattle.format.proofs.Sets.{GoodSets, good-sets}
 use Rattle.format.proofs.Splices.{spliced, gapBytes, front-bytes}
-use Rattle.format.proofs.Walking.{isFilled}
 use Rattle.records.specs.Places.{isReadable, Placed, placesOf, isDescriptor, namesSet, descriptorPlace, setPlace}
 use Rattle.records.specs.Walk.{readOf}
 use Rattle.records.specs.declared.FoundSet.{FoundSet}

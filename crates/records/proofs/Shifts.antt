@@ -4,8 +4,8 @@ use native.Mathlib.Omega.{arith}
 use mathlib.Core.Path.{_≡_, refl, sym, ap, _∙_}
 use mathlib.Core.Bool.{Bool, true, false}
 use mathlib.Core.List.{List, [], _∷_, map}
+use Rattle.format.specs.Lists.{isFilled}
 use Rattle.format.specs.Records.{Record, Block, fieldsOf}
-use Rattle.format.specs.Edits.{isRecord}
 use Rattle.records.specs.Places.{Placed, sizeIn, placedAt, placeOn, placesIn}
 use Rattle.records.proofs.Walks.{placed-path}
 
@@ -23,7 +23,7 @@ raise-on k false p ps = refl
 pub places-raised : (k at : ℕ) (bs : List Block) → placesIn (k + at) bs ≡ map (raise k) (placesIn at bs)
 places-raised k at [] = refl
 places-raised k at (b ∷ bs) =
-    let t : Bool = isRecord (fieldsOf b) in
+    let t : Bool = isFilled (fieldsOf b) in
     let p = placed-path (placedAt (k + at) b) (raise k (placedAt at b)) (omega arith) (omega arith) (omega arith) refl in
     let e : k + at + sizeIn b ≡ k + (at + sizeIn b) = omega arith in
     ap (λ (q : Placed). placeOn t q (placesIn (k + at + sizeIn b) bs)) p

@@ -7,12 +7,13 @@ use mathlib.Core.List.{List, [], _∷_, _++_, append-assoc, append-nil, map}
 use mathlib.Core.Option.{some, Option·none-ne-some, Option·some-injective}
 use lib.ListN.{length, take, drop, getElem?}
 use lib.Seq.{drop-drop, drop-append-le}
+use Rattle.format.specs.Lists.{flat, isFilled}
 use Rattle.format.specs.Bytes.{Bytes}
 use Rattle.format.specs.Lines.{Line, bytes}
 use Rattle.format.specs.Pieces.{Piece, bytesOf}
 use Rattle.format.specs.Records.{Block, blocks, fieldsOf}
 use Rattle.format.specs.Written.{Pair, written, writtenAll, newPiece}
-use Rattle.format.specs.Edits.{Change, Edit, Turn, turn, changePiece, renamedLines, unfielded, newline, inBlock, flat, isRecord, blockTurn, atBlock, onPieces}
+use Rattle.format.specs.Edits.{Change, Edit, Turn, turn, changePiece, renamedLines, unfielded, newline, inBlock, blockTurn, atBlock, onPieces}
 use Rattle.format.specs.Calls.{lead}
 use Rattle.format.proofs.Elements.{Each, each-parts}
 use Rattle.format.proofs.Whole.{Sound}
@@ -31,7 +32,7 @@ record CutIn (bs : List Block) (at k : ℕ) (p : Placed) : Type 0 where
   before : List Piece
   block : Block
   behind : List Piece
-  filled : isRecord (fieldsOf block) ≡ true
+  filled : isFilled (fieldsOf block) ≡ true
   all : before ++ (block ++ behind) ≡ flat bs
   is : placedAt (at + sizeIn before) block ≡ p
   edited : (f : Block → List Block) → flat (atBlock (blockTurn k bs) f bs) ≡ before ++ (flat (f block) ++ behind)
@@ -49,7 +50,7 @@ module _ (b : Block) (bs : List Block) (at : ℕ) (p : Placed) where
         edited = λ f. ap (λ (t : Turn). flat (atBlock t f (b ∷ bs))) e ∙ ap (λ (x : List Piece). b ++ x) (c .edited f) ∙ sym (append-assoc b (c .before) (flat (f (c .block)) ++ c .behind));
       }
 
-  cut-here : isRecord (fieldsOf b) ≡ true → placedAt at b ≡ p → CutIn (b ∷ bs) at 0 p
+  cut-here : isFilled (fieldsOf b) ≡ true → placedAt at b ≡ p → CutIn (b ∷ bs) at 0 p
   cut-here e q =
       record {
         before = [];
@@ -61,7 +62,7 @@ module _ (b : Block) (bs : List Block) (at : ℕ) (p : Placed) where
         edited = λ f. ap (λ (t : Bool). flat (atBlock (turn t 0) f (b ∷ bs))) e ∙ flat-append (f b) bs;
       }
 
-  cut-by : (t : Bool) (k : ℕ) → isRecord (fieldsOf b) ≡ t → ((j : ℕ) → getElem? (placesIn (at + sizeIn b) bs) j ≡ some p → CutIn bs (at + sizeIn b) j p)
+  cut-by : (t : Bool) (k : ℕ) → isFilled (fieldsOf b) ≡ t → ((j : ℕ) → getElem? (placesIn (at + sizeIn b) bs) j ≡ some p → CutIn bs (at + sizeIn b) j p)
       → getElem? (placeOn t (placedAt at b) (placesIn (at + sizeIn b) bs)) k ≡ some p → CutIn (b ∷ bs) at k p
   cut-by false k e ih h = cut-on k k (ap (λ (t : Bool). turn t k) e) (ih k h)
   cut-by true zero e ih h = cut-here e (Option·some-injective (placedAt at b) p h)
@@ -69,14 +70,14 @@ module _ (b : Block) (bs : List Block) (at : ℕ) (p : Placed) where
 
 cut-in : (bs : List Block) (at k : ℕ) (p : Placed) → getElem? (placesIn at bs) k ≡ some p → CutIn bs at k p
 cut-in [] at k p h = absurd (Option·none-ne-some p h)
-cut-in (b ∷ bs) at k p h = cut-by b bs at p (isRecord (fieldsOf b)) k refl (λ j. cut-in bs (at + sizeIn b) j p) h
+cut-in (b ∷ bs) at k p h = cut-by b bs at p (isFilled (fieldsOf b)) k refl (λ j. cut-in bs (at + sizeIn b) j p) h
 
 -- the same of pieces
 pub record Cut (ps : List Piece) (k : ℕ) (p : Placed) : Type 0 where
   pub before : List Piece
   pub block : Block
   pub behind : List Piece
-  pub filled : isRecord (fieldsOf block) ≡ true
+  pub filled : isFilled (fieldsOf block) ≡ true
   pub all : before ++ (block ++ behind) ≡ ps
   pub is : placedAt (sizeIn before) block ≡ p
   pub edited : (e : Edit) → onPieces k e ps ≡ before ++ (flat (inBlock e block) ++ behind)

@@ -7,18 +7,18 @@ use mathlib.Core.List.{List, [], _∷_, _++_, append-assoc, map}
 use mathlib.Core.Option.{Option, none, some, Option·none-ne-some, Option·some-injective}
 use lib.ListN.{take, drop, getElem?}
 use lib.Seq.{drop-drop, take-at, drop-at}
+use Rattle.format.specs.Lists.{isFilled, flat}
 use Rattle.format.specs.Bytes.{Bytes, text, pick, same}
 use Rattle.format.specs.Pieces.{Piece, bytesOf, pieces}
 use Rattle.format.specs.Records.{Record, Block, blocks, fieldsOf, close}
 use Rattle.format.specs.Sets.{valuesOf, RecSet, sets, setsOf}
 use Rattle.format.specs.Words.{firstWord}
-use Rattle.format.specs.Edits.{isRecord, flat, past, ordinal}
+use Rattle.format.specs.Edits.{past, ordinal}
 use Rattle.format.specs.Plain.{indexBy, indexOf, stepOn, membersAt}
 use Rattle.format.specs.Calls.{lead, fromFirst, toLast, Part, noPart, blockPart, partBy, partAt, partIn}
 use Rattle.format.proofs.Whole.{bytesOf-append}
 use Rattle.format.proofs.Blocks.{flat-blocks}
 use Rattle.format.proofs.Sets.{GoodSets, good-sets}
-use Rattle.format.proofs.Walking.{isFilled}
 use Rattle.records.specs.Places.{isReadable, Placed, sizeIn, placedAt, placeOn, placesIn, placesOf, isDescriptor, placeOf, namesSet, descriptorPlace, setPlace, recordBy, recordPlace}
 use Rattle.records.specs.Walk.{readOf}
 use Rattle.records.specs.declared.Place.{Place}
@@ -63,7 +63,7 @@ part-by s true (suc k) p here later ps e h = h k
 part-in : (s : Bytes) (bs : List Block) (at k : ℕ) → drop at s ≡ bytesOf (flat bs) → partAt bs at k ≡ partFrom s (getElem? (placesIn at bs) k)
 part-in s [] at k e = refl
 part-in s (b ∷ bs) at k e =
-    part-by s (isRecord (fieldsOf b)) k (placedAt at b) (blockPart at b) (λ (j : ℕ). partAt bs (at + sizeIn b) j) (placesIn (at + sizeIn b) bs) (block-part s at b (flat bs) e) (λ j. part-in s bs (at + sizeIn b) j (behind-block s at b (flat bs) e))
+    part-by s (isFilled (fieldsOf b)) k (placedAt at b) (blockPart at b) (λ (j : ℕ). partAt bs (at + sizeIn b) j) (placesIn (at + sizeIn b) bs) (block-part s at b (flat bs) e) (λ j. part-in s bs (at + sizeIn b) j (behind-block s at b (flat bs) e))
 
 part-read : (s : Bytes) (k : ℕ) → isReadable s ≡ true → partAt (blocks (readOf s)) 0 k ≡ partFrom s (getElem? (placesOf s) k)
 part-read s k e =

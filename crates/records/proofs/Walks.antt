@@ -5,15 +5,15 @@ use mathlib.Core.Path.{_≡_, refl, sym, ap, _∙_}
 use mathlib.Core.Bool.{Bool, true, false, _||_, or-assoc, or-false}
 use mathlib.Core.List.{List, [], _∷_, _++_, append-nil, map}
 use lib.ListN.{length, length-append}
+use Rattle.format.specs.Lists.{isFilled}
 use Rattle.format.specs.Bytes.{Bytes, text, pick, same}
 use Rattle.format.specs.Lines.{Line}
 use Rattle.format.specs.Pieces.{Piece, linesOf, bytesOf}
 use Rattle.format.specs.Records.{Record, Block, onto, blocks, countOf, fieldsOf, close, recordsIn, records}
 use Rattle.format.specs.Sets.{keepIf, valuesOf}
-use Rattle.format.specs.Edits.{isRecord}
 use Rattle.format.specs.Calls.{lead, fromFirst, toLast}
 use Rattle.format.proofs.Whole.{bytesOf-append}
-use Rattle.format.proofs.Walking.{isFilled, isHead}
+use Rattle.format.proofs.Walking.{isHead}
 use Rattle.records.specs.Places.{Placed, sizeIn, placedAt, placeOn, placesIn}
 use Rattle.records.specs.Walk.{untilBlank, fromBlank, runFrom}
 use Rattle.records.specs.declared.Run.{Run}
@@ -47,7 +47,7 @@ comment-loose l b = (refl, refl, refl)
 
 -- in front of blocks it moves them on
 onto-loose : (at : ℕ) (p : Piece) (bs : List Block) → Loose p → placesIn at (onto p bs) ≡ placesIn (at + countOf (linesOf p)) bs
-onto-loose at p [] h = ap (λ (r : Record). placeOn (isRecord r) (placedAt at (p ∷ [])) []) (h [] .0)
+onto-loose at p [] h = ap (λ (r : Record). placeOn (isFilled r) (placedAt at (p ∷ [])) []) (h [] .0)
 onto-loose at p (b ∷ bs) h =
     let k : ℕ = at + countOf (linesOf p) in
     let x = size-piece p (lead b) in
@@ -56,7 +56,7 @@ onto-loose at p (b ∷ bs) h =
     let w = ap (λ (c : Block). sizeIn (toLast c)) (h b .2) in
     let q : placedAt at (p ∷ b) ≡ placedAt k b = placed-path (placedAt at (p ∷ b)) (placedAt k b) (omega arith) (omega arith) (omega arith) (h b .0) in
     let e : at + sizeIn (p ∷ b) ≡ k + sizeIn b = omega arith in
-    λ i. placeOn (isRecord (h b .0 i)) (q i) (placesIn (e i) bs)
+    λ i. placeOn (isFilled (h b .0 i)) (q i) (placesIn (e i) bs)
 
 -- an empty block has no place
 places-empty : (at : ℕ) (bs : List Block) → placesIn at ([] ∷ bs) ≡ placesIn at bs
@@ -104,7 +104,7 @@ places-walk at (Piece.field n v ls ∷ ps) =
     places-field at n v ls ps ∙ ap (λ (k : ℕ). placesRun k (Piece.field n v ls ∷ ps)) (omega (arith, size-none))
 
 -- the fields of the places are the records
-fields-on : (at : ℕ) (r : Record) (b : Block) (xs : List Placed) (rs : List Record) → fieldsOf b ≡ r → map (λ (p : Placed). p .fields) xs ≡ rs → map (λ (p : Placed). p .fields) (placeOn (isRecord r) (placedAt at b) xs) ≡ close r rs
+fields-on : (at : ℕ) (r : Record) (b : Block) (xs : List Placed) (rs : List Record) → fieldsOf b ≡ r → map (λ (p : Placed). p .fields) xs ≡ rs → map (λ (p : Placed). p .fields) (placeOn (isFilled r) (placedAt at b) xs) ≡ close r rs
 fields-on at [] b xs rs e h = h
 fields-on at (f ∷ fs) b xs rs e h = λ i. e i ∷ h i
 
@@ -119,7 +119,7 @@ places-records at ps = fields-in at (blocks ps)
 -- The fold over a record's pieces finds where it ends, where its block ends, and whether it is a descriptor.
 
 abbrev pub endFrom : ℕ → ℕ → Block → ℕ
-endFrom at end b = pick (isRecord (fieldsOf b)) (at + sizeIn (toLast b)) end
+endFrom at end b = pick (isFilled (fieldsOf b)) (at + sizeIn (toLast b)) end
 
 there-on : (t : Bool) (v : Bytes) (vs : List Bytes) → isFilled (keepIf t v vs) ≡ (t || isFilled vs)
 there-on true v vs = refl
@@ -135,20 +135,20 @@ abbrev pub runTold : ℕ → ℕ → Bool → Block → Run
 runTold at end d b = record { end = endFrom at end b; after = at + sizeIn b; descriptor = d || hasRec b }
 
 end-comment : (at end : ℕ) (l : Line) (b : Block) → endFrom (at + countOf (l ∷ [])) end b ≡ endFrom at end (Piece.comment l ∷ b)
-end-comment at end l b = go (isRecord (fieldsOf b))
+end-comment at end l b = go (isFilled (fieldsOf b))
   where
     go : (t : Bool) → pick t (at + countOf (l ∷ []) + sizeIn (toLast b)) end ≡ pick t (at + sizeIn (pick t (Piece.comment l ∷ toLast b) [])) end
     go true = omega (arith, size-piece (Piece.comment l) (toLast b))
     go false = refl
 
-to-none : (b : Block) → isRecord (fieldsOf b) ≡ false → toLast b ≡ []
+to-none : (b : Block) → isFilled (fieldsOf b) ≡ false → toLast b ≡ []
 to-none [] e = refl
 to-none (p ∷ b) e = ap (λ (t : Bool). pick t (p ∷ toLast b) []) e
 
 end-field : (at end : ℕ) (n v : Bytes) (ls : List Line) (b : Block) → endFrom (at + countOf ls) (at + countOf ls) b ≡ endFrom at end (Piece.field n v ls ∷ b)
-end-field at end n v ls b = go (isRecord (fieldsOf b)) refl
+end-field at end n v ls b = go (isFilled (fieldsOf b)) refl
   where
-    go : (t : Bool) → isRecord (fieldsOf b) ≡ t → pick t (at + countOf ls + sizeIn (toLast b)) (at + countOf ls) ≡ at + sizeIn (Piece.field n v ls ∷ toLast b)
+    go : (t : Bool) → isFilled (fieldsOf b) ≡ t → pick t (at + countOf ls + sizeIn (toLast b)) (at + countOf ls) ≡ at + sizeIn (Piece.field n v ls ∷ toLast b)
     go true e = omega (arith, size-piece (Piece.field n v ls) (toLast b))
     go false e = omega (arith, size-piece (Piece.field n v ls) (toLast b), ap (λ (x : Block). sizeIn x) (to-none b e), size-none)
 

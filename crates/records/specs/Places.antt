@@ -4,13 +4,13 @@ use mathlib.Core.Bool.{Bool, true, false, _&&_}
 use mathlib.Core.List.{List, [], _∷_}
 use mathlib.Core.Option.{Option, none, some}
 use lib.ListN.{length}
+use Rattle.format.specs.Lists.{isFilled}
 use Rattle.format.specs.Bytes.{Bytes, text, pick, same, isSome}
 use Rattle.format.specs.Lines.{Line, isEnded}
 use Rattle.format.specs.Pieces.{Piece, pieces, bytesOf}
 use Rattle.format.specs.Records.{Record, Block, blocks, countOf, fieldsOf}
 use Rattle.format.specs.Sets.{valuesOf}
 use Rattle.format.specs.Words.{firstWord}
-use Rattle.format.specs.Edits.{isRecord}
 use Rattle.format.specs.Calls.{lead, fromFirst, toLast}
 use Rattle.format.proofs.Walking.{isHead}
 use Rattle.lines.specs.Piece.{valueAt}
@@ -45,7 +45,7 @@ placeOn false p ps = ps
 -- the records of blocks, the first block at a place
 abbrev pub placesIn : ℕ → List Block → List Placed
 placesIn at [] = []
-placesIn at (b ∷ bs) = placeOn (isRecord (fieldsOf b)) (placedAt at b) (placesIn (at + sizeIn b) bs)
+placesIn at (b ∷ bs) = placeOn (isFilled (fieldsOf b)) (placedAt at b) (placesIn (at + sizeIn b) bs)
 
 abbrev pub placesFrom : Option (List Piece) → List Placed
 placesFrom none = []

@@ -11,9 +11,9 @@ use lib.Seq.{take-append-seam}
 use borrow.Author.Tests.{leb-true, leb-false}
 use types.Run.{OneOf, miss}
 use denote.Enum.Declared.{tagOf}
+use Rattle.format.specs.Lists.{onward}
 use Rattle.format.specs.Bytes.{Bytes, all}
 use Rattle.format.specs.Limits.{fileBytes}
-use Rattle.format.specs.Numbers.{onward}
 use Rattle.format.specs.Pieces.{Piece, pieces}
 use Rattle.format.specs.Sets.{default, setsOf}
 use Rattle.format.specs.Questions.{firstNo}

@@ -8,9 +8,9 @@ use mathlib.Core.Option.{Option, none, some}
 use lib.Dec.{eqb}
 use lib.ListN.{length, getD}
 use borrow.Author.Tests.{ne-eqb, lt-leb, le-leb}
+use Rattle.format.specs.Lists.{onward}
 use Rattle.format.specs.Bytes.{Bytes, pick, same, isSome}
 use Rattle.format.specs.Limits.{fileBytes}
-use Rattle.format.specs.Numbers.{onward}
 use Rattle.format.specs.Requests.{Tagged, Request as Asked, withText, ends, pairOn, pairsOf, inserts, byKind, requestOf, tagged}
 use Rattle.format.specs.Written.{Pair as Written}
 use Rattle.format.specs.Edits.{Edit, Change}

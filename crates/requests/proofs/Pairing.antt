@@ -8,8 +8,8 @@ use mathlib.Core.Option.{Option, none, some}
 use lib.Dec.{eqb, leb}
 use lib.ListN.{length}
 use borrow.Author.Tests.{leb-true, leb-false, lt-leb}
+use Rattle.format.specs.Lists.{onlyIf, onward}
 use Rattle.format.specs.Bytes.{Bytes, isSome}
-use Rattle.format.specs.Numbers.{onlyIf, onward}
 use Rattle.format.specs.Requests.{Tagged, Request, withText, pairOn, pairsOf}
 use Rattle.format.specs.Written.{Pair as Written}
 use Rattle.requests.specs.declared.fields.Span.{Span}

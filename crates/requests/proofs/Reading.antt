@@ -11,8 +11,8 @@ use lib.Seq.{getD-take, getD-drop}
 use borrow.Author.Tests.{eq-eqb, ne-eqb}
 use types.Run.{OneOf, miss}
 use denote.Enum.Declared.{tagOf}
+use Rattle.format.specs.Lists.{onward}
 use Rattle.format.specs.Bytes.{Bytes, pick}
-use Rattle.format.specs.Numbers.{onward}
 use Rattle.format.specs.Requests.{Tagged, Request, withText, twoBytes, withNumber, ends}
 use Rattle.requests.specs.declared.fields.Span.{Span}
 use Rattle.requests.proofs.fields.Tagged.{the-type}

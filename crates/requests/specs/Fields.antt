@@ -6,8 +6,8 @@ use mathlib.Core.List.{List, [], _∷_}
 use mathlib.Core.Option.{Option, none, some}
 use lib.Dec.{eqb}
 use lib.ListN.{length, take, drop}
+use Rattle.format.specs.Lists.{onward}
 use Rattle.format.specs.Bytes.{Bytes}
-use Rattle.format.specs.Numbers.{onward}
 use Rattle.format.specs.Requests.{Tagged as Field, tagged, Request, withNumber, changes}
 use Rattle.requests.specs.declared.fields.Span.{Span}
 use Rattle.requests.specs.declared.fields.Tagged.{Tagged}

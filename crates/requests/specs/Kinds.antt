@@ -5,8 +5,8 @@ use mathlib.Core.Bool.{true}
 use mathlib.Core.List.{List}
 use mathlib.Core.Option.{Option, none, some}
 use lib.ListN.{length}
+use Rattle.format.specs.Lists.{onward}
 use Rattle.format.specs.Bytes.{Bytes, isSome}
-use Rattle.format.specs.Numbers.{onward}
 use Rattle.format.specs.Requests.{Tagged, Request as Asked, withText, withNumber, ends, pairsOf, inserts, changes}
 use Rattle.format.specs.Edits.{Edit, Change}
 use Rattle.requests.specs.declared.fields.Span.{Span}

@@ -6,8 +6,8 @@ use mathlib.Core.List.{List, [], _∷_}
 use mathlib.Core.Option.{Option, none, some}
 use lib.Dec.{leb}
 use lib.ListN.{length}
+use Rattle.format.specs.Lists.{onlyIf, onward}
 use Rattle.format.specs.Bytes.{Bytes, all}
-use Rattle.format.specs.Numbers.{onlyIf, onward}
 use Rattle.format.specs.Requests.{Tagged, Request, withText, pairsOf}
 use Rattle.format.specs.Written.{Pair as Written, writtenAll, isLegalPair}
 use Rattle.requests.specs.declared.fields.Span.{Span}

@@ -4,10 +4,11 @@ use mathlib.Core.Path.{_≡_}
 use mathlib.Core.Bool.{true}
 use mathlib.Core.List.{List, map}
 use lib.ListN.{length, take}
+use Rattle.format.specs.Lists.{flat}
 use Rattle.format.specs.Bytes.{Bytes, all}
 use Rattle.format.specs.Records.{Record}
-use Rattle.format.specs.Numbers.{bits32}
-use Rattle.format.specs.Rules.{joinAll, isWellFormed, isTypedWell}
+use Rattle.format.specs.Numbers.{intBounds}
+use Rattle.format.specs.Rules.{isWellFormed, isTypedWell}
 use Rattle.format.specs.Questions.{fitsRecord, fitsRules}
 use Rattle.format.proofs.Least.{leasts}
 use Rattle.records.specs.Places.{isReadable}
@@ -21,8 +22,8 @@ pub record IsRules (d : Bytes) : Type 0 where
   pub reads : isReadable d ≡ true
   pub fits : fitsRecord (recordIn d) ≡ true
   pub few : fitsRules (recordIn d) ≡ true
-  pub well : isWellFormed bits32 (recordIn d) ≡ true
-  pub typed : isTypedWell bits32 (recordIn d) ≡ true
+  pub well : isWellFormed intBounds (recordIn d) ≡ true
+  pub typed : isTypedWell intBounds (recordIn d) ≡ true
 
 -- records whose limits are held
 abbrev pub AllFit : List Record → Type 0
@@ -33,4 +34,4 @@ pub record AllAsked (rules : Record) (s : Bytes) (a : Asked) : Type 0 where
   pub least : a .number ≡ leasts (map (namesNo rules) (membersIn s))
   pub inside : a .end ≤ length s
   pub reads : isReadable (take (a .end) s) ≡ true
-  pub fields : recordIn (take (a .end) s) ≡ joinAll (membersIn s)
+  pub fields : recordIn (take (a .end) s) ≡ flat (membersIn s)

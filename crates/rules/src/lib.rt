@@ -5,7 +5,7 @@ ghost use Prim.Native.Nat.{_≤_};
 ghost use lib.ListN.{length};
 ghost use Rattle.format.specs.Bytes.{classTable, all};
 ghost use Rattle.format.specs.Limits.{fileBytes, valueBytes};
-ghost use Rattle.format.specs.Numbers.{bits32};
+ghost use Rattle.format.specs.Numbers.{intBounds};
 ghost use Rattle.format.specs.Questions.{firstNo, allTyped};
 ghost use Rattle.format.proofs.Judging.{wholeRows, setNo};
 ghost use Rattle.format.proofs.Walking.{ruled};
@@ -69,7 +69,7 @@ fn all_typed(table: &[u8; 256], d: &[u8], s: &[u8], scratch: &mut [u8], other: &
     requires { ⌜ now table ≡ classTable ⌝ }
     requires { ⌜ IsRules (now d) × (length (now d) ≤ fileBytes) × (valueBytes ≤ length (now other)) ⌝ }
     requires { ⌜ (isReadable (now s) ≡ true) × (all (fieldFits (length (now scratch))) (recordIn (now s)) ≡ true) ⌝ }
-    ensures { λ r. ⌜ r ≡ allTyped bits32 (recordIn (now (d .entry))) (recordIn (now (s .entry))) ⌝ }
+    ensures { λ r. ⌜ r ≡ allTyped intBounds (recordIn (now (d .entry))) (recordIn (now (s .entry))) ⌝ }
 {
     let types = typed::read_rules(table, d, &mut *other);
     if types.count == 0 {
@@ -94,7 +94,7 @@ fn judge_whole(
     requires { ⌜ IsRules (now d) × Lists (now d) (now at) (now end) (now list) count ⌝ }
     requires { ⌜ (isReadable (now rest) ≡ true) × (length (now rest) ≤ fileBytes) × HaveKeys (recordIn (now d)) (membersIn (now rest)) ⌝ }
     requires { ⌜ (valueBytes ≤ length (now scratch)) × (16384 ≤ length (now entries)) ⌝ }
-    ensures { λ n. ⌜ n ≡ firstNo (wholeRows bits32) (ruled (recordIn (now (d .entry))) (membersIn (now (rest .entry)))) ⌝ }
+    ensures { λ n. ⌜ n ≡ firstNo (wholeRows intBounds) (ruled (recordIn (now (d .entry))) (membersIn (now (rest .entry)))) ⌝ }
 {
     if setkeys::keys_distinct(table, d, at, end, list, count, rest, &mut *entries) {} else {
         return 13;
@@ -128,7 +128,7 @@ pub fn judge_set(
     requires { ⌜ IsRules (now d) × (length (now d) ≤ fileBytes) ⌝ }
     requires { ⌜ (isReadable (now rest) ≡ true) × (length (now rest) ≤ fileBytes) × AllFit (membersIn (now rest)) ⌝ }
     requires { ⌜ (valueBytes ≤ length (now scratch)) × (valueBytes ≤ length (now other)) × (16384 ≤ length (now entries)) ⌝ }
-    ensures { λ n. ⌜ n ≡ setNo bits32 (ruled (recordIn (now (d .entry))) (membersIn (now (rest .entry)))) ⌝ }
+    ensures { λ n. ⌜ n ≡ setNo intBounds (ruled (recordIn (now (d .entry))) (membersIn (now (rest .entry)))) ⌝ }
 {
     let mut at = [0u32; 257];
     let mut end = [0u32; 257];

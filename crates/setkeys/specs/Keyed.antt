@@ -3,11 +3,12 @@ use Prim.Native.Nat.{ℕ, _≤_, _<_}
 use mathlib.Core.Path.{_≡_}
 use mathlib.Core.List.{List, [], _∷_, map}
 use lib.ListN.{length, take, getD}
+use Rattle.format.specs.Lists.{flat}
 use Rattle.format.specs.Bytes.{Bytes}
 use Rattle.format.specs.Words.{notGap, front}
 use Rattle.format.specs.Records.{Record, records}
 use Rattle.format.specs.Sets.{valuesOf}
-use Rattle.format.specs.Rules.{joinAll, key}
+use Rattle.format.specs.Rules.{key}
 use Rattle.format.specs.Questions.{occurrences}
 use Rattle.format.proofs.Elements.{Each}
 use Rattle.format.proofs.Walking.{before}
@@ -36,7 +37,7 @@ HaveKeys rules rs = Each (λ (r : Record). Each (λ (w : Bytes). occurrences w r
 
 -- the values that records have at a name
 abbrev pub valuesAt : Bytes → List Record → List Bytes
-valuesAt w rs = joinAll (map (valuesOf w) rs)
+valuesAt w rs = flat (map (valuesOf w) rs)
 
 -- the first of count listed words that is the key, count where none is
 pub record FirstKey (list : List ℕ) (count k : ℕ) : Type 0 where

@@ -6,7 +6,7 @@ use mathlib.Core.List.{List, [], _∷_}
 use lib.ListN.{getD}
 use borrow.Author.Tests.{eq-eqb, ne-eqb}
 use Rattle.format.specs.Bytes.{Bytes, text, any, same}
-use Rattle.format.specs.Numbers.{bits32}
+use Rattle.format.specs.Numbers.{intBounds}
 use Rattle.format.specs.Rules.{Shape, shapes, isSpecial}
 use Rattle.format.proofs.Elements.{Each}
 use Rattle.format.proofs.Listing.{same-true}
@@ -53,9 +53,9 @@ no-row : (n v : Bytes) (xs : List Shape) → Each (λ (x : Shape). same n (x .na
 no-row n v [] h = refl
 no-row n v (x ∷ xs) h = ap (λ (b : Bool). (b && x .fits v) || any (λ (y : Shape). same n (y .name) && y .fits v) xs) (h .0) ∙ no-row n v xs (h .1)
 
-pub asks-none : (n : Bytes) → isSpecial n ≡ true → Each (λ (x : Shape). same n (x .name) ≡ false) (shapes bits32) → Asks n Content.Fault
+pub asks-none : (n : Bytes) → isSpecial n ≡ true → Each (λ (x : Shape). same n (x .name) ≡ false) (shapes intBounds) → Asks n Content.Fault
 asks-none n s h v k =
-    ap (λ (b : Bool). not b || any (λ (x : Shape). same n (x .name) && x .fits v) (shapes bits32)) s ∙ no-row n v (shapes bits32) h
+    ap (λ (b : Bool). not b || any (λ (x : Shape). same n (x .name) && x .fits v) (shapes intBounds)) s ∙ no-row n v (shapes intBounds) h
 
 -- one that does not start with `%`, by its first byte
 module _ (n : Bytes) (b : ℕ) (e : b ≡ getD n 0 0) where
@@ -63,4 +63,4 @@ module _ (n : Bytes) (b : ℕ) (e : b ≡ getD n 0 0) where
   special h = eq-eqb (getD n 0 0) 37 (sym e ∙ h)
 
   pub asks-plain : (b ≡ 37 → ⊥) → Asks n Content.Free
-  asks-plain h v k = ap (λ (x : Bool). not x || any (λ (y : Shape). same n (y .name) && y .fits v) (shapes bits32)) (ne-eqb (getD n 0 0) 37 (λ q. h (e ∙ q)))
+  asks-plain h v k = ap (λ (x : Bool). not x || any (λ (y : Shape). same n (y .name) && y .fits v) (shapes intBounds)) (ne-eqb (getD n 0 0) 37 (λ q. h (e ∙ q)))

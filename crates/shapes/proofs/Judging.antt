@@ -9,7 +9,7 @@ use lib.Dec.{leb}
 use lib.ListN.{length}
 use Rattle.format.specs.Bytes.{Bytes, text, pick, all, same, among}
 use Rattle.format.specs.Limits.{descriptors}
-use Rattle.format.specs.Numbers.{bits32}
+use Rattle.format.specs.Numbers.{intBounds}
 use Rattle.format.specs.Questions.{fitsRecord, fitsRules}
 use Rattle.format.specs.Records.{Record}
 use Rattle.format.specs.Rules.{isShaped, isWellFormed, distinct}
@@ -24,21 +24,21 @@ abbrev pub isOnce : Bytes → Record → Bool
 isOnce n r = leb (length (valuesOf n r)) 1
 
 module _ (r : Record) where
-  pub formed : all (isShaped bits32) r ≡ true → isOnce (text "%key") r ≡ true → isWellFormed bits32 r ≡ isOnce (text "%size") r
+  pub formed : all (isShaped intBounds) r ≡ true → isOnce (text "%key") r ≡ true → isWellFormed intBounds r ≡ isOnce (text "%size") r
   formed p q = λ i. (p i && q i) && isOnce (text "%size") r
 
-  pub keys-twice : isOnce (text "%key") r ≡ false → isWellFormed bits32 r ≡ false
-  keys-twice q = go (all (isShaped bits32) r)
+  pub keys-twice : isOnce (text "%key") r ≡ false → isWellFormed intBounds r ≡ false
+  keys-twice q = go (all (isShaped intBounds) r)
     where
       go : (b : Bool) → ((b && isOnce (text "%key") r) && isOnce (text "%size") r) ≡ false
       go true = ap (λ (x : Bool). x && isOnce (text "%size") r) q
       go false = refl
 
-  pub not-shaped : all (isShaped bits32) r ≡ false → isWellFormed bits32 r ≡ false
+  pub not-shaped : all (isShaped intBounds) r ≡ false → isWellFormed intBounds r ≡ false
   not-shaped p = ap (λ (b : Bool). (b && isOnce (text "%key") r) && isOnce (text "%size") r) p
 
 -- what is found of a descriptor tells whether it passes behind others: w that it is well formed, t that its name m is taken
-module _ (r : Record) (seen : List Bytes) (w : Bool) (e : w ≡ isWellFormed bits32 r) where
+module _ (r : Record) (seen : List Bytes) (w : Bool) (e : w ≡ isWellFormed intBounds r) where
   pub fault-told : w ≡ false → passes r seen ≡ false
   fault-told h = ap (λ (b : Bool). b && not (among (headName r) seen)) (sym e ∙ h)
 
@@ -102,12 +102,12 @@ none-seen (n ∷ ns) = none-seen ns
 
 -- a walk that has seen some names
 abbrev pub isWell : Record → Bool
-isWell r = not (isHead r) || isWellFormed bits32 r
+isWell r = not (isHead r) || isWellFormed intBounds r
 
 abbrev pub wellFrom : List Bytes → List Record → Bool
 wellFrom seen rs = all isWell rs && newNames seen (headNames rs)
 
-pub well-start : (rs : List Record) → walkWell bits32 rs ≡ wellFrom [] rs
+pub well-start : (rs : List Record) → walkWell intBounds rs ≡ wellFrom [] rs
 well-start rs = ap (λ (b : Bool). all isWell rs && (b && distinct (headNames rs))) (sym (none-seen (headNames rs)))
 
 module _ (seen : List Bytes) (qs : List Record) (r : Record) (rs : List Record) (e : qs ≡ r ∷ rs) where
@@ -115,7 +115,7 @@ module _ (seen : List Bytes) (qs : List Record) (r : Record) (rs : List Record) 
   pub well-member : isHead r ≡ false → wellFrom seen qs ≡ wellFrom seen rs
   well-member h =
       ap (wellFrom seen) e
-      ∙ ap (λ (b : Bool). ((not b || isWellFormed bits32 r) && all isWell rs) && newNames seen (map headName (pick b (r ∷ heads rs) (heads rs)))) h
+      ∙ ap (λ (b : Bool). ((not b || isWellFormed intBounds r) && all isWell rs) && newNames seen (map headName (pick b (r ∷ heads rs) (heads rs)))) h
 
   judged-by : (a b c d : Bool) → ((a && b) && (c && d)) ≡ ((a && c) && (b && d))
   judged-by true true c d = refl
@@ -126,9 +126,9 @@ module _ (seen : List Bytes) (qs : List Record) (r : Record) (rs : List Record) 
   head-on : isHead r ≡ true → wellFrom seen qs ≡ (passes r seen && wellFrom (seen ++ (headName r ∷ [])) rs)
   head-on h =
       ap (wellFrom seen) e
-      ∙ ap (λ (b : Bool). ((not b || isWellFormed bits32 r) && all isWell rs) && newNames seen (map headName (pick b (r ∷ heads rs) (heads rs)))) h
-      ∙ ap (λ (b : Bool). (isWellFormed bits32 r && all isWell rs) && b) (new-more seen (headName r) (headNames rs))
-      ∙ judged-by (isWellFormed bits32 r) (all isWell rs) (isNew seen (headName r)) (newNames (seen ++ (headName r ∷ [])) (headNames rs))
+      ∙ ap (λ (b : Bool). ((not b || isWellFormed intBounds r) && all isWell rs) && newNames seen (map headName (pick b (r ∷ heads rs) (heads rs)))) h
+      ∙ ap (λ (b : Bool). (isWellFormed intBounds r && all isWell rs) && b) (new-more seen (headName r) (headNames rs))
+      ∙ judged-by (isWellFormed intBounds r) (all isWell rs) (isNew seen (headName r)) (newNames (seen ++ (headName r ∷ [])) (headNames rs))
 
   -- a descriptor passes, or the walk ends
   pub well-stop : isHead r ≡ true → passes r seen ≡ false → wellFrom seen qs ≡ false
@@ -165,4 +165,4 @@ none-named [] e = refl
 none-named (h ∷ hs) e = absurd (omega (arith, e))
 
 pub well-none : (seen : List Bytes) (rs : List Record) → length (heads rs) ≡ 0 → wellFrom seen rs ≡ true
-well-none seen rs e = λ i. none-asked (isWellFormed bits32) rs e i && newNames seen (none-named (heads rs) e i)
+well-none seen rs e = λ i. none-asked (isWellFormed intBounds) rs e i && newNames seen (none-named (heads rs) e i)

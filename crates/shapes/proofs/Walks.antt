@@ -7,7 +7,7 @@ use mathlib.Core.List.{List, []}
 use lib.ListN.{length, take, drop, set, length-set}
 use Rattle.format.specs.Bytes.{Bytes, pick, all}
 use Rattle.format.specs.Limits.{descriptors}
-use Rattle.format.specs.Numbers.{bits32}
+use Rattle.format.specs.Numbers.{intBounds}
 use Rattle.format.specs.Questions.{fitsRecord}
 use Rattle.format.specs.Records.{records, fieldsOf}
 use Rattle.format.proofs.Walking.{isHead, heads, walkFits, walkWell}
@@ -33,7 +33,7 @@ pub record WalkAt (s : Bytes) (count i n : ℕ) (starts ends : List ℕ) : Type 
   pub room : length starts ≡ descriptors
   pub room-beside : length ends ≡ descriptors
   pub places : Inside s (take n starts) (take n ends)
-  pub judged : walkWell bits32 (records (readOf s)) ≡ wellFrom (namesAt s (take n starts) (take n ends)) (recordsFrom s i)
+  pub judged : walkWell intBounds (records (readOf s)) ≡ wellFrom (namesAt s (take n starts) (take n ends)) (recordsFrom s i)
 
 pub walk-starts : (s : Bytes) (count : ℕ) (starts ends : List ℕ) → length starts ≡ descriptors → length ends ≡ descriptors → isReadable s ≡ true → walkFits (records (readOf s)) ≡ true → count ≡ length (heads (records (readOf s))) → WalkAt s count 0 0 starts ends
 walk-starts s count starts ends h k e f c =
@@ -56,10 +56,10 @@ walk-same s count i n starts ends {m} {bs} {es} p q r w =
     subst (λ (x : ℕ). WalkAt s count i x starts ends) (sym p) (subst (λ (x : List ℕ). WalkAt s count i m x ends) (sym q) (subst (λ (x : List ℕ). WalkAt s count i m bs x) (sym r) w))
 
 module _ (s : Bytes) (count i n : ℕ) (starts ends : List ℕ) (w : WalkAt s count i n starts ends) where
-  pub walk-ends : placesAt s i ≡ [] → walkWell bits32 (records (readOf s)) ≡ true
+  pub walk-ends : placesAt s i ≡ [] → walkWell intBounds (records (readOf s)) ≡ true
   walk-ends e = w .judged ∙ ap (wellFrom (namesAt s (take n starts) (take n ends))) (records-none s i e)
 
-  pub walk-done : count ≤ n → walkWell bits32 (records (readOf s)) ≡ true
+  pub walk-done : count ≤ n → walkWell intBounds (records (readOf s)) ≡ true
   walk-done h = w .judged ∙ well-none (namesAt s (take n starts) (take n ends)) (recordsFrom s i) (omega (arith, w .left))
 
   module _ (q : Place) (m : Met s i q) where
@@ -102,7 +102,7 @@ module _ (s : Bytes) (count i n : ℕ) (starts ends : List ℕ) (w : WalkAt s co
         told : {y : Head} → x ≡ y → Told s (recordAt s i q) (namesAt s (take n starts) (take n ends)) y
         told e = subst (Told s (recordAt s i q) (namesAt s (take n starts) (take n ends))) e t
 
-        pub walk-stops : x ≡ Head.Fault → walkWell bits32 (records (readOf s)) ≡ false
+        pub walk-stops : x ≡ Head.Fault → walkWell intBounds (records (readOf s)) ≡ false
         walk-stops e = w .judged ∙ well-stop (namesAt s (take n starts) (take n ends)) (recordsFrom s i) (recordAt s i q) (recordsFrom s (i + q .after)) (records-met s i q m) head (told e)
 
         pub walk-head : (a b : ℕ) → x ≡ Head.Named a b → WalkAt s count (i + q .after) (n + 1) (set starts n a) (set ends n b)

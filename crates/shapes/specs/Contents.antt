@@ -6,7 +6,7 @@ use mathlib.Core.List.{[], _∷_}
 use lib.ListN.{length}
 use Rattle.format.specs.Bytes.{Bytes, isSome}
 use Rattle.format.specs.Lines.{isName}
-use Rattle.format.specs.Numbers.{bits32}
+use Rattle.format.specs.Numbers.{intBounds}
 use Rattle.format.specs.Rules.{sizeRule, one, nameList, isShaped}
 use Rattle.format.specs.Words.{words, isTypeName}
 use Rattle.words.specs.Spans.{span}
@@ -25,9 +25,9 @@ holds Content.Free v = true
 holds Content.TypeName v = one isTypeName (words v)
 holds Content.Names v = nameList v
 holds Content.Name v = one isName (words v)
-holds Content.Size v = isSome (sizeRule bits32 (words v))
+holds Content.Size v = isSome (sizeRule intBounds (words v))
 holds Content.Fault v = false
 
 -- a name asks this, whatever the value and the count are
 abbrev pub Asks : Bytes → Content → Type 0
-Asks n c = (v : Bytes) (k : ℕ) → isShaped bits32 (fieldOf n v k) ≡ holds c v
+Asks n c = (v : Bytes) (k : ℕ) → isShaped intBounds (fieldOf n v k) ≡ holds c v

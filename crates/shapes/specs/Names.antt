@@ -5,7 +5,7 @@ use mathlib.Core.Bool.{Bool, true, false, _&&_, not}
 use mathlib.Core.List.{List, [], _∷_}
 use lib.ListN.{length}
 use Rattle.format.specs.Bytes.{Bytes, among}
-use Rattle.format.specs.Numbers.{bits32}
+use Rattle.format.specs.Numbers.{intBounds}
 use Rattle.format.specs.Records.{Record, fieldsOf}
 use Rattle.format.specs.Limits.{valueBytes}
 use Rattle.format.specs.Questions.{fitsRecord}
@@ -45,7 +45,7 @@ NamedBy d r =
 
 -- a descriptor passes behind others: it is well formed, and none of them has its name
 abbrev pub passes : Record → List Bytes → Bool
-passes r seen = isWellFormed bits32 r && not (among (headName r) seen)
+passes r seen = isWellFormed intBounds r && not (among (headName r) seen)
 
 abbrev pub Told : Bytes → Record → List Bytes → Head → Type 0
 Told s r seen Head.Fault = passes r seen ≡ false

@@ -7,7 +7,7 @@ ghost use lib.ListN.{length};
 ghost use Rattle.format.specs.Bytes.{classTable, all, among};
 ghost use Rattle.format.specs.Lines.{isName};
 ghost use Rattle.format.specs.Limits.{valueBytes};
-ghost use Rattle.format.specs.Numbers.{bits32};
+ghost use Rattle.format.specs.Numbers.{intBounds};
 ghost use Rattle.format.specs.Records.{records, fieldsOf};
 ghost use Rattle.format.specs.Rules.{isSpecial, one, several, isShaped, isWellFormed};
 ghost use Rattle.format.specs.Sets.{valuesOf};
@@ -175,7 +175,7 @@ pub fn text_holds(table: &[u8; 256], c: Content, s: &[u8]) -> bool
 pub fn field_shaped(table: &[u8; 256], name: &[u8], value: &[u8], scratch: &mut [u8]) -> bool
     requires { ⌜ now table ≡ classTable ⌝ }
     requires { ⌜ length (valueFrom (now value)) ≤ length (now scratch) ⌝ }
-    ensures { λ r. ⌜ ((k : ℕ) → r ≡ isShaped bits32 (fieldOf (now (name .entry)) (valueFrom (now (value .entry))) k)) × (length (now (scratch .exit)) ≡ length (now (scratch .entry))) ⌝ }
+    ensures { λ r. ⌜ ((k : ℕ) → r ≡ isShaped intBounds (fieldOf (now (name .entry)) (valueFrom (now (value .entry))) k)) × (length (now (scratch .exit)) ≡ length (now (scratch .entry))) ⌝ }
 {
     let c = content_of(name);
     let n = lines::copy_value(value, scratch);
@@ -188,7 +188,7 @@ fn all_shaped(table: &[u8; 256], d: &[u8], scratch: &mut [u8]) -> bool
     requires { ⌜ isReadable (now d) ≡ true ⌝ }
     requires { ⌜ fitsRecord (fieldsOf (readOf (now d))) ≡ true ⌝ }
     requires { ⌜ valueBytes ≤ length (now scratch) ⌝ }
-    ensures { λ r. ⌜ (r ≡ all (isShaped bits32) (fieldsOf (readOf (now (d .entry))))) × (length (now (scratch .exit)) ≡ length (now (scratch .entry))) ⌝ }
+    ensures { λ r. ⌜ (r ≡ all (isShaped intBounds) (fieldsOf (readOf (now (d .entry))))) × (length (now (scratch .exit)) ≡ length (now (scratch .entry))) ⌝ }
 {
     let mut i = 0;
     loop {
@@ -233,7 +233,7 @@ pub fn well_formed(table: &[u8; 256], d: &[u8], scratch: &mut [u8]) -> bool
     requires { ⌜ isReadable (now d) ≡ true ⌝ }
     requires { ⌜ fitsRecord (fieldsOf (readOf (now d))) ≡ true ⌝ }
     requires { ⌜ valueBytes ≤ length (now scratch) ⌝ }
-    ensures { λ r. ⌜ (r ≡ isWellFormed bits32 (fieldsOf (readOf (now (d .entry))))) × (length (now (scratch .exit)) ≡ length (now (scratch .entry))) ⌝ }
+    ensures { λ r. ⌜ (r ≡ isWellFormed intBounds (fieldsOf (readOf (now (d .entry))))) × (length (now (scratch .exit)) ≡ length (now (scratch .entry))) ⌝ }
 {
     if all_shaped(table, d, scratch) {
         if at_most_once(table, d, b"%key") {
@@ -335,7 +335,7 @@ pub fn described_well(table: &[u8; 256], s: &[u8], count: usize, scratch: &mut [
     requires { ⌜ walkFits (records (readOf (now s))) ≡ true ⌝ }
     requires { ⌜ count ≡ length (heads (records (readOf (now s)))) ⌝ }
     requires { ⌜ valueBytes ≤ length (now scratch) ⌝ }
-    ensures { λ r. ⌜ (r ≡ walkWell bits32 (records (readOf (now (s .entry))))) × (length (now (scratch .exit)) ≡ length (now (scratch .entry))) ⌝ }
+    ensures { λ r. ⌜ (r ≡ walkWell intBounds (records (readOf (now (s .entry))))) × (length (now (scratch .exit)) ≡ length (now (scratch .entry))) ⌝ }
 {
     let mut starts = [0usize; 64];
     let mut ends = [0usize; 64];

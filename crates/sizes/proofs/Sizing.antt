@@ -4,7 +4,7 @@ use mathlib.Core.Path.{_≡_, refl, sym, ap, _∙_}
 use mathlib.Core.Bool.{Bool, true, false, _||_, not}
 use mathlib.Core.Option.{Option, none, some}
 use Rattle.format.specs.Bytes.{Bytes, text, same}
-use Rattle.format.specs.Numbers.{bits32}
+use Rattle.format.specs.Numbers.{intBounds}
 use Rattle.format.specs.Rules.{orderOf, sizeBy, sizeRule, meetsSize}
 use Rattle.format.specs.Words.{words}
 use Rattle.format.proofs.Listing.{same-true}
@@ -22,8 +22,8 @@ no-number none = refl
 no-number (some o) = refl
 
 module _ (m v : Bytes) (n k : ℕ) (t : Bool) (e : t ≡ same (text "%size") m) where
-  pub size-asked : t ≡ true → sizeAsked n (fieldOf m v k) ≡ meetsSize (sizeRule bits32 (words v)) n
-  size-asked h = ap (λ (b : Bool). not b || meetsSize (sizeRule bits32 (words v)) n) (sym e ∙ h)
+  pub size-asked : t ≡ true → sizeAsked n (fieldOf m v k) ≡ meetsSize (sizeRule intBounds (words v)) n
+  size-asked h = ap (λ (b : Bool). not b || meetsSize (sizeRule intBounds (words v)) n) (sym e ∙ h)
 
   pub nothing-asked : t ≡ false → sizeAsked n (fieldOf m v k) ≡ true
-  nothing-asked h = ap (λ (b : Bool). not b || meetsSize (sizeRule bits32 (words v)) n) (sym e ∙ h)
+  nothing-asked h = ap (λ (b : Bool). not b || meetsSize (sizeRule intBounds (words v)) n) (sym e ∙ h)

@@ -4,7 +4,7 @@ use mathlib.Core.Bool.{Bool, _||_, not}
 use mathlib.Core.Option.{Option, none, some}
 use lib.Dec.{leb, ltb, eqb}
 use Rattle.format.specs.Bytes.{Bytes, text, same}
-use Rattle.format.specs.Numbers.{bits32}
+use Rattle.format.specs.Numbers.{intBounds}
 use Rattle.format.specs.Records.{Field}
 use Rattle.format.specs.Rules.{Size, sizeRule, meetsSize}
 use Rattle.format.specs.Words.{words}
@@ -24,4 +24,4 @@ fieldOf n v k = record { name = n; value = v; count = k }
 
 -- does a field let its set have n records
 abbrev pub sizeAsked : ℕ → Field → Bool
-sizeAsked n f = not (same (text "%size") (f .name)) || meetsSize (sizeRule bits32 (words (f .value))) n
+sizeAsked n f = not (same (text "%size") (f .name)) || meetsSize (sizeRule intBounds (words (f .value))) n

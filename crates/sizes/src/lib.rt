@@ -7,7 +7,7 @@ ghost use Prim.Native.Nat.{ℕ, _≤_};
 ghost use lib.ListN.{length};
 ghost use Rattle.format.specs.Bytes.{classTable, text, all, isSome};
 ghost use Rattle.format.specs.Limits.{valueBytes};
-ghost use Rattle.format.specs.Numbers.{bits32};
+ghost use Rattle.format.specs.Numbers.{intBounds};
 ghost use Rattle.format.specs.Records.{fieldsOf};
 ghost use Rattle.format.specs.Rules.{orderOf, sizeBy, sizeRule, meetsSize};
 ghost use Rattle.format.specs.Sets.{valuesOf};
@@ -52,7 +52,7 @@ fn size_by(sign: &[u8], n: u64) -> SizeRule
 
 // The size that one word stands for.
 fn size_exactly(w: &[u8]) -> SizeRule
-    ensures { λ r. ⌜ sizeAnswer r ≡ sizeRule bits32 ((now (w .entry)) ∷ []) ⌝ }
+    ensures { λ r. ⌜ sizeAnswer r ≡ sizeRule intBounds ((now (w .entry)) ∷ []) ⌝ }
 {
     let x = numbers::number_of(w);
     match x {
@@ -63,7 +63,7 @@ fn size_exactly(w: &[u8]) -> SizeRule
 
 // The size that two words stand for.
 fn size_signed(sign: &[u8], w: &[u8]) -> SizeRule
-    ensures { λ r. ⌜ sizeAnswer r ≡ sizeRule bits32 ((now (sign .entry)) ∷ (now (w .entry)) ∷ []) ⌝ }
+    ensures { λ r. ⌜ sizeAnswer r ≡ sizeRule intBounds ((now (sign .entry)) ∷ (now (w .entry)) ∷ []) ⌝ }
 {
     let x = numbers::number_of(w);
     match x {
@@ -74,7 +74,7 @@ fn size_signed(sign: &[u8], w: &[u8]) -> SizeRule
 
 // The size that a text stands for.
 pub fn size_rule(s: &[u8]) -> SizeRule
-    ensures { λ r. ⌜ sizeAnswer r ≡ sizeRule bits32 (words (now (s .entry))) ⌝ }
+    ensures { λ r. ⌜ sizeAnswer r ≡ sizeRule intBounds (words (now (s .entry))) ⌝ }
 {
     let w = words::next_word(s, 0);
     let Word::At { start, end } = w else {
@@ -139,7 +139,7 @@ pub fn size_met(table: &[u8; 256], d: &[u8], count: usize, scratch: &mut [u8]) -
     requires { ⌜ isReadable (now d) ≡ true ⌝ }
     requires { ⌜ fitsRecord (fieldsOf (readOf (now d))) ≡ true ⌝ }
     requires { ⌜ valueBytes ≤ length (now scratch) ⌝ }
-    ensures { λ r. ⌜ (r ≡ all (λ v. meetsSize (sizeRule bits32 (words v)) count) (valuesOf (text "%size") (fieldsOf (readOf (now (d .entry)))))) × (length (now (scratch .exit)) ≡ length (now (scratch .entry))) ⌝ }
+    ensures { λ r. ⌜ (r ≡ all (λ v. meetsSize (sizeRule intBounds (words v)) count) (valuesOf (text "%size") (fieldsOf (readOf (now (d .entry)))))) × (length (now (scratch .exit)) ≡ length (now (scratch .entry))) ⌝ }
 {
     let mut i = 0;
     loop {

@@ -8,9 +8,10 @@ use mathlib.Core.Option.{Option, none, some}
 use denote.Enum.Declared.{tagOf}
 use lib.ListN.{length}
 use types.Run.{OneOf, miss}
+use Rattle.format.specs.Lists.{onward}
 use Rattle.format.specs.Bytes.{Bytes, text, all, isSome}
 use Rattle.format.specs.Words.{firstWord, afterWord}
-use Rattle.format.specs.Numbers.{bits32, onward}
+use Rattle.format.specs.Numbers.{intBounds}
 use Rattle.format.specs.Types.{Kind, Typed, Typedef, typeOf, kindOf}
 use Rattle.format.specs.Rules.{endKind}
 use Rattle.format.specs.Calls.{valueAt}
@@ -35,9 +36,9 @@ use Rattle.typed.specs.Rules.{typeText, ShapeOf, ReadAt, KindOf}
 use Rattle.typed.specs.declared.Typedef.{Typedef as Row}
 
 -- the type of a number, by its value
-pub number-value : (vs : List Bytes) (j : ℕ) (w : Bytes) → j < length vs → w ≡ valueAt j vs → typeNumber vs j ≡ typeOf bits32 (afterWord w)
+pub number-value : (vs : List Bytes) (j : ℕ) (w : Bytes) → j < length vs → w ≡ valueAt j vs → typeNumber vs j ≡ typeOf intBounds (afterWord w)
 number-value [] j w h e = absurd (omega arith)
-number-value (v ∷ vs) zero w h e = ap (λ (x : Bytes). typeOf bits32 (afterWord x)) (sym e)
+number-value (v ∷ vs) zero w h e = ap (λ (x : Bytes). typeOf intBounds (afterWord x)) (sym e)
 number-value (v ∷ vs) (suc j) w h e = number-value vs j w (omega arith) e
 
 pub number-none : (vs : List Bytes) (j : ℕ) → length vs ≤ j → typeNumber vs j ≡ none
@@ -71,9 +72,9 @@ alone (some (Typed.alias n)) e = absurd (let z : _≡_ {A = ℕ} 0 1 = cc in ome
 
 -- the shape that was read of the text of the last type holds the kind
 pub kind-read : (m : ℕ) (d w : Bytes) (v e : ℕ) (t : Row) → ReadAt d v e t → v ≤ e → e ≤ length d → length (valueFrom (span v e d)) ≤ m
-    → isSome (endKind bits32 (defsFrom d) w) ≡ true → endKind bits32 (defsFrom d) w ≡ kindOnly (typeOf bits32 (typeText d v e)) → KindOf m d w t
+    → isSome (endKind intBounds (defsFrom d) w) ≡ true → endKind intBounds (defsFrom d) w ≡ kindOnly (typeOf intBounds (typeText d v e)) → KindOf m d w t
 kind-read m d w v e t r o l f h q =
-    let a = alone (typeOf bits32 (typeText d v e)) (sym (ap isSome q) ∙ h) in
+    let a = alone (typeOf intBounds (typeText d v e)) (sym (ap isSome q) ∙ h) in
     let s : ShapeOf (typeText d v e) (some (Typed.kind (a .kind))) (t .kind) = subst (λ (x : Option Typed). ShapeOf (typeText d v e) x (t .kind)) (a .type) (r .shape) in
     let b : v ≡ t .value = sym (r .starts) in
     let z : e ≡ t .end = sym (r .ends) in
@@ -107,28 +108,28 @@ module _ (d : Bytes) (ts : List ℕ) (r : Ready d ts) (w : Bytes) (t : ℕ) (e :
   own-by (some (Typed.alias n)) q h = absurd (omega (arith, index-most 0 n (map firstWord vs) (omega (arith, few-names vs (r .few) typed))))
 
   -- a kind of its own
-  pub own-kind : t ≡ 33 → endKind bits32 (defsFrom d) w ≡ kindOnly (typeOf bits32 (afterWord w))
-  own-kind h = own-by (typeOf bits32 (afterWord w)) e h
+  pub own-kind : t ≡ 33 → endKind intBounds (defsFrom d) w ≡ kindOnly (typeOf intBounds (afterWord w))
+  own-kind h = own-by (typeOf intBounds (afterWord w)) e h
 
-  leads-rows : isSome (endKind bits32 (defsFrom d) w) ≡ leads ts t
-  leads-rows = leads-by vs (r .few) typed (typeOf bits32 (afterWord w)) ∙ ap (leads (map (targetIn (map firstWord vs)) vs)) (sym e) ∙ ap (λ (xs : List ℕ). leads xs t) (sym (r .are))
+  leads-rows : isSome (endKind intBounds (defsFrom d) w) ≡ leads ts t
+  leads-rows = leads-by vs (r .few) typed (typeOf intBounds (afterWord w)) ∙ ap (leads (map (targetIn (map firstWord vs)) vs)) (sym e) ∙ ap (λ (xs : List ℕ). leads xs t) (sym (r .are))
 
   -- a name that leads nowhere
-  pub lost-kind : (t ≡ 33 → ⊥) → length ts ≤ t → isSome (endKind bits32 (defsFrom d) w) ≡ false
+  pub lost-kind : (t ≡ 33 → ⊥) → length ts ≤ t → isSome (endKind intBounds (defsFrom d) w) ≡ false
   lost-kind n h = leads-rows ∙ leads-nowhere ts t n h
 
   module _ (f : Followed) (n : t ≡ 33 → ⊥) (h : t < length ts) (q : f ≡ followOf (length ts - 1) ts t) where
-    pub open-kind : isEnd f ≡ false → isSome (endKind bits32 (defsFrom d) w) ≡ false
+    pub open-kind : isEnd f ≡ false → isSome (endKind intBounds (defsFrom d) w) ≡ false
     open-kind z = leads-rows ∙ leads-there ts t f n h q ∙ z
 
-    ends-at : endKind bits32 (defsFrom d) w ≡ kindBy (defsFrom d) f
+    ends-at : endKind intBounds (defsFrom d) w ≡ kindBy (defsFrom d) f
     ends-at =
         let l : t < length (rows vs (r .few) typed) = omega (arith, ap length (r .are)) in
-        type-ends vs (r .few) typed (typeOf bits32 (afterWord w)) t e n l
+        type-ends vs (r .few) typed (typeOf intBounds (afterWord w)) t e n l
         ∙ ap (λ (xs : List ℕ). kindBy (defsFrom d) (followOf (length xs - 1) xs t)) (sym (r .are)) ∙ ap (kindBy (defsFrom d)) (sym q)
 
     -- the kind of the typedef at the end
-    pub end-kind : (j : ℕ) → f ≡ Followed.End j → endKind bits32 (defsFrom d) w ≡ kindOnly (typeNumber vs j)
+    pub end-kind : (j : ℕ) → f ≡ Followed.End j → endKind intBounds (defsFrom d) w ≡ kindOnly (typeNumber vs j)
     end-kind j g = ends-at ∙ ap (kindBy (defsFrom d)) g ∙ ap kindOnly (number-type vs typed j)
 
 -- the arm of any answer but an end, by its tag
@@ -158,6 +159,6 @@ placeless s Shape.Uuid h = record { sound = tt; meets = λ v. refl }
 placeless s (Shape.Alias a e) h = absurd (miss others 9 tt h)
 
 -- what a kind that was read asks of a value is what the definitions' kind asks
-pub kind-asks : (m : ℕ) (d w v u : Bytes) (t : Row) (r : Bool) → KindOf m d w t → u ≡ v → r ≡ meetsIn (typeText d (t .value) (t .end)) (t .kind) u → r ≡ meetsKind (endKind bits32 (defsFrom d) w) v
+pub kind-asks : (m : ℕ) (d w v u : Bytes) (t : Row) (r : Bool) → KindOf m d w t → u ≡ v → r ≡ meetsIn (typeText d (t .value) (t .end)) (t .kind) u → r ≡ meetsKind (endKind intBounds (defsFrom d) w) v
 kind-asks m d w v u t r k e h =
     h ∙ ap (meetsIn (typeText d (t .value) (t .end)) (t .kind)) e ∙ ap (λ (x : Typed). meetsTyped x v) (k .read) ∙ ap (λ (x : Option Kind). meetsKind x v) (sym (k .is))

@@ -7,14 +7,14 @@ use lib.ListN.{length}
 use Rattle.format.specs.Bytes.{Bytes, text, all}
 use Rattle.format.specs.Lines.{isName}
 use Rattle.format.specs.Words.{firstWord}
-use Rattle.format.specs.Numbers.{bits32}
+use Rattle.format.specs.Numbers.{intBounds}
 use Rattle.format.specs.Rules.{isTypedefName, typedNames, distinct, isTypedWell}
 use Rattle.typedefs.specs.Walks.{fieldsFrom, valuesFrom}
 use Rattle.typedefs.specs.Targets.{targetIn}
 use Rattle.typedefs.proofs.Filling.{both-true}
 use Rattle.typed.specs.Meets.{typesFrom, areKinds, Ready}
 
-pub ready : (d : Bytes) (targets : List ℕ) → length (valuesFrom d (text "%typedef") 0) ≤ 32 → isTypedWell bits32 (fieldsFrom d 0) ≡ true
+pub ready : (d : Bytes) (targets : List ℕ) → length (valuesFrom d (text "%typedef") 0) ≤ 32 → isTypedWell intBounds (fieldsFrom d 0) ≡ true
     → targets ≡ map (targetIn (map firstWord (valuesFrom d (text "%typedef") 0))) (valuesFrom d (text "%typedef") 0) → Ready d targets
 ready d targets few h e =
     let vs : List Bytes = valuesFrom d (text "%typedef") 0 in

@@ -7,11 +7,12 @@ use mathlib.Core.List.{List, [], _∷_, _++_, map}
 use mathlib.Core.Option.{Option, none, some}
 use lib.ListN.{length, drop, getD, drop-of-length-le}
 use lib.Seq.{drop-cons}
+use Rattle.format.specs.Lists.{flat}
 use Rattle.format.specs.Bytes.{Bytes, all, among, same}
-use Rattle.format.specs.Numbers.{bits32}
+use Rattle.format.specs.Numbers.{intBounds}
 use Rattle.format.specs.Types.{Kind, Typedef}
 use Rattle.format.specs.Records.{Field, Record}
-use Rattle.format.specs.Rules.{TypeRule, joinAll, typedNames, typeRuleBy, endKind, isTyped, typeRules}
+use Rattle.format.specs.Rules.{TypeRule, typedNames, typeRuleBy, endKind, isTyped, typeRules}
 use Rattle.format.proofs.Elements.{all-alike, all-yes}
 use Rattle.lines.specs.Value.{valueFrom}
 use Rattle.records.proofs.Steps.{drop-take}
@@ -27,24 +28,24 @@ or-true false = refl
 
 module _ (ds : List Typedef) (f : Field) where
   rules-met : (ws : List Bytes)
-      → isTyped bits32 (joinAll (map (λ (w : Bytes). typeRuleBy (typedNames w) (endKind bits32 ds w)) ws)) f ≡ all (ruleMet ds (f .name) (f .value)) ws
+      → isTyped intBounds (flat (map (λ (w : Bytes). typeRuleBy (typedNames w) (endKind intBounds ds w)) ws)) f ≡ all (ruleMet ds (f .name) (f .value)) ws
   rules-met [] = refl
-  rules-met (w ∷ ws) = go (endKind bits32 ds w) (rules-met ws)
+  rules-met (w ∷ ws) = go (endKind intBounds ds w) (rules-met ws)
     where
       rest : List TypeRule
-      rest = joinAll (map (λ (u : Bytes). typeRuleBy (typedNames u) (endKind bits32 ds u)) ws)
+      rest = flat (map (λ (u : Bytes). typeRuleBy (typedNames u) (endKind intBounds ds u)) ws)
 
-      go : (x : Option Kind) → isTyped bits32 rest f ≡ all (ruleMet ds (f .name) (f .value)) ws → isTyped bits32 (typeRuleBy (typedNames w) x ++ rest) f ≡ ((not (among (f .name) (typedNames w)) || meetsKind x (f .value)) && all (ruleMet ds (f .name) (f .value)) ws)
+      go : (x : Option Kind) → isTyped intBounds rest f ≡ all (ruleMet ds (f .name) (f .value)) ws → isTyped intBounds (typeRuleBy (typedNames w) x ++ rest) f ≡ ((not (among (f .name) (typedNames w)) || meetsKind x (f .value)) && all (ruleMet ds (f .name) (f .value)) ws)
       go none ih = ih ∙ sym (ap (λ (b : Bool). b && all (ruleMet ds (f .name) (f .value)) ws) (or-true (not (among (f .name) (typedNames w)))))
       go (some k) ih = ap (λ (b : Bool). (not (among (f .name) (typedNames w)) || meetsKind (some k) (f .value)) && b) ih
 
-pub typed-rules : (d : Bytes) (f : Field) → isTyped bits32 (typeRules bits32 (fieldsFrom d 0)) f ≡ all (ruleMet (defsFrom d) (f .name) (f .value)) (typesFrom d)
+pub typed-rules : (d : Bytes) (f : Field) → isTyped intBounds (typeRules intBounds (fieldsFrom d 0)) f ≡ all (ruleMet (defsFrom d) (f .name) (f .value)) (typesFrom d)
 typed-rules d f = rules-met (defsFrom d) f (typesFrom d)
 
 -- a descriptor without `%type` fields asks nothing
-pub typed-free : (d : Bytes) (fs : Record) → length (typesFrom d) ≡ 0 → all (isTyped bits32 (typeRules bits32 (fieldsFrom d 0))) fs ≡ true
+pub typed-free : (d : Bytes) (fs : Record) → length (typesFrom d) ≡ 0 → all (isTyped intBounds (typeRules intBounds (fieldsFrom d 0))) fs ≡ true
 typed-free d fs e =
-    all-alike (isTyped bits32 (typeRules bits32 (fieldsFrom d 0))) (λ (f : Field). true) (λ f. typed-rules d f ∙ ap (all (ruleMet (defsFrom d) (f .name) (f .value))) (no-types (typesFrom d) e)) fs
+    all-alike (isTyped intBounds (typeRules intBounds (fieldsFrom d 0))) (λ (f : Field). true) (λ f. typed-rules d f ∙ ap (all (ruleMet (defsFrom d) (f .name) (f .value))) (no-types (typesFrom d) e)) fs
     ∙ all-yes fs
   where
     no-types : (vs : List Bytes) → length vs ≡ 0 → vs ≡ []
@@ -86,7 +87,7 @@ module _ (d : Bytes) (values ends : List ℕ) (n : ℕ) (h : Listed d values end
 
   -- question 12 by the names from the first place on
   pub typed-names : (row at : ℕ) (fs : Record) → entriesAt d values ends n row at ≡ entriesFrom d values ends 0 (n - 0)
-      → all (isTyped bits32 (typeRules bits32 (fieldsFrom d 0))) fs ≡ all (λ (f : Field). all (entryMet d (f .name) (f .value)) (entriesAt d values ends n row at)) fs
+      → all (isTyped intBounds (typeRules intBounds (fieldsFrom d 0))) fs ≡ all (λ (f : Field). all (entryMet d (f .name) (f .value)) (entriesAt d values ends n row at)) fs
   typed-names row at fs e =
-      all-alike (isTyped bits32 (typeRules bits32 (fieldsFrom d 0))) (λ (f : Field). all (entryMet d (f .name) (f .value)) (entriesAt d values ends n row at))
+      all-alike (isTyped intBounds (typeRules intBounds (fieldsFrom d 0))) (λ (f : Field). all (entryMet d (f .name) (f .value)) (entriesAt d values ends n row at))
       (λ f. typed-rules d f ∙ sym (entries-rules (f .name) (f .value) 0 (n - 0) (omega arith)) ∙ sym (ap (all (entryMet d (f .name) (f .value))) e)) fs

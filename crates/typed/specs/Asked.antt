@@ -6,7 +6,7 @@ use mathlib.Core.List.{List, [], _∷_}
 use lib.ListN.{length, drop, getD}
 use Rattle.format.specs.Bytes.{Bytes, all, same}
 use Rattle.format.specs.Records.{Field, Record}
-use Rattle.format.specs.Numbers.{bits32}
+use Rattle.format.specs.Numbers.{intBounds}
 use Rattle.format.specs.Rules.{endKind}
 use Rattle.lines.specs.Value.{valueFrom}
 use Rattle.words.specs.Spans.{span}
@@ -21,7 +21,7 @@ use Rattle.typed.specs.declared.Chunk.{Chunk}
 
 -- does a value meet the kind at the end of the type of a row
 abbrev pub rowMet : Bytes → ℕ → Bytes → Bool
-rowMet d row v = meetsKind (endKind bits32 (defsFrom d) (getD (typesFrom d) row [])) v
+rowMet d row v = meetsKind (endKind intBounds (defsFrom d) (getD (typesFrom d) row [])) v
 
 -- a value of a field against one listed name
 abbrev pub entryMet : Bytes → Bytes → Bytes → Entry → Bool

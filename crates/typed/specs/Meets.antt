@@ -6,35 +6,36 @@ use mathlib.Core.List.{List, [], _∷_, map}
 use mathlib.Core.Option.{Option, none, some}
 use lib.Dec.{leb}
 use lib.ListN.{length}
+use Rattle.format.specs.Lists.{flat}
 use Rattle.format.specs.Bytes.{Bytes, text, all, among, isSome}
 use Rattle.format.specs.Records.{Field}
 use Rattle.format.specs.Words.{firstWord, afterWord}
-use Rattle.format.specs.Numbers.{bits32}
+use Rattle.format.specs.Numbers.{intBounds}
 use Rattle.format.specs.Types.{Kind, Typed, Typedef, typeOf, meets}
-use Rattle.format.specs.Rules.{joinAll, typedefOf, endKind, typedNames}
+use Rattle.format.specs.Rules.{typedefOf, endKind, typedNames}
 use Rattle.typedefs.specs.Walks.{valuesFrom}
 use Rattle.typedefs.specs.Targets.{targetIn}
 
 -- by a kind, where there is one
 abbrev pub meetsKind : Option Kind → Bytes → Bool
 meetsKind none v = true
-meetsKind (some k) v = meets bits32 k v
+meetsKind (some k) v = meets intBounds k v
 
 -- the type of typedef j
 abbrev pub typeNumber : List Bytes → ℕ → Option Typed
 typeNumber [] j = none
-typeNumber (v ∷ vs) zero = typeOf bits32 (afterWord v)
+typeNumber (v ∷ vs) zero = typeOf intBounds (afterWord v)
 typeNumber (v ∷ vs) (suc j) = typeNumber vs j
 
 abbrev pub defsFrom : Bytes → List Typedef
-defsFrom d = joinAll (map (typedefOf bits32) (valuesFrom d (text "%typedef") 0))
+defsFrom d = flat (map (typedefOf intBounds) (valuesFrom d (text "%typedef") 0))
 
 -- the values of the `%type` fields
 abbrev pub typesFrom : Bytes → List Bytes
 typesFrom d = valuesFrom d (text "%type") 0
 
 abbrev pub areKinds : Bytes → List Bytes → Bool
-areKinds d vs = all (λ (v : Bytes). isSome (endKind bits32 (defsFrom d) v)) vs
+areKinds d vs = all (λ (v : Bytes). isSome (endKind intBounds (defsFrom d) v)) vs
 
 -- the typedefs and types of a descriptor all end in a kind, and these are the targets of the typedefs
 pub record Ready (d : Bytes) (targets : List ℕ) : Type 0 where
@@ -45,7 +46,7 @@ pub record Ready (d : Bytes) (targets : List ℕ) : Type 0 where
 
 -- a value of a field against one `%type` value
 abbrev pub ruleMet : List Typedef → Bytes → Bytes → Bytes → Bool
-ruleMet ds name v w = not (among name (typedNames w)) || meetsKind (endKind bits32 ds w) v
+ruleMet ds name v w = not (among name (typedNames w)) || meetsKind (endKind intBounds ds w) v
 
 abbrev pub fieldFits : ℕ → Field → Bool
 fieldFits m f = leb (length (f .value)) m

@@ -6,7 +6,7 @@ use mathlib.Core.Option.{Option, none, some}
 use lib.ListN.{length, getD}
 use Rattle.format.specs.Bytes.{Bytes}
 use Rattle.format.specs.Words.{afterWord}
-use Rattle.format.specs.Numbers.{bits32}
+use Rattle.format.specs.Numbers.{intBounds}
 use Rattle.format.specs.Types.{Kind, Typed, typeOf}
 use Rattle.format.specs.Rules.{endKind}
 use Rattle.lines.specs.Value.{valueFrom}
@@ -29,7 +29,7 @@ ShapeOf s (some t) k = (typedIn s k ≡ t) × Sound s k
 pub record ReadAt (d : Bytes) (v e : ℕ) (t : Typedef) : Type 0 where
   pub starts : t .value ≡ v
   pub ends : t .end ≡ e
-  pub shape : ShapeOf (typeText d v e) (typeOf bits32 (typeText d v e)) (t .kind)
+  pub shape : ShapeOf (typeText d v e) (typeOf intBounds (typeText d v e)) (t .kind)
 
 -- t holds the kind at the end of the type of the `%type` value w, and m bytes hold its text
 pub record KindOf (m : ℕ) (d w : Bytes) (t : Typedef) : Type 0 where
@@ -39,7 +39,7 @@ pub record KindOf (m : ℕ) (d w : Bytes) (t : Typedef) : Type 0 where
   pub sound : Sound (typeText d (t .value) (t .end)) (t .kind)
   pub last : Kind
   pub read : typedIn (typeText d (t .value) (t .end)) (t .kind) ≡ Typed.kind last
-  pub is : endKind bits32 (defsFrom d) w ≡ some last
+  pub is : endKind intBounds (defsFrom d) w ≡ some last
 
 -- the value of `%type` field i stands from v to e
 pub record TypeAt (d : Bytes) (i v e : ℕ) : Type 0 where

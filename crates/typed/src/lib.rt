@@ -6,7 +6,7 @@ ghost use Prim.Native.Nat.{_≤_};
 ghost use lib.ListN.{length, drop};
 ghost use Rattle.format.specs.Bytes.{classTable, text, all, isSome};
 ghost use Rattle.format.specs.Words.{afterWord};
-ghost use Rattle.format.specs.Numbers.{bits32};
+ghost use Rattle.format.specs.Numbers.{intBounds};
 ghost use Rattle.format.specs.Records.{fieldsOf};
 ghost use Rattle.format.specs.Rules.{endKind, isTypedWell};
 ghost use Rattle.format.specs.Questions.{allTyped};
@@ -77,7 +77,7 @@ fn kind_of(
     requires { ⌜ (value ≤ end) × (end ≤ length (now d)) × (length (valueFrom (span value end (now d))) ≤ length (now scratch)) ⌝ }
     requires { ⌜ fitFrom (length (now scratch)) (now d) (text "%typedef") 0 ≡ true ⌝ }
     requires { ⌜ Ready (now d) (now targets) ⌝ }
-    requires { ⌜ isSome (endKind bits32 (defsFrom (now d)) (valueFrom (span value end (now d)))) ≡ true ⌝ }
+    requires { ⌜ isSome (endKind intBounds (defsFrom (now d)) (valueFrom (span value end (now d)))) ≡ true ⌝ }
     ensures { λ r. ⌜ KindOf (length (now (scratch .entry))) (now (d .entry)) (valueFrom (span value end (now (d .entry)))) r ⌝ }
 {
     let t = typedefs::target_of(table, d, value, end, &mut *scratch);
@@ -152,7 +152,7 @@ pub fn read_rules(table: &[u8; 256], d: &[u8], scratch: &mut [u8]) -> Rules
     requires { ⌜ isReadable (now d) ≡ true ⌝ }
     requires { ⌜ (length (valuesFrom (now d) (text "%typedef") 0) ≤ 32) × (length (valuesFrom (now d) (text "%type") 0) ≤ 32) ⌝ }
     requires { ⌜ (fitFrom (length (now scratch)) (now d) (text "%typedef") 0 ≡ true) × (fitFrom (length (now scratch)) (now d) (text "%type") 0 ≡ true) ⌝ }
-    requires { ⌜ isTypedWell bits32 (fieldsOf (readOf (now d))) ≡ true ⌝ }
+    requires { ⌜ isTypedWell intBounds (fieldsOf (readOf (now d))) ≡ true ⌝ }
     ensures { λ r. ⌜ Ruled (length (now (scratch .entry))) (now (d .entry)) r ⌝ }
 {
     let t = typedefs::read_targets(table, d, &mut *scratch);
@@ -390,7 +390,7 @@ pub fn part_typed(
     requires { ⌜ all (fieldFits (length (now scratch))) (fieldsFrom (now s) 0) ≡ true ⌝ }
     requires { ⌜ Ruled (length (now other)) (now d) rules ⌝ }
     requires { ⌜ length (now d) ≤ 65536 ⌝ }
-    ensures { λ r. ⌜ r ≡ allTyped bits32 (fieldsOf (readOf (now (d .entry)))) (fieldsOf (readOf (now (s .entry)))) ⌝ }
+    ensures { λ r. ⌜ r ≡ allTyped intBounds (fieldsOf (readOf (now (d .entry)))) (fieldsOf (readOf (now (s .entry)))) ⌝ }
 {
     let count = rules.count;
     let first = names::row_start(d, &rules.values, &rules.ends, count, 0);

@@ -10,11 +10,12 @@ use borrow.Author.Tests.{leb-true, le-leb, ne-eqb}
 use lib.Dec.{leb}
 use lib.ListN.{length, drop, getD}
 use lib.Seq.{drop-nil}
+use Rattle.format.specs.Lists.{onward, flat}
 use Rattle.format.specs.Bytes.{Bytes, pick, all, among, upFrom, isSome}
 use Rattle.format.specs.Words.{firstWord, afterWord}
-use Rattle.format.specs.Numbers.{bits32, onward}
+use Rattle.format.specs.Numbers.{intBounds}
 use Rattle.format.specs.Types.{Kind, Typed, Typedef, typeOf, follow, kindOf}
-use Rattle.format.specs.Rules.{joinAll, typedefOf, endKind, isTypedefName, distinct, defines}
+use Rattle.format.specs.Rules.{typedefOf, endKind, isTypedefName, distinct, defines}
 use Rattle.typedefs.specs.Targets.{indexFrom, targetBy, targetIn, followOf, isEnd, endsIn, leads, goodNames, areDefined}
 use Rattle.typedefs.proofs.Chains.{chain-missing, chain-loop, chain-on}
 use Rattle.typedefs.proofs.Following.{typeAt, namesIn, targetsBy, index-most, lookup-index, follow-of, follows-end}
@@ -36,22 +37,22 @@ good-split (v ∷ vs) =
 
 -- has a value a type
 abbrev pub isTyped : Bytes → Bool
-isTyped v = isSome (typeOf bits32 (afterWord v))
+isTyped v = isSome (typeOf intBounds (afterWord v))
 
 abbrev pub defsOf : List Bytes → List Typedef
-defsOf vs = joinAll (map (typedefOf bits32) vs)
+defsOf vs = flat (map (typedefOf intBounds) vs)
 
 -- values that all have a type, cut at the first
 pub record Cut (v : Bytes) (vs : List Bytes) : Type 0 where
   pub type : Typed
-  pub is : typeOf bits32 (afterWord v) ≡ some type
+  pub is : typeOf intBounds (afterWord v) ≡ some type
   pub others : all isTyped vs ≡ true
   pub defs : defsOf (v ∷ vs) ≡ record { name = firstWord v; type = type } ∷ defsOf vs
 
 pub cut-typed : (v : Bytes) (vs : List Bytes) → all isTyped (v ∷ vs) ≡ true → Cut v vs
-cut-typed v vs h = go (typeOf bits32 (afterWord v)) refl
+cut-typed v vs h = go (typeOf intBounds (afterWord v)) refl
   where
-    go : (x : Option Typed) → typeOf bits32 (afterWord v) ≡ x → Cut v vs
+    go : (x : Option Typed) → typeOf intBounds (afterWord v) ≡ x → Cut v vs
     go none e = absurd (let q : (isSome {A = Typed} none && all isTyped vs) ≡ true = sym (ap (λ (x : Option Typed). isSome x && all isTyped vs) e) ∙ h in let z : _≡_ {A = ℕ} 0 1 = cc in omega arith)
     go (some t) e =
         record {
@@ -97,23 +98,23 @@ module _ (ds : List Typedef) (few : length ds ≤ 32) where
   ended left i = ap isSome (follow-of ds few left i) ∙ follows-end ds few left i
 
   all-ends : (ws : List Bytes) (i : ℕ) → drop i ds ≡ defsOf ws → all isTyped ws ≡ true
-      → all (λ (v : Bytes). isSome (endKind bits32 ds v)) ws ≡ all (λ (j : ℕ). isEnd (followOf (length ds) (targetsBy (namesIn ds) ds) j)) (upFrom (length ws) i)
+      → all (λ (v : Bytes). isSome (endKind intBounds ds v)) ws ≡ all (λ (j : ℕ). isEnd (followOf (length ds) (targetsBy (namesIn ds) ds) j)) (upFrom (length ws) i)
   all-ends [] i q h = refl
   all-ends (w ∷ ws) i q h =
       let c = cut-typed w ws h in
       let t = type-head ds i (record { name = firstWord w; type = c .type }) (defsOf ws) (q ∙ c .defs) in
-      let e : isSome (endKind bits32 ds w) ≡ isEnd (followOf (length ds) (targetsBy (namesIn ds) ds) i) =
+      let e : isSome (endKind intBounds ds w) ≡ isEnd (followOf (length ds) (targetsBy (namesIn ds) ds) i) =
       ap (λ (x : Option Typed). isSome (onward (kindOf ds) x)) (c .is ∙ sym (t .0)) ∙ ended (length ds) i in
-      ap (λ (b : Bool). b && all (λ (v : Bytes). isSome (endKind bits32 ds v)) ws) e
+      ap (λ (b : Bool). b && all (λ (v : Bytes). isSome (endKind intBounds ds v)) ws) e
       ∙ ap (λ (b : Bool). isEnd (followOf (length ds) (targetsBy (namesIn ds) ds) i) && b) (all-ends ws (suc i) (t .1) (c .others))
 
 -- some one has none
-untyped-left : (ds : List Typedef) (ws : List Bytes) → all isTyped ws ≡ false → all (λ (v : Bytes). isSome (endKind bits32 ds v)) ws ≡ false
+untyped-left : (ds : List Typedef) (ws : List Bytes) → all isTyped ws ≡ false → all (λ (v : Bytes). isSome (endKind intBounds ds v)) ws ≡ false
 untyped-left ds [] h = h
-untyped-left ds (w ∷ ws) h = go (typeOf bits32 (afterWord w)) h (λ q. untyped-left ds ws q)
+untyped-left ds (w ∷ ws) h = go (typeOf intBounds (afterWord w)) h (λ q. untyped-left ds ws q)
   where
-    go : (x : Option Typed) → (isSome x && all isTyped ws) ≡ false → (all isTyped ws ≡ false → all (λ (v : Bytes). isSome (endKind bits32 ds v)) ws ≡ false)
-        → (isSome (onward (kindOf ds) x) && all (λ (v : Bytes). isSome (endKind bits32 ds v)) ws) ≡ false
+    go : (x : Option Typed) → (isSome x && all isTyped ws) ≡ false → (all isTyped ws ≡ false → all (λ (v : Bytes). isSome (endKind intBounds ds v)) ws ≡ false)
+        → (isSome (onward (kindOf ds) x) && all (λ (v : Bytes). isSome (endKind intBounds ds v)) ws) ≡ false
     go none q ih = refl
     go (some t) q ih = ap (λ (b : Bool). isSome (kindOf ds t) && b) (ih q) ∙ and-false (isSome (kindOf ds t))
 
@@ -126,7 +127,7 @@ module _ (ns : List Bytes) (ts : List ℕ) (few : length ts ≤ 32) where
   untyped-right [] i q h = h
   untyped-right (w ∷ ws) i q h =
       let r = row-head ts i (targetIn ns w) (map (targetIn ns) ws) q in
-      go (typeOf bits32 (afterWord w)) h (r .1) (λ p. untyped-right ws (suc i) (r .2) p) (r .0)
+      go (typeOf intBounds (afterWord w)) h (r .1) (λ p. untyped-right ws (suc i) (r .2) p) (r .0)
     where
       go : (x : Option Typed) → (isSome x && all isTyped ws) ≡ false → getD ts i 0 ≡ targetBy ns x → (all isTyped ws ≡ false → all (endsIn ts) (upFrom (length ws) (suc i)) ≡ false)
           → i < length ts → (endsIn ts i && all (endsIn ts) (upFrom (length ws) (suc i))) ≡ false
@@ -135,7 +136,7 @@ module _ (ns : List Bytes) (ts : List ℕ) (few : length ts ≤ 32) where
 
 -- so the chains of all typedefs end if the definitions give each a kind, and only then
 pub all-defined : (vs : List Bytes) → length vs ≤ 32
-    → all (λ (v : Bytes). isSome (endKind bits32 (defsOf vs) v)) vs ≡ all (endsIn (map (targetIn (map firstWord vs)) vs)) (upFrom (length (map (targetIn (map firstWord vs)) vs)) 0)
+    → all (λ (v : Bytes). isSome (endKind intBounds (defsOf vs) v)) vs ≡ all (endsIn (map (targetIn (map firstWord vs)) vs)) (upFrom (length (map (targetIn (map firstWord vs)) vs)) 0)
 all-defined vs few = go (all isTyped vs) refl
   where
     ns : List Bytes
@@ -147,7 +148,7 @@ all-defined vs few = go (all isTyped vs) refl
     size : length vs ≡ length ts
     size = sym (length-map (targetIn ns) vs)
 
-    go : (t : Bool) → all isTyped vs ≡ t → all (λ (v : Bytes). isSome (endKind bits32 (defsOf vs) v)) vs ≡ all (endsIn ts) (upFrom (length ts) 0)
+    go : (t : Bool) → all isTyped vs ≡ t → all (λ (v : Bytes). isSome (endKind intBounds (defsOf vs) v)) vs ≡ all (endsIn ts) (upFrom (length ts) 0)
     go true h =
         let l : length (defsOf vs) ≡ length vs = length-defs vs h in
         let rows : targetsBy (namesIn (defsOf vs)) (defsOf vs) ≡ ts = ap (λ (ms : List Bytes). targetsBy ms (defsOf vs)) (names-defs vs h) ∙ targets-defs ns vs h in
@@ -163,7 +164,7 @@ all-defined vs few = go (all isTyped vs) refl
 pub well-split : (vs : List Bytes) → length vs ≤ 32
     → areDefined vs ≡ (goodNames (map firstWord vs) && all (endsIn (map (targetIn (map firstWord vs)) vs)) (upFrom (length (map (targetIn (map firstWord vs)) vs)) 0))
 well-split vs few =
-    ap (λ (b : Bool). b && all (λ (v : Bytes). isSome (endKind bits32 (defsOf vs) v)) vs) (sym (good-split vs))
+    ap (λ (b : Bool). b && all (λ (v : Bytes). isSome (endKind intBounds (defsOf vs) v)) vs) (sym (good-split vs))
     ∙ ap (λ (b : Bool). goodNames (map firstWord vs) && b) (all-defined vs few)
 
 -- What a type leads to, where every typedef has one: its kind by the definitions is there if its target ends, and only then.
@@ -216,13 +217,13 @@ module _ (vs : List Bytes) (few : length vs ≤ 32) (h : all isTyped vs ≡ true
   leads-by (some (Typed.kind k)) = ap isSome (kind-stays (length (defsOf vs)) (defsOf vs) k)
   leads-by (some (Typed.alias n)) = alias-by n (length (defsOf vs)) refl
 
-pub typed-all : (ds : List Typedef) (vs : List Bytes) → all (λ (v : Bytes). isSome (endKind bits32 ds v)) vs ≡ true → all isTyped vs ≡ true
+pub typed-all : (ds : List Typedef) (vs : List Bytes) → all (λ (v : Bytes). isSome (endKind intBounds ds v)) vs ≡ true → all isTyped vs ≡ true
 typed-all ds vs h = go (all isTyped vs) refl
   where
     go : (t : Bool) → all isTyped vs ≡ t → t ≡ true
     go true e = refl
     go false e = sym (untyped-left ds vs e) ∙ h
 
-pub type-leads : (vs : List Bytes) → length vs ≤ 32 → all (λ (v : Bytes). isSome (endKind bits32 (defsOf vs) v)) vs ≡ true
-    → (v : Bytes) → isSome (endKind bits32 (defsOf vs) v) ≡ leads (map (targetIn (map firstWord vs)) vs) (targetIn (map firstWord vs) v)
-type-leads vs few h v = leads-by vs few (typed-all (defsOf vs) vs h) (typeOf bits32 (afterWord v))
+pub type-leads : (vs : List Bytes) → length vs ≤ 32 → all (λ (v : Bytes). isSome (endKind intBounds (defsOf vs) v)) vs ≡ true
+    → (v : Bytes) → isSome (endKind intBounds (defsOf vs) v) ≡ leads (map (targetIn (map firstWord vs)) vs) (targetIn (map firstWord vs) v)
+type-leads vs few h v = leads-by vs few (typed-all (defsOf vs) vs h) (typeOf intBounds (afterWord v))

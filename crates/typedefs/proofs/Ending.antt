@@ -6,8 +6,8 @@ use mathlib.Core.Bool.{true}
 use mathlib.Core.List.{List}
 use mathlib.Core.Option.{Option, none, some}
 use lib.ListN.{length}
+use Rattle.format.specs.Lists.{onward}
 use Rattle.format.specs.Bytes.{Bytes, all}
-use Rattle.format.specs.Numbers.{onward}
 use Rattle.format.specs.Types.{Typed, Typedef, follow, kindOf}
 use Rattle.typedefs.specs.Targets.{indexFrom, targetBy, followOf}
 use Rattle.typedefs.proofs.Following.{namesIn, kindBy, lookup-index, follow-of}

@@ -6,8 +6,8 @@ use mathlib.Core.Bool.{Bool, true, false}
 use mathlib.Core.List.{List, [], _∷_, map}
 use mathlib.Core.Option.{Option, none, some, Option·none-ne-some}
 use lib.ListN.{length, getD}
+use Rattle.format.specs.Lists.{onward}
 use Rattle.format.specs.Bytes.{Bytes, pick, same, isSome}
-use Rattle.format.specs.Numbers.{onward}
 use Rattle.format.specs.Types.{Kind, Typed, Typedef, found, lookup, follow}
 use Rattle.typedefs.specs.Targets.{indexFrom, targetBy, followOf, isEnd}
 use Rattle.typedefs.specs.declared.Followed.{Followed}

@@ -5,11 +5,12 @@ use mathlib.Core.List.{List, [], _∷_, map}
 use mathlib.Core.Option.{Option, none, some}
 use lib.Dec.{leb, eqb}
 use lib.ListN.{length, getD}
+use Rattle.format.specs.Lists.{flat}
 use Rattle.format.specs.Bytes.{Bytes, pick, same, among, all, isSome}
 use Rattle.format.specs.Words.{firstWord, afterWord}
-use Rattle.format.specs.Numbers.{bits32}
+use Rattle.format.specs.Numbers.{intBounds}
 use Rattle.format.specs.Types.{Typed, typeOf}
-use Rattle.format.specs.Rules.{joinAll, typedefOf, endKind, isTypedefName, distinct}
+use Rattle.format.specs.Rules.{typedefOf, endKind, isTypedefName, distinct}
 use Rattle.typedefs.specs.declared.Followed.{Followed}
 
 -- the number of the first of a name, 32 where there is none
@@ -24,7 +25,7 @@ targetBy ns (some (Typed.kind k)) = 33
 targetBy ns (some (Typed.alias n)) = indexFrom 0 n ns
 
 abbrev pub targetIn : List Bytes → Bytes → ℕ
-targetIn ns v = targetBy ns (typeOf bits32 (afterWord v))
+targetIn ns v = targetBy ns (typeOf intBounds (afterWord v))
 
 -- the end of the chain from typedef i on
 abbrev pub onward : Bool → Bool → ℕ → Followed → Followed
@@ -58,4 +59,4 @@ goodNames (n ∷ ns) = (isTypedefName n && not (among n ns)) && goodNames ns
 abbrev pub areDefined : List Bytes → Bool
 areDefined vs =
     (all (λ (v : Bytes). isTypedefName (firstWord v)) vs && distinct (map firstWord vs))
-    && all (λ (v : Bytes). isSome (endKind bits32 (joinAll (map (typedefOf bits32) vs)) v)) vs
+    && all (λ (v : Bytes). isSome (endKind intBounds (flat (map (typedefOf intBounds) vs)) v)) vs

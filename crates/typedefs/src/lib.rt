@@ -6,7 +6,7 @@ ghost use Prim.Native.Nat.{_≤_, _<_};
 ghost use lib.ListN.{length, take, drop};
 ghost use Rattle.format.specs.Bytes.{classTable, text, all, among, upFrom};
 ghost use Rattle.format.specs.Words.{firstWord, afterWord};
-ghost use Rattle.format.specs.Numbers.{bits32};
+ghost use Rattle.format.specs.Numbers.{intBounds};
 ghost use Rattle.format.specs.Types.{typeOf};
 ghost use Rattle.format.specs.Rules.{reserved, isTypedefName};
 ghost use Rattle.lines.specs.Value.{valueFrom};
@@ -86,7 +86,7 @@ pub fn behind_word(s: &[u8]) -> usize
 pub fn target_in(table: &[u8; 256], d: &[u8], s: &[u8]) -> usize
     requires { ⌜ now table ≡ classTable ⌝ }
     requires { ⌜ isReadable (now d) ≡ true ⌝ }
-    ensures { λ r. ⌜ r ≡ targetBy (namesFrom (now (d .entry)) 0) (typeOf bits32 (now (s .entry))) ⌝ }
+    ensures { λ r. ⌜ r ≡ targetBy (namesFrom (now (d .entry)) 0) (typeOf intBounds (now (s .entry))) ⌝ }
 {
     let t = types::type_of(table, s);
     let TypeOf::Is(k) = t else {

@@ -10,9 +10,9 @@ use borrow.Author.Tests.{eqb-true, eq-eqb, ne-eqb, not-true}
 use lib.Dec.{eqb}
 use lib.ListN.{length, take, drop, getD, drop-of-length-le}
 use lib.Seq.{drop-drop, length-take-le}
+use Rattle.format.specs.Lists.{onlyIf}
 use Rattle.format.specs.Bytes.{Bytes, pick, all, same, among}
 use Rattle.format.specs.Words.{isGap, notGap, extend, words}
-use Rattle.format.specs.Numbers.{onlyIf}
 use Rattle.format.specs.Types.{Kind, Typed, consTo, blanked, inComment, uncomment, isSymbol, symbols, enumOf}
 use Rattle.lines.specs.Line.{run}
 use Rattle.lines.proofs.Cuts.{at-cons}

@@ -8,7 +8,7 @@ use native.Mathlib.Omega.{arith}
 use lib.ListN.{length, drop}
 use Rattle.format.specs.Bytes.{Bytes, text, pick, same}
 use Rattle.format.specs.Words.{isGap, front, behind, words}
-use Rattle.format.specs.Numbers.{bits32}
+use Rattle.format.specs.Numbers.{intBounds}
 use Rattle.format.specs.Types.{Kind, Typed, bare, ranged, rangeOf, sizeOf, aliasOf, plainKind, uncomment, beforeComment, enumOf, typeOf}
 use Rattle.lines.proofs.Cuts.{rest}
 use Rattle.words.specs.Spans.{span, runEnd}
@@ -34,15 +34,15 @@ bare-alone k (w ∷ ws) = refl
 -- what the first word w leads to, with the words ws after it
 abbrev pub byHead : Bytes → Bytes → List Bytes → Head → Option Typed
 byHead s w ws (Head.Bare k) = alone (typedIn s k) ws
-byHead s w ws Head.Range = rangeOf bits32 ws
-byHead s w ws Head.Size = sizeOf bits32 ws
+byHead s w ws Head.Range = rangeOf intBounds ws
+byHead s w ws Head.Size = sizeOf intBounds ws
 byHead s w ws Head.Name = aliasOf w ws
 
 choose : {A B : Type 0} (f : A → B) (t : Bool) {a b : A} {x y : B} → x ≡ f a → y ≡ f b → pick t x y ≡ f (pick t a b)
 choose f true p q = p
 choose f false p q = q
 
-pub plain-by-head : (s w : Bytes) (ws : List Bytes) → plainKind bits32 (w ∷ ws) ≡ byHead s w ws (headOf w)
+pub plain-by-head : (s w : Bytes) (ws : List Bytes) → plainKind intBounds (w ∷ ws) ≡ byHead s w ws (headOf w)
 unfolding headOf
 plain-by-head s w ws =
     let f = byHead s w ws in
@@ -112,28 +112,28 @@ module _ (s : Bytes) (at : ℕ) (h : at ≤ length s) where
   told-no-enum e = told-fault s (ap (λ (t : Bytes). enumOf (uncomment false t)) (sym (rest s at)) ∙ (enum-by (uncomment false (span at (length s) s)) ∙ rw e))
 
 -- a shape that stands alone
-pub told-bare : (s w : Bytes) (ws : List Bytes) {k : Shape} → headOf w ≡ Head.Bare k → ws ≡ [] → Told s (plainKind bits32 (w ∷ ws)) (TypeOf.Is k)
+pub told-bare : (s w : Bytes) (ws : List Bytes) {k : Shape} → headOf w ≡ Head.Bare k → ws ≡ [] → Told s (plainKind intBounds (w ∷ ws)) (TypeOf.Is k)
 told-bare s w ws {k = k} h e =
-    let a : plainKind bits32 (w ∷ ws) ≡ some (typedIn s k) = plain-by-head s w ws ∙ (ap (byHead s w ws) h ∙ ap (alone (typedIn s k)) e) in
+    let a : plainKind intBounds (w ∷ ws) ≡ some (typedIn s k) = plain-by-head s w ws ∙ (ap (byHead s w ws) h ∙ ap (alone (typedIn s k)) e) in
     record { answers = sym a; sound = subst (SoundHead s) h (head-sound s w) }
 
-pub told-not-bare : (s w v : Bytes) (ws vs : List Bytes) {k : Shape} → headOf w ≡ Head.Bare k → ws ≡ v ∷ vs → Told s (plainKind bits32 (w ∷ ws)) TypeOf.Fault
+pub told-not-bare : (s w v : Bytes) (ws vs : List Bytes) {k : Shape} → headOf w ≡ Head.Bare k → ws ≡ v ∷ vs → Told s (plainKind intBounds (w ∷ ws)) TypeOf.Fault
 told-not-bare s w v ws vs {k = k} h e = told-fault s (plain-by-head s w ws ∙ (ap (byHead s w ws) h ∙ ap (alone (typedIn s k)) e))
 
-pub told-by-head : (s w : Bytes) (ws : List Bytes) {h : Head} {r : TypeOf} → headOf w ≡ h → Told s (byHead s w ws h) r → Told s (plainKind bits32 (w ∷ ws)) r
+pub told-by-head : (s w : Bytes) (ws : List Bytes) {h : Head} {r : TypeOf} → headOf w ≡ h → Told s (byHead s w ws h) r → Told s (plainKind intBounds (w ∷ ws)) r
 told-by-head s w ws e t = told-same s (plain-by-head s w ws ∙ ap (byHead s w ws) e) t
 
 -- the head of a type, from a to e: the word `enum`, or the first word of another type
 module _ (s : Bytes) (a e : ℕ) (p : a ≡ runEnd isGap s 0) (q : e ≡ runEnd beforeComment s a) where
-  type-by : typeOf bits32 s ≡ pick (same (span a e s) (text "enum")) (enumOf (uncomment false (drop e s))) (plainKind bits32 (words s))
+  type-by : typeOf intBounds s ≡ pick (same (span a e s) (text "enum")) (enumOf (uncomment false (drop e s))) (plainKind intBounds (words s))
   type-by =
       let u : behind isGap s ≡ drop a s = behind-at isGap s 0 ∙ rw p in
       let v : front beforeComment (drop a s) ≡ span a e s = front-at beforeComment s a ∙ rw q in
       let w : behind beforeComment (drop a s) ≡ drop e s = behind-at beforeComment s a ∙ rw q in
       rw (u, v, w)
 
-  pub told-enum-type : {r : TypeOf} → same (span a e s) (text "enum") ≡ true → Told s (enumOf (uncomment false (drop e s))) r → Told s (typeOf bits32 s) r
+  pub told-enum-type : {r : TypeOf} → same (span a e s) (text "enum") ≡ true → Told s (enumOf (uncomment false (drop e s))) r → Told s (typeOf intBounds s) r
   told-enum-type h t = told-same s (type-by ∙ rw h) t
 
-  pub told-plain-type : {r : TypeOf} → same (span a e s) (text "enum") ≡ false → Told s (plainKind bits32 (words s)) r → Told s (typeOf bits32 s) r
+  pub told-plain-type : {r : TypeOf} → same (span a e s) (text "enum") ≡ false → Told s (plainKind intBounds (words s)) r → Told s (typeOf intBounds s) r
   told-plain-type h t = told-same s (type-by ∙ rw h) t

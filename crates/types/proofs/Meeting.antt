@@ -6,7 +6,7 @@ use mathlib.Core.List.{[], _∷_}
 use lib.Dec.{eqb, eqb·zero-suc, eqb·suc-suc}
 use lib.ListN.{length}
 use Rattle.format.specs.Bytes.{Bytes, pick, isNewline, any}
-use Rattle.format.specs.Numbers.{bits32}
+use Rattle.format.specs.Numbers.{intBounds}
 use Rattle.format.specs.Types.{Kind, Typed, meets}
 use Rattle.lines.specs.Line.{lineLen}
 use Rattle.types.specs.Meaning.{typedIn, Sound, meetsTyped, meetsIn}

@@ -7,7 +7,7 @@ use mathlib.Core.Option.{Option, none, some}
 use lib.ListN.{length}
 use Rattle.format.specs.Bytes.{Bytes, text, pick, same}
 use Rattle.format.specs.Words.{words}
-use Rattle.format.specs.Numbers.{bits32}
+use Rattle.format.specs.Numbers.{intBounds}
 use Rattle.format.specs.Types.{Kind, Typed, uncomment, meets}
 use Rattle.words.specs.Spans.{span}
 use Rattle.numbers.specs.Meaning.{intIn}
@@ -85,7 +85,7 @@ rangeIn IntOf.NotInt y = TypeOf.Fault
 
 -- does a value meet a type; an alias is met by none
 abbrev pub meetsTyped : Typed → Bytes → Bool
-meetsTyped (Typed.kind k) v = meets bits32 k v
+meetsTyped (Typed.kind k) v = meets intBounds k v
 meetsTyped (Typed.alias n) v = false
 
 abbrev pub meetsIn : Bytes → Shape → Bytes → Bool

@@ -5,7 +5,7 @@ ghost use Prim.Native.Nat.{_≤_};
 ghost use lib.ListN.{length, drop};
 ghost use Rattle.format.specs.Bytes.{classTable};
 ghost use Rattle.format.specs.Words.{words};
-ghost use Rattle.format.specs.Numbers.{bits32};
+ghost use Rattle.format.specs.Numbers.{intBounds};
 ghost use Rattle.format.specs.Types.{uncomment, beforeComment, enumOf, endOf, rangeOf, sizeOf, aliasOf, plainKind, typeOf};
 ghost use Rattle.words.specs.Spans.{span, runEnd};
 ghost use Rattle.numbers.specs.Meaning.{intAnswer};
@@ -93,7 +93,7 @@ fn enum_type(table: &[u8; 256], s: &[u8], at: usize) -> TypeOf
 
 // One end of a range.
 fn end_of(w: &[u8]) -> IntOf
-    ensures { λ r. ⌜ intAnswer r ≡ endOf bits32 (now (w .entry)) ⌝ }
+    ensures { λ r. ⌜ intAnswer r ≡ endOf intBounds (now (w .entry)) ⌝ }
 {
     if lines::same_bytes(w, b"MIN") {
         return IntOf::Value(Whole::Minus(Ends::LEAST));
@@ -120,7 +120,7 @@ fn ranged(low: IntOf, high: IntOf) -> TypeOf
 // A range: one or two words from `at` on.
 fn range_of(s: &[u8], at: usize) -> TypeOf
     requires { ⌜ at ≤ length (now s) ⌝ }
-    ensures { λ r. ⌜ Told (now (s .entry)) (rangeOf bits32 (words (drop at (now (s .entry))))) r ⌝ }
+    ensures { λ r. ⌜ Told (now (s .entry)) (rangeOf intBounds (words (drop at (now (s .entry))))) r ⌝ }
 {
     let w = words::next_word(s, at);
     let Word::At { start: a, end: b } = w else {
@@ -142,7 +142,7 @@ fn range_of(s: &[u8], at: usize) -> TypeOf
 // A size: one word from `at` on.
 fn size_of(s: &[u8], at: usize) -> TypeOf
     requires { ⌜ at ≤ length (now s) ⌝ }
-    ensures { λ r. ⌜ Told (now (s .entry)) (sizeOf bits32 (words (drop at (now (s .entry))))) r ⌝ }
+    ensures { λ r. ⌜ Told (now (s .entry)) (sizeOf intBounds (words (drop at (now (s .entry))))) r ⌝ }
 {
     let w = words::next_word(s, at);
     let Word::At { start, end } = w else {
@@ -179,7 +179,7 @@ fn alias_of(table: &[u8; 256], s: &[u8], start: usize, end: usize) -> TypeOf
 // A type that is no enum.
 fn plain_type(table: &[u8; 256], s: &[u8]) -> TypeOf
     requires { ⌜ now table ≡ classTable ⌝ }
-    ensures { λ r. ⌜ Told (now (s .entry)) (plainKind bits32 (words (now (s .entry)))) r ⌝ }
+    ensures { λ r. ⌜ Told (now (s .entry)) (plainKind intBounds (words (now (s .entry)))) r ⌝ }
 {
     let w = words::next_word(s, 0);
     let Word::At { start, end } = w else {
@@ -203,7 +203,7 @@ fn plain_type(table: &[u8; 256], s: &[u8]) -> TypeOf
 // The type that a text stands for.
 pub fn type_of(table: &[u8; 256], s: &[u8]) -> TypeOf
     requires { ⌜ now table ≡ classTable ⌝ }
-    ensures { λ r. ⌜ Told (now (s .entry)) (typeOf bits32 (now (s .entry))) r ⌝ }
+    ensures { λ r. ⌜ Told (now (s .entry)) (typeOf intBounds (now (s .entry))) r ⌝ }
 {
     let start = words::gap_end(s, 0);
     let end = head_end(s, start);

@@ -5,7 +5,7 @@ ghost use Prim.Native.Nat.{_<_, _≤_};
 ghost use lib.Dec.{eqb};
 ghost use lib.ListN.{length, getD};
 ghost use Rattle.format.specs.Bytes.{classTable, among, isSome};
-ghost use Rattle.format.specs.Numbers.{bits32, areDigits, intOf};
+ghost use Rattle.format.specs.Numbers.{intBounds, areDigits, intOf};
 ghost use Rattle.format.specs.Types.{isInRange, truths, isUuid};
 ghost use Rattle.words.specs.Spans.{span};
 ghost use Rattle.numbers.specs.Meaning.{intIn};
@@ -73,7 +73,7 @@ fn is_uuid(s: &[u8]) -> bool
 
 // Is this text an int?
 fn is_int(w: &[u8]) -> bool
-    ensures { λ r. ⌜ r ≡ isSome (intOf bits32 (now (w .entry))) ⌝ }
+    ensures { λ r. ⌜ r ≡ isSome (intOf intBounds (now (w .entry))) ⌝ }
 {
     let x = numbers::int_of(w);
     match x {
@@ -84,7 +84,7 @@ fn is_int(w: &[u8]) -> bool
 
 // Is this text an int from a to b?
 fn in_range(a: Whole, b: Whole, w: &[u8]) -> bool
-    ensures { λ r. ⌜ r ≡ isInRange (intIn a) (intIn b) (intOf bits32 (now (w .entry))) ⌝ }
+    ensures { λ r. ⌜ r ≡ isInRange (intIn a) (intIn b) (intOf intBounds (now (w .entry))) ⌝ }
 {
     let x = numbers::int_of(w);
     let IntOf::Value(n) = x else {

@@ -7,13 +7,14 @@ use mathlib.Core.List.{List, [], _∷_, map}
 use borrow.Author.Tests.{le-leb, lt-leb, eq-eqb, ne-eqb}
 use lib.Dec.{leb, eqb}
 use lib.ListN.{length, take, drop, drop-of-length-le}
+use Rattle.format.specs.Lists.{flat}
 use Rattle.format.specs.Bytes.{Bytes, text, pick, all, isSome}
 use Rattle.format.specs.Lines.{isName}
 use Rattle.format.specs.Words.{firstWord, split}
-use Rattle.format.specs.Numbers.{bits32}
+use Rattle.format.specs.Numbers.{intBounds}
 use Rattle.format.specs.Records.{Record}
 use Rattle.format.specs.Sets.{valuesOf}
-use Rattle.format.specs.Rules.{joinAll, typedefOf, typedNames, endKind, isTypedefName, distinct, isTypedWell}
+use Rattle.format.specs.Rules.{typedefOf, typedNames, endKind, isTypedefName, distinct, isTypedWell}
 use Rattle.lines.specs.Value.{valueFrom}
 use Rattle.lines.proofs.Cuts.{at-cons}
 use Rattle.words.specs.Spans.{span, runEnd, notByte, wordAt}
@@ -47,20 +48,20 @@ module _ (r : Record) where
   abbrev uses : List Bytes
   uses = valuesOf (text "%type") r
 
-  well-by : isTypedWell bits32 r
-      ≡ (areDefined defs && (all (λ (v : Bytes). all isName (typedNames v)) uses && all (λ (v : Bytes). isSome (endKind bits32 (defsOf defs) v)) uses))
+  well-by : isTypedWell intBounds r
+      ≡ (areDefined defs && (all (λ (v : Bytes). all isName (typedNames v)) uses && all (λ (v : Bytes). isSome (endKind intBounds (defsOf defs) v)) uses))
   well-by =
-      five (all (λ (v : Bytes). isTypedefName (firstWord v)) defs) (all (λ (v : Bytes). isSome (endKind bits32 (defsOf defs) v)) defs) (distinct (map firstWord defs))
-      (all (λ (v : Bytes). all isName (typedNames v)) uses) (all (λ (v : Bytes). isSome (endKind bits32 (defsOf defs) v)) uses)
+      five (all (λ (v : Bytes). isTypedefName (firstWord v)) defs) (all (λ (v : Bytes). isSome (endKind intBounds (defsOf defs) v)) defs) (distinct (map firstWord defs))
+      (all (λ (v : Bytes). all isName (typedNames v)) uses) (all (λ (v : Bytes). isSome (endKind intBounds (defsOf defs) v)) uses)
 
-  pub not-defined : areDefined defs ≡ false → isTypedWell bits32 r ≡ false
-  not-defined e = well-by ∙ ap (λ (t : Bool). t && (all (λ (v : Bytes). all isName (typedNames v)) uses && all (λ (v : Bytes). isSome (endKind bits32 (defsOf defs) v)) uses)) e
+  pub not-defined : areDefined defs ≡ false → isTypedWell intBounds r ≡ false
+  not-defined e = well-by ∙ ap (λ (t : Bool). t && (all (λ (v : Bytes). all isName (typedNames v)) uses && all (λ (v : Bytes). isSome (endKind intBounds (defsOf defs) v)) uses)) e
 
-  pub well-types : length defs ≤ 32 → areDefined defs ≡ true → isTypedWell bits32 r ≡ all (wellBy (map firstWord defs) (map (targetIn (map firstWord defs)) defs)) uses
+  pub well-types : length defs ≤ 32 → areDefined defs ≡ true → isTypedWell intBounds r ≡ all (wellBy (map firstWord defs) (map (targetIn (map firstWord defs)) defs)) uses
   well-types few e =
-      let b = both-true (all (λ (v : Bytes). isTypedefName (firstWord v)) defs && distinct (map firstWord defs)) (all (λ (v : Bytes). isSome (endKind bits32 (defsOf defs) v)) defs) e in
-      well-by ∙ ap (λ (t : Bool). t && (all (λ (v : Bytes). all isName (typedNames v)) uses && all (λ (v : Bytes). isSome (endKind bits32 (defsOf defs) v)) uses)) e
-      ∙ both-all (λ (v : Bytes). all isName (typedNames v)) (λ (v : Bytes). isSome (endKind bits32 (defsOf defs) v))
+      let b = both-true (all (λ (v : Bytes). isTypedefName (firstWord v)) defs && distinct (map firstWord defs)) (all (λ (v : Bytes). isSome (endKind intBounds (defsOf defs) v)) defs) e in
+      well-by ∙ ap (λ (t : Bool). t && (all (λ (v : Bytes). all isName (typedNames v)) uses && all (λ (v : Bytes). isSome (endKind intBounds (defsOf defs) v)) uses)) e
+      ∙ both-all (λ (v : Bytes). all isName (typedNames v)) (λ (v : Bytes). isSome (endKind intBounds (defsOf defs) v))
       (λ (v : Bytes). leads (map (targetIn (map firstWord defs)) defs) (targetIn (map firstWord defs) v)) (type-leads defs few (b .1)) uses
 
 -- where a target leads

@@ -6,7 +6,7 @@ ghost use lib.ListN.{length};
 ghost use Rattle.format.specs.Bytes.{classTable, text, all};
 ghost use Rattle.format.specs.Lines.{isName};
 ghost use Rattle.format.specs.Words.{split};
-ghost use Rattle.format.specs.Numbers.{bits32};
+ghost use Rattle.format.specs.Numbers.{intBounds};
 ghost use Rattle.format.specs.Records.{fieldsOf};
 ghost use Rattle.format.specs.Rules.{typedNames, isTypedWell};
 ghost use Rattle.lines.specs.Value.{valueFrom};
@@ -118,7 +118,7 @@ pub fn types_well(table: &[u8; 256], d: &[u8], scratch: &mut [u8]) -> bool
     requires { ⌜ isReadable (now d) ≡ true ⌝ }
     requires { ⌜ (length (valuesFrom (now d) (text "%typedef") 0) ≤ 32) × (fitFrom (length (now scratch)) (now d) (text "%typedef") 0 ≡ true) ⌝ }
     requires { ⌜ fitFrom (length (now scratch)) (now d) (text "%type") 0 ≡ true ⌝ }
-    ensures { λ r. ⌜ r ≡ isTypedWell bits32 (fieldsOf (readOf (now (d .entry)))) ⌝ }
+    ensures { λ r. ⌜ r ≡ isTypedWell intBounds (fieldsOf (readOf (now (d .entry)))) ⌝ }
 {
     if typedefs::typedefs_well(table, d, &mut *scratch) {} else {
         return false;

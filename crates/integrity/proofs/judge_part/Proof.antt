@@ -3,7 +3,7 @@ use Prim.Native.Nat.{ℕ}
 use mathlib.Core.Path.{sym, ap, _∙_}
 use mathlib.Core.Bool.{Bool}
 use Rattle.format.specs.Bytes.{pick}
-use Rattle.format.specs.Numbers.{bits32}
+use Rattle.format.specs.Numbers.{intBounds}
 use Rattle.format.proofs.Judging.{setNo}
 use Rattle.format.proofs.Walking.{ruled}
 use Rattle.records.specs.Walk.{recordIn}
@@ -35,13 +35,13 @@ returns c =
     let at-judge-set = c .before .before .before .before .before .before .judge-set in
     let at-args = c .before .before .before .before .before .before .before .before .before .before .before .before .before .before .before .before .args in
     let at-if1 = c .before .before .before .before .before .before .before .before .before .before .if1 in
-    at-judge-set .ensures ∙ ap (λ (b : Bool). pick {A = ℕ} b (setNo bits32 (ruled (recordIn (at-args .r .now)) (membersIn (at-args .rest .now)))) 0) (sym (at-if1 .taken))
+    at-judge-set .ensures ∙ ap (λ (b : Bool). pick {A = ℕ} b (setNo intBounds (ruled (recordIn (at-args .r .now)) (membersIn (at-args .rest .now)))) 0) (sym (at-if1 .taken))
 
 returns-2 : tie.Need-returns-2
 returns-2 c =
     let at-args = c .before .before .before .before .before .before .args in
     let at-if1 = c .if1 in
-    ap (λ (b : Bool). pick {A = ℕ} b (setNo bits32 (ruled (recordIn (at-args .r .now)) (membersIn (at-args .rest .now)))) 0) (sym (at-if1 .left))
+    ap (λ (b : Bool). pick {A = ℕ} b (setNo intBounds (ruled (recordIn (at-args .r .now)) (membersIn (at-args .rest .now)))) 0) (sym (at-if1 .left))
 
 pub judge-part-spec : {M : Type 1} → statement M
 judge-part-spec =

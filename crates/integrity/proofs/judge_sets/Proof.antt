@@ -6,7 +6,7 @@ use native.Mathlib.Omega.{arith}
 use mathlib.Core.Path.{_≡_, refl, sym, ap, _∙_}
 use mathlib.Core.Bool.{true}
 use lib.ListN.{length, drop, length-drop}
-use Rattle.format.specs.Numbers.{bits32}
+use Rattle.format.specs.Numbers.{intBounds}
 use Rattle.format.specs.Records.{records}
 use Rattle.format.proofs.Elements.{Each}
 use Rattle.format.proofs.Least.{least}
@@ -29,7 +29,7 @@ use Rattle.lists.proofs.lesser.Reads as lesser-reads
 use Rattle.records.proofs.next_record.Reads as next-record-reads
 
 abbrev Inv-loop : tie.InvT-loop
-Inv-loop table s count scratch₀ other₀ entries₀ i₀ met₀ worst₀ scratch other entries i met worst = (i ≤ length s) × (isReadable (drop i s) ≡ true) × Each Right (recordsFrom s i) × (walkNo bits32 (recordsFrom s 0) ≡ least worst (walkNo bits32 (recordsFrom s i))) × (length scratch ≡ length scratch₀) × (length other ≡ length other₀) × (length entries ≡ length entries₀) × (met + length (heads (recordsFrom s i)) ≡ count)
+Inv-loop table s count scratch₀ other₀ entries₀ i₀ met₀ worst₀ scratch other entries i met worst = (i ≤ length s) × (isReadable (drop i s) ≡ true) × Each Right (recordsFrom s i) × (walkNo intBounds (recordsFrom s 0) ≡ least worst (walkNo intBounds (recordsFrom s i))) × (length scratch ≡ length scratch₀) × (length other ≡ length other₀) × (length entries ≡ length entries₀) × (met + length (heads (recordsFrom s i)) ≡ count)
 
 abbrev μ-loop : tie.MeasureT-loop
 μ-loop table s count scratch₀ other₀ entries₀ i₀ met₀ worst₀ scratch other entries i met worst = length s - i

@@ -3,7 +3,7 @@ use mathlib.Core.Path.{sym, ap, _∙_}
 use mathlib.Core.Bool.{Bool, _||_, not}
 use lib.ListN.{length}
 use Rattle.format.specs.Bytes.{text}
-use Rattle.format.specs.Numbers.{bits32}
+use Rattle.format.specs.Numbers.{intBounds}
 use Rattle.format.specs.Rules.{isTypedWell}
 use Rattle.records.specs.Walk.{recordIn}
 use Rattle.rules.proofs.Granted.{few-typedefs, values-fit}
@@ -29,13 +29,13 @@ returns c =
     let at-types-well = c .before .before .types-well in
     let at-args = c .before .before .before .before .before .before .before .args in
     let at-if1 = c .before .before .before .before .if1 in
-    at-types-well .ensures ∙ ap (λ (b : Bool). not b || isTypedWell bits32 (recordIn (at-args .r .now))) (sym (at-if1 .taken))
+    at-types-well .ensures ∙ ap (λ (b : Bool). not b || isTypedWell intBounds (recordIn (at-args .r .now))) (sym (at-if1 .taken))
 
 returns-2 : tie.Need-returns-2
 returns-2 c =
     let at-args = c .before .before .before .args in
     let at-if1 = c .if1 in
-    ap (λ (b : Bool). not b || isTypedWell bits32 (recordIn (at-args .r .now))) (sym (at-if1 .left))
+    ap (λ (b : Bool). not b || isTypedWell intBounds (recordIn (at-args .r .now))) (sym (at-if1 .left))
 
 pub part-typed-spec : {M : Type 1} → statement M
 part-typed-spec = tie.close (tie.spec types-well-requires same-length returns returns-2)

@@ -6,7 +6,7 @@ use native.Mathlib.Omega.{arith}
 use mathlib.Core.Path.{_≡_, refl, sym, _∙_}
 use mathlib.Core.Bool.{true}
 use lib.ListN.{length, drop}
-use Rattle.format.specs.Numbers.{bits32}
+use Rattle.format.specs.Numbers.{intBounds}
 use Rattle.format.specs.Records.{records}
 use Rattle.format.proofs.Elements.{Each}
 use Rattle.format.proofs.Walking.{heads, walkTypes}
@@ -25,7 +25,7 @@ use Rattle.limits.proofs.one_if.Reads as one-if-reads
 use Rattle.records.proofs.next_record.Reads as next-record-reads
 
 abbrev Inv-loop : tie.InvT-loop
-Inv-loop table s count scratch₀ i₀ met₀ scratch i met = (i ≤ length s) × (isReadable (drop i s) ≡ true) × Each Fits (recordsFrom s i) × (walkTypes bits32 (recordsFrom s 0) ≡ walkTypes bits32 (recordsFrom s i)) × (length scratch ≡ length scratch₀) × (met + length (heads (recordsFrom s i)) ≡ count)
+Inv-loop table s count scratch₀ i₀ met₀ scratch i met = (i ≤ length s) × (isReadable (drop i s) ≡ true) × Each Fits (recordsFrom s i) × (walkTypes intBounds (recordsFrom s 0) ≡ walkTypes intBounds (recordsFrom s i)) × (length scratch ≡ length scratch₀) × (met + length (heads (recordsFrom s i)) ≡ count)
 
 abbrev μ-loop : tie.MeasureT-loop
 μ-loop table s count scratch₀ i₀ met₀ scratch i met = length s - i

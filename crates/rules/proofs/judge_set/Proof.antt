@@ -5,7 +5,7 @@ use borrow.Author.Tests.{ne-eqb}
 use lib.ListN.{length, take}
 use lib.Seq.{length-take-le}
 use Rattle.format.specs.Bytes.{all}
-use Rattle.format.specs.Numbers.{bits32}
+use Rattle.format.specs.Numbers.{intBounds}
 use Rattle.records.specs.Walk.{recordIn}
 use Rattle.lists.proofs.Listed.{entries-fit}
 use Rattle.setkeys.specs.Keyed.{membersIn}
@@ -35,7 +35,7 @@ read-lists-requires : tie.Need-read-lists-requires
 read-lists-requires c κs =
     let at-args = c .before .before .before .before .before .before .before .before .args in
     let at-pre = c .before .before .before .before .before .before .before .before .pre in
-    let few = entries-fit bits32 (recordIn (at-args .d .now)) (at-pre .1 .0 .0 .few) (at-pre .1 .0 .0 .well) in
+    let few = entries-fit intBounds (recordIn (at-args .d .now)) (at-pre .1 .0 .0 .few) (at-pre .1 .0 .0 .well) in
     (at-pre .0, (at-pre .1 .0 .0 .reads, (at-pre .1 .0 .1, (few, few, few))))
 
 slice-aggregate-judge-members : tie.Need-slice-aggregate-judge-members
@@ -52,7 +52,7 @@ judge-members-requires c κs =
     let at-pre = c .before .before .before .before .before .before .before .before .before .before .before .before .before .before .before .pre in
     let at-read-lists = c .before .before .before .before .before .before .read-lists in
     let at-args = c .before .before .before .before .before .before .before .before .before .before .before .before .before .before .before .args in
-    (at-pre .0, ((at-read-lists .ensures, omega (arith, at-read-lists .ensures .count, entries-fit bits32 (recordIn (at-args .d .now)) (at-pre .1 .0 .0 .few) (at-pre .1 .0 .0 .well))), at-pre .1 .1 .0 .0))
+    (at-pre .0, ((at-read-lists .ensures, omega (arith, at-read-lists .ensures .count, entries-fit intBounds (recordIn (at-args .d .now)) (at-pre .1 .0 .0 .few) (at-pre .1 .0 .0 .well))), at-pre .1 .1 .0 .0))
 
 returns : tie.Need-returns
 returns c =
@@ -108,7 +108,7 @@ judge-whole-requires c κs =
     let at-if1 = c .before .before .before .before .before .before .before .before .before .before .before .before .before .before .if1 in
     let at-read-lists = c .before .before .before .before .before .before .before .before .before .before .before .before .before .before .before .before .before .before .before .before .before .before .before .read-lists in
     let at-scratch = c .before .before .before .before .before .before .before .before .before .scratch in
-    let keys = have-keys bits32 (recordIn (at-args .d .now)) (membersIn (at-args .rest .now)) (at-pre .1 .0 .0 .well) (names-none (recordIn (at-args .d .now)) (at-pre .1 .0 .0 .well) (membersIn (at-args .rest .now)) (at-judge-members .result .number) (at-judge-members .ensures .least) (at-if1 .left)) in
+    let keys = have-keys intBounds (recordIn (at-args .d .now)) (membersIn (at-args .rest .now)) (at-pre .1 .0 .0 .well) (names-none (recordIn (at-args .d .now)) (at-pre .1 .0 .0 .well) (membersIn (at-args .rest .now)) (at-judge-members .result .number) (at-judge-members .ensures .least) (at-if1 .left)) in
     (at-pre .0, ((at-pre .1 .0 .0, at-read-lists .ensures), ((at-pre .1 .1 .0 .0, at-pre .1 .1 .0 .1, keys), (omega (arith, at-scratch .given, at-pre .1 .1 .1 .0), at-pre .1 .1 .1 .2))))
 
 same-length-3 : tie.Need-same-length-3

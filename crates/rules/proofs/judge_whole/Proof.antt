@@ -1,7 +1,7 @@
 -- `rules::judge_whole` meets its contract: the keys' number, else the size's.
 use native.Mathlib.Omega.{arith}
 use mathlib.Core.Path.{_∙_}
-use Rattle.format.specs.Numbers.{bits32}
+use Rattle.format.specs.Numbers.{intBounds}
 use Rattle.format.specs.Bytes.{text}
 use Rattle.records.specs.Walk.{recordIn}
 use Rattle.records.proofs.Fields.{field-told}
@@ -23,7 +23,7 @@ keys-distinct-requires : tie.Need-keys-distinct-requires
 keys-distinct-requires c κs =
     let at-pre = c .before .before .before .before .before .before .before .before .pre in
     let at-args = c .before .before .before .before .before .before .before .before .args in
-    (at-pre .0, ((at-pre .1 .0 .1, key-few bits32 (recordIn (at-args .d .now)) (at-pre .1 .0 .0 .well)), ((at-pre .1 .1 .0 .0, at-pre .1 .1 .0 .1), (omega (arith, members-fit (at-args .rest .now) (at-pre .1 .1 .0 .0) (at-pre .1 .1 .0 .1), at-pre .1 .1 .1 .1), at-pre .1 .1 .0 .2))))
+    (at-pre .0, ((at-pre .1 .0 .1, key-few intBounds (recordIn (at-args .d .now)) (at-pre .1 .0 .0 .well)), ((at-pre .1 .1 .0 .0, at-pre .1 .1 .0 .1), (omega (arith, members-fit (at-args .rest .now) (at-pre .1 .1 .0 .0) (at-pre .1 .1 .0 .1), at-pre .1 .1 .1 .1), at-pre .1 .1 .0 .2))))
 
 same-length : tie.Need-same-length
 same-length c = search needs

@@ -7,7 +7,7 @@ use mathlib.Core.Path.{_≡_, refl, sym, ap, _∙_}
 use mathlib.Core.Bool.{true}
 use lib.ListN.{length, drop}
 use Rattle.format.specs.Bytes.{all}
-use Rattle.format.specs.Numbers.{bits32}
+use Rattle.format.specs.Numbers.{intBounds}
 use Rattle.format.specs.Questions.{fitsField}
 use Rattle.format.specs.Rules.{isShaped}
 use Rattle.records.specs.Places.{isReadable}
@@ -24,7 +24,7 @@ use Rattle.records.proofs.next_field.Reads as next-field-reads
 use Rattle.shapes.proofs.field_shaped.Reads as field-shaped-reads
 
 abbrev Inv-loop : tie.InvT-loop
-Inv-loop table d scratch₀ i₀ scratch i = (i ≤ length d) × (isReadable (drop i d) ≡ true) × (all fitsField (fieldsFrom d i) ≡ true) × (length scratch ≡ length scratch₀) × (all (isShaped bits32) (recordIn d) ≡ all (isShaped bits32) (fieldsFrom d i))
+Inv-loop table d scratch₀ i₀ scratch i = (i ≤ length d) × (isReadable (drop i d) ≡ true) × (all fitsField (fieldsFrom d i) ≡ true) × (length scratch ≡ length scratch₀) × (all (isShaped intBounds) (recordIn d) ≡ all (isShaped intBounds) (fieldsFrom d i))
 
 abbrev μ-loop : tie.MeasureT-loop
 μ-loop table d scratch₀ i₀ scratch i = length d - i
@@ -59,7 +59,7 @@ returns c =
     let at-next-field = c .before .before .next-field in
     let at-enum-told = c .enum-told in
     let none = next-told (at-args .d .now) (at-loop .i) (at-next-field .result) (at-next-field .ensures) (at-enum-told .given .1) in
-    (sym (at-loop .inv .4 ∙ ap (all (isShaped bits32)) none), at-loop .inv .3)
+    (sym (at-loop .inv .4 ∙ ap (all (isShaped intBounds)) none), at-loop .inv .3)
 
 sub-field-shaped : tie.Need-sub-field-shaped Inv-loop μ-loop
 sub-field-shaped c =
@@ -155,7 +155,7 @@ loop-again c =
     let x = fieldBetween d (g .0) (g .1 .0) (g .1 .1 .0) (g .1 .1 .1 .0) in
     let rest = fieldsFrom d (g .1 .1 .1 .0) in
     let h = all-both fitsField (fieldsFrom d i) x rest (f .fields) (at-loop .inv .2) in
-    (f .inside, f .readable, h .1, at-field-shaped .ensures .1 ∙ at-loop .inv .3, at-loop .inv .4 ∙ all-more (isShaped bits32) (fieldsFrom d i) x rest (f .fields) (sym (at-field-shaped .ensures .0 (x .count)) ∙ at-if1 .taken))
+    (f .inside, f .readable, h .1, at-field-shaped .ensures .1 ∙ at-loop .inv .3, at-loop .inv .4 ∙ all-more (isShaped intBounds) (fieldsFrom d i) x rest (f .fields) (sym (at-field-shaped .ensures .0 (x .count)) ∙ at-if1 .taken))
 
 same-length-2 : tie.Need-same-length-2 Inv-loop μ-loop
 same-length-2 c =
@@ -177,7 +177,7 @@ returns-2 c =
     let f = next-told d i (at-next-field .result) (at-next-field .ensures) (at-n .given .1) in
     let x = fieldBetween d (g .0) (g .1 .0) (g .1 .1 .0) (g .1 .1 .1 .0) in
     let rest = fieldsFrom d (g .1 .1 .1 .0) in
-    (sym (at-loop .inv .4 ∙ all-stop (isShaped bits32) (fieldsFrom d i) x rest (f .fields) (sym (at-field-shaped .ensures .0 (x .count)) ∙ at-if1 .left)), at-field-shaped .ensures .1 ∙ at-loop .inv .3)
+    (sym (at-loop .inv .4 ∙ all-stop (isShaped intBounds) (fieldsFrom d i) x rest (f .fields) (sym (at-field-shaped .ensures .0 (x .count)) ∙ at-if1 .left)), at-field-shaped .ensures .1 ∙ at-loop .inv .3)
 
 pub all-shaped-spec : {M : Type 1} → statement M
 all-shaped-spec =

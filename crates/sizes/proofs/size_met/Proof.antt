@@ -7,7 +7,7 @@ use mathlib.Core.Path.{_≡_, refl, sym, ap, _∙_}
 use mathlib.Core.Bool.{true}
 use lib.ListN.{length, drop}
 use Rattle.format.specs.Bytes.{Bytes, text, all}
-use Rattle.format.specs.Numbers.{bits32}
+use Rattle.format.specs.Numbers.{intBounds}
 use Rattle.format.specs.Questions.{fitsField}
 use Rattle.format.specs.Rules.{sizeRule, meetsSize}
 use Rattle.format.specs.Words.{words}
@@ -61,7 +61,7 @@ returns c =
     let at-next-field = c .before .before .next-field in
     let at-enum-told = c .enum-told in
     let none = next-told (at-args .d .now) (at-loop .i) (at-next-field .result) (at-next-field .ensures) (at-enum-told .given .1) in
-    (sym (values-all (λ (v : Bytes). meetsSize (sizeRule bits32 (words v)) (at-args .count)) (text "%size") (recordIn (at-args .d .now)) ∙ at-loop .inv .4 ∙ ap (all (sizeAsked (at-args .count))) none), at-loop .inv .3)
+    (sym (values-all (λ (v : Bytes). meetsSize (sizeRule intBounds (words v)) (at-args .count)) (text "%size") (recordIn (at-args .d .now)) ∙ at-loop .inv .4 ∙ ap (all (sizeAsked (at-args .count))) none), at-loop .inv .3)
 
 sub-field-met : tie.Need-sub-field-met Inv-loop μ-loop
 sub-field-met c =
@@ -179,7 +179,7 @@ returns-2 c =
     let f = next-told d i (at-next-field .result) (at-next-field .ensures) (at-n .given .1) in
     let x = fieldBetween d (g .0) (g .1 .0) (g .1 .1 .0) (g .1 .1 .1 .0) in
     let rest = fieldsFrom d (g .1 .1 .1 .0) in
-    (sym (values-all (λ (v : Bytes). meetsSize (sizeRule bits32 (words v)) (at-args .count)) (text "%size") (recordIn (at-args .d .now)) ∙ at-loop .inv .4 ∙ all-stop (sizeAsked (at-args .count)) (fieldsFrom d i) x rest (f .fields) (sym (at-field-met .ensures .0 (x .count)) ∙ at-if1 .left)), at-field-met .ensures .1 ∙ at-loop .inv .3)
+    (sym (values-all (λ (v : Bytes). meetsSize (sizeRule intBounds (words v)) (at-args .count)) (text "%size") (recordIn (at-args .d .now)) ∙ at-loop .inv .4 ∙ all-stop (sizeAsked (at-args .count)) (fieldsFrom d i) x rest (f .fields) (sym (at-field-met .ensures .0 (x .count)) ∙ at-if1 .left)), at-field-met .ensures .1 ∙ at-loop .inv .3)
 
 pub size-met-spec : {M : Type 1} → statement M
 size-met-spec =

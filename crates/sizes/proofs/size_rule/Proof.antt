@@ -3,7 +3,7 @@ use native.Mathlib.Omega.{arith}
 use mathlib.Core.Path.{sym, ap, _∙_}
 use mathlib.Core.List.{[], _∷_}
 use lib.ListN.{drop}
-use Rattle.format.specs.Numbers.{bits32}
+use Rattle.format.specs.Numbers.{intBounds}
 use Rattle.format.specs.Rules.{sizeRule}
 use Rattle.format.specs.Words.{words}
 use Rattle.words.specs.Spans.{span}
@@ -32,7 +32,7 @@ returns c =
     let at-args = c .before .before .before .before .args in
     let at-next-word = c .before .before .next-word in
     let at-enum-told = c .enum-told in
-    sym (ap (sizeRule bits32) (not-found (at-args .s .now) 0 (at-next-word .ensures) (at-enum-told .given .1)))
+    sym (ap (sizeRule intBounds) (not-found (at-args .s .now) 0 (at-next-word .ensures) (at-enum-told .given .1)))
 
 next-word-requires-2 : tie.Need-next-word-requires-2
 next-word-requires-2 c κs =
@@ -82,7 +82,7 @@ returns-2 c =
     let f = found (at-args .s .now) 0 (at-next-word .ensures) (at-w .given .1) (omega arith) in
     let s = at-args .s .now in
     let v = at-w .given .0 in
-    at-size-exactly .ensures ∙ sym (ap (sizeRule bits32) (words-then (words s) (span (v .0) (v .1 .0) s) (words (drop (v .1 .0) s)) (f .3) [] (not-found s (v .1 .0) (at-next-word2 .ensures) (at-enum-told2 .given .1))))
+    at-size-exactly .ensures ∙ sym (ap (sizeRule intBounds) (words-then (words s) (span (v .0) (v .1 .0) s) (words (drop (v .1 .0) s)) (f .3) [] (not-found s (v .1 .0) (at-next-word2 .ensures) (at-enum-told2 .given .1))))
 
 next-word-requires-3 : tie.Need-next-word-requires-3
 next-word-requires-3 c κs =
@@ -170,7 +170,7 @@ returns-3 c =
     let y = at-x .given .0 in
     let z = at-enum-told3 .given .0 in
     let h = found s (y .1 .0) (at-next-word3 .ensures) (at-enum-told3 .given .1) (g .2) in
-    sym (ap (sizeRule bits32) (words-then (words s) (span (v .0) (v .1 .0) s) (words (drop (v .1 .0) s)) (f .3) (span (y .0) (y .1 .0) s ∷ span (z .0) (z .1 .0) s ∷ words (drop (z .1 .0) s)) (words-then (words (drop (v .1 .0) s)) (span (y .0) (y .1 .0) s) (words (drop (y .1 .0) s)) (g .3) (span (z .0) (z .1 .0) s ∷ words (drop (z .1 .0) s)) (h .3))))
+    sym (ap (sizeRule intBounds) (words-then (words s) (span (v .0) (v .1 .0) s) (words (drop (v .1 .0) s)) (f .3) (span (y .0) (y .1 .0) s ∷ span (z .0) (z .1 .0) s ∷ words (drop (z .1 .0) s)) (words-then (words (drop (v .1 .0) s)) (span (y .0) (y .1 .0) s) (words (drop (y .1 .0) s)) (g .3) (span (z .0) (z .1 .0) s ∷ words (drop (z .1 .0) s)) (h .3))))
 
 returns-4 : tie.Need-returns-4
 returns-4 c =
@@ -188,7 +188,7 @@ returns-4 c =
     let v = at-w .given .0 in
     let y = at-x .given .0 in
     let e = words-then (words (drop (v .1 .0) s)) (span (y .0) (y .1 .0) s) (words (drop (y .1 .0) s)) (g .3) [] (not-found s (y .1 .0) (at-next-word3 .ensures) (at-enum-told4 .given .1)) in
-    at-size-signed .ensures ∙ sym (ap (sizeRule bits32) (words-then (words s) (span (v .0) (v .1 .0) s) (words (drop (v .1 .0) s)) (f .3) (span (y .0) (y .1 .0) s ∷ []) e))
+    at-size-signed .ensures ∙ sym (ap (sizeRule intBounds) (words-then (words s) (span (v .0) (v .1 .0) s) (words (drop (v .1 .0) s)) (f .3) (span (y .0) (y .1 .0) s ∷ []) e))
 
 pub size-rule-spec : {M : Type 1} → statement M
 size-rule-spec =

@@ -8,7 +8,7 @@ use mathlib.Core.Path.{_≡_, refl, sym, ap, _∙_, subst}
 use mathlib.Core.Bool.{true}
 use lib.ListN.{length, drop, length-set}
 use Rattle.format.specs.Bytes.{Bytes, text, isSome}
-use Rattle.format.specs.Numbers.{bits32}
+use Rattle.format.specs.Numbers.{intBounds}
 use Rattle.format.specs.Rules.{endKind}
 use Rattle.lines.specs.Value.{valueFrom}
 use Rattle.words.specs.Spans.{span}
@@ -81,7 +81,7 @@ kind-of-requires c κs =
     let w = valueFrom (span (g .0 .0) (g .0 .1 .0) d) in
     let r = rest-head (typesFrom d) (at-loop .count) w (valuesFrom d (text "%type") (g .0 .1 .0)) (at-loop .inv .2 ∙ h .values) in
     let f = fit-here (length (at-args .scratch .now)) (valuesFrom d (text "%type") (at-loop .i)) w (valuesFrom d (text "%type") (g .0 .1 .0)) (at-loop .inv .5) (h .values) in
-    let k = both-true (isSome (endKind bits32 (defsFrom d) w)) (areKinds d (valuesFrom d (text "%type") (g .0 .1 .0))) (sym (ap (areKinds d) (h .values)) ∙ at-loop .inv .6) in
+    let k = both-true (isSome (endKind intBounds (defsFrom d) w)) (areKinds d (valuesFrom d (text "%type") (g .0 .1 .0))) (sym (ap (areKinds d) (h .values)) ∙ at-loop .inv .6) in
     (at-pre .0, (at-pre .1 .0, ((h .within, h .inside, omega (arith, f .0, at-loop .inv .4)), (ap (λ (m : ℕ). fitFrom m d (text "%typedef") 0) (at-loop .inv .4) ∙ at-pre .1 .1 .1 .0 .0, (at-pre .1 .1 .1 .1, k .0)))))
 
 mul-values : tie.Need-mul-values Inv-loop μ-loop
@@ -210,7 +210,7 @@ loop-again c =
     let w = valueFrom (span (g .0 .0) (g .0 .1 .0) d) in
     let r = rest-head (typesFrom d) (at-loop .count) w (valuesFrom d (text "%type") (g .0 .1 .0)) (at-loop .inv .2 ∙ h .values) in
     let f = fit-here (length (at-args .scratch .now)) (valuesFrom d (text "%type") (at-loop .i)) w (valuesFrom d (text "%type") (g .0 .1 .0)) (at-loop .inv .5) (h .values) in
-    let k = both-true (isSome (endKind bits32 (defsFrom d) w)) (areKinds d (valuesFrom d (text "%type") (g .0 .1 .0))) (sym (ap (areKinds d) (h .values)) ∙ at-loop .inv .6) in
+    let k = both-true (isSome (endKind intBounds (defsFrom d) w)) (areKinds d (valuesFrom d (text "%type") (g .0 .1 .0))) (sym (ap (areKinds d) (h .values)) ∙ at-loop .inv .6) in
     let p : TypeAt d (at-loop .count) (g .0 .0) (g .0 .1 .0) = record { ordered = h .within; inside = h .inside; reads = sym (r .1) } in
     let q = subst (λ (m : ℕ). KindOf m d w (at-kind-of .result)) (at-loop .inv .4) (at-kind-of .ensures) in
     let e = subst (λ (x : Bytes). KindOf (length (at-args .scratch .now)) d x (at-kind-of .result)) (sym (r .1)) q in

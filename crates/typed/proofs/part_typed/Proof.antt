@@ -6,7 +6,7 @@ use native.Mathlib.Omega.{arith}
 use mathlib.Core.Path.{_≡_, refl, sym, ap, _∙_, subst}
 use lib.ListN.{length}
 use Rattle.format.specs.Bytes.{all}
-use Rattle.format.specs.Numbers.{bits32}
+use Rattle.format.specs.Numbers.{intBounds}
 use Rattle.format.specs.Rules.{isTyped, typeRules}
 use Rattle.names.specs.Entries.{left, Reached}
 use Rattle.typedefs.specs.Walks.{fieldsFrom}
@@ -23,7 +23,7 @@ use Rattle.names.proofs.row_start.Reads as row-start-reads
 use Rattle.typed.proofs.chunk_typed.Reads as chunk-typed-reads
 
 abbrev Inv-loop : tie.InvT-loop
-Inv-loop table d s scratch₀ other₀ rules count row₀ at₀ scratch other row at = (length scratch ≡ length scratch₀) × (length other ≡ length other₀) × Reached (rules .ends) (rules .count) row at × (all (isTyped bits32 (typeRules bits32 (fieldsFrom d 0))) (fieldsFrom s 0) ≡ all (meetsFrom d rules row at) (fieldsFrom s 0))
+Inv-loop table d s scratch₀ other₀ rules count row₀ at₀ scratch other row at = (length scratch ≡ length scratch₀) × (length other ≡ length other₀) × Reached (rules .ends) (rules .count) row at × (all (isTyped intBounds (typeRules intBounds (fieldsFrom d 0))) (fieldsFrom s 0) ≡ all (meetsFrom d rules row at) (fieldsFrom s 0))
 
 abbrev μ-loop : tie.MeasureT-loop
 μ-loop table d s scratch₀ other₀ rules count row₀ at₀ scratch other row at = left (rules .count) row at

@@ -3,7 +3,7 @@ use native.Mathlib.Omega.{arith}
 use mathlib.Core.Path.{refl, subst}
 use Rattle.format.specs.Bytes.{Bytes}
 use Rattle.format.specs.Words.{afterWord}
-use Rattle.format.specs.Numbers.{bits32}
+use Rattle.format.specs.Numbers.{intBounds}
 use Rattle.format.specs.Types.{typeOf}
 use Rattle.lines.specs.Value.{valueFrom}
 use Rattle.words.specs.Spans.{span}
@@ -87,8 +87,8 @@ returns c =
     let w = valueFrom (span (at-args .value) (at-args .end) (at-args .d .now)) in
     let l = decoded-length w (at-args .scratch .now) _ (at-copy-value .result) (at-copy-value .ensures .0) (at-copy-value .ensures .1) in
     let g = decoded-after w (at-args .scratch .now) _ (at-copy-value .result) (at-copy-value .ensures .0) (at-copy-value .ensures .1) (at-behind-word .result) (omega (arith, l, at-behind-word .ensures .0)) (at-behind-word .ensures .1) in
-    let h = subst (λ (u : Bytes). Told u (typeOf bits32 u) (at-type-of .result)) g (at-type-of .ensures) in
-    record { starts = refl; ends = refl; shape = shape-none (afterWord w) (typeOf bits32 (afterWord w)) (at-type-of .result) Shape.Line h (at-enum-told .given .1) }
+    let h = subst (λ (u : Bytes). Told u (typeOf intBounds u) (at-type-of .result)) g (at-type-of .ensures) in
+    record { starts = refl; ends = refl; shape = shape-none (afterWord w) (typeOf intBounds (afterWord w)) (at-type-of .result) Shape.Line h (at-enum-told .given .1) }
 
 same-length-2 : tie.Need-same-length-2
 same-length-2 c = search needs
@@ -103,8 +103,8 @@ returns-2 c =
     let w = valueFrom (span (at-args .value) (at-args .end) (at-args .d .now)) in
     let l = decoded-length w (at-args .scratch .now) _ (at-copy-value .result) (at-copy-value .ensures .0) (at-copy-value .ensures .1) in
     let g = decoded-after w (at-args .scratch .now) _ (at-copy-value .result) (at-copy-value .ensures .0) (at-copy-value .ensures .1) (at-behind-word .result) (omega (arith, l, at-behind-word .ensures .0)) (at-behind-word .ensures .1) in
-    let h = subst (λ (u : Bytes). Told u (typeOf bits32 u) (at-type-of .result)) g (at-type-of .ensures) in
-    record { starts = refl; ends = refl; shape = shape-read (afterWord w) (typeOf bits32 (afterWord w)) (at-type-of .result) (at-t .given .0 .0) h (at-t .given .1) }
+    let h = subst (λ (u : Bytes). Told u (typeOf intBounds u) (at-type-of .result)) g (at-type-of .ensures) in
+    record { starts = refl; ends = refl; shape = shape-read (afterWord w) (typeOf intBounds (afterWord w)) (at-type-of .result) (at-t .given .0 .0) h (at-t .given .1) }
 
 pub typedef-at-spec : {M : Type 1} → statement M
 typedef-at-spec =

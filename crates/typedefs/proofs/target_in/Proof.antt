@@ -2,7 +2,7 @@
 use mathlib.Core.Path.{sym, ap, _∙_}
 use mathlib.Core.Option.{some}
 use native.Mathlib.Omega.{arith}
-use Rattle.format.specs.Numbers.{bits32}
+use Rattle.format.specs.Numbers.{intBounds}
 use Rattle.format.specs.Types.{typeOf}
 use Rattle.types.specs.Meaning.{typedIn}
 use Rattle.types.specs.declared.Shape.{Shape}
@@ -34,7 +34,7 @@ returns c =
     let at-args = c .before .before .before .before .before .args in
     let at-type-of = c .before .before .type-of in
     let at-enum-told = c .enum-told in
-    sym (ap (targetBy (namesFrom (at-args .d .now) 0)) (told-none (at-args .s .now) (typeOf bits32 (at-args .s .now)) (at-type-of .result) (at-type-of .ensures) (at-enum-told .given .1)))
+    sym (ap (targetBy (namesFrom (at-args .d .now) 0)) (told-none (at-args .s .now) (typeOf intBounds (at-args .s .now)) (at-type-of .result) (at-type-of .ensures) (at-enum-told .given .1)))
 
 enum-known-k : tie.Need-enum-known-k
 enum-known-k c = search needs
@@ -45,7 +45,7 @@ sub-typedef-index c =
     let at-k = c .before .k in
     let at-type-of = c .before .before .before .before .before .before .type-of in
     let at-t = c .before .before .before .before .t in
-    let h = sound-shape (at-args .s .now) (at-k .given .1) (told-sound (at-args .s .now) (typeOf bits32 (at-args .s .now)) (at-type-of .result) (at-t .given .0 .0) (at-type-of .ensures) (at-t .given .1)) in
+    let h = sound-shape (at-args .s .now) (at-k .given .1) (told-sound (at-args .s .now) (typeOf intBounds (at-args .s .now)) (at-type-of .result) (at-t .given .0 .0) (at-type-of .ensures) (at-t .given .1)) in
     omega (arith, h .0, h .1)
 
 part-typedef-index-start : tie.Need-part-typedef-index-start
@@ -54,7 +54,7 @@ part-typedef-index-start c =
     let at-k = c .before .k in
     let at-type-of = c .before .before .before .before .before .before .type-of in
     let at-t = c .before .before .before .before .t in
-    let h = sound-shape (at-args .s .now) (at-k .given .1) (told-sound (at-args .s .now) (typeOf bits32 (at-args .s .now)) (at-type-of .result) (at-t .given .0 .0) (at-type-of .ensures) (at-t .given .1)) in
+    let h = sound-shape (at-args .s .now) (at-k .given .1) (told-sound (at-args .s .now) (typeOf intBounds (at-args .s .now)) (at-type-of .result) (at-t .given .0 .0) (at-type-of .ensures) (at-t .given .1)) in
     omega (arith, h .0, h .1)
 
 part-typedef-index-end : tie.Need-part-typedef-index-end
@@ -63,7 +63,7 @@ part-typedef-index-end c =
     let at-k = c .before .k in
     let at-type-of = c .before .before .before .before .before .before .type-of in
     let at-t = c .before .before .before .before .t in
-    let h = sound-shape (at-args .s .now) (at-k .given .1) (told-sound (at-args .s .now) (typeOf bits32 (at-args .s .now)) (at-type-of .result) (at-t .given .0 .0) (at-type-of .ensures) (at-t .given .1)) in
+    let h = sound-shape (at-args .s .now) (at-k .given .1) (told-sound (at-args .s .now) (typeOf intBounds (at-args .s .now)) (at-type-of .result) (at-t .given .0 .0) (at-type-of .ensures) (at-t .given .1)) in
     omega (arith, h .0, h .1)
 
 typedef-index-requires : tie.Need-typedef-index-requires
@@ -78,7 +78,7 @@ returns-2 c =
     let at-t = c .before .before .before .before .before .before .t in
     let at-typedef-index = c .typedef-index in
     let at-k = c .before .before .before .k in
-    let e = told-some (at-args .s .now) (typeOf bits32 (at-args .s .now)) (at-type-of .result) (at-t .given .0 .0) (at-type-of .ensures) (at-t .given .1) in
+    let e = told-some (at-args .s .now) (typeOf intBounds (at-args .s .now)) (at-type-of .result) (at-t .given .0 .0) (at-type-of .ensures) (at-t .given .1) in
     at-typedef-index .ensures ∙ sym (ap (targetBy (namesFrom (at-args .d .now) 0)) (e ∙ ap (λ (k : Shape). some (typedIn (at-args .s .now) k)) (at-k .given .1)))
 
 returns-3 : tie.Need-returns-3
@@ -87,7 +87,7 @@ returns-3 c =
     let at-type-of = c .before .before .before .before .type-of in
     let at-t = c .before .before .t in
     let at-match2 = c .match2 in
-    let e = told-some (at-args .s .now) (typeOf bits32 (at-args .s .now)) (at-type-of .result) (at-t .given .0 .0) (at-type-of .ensures) (at-t .given .1) in
+    let e = told-some (at-args .s .now) (typeOf intBounds (at-args .s .now)) (at-type-of .result) (at-t .given .0 .0) (at-type-of .ensures) (at-t .given .1) in
     sym (ap (targetBy (namesFrom (at-args .d .now) 0)) e ∙ target-kind (namesFrom (at-args .d .now) 0) (at-args .s .now) (at-t .given .0 .0) (at-match2 .keys2))
 
 pub target-in-spec : {M : Type 1} → statement M

@@ -2,7 +2,7 @@
 use mathlib.Core.Path.{ap, _∙_}
 use native.Mathlib.Omega.{arith}
 use Rattle.format.specs.Bytes.{Bytes}
-use Rattle.format.specs.Numbers.{bits32}
+use Rattle.format.specs.Numbers.{intBounds}
 use Rattle.format.specs.Types.{typeOf}
 use Rattle.lines.specs.Value.{valueFrom}
 use Rattle.words.specs.Spans.{span}
@@ -80,7 +80,7 @@ returns c =
     let v = valueFrom (span (at-args .value) (at-args .end) (at-args .d .now)) in
     let l = decoded-length v (at-args .scratch .now) _ (at-copy-value .result) (at-copy-value .ensures .0) (at-copy-value .ensures .1) in
     let g = decoded-after v (at-args .scratch .now) _ (at-copy-value .result) (at-copy-value .ensures .0) (at-copy-value .ensures .1) (at-behind-word .result) (omega (arith, l, at-behind-word .ensures .0)) (at-behind-word .ensures .1) in
-    at-target-in .ensures ∙ ap (λ (u : Bytes). targetBy (namesFrom (at-args .d .now) 0) (typeOf bits32 u)) g
+    at-target-in .ensures ∙ ap (λ (u : Bytes). targetBy (namesFrom (at-args .d .now) 0) (typeOf intBounds u)) g
 
 pub target-of-spec : {M : Type 1} → statement M
 target-of-spec =

@@ -4,7 +4,7 @@ use mathlib.Core.Path.{_≡_, sym, ap, _∙_}
 use mathlib.Core.Bool.{Bool, _&&_}
 use Rattle.format.specs.Bytes.{Bytes, all}
 use Rattle.format.specs.Lines.{isName}
-use Rattle.format.specs.Numbers.{bits32}
+use Rattle.format.specs.Numbers.{intBounds}
 use Rattle.format.specs.Types.{typeOf}
 use Rattle.format.specs.Rules.{typedNames}
 use Rattle.lines.specs.Value.{valueFrom}
@@ -124,7 +124,7 @@ returns-2 c =
     let e = sym (ap (λ (u : Bytes). all isName (typedNames u)) a) ∙ sym (at-names-well .ensures) ∙ at-if1 .taken in
     let l = decoded-length v (at-args .scratch .now) _ (at-copy-value .result) (at-copy-value .ensures .0) (at-copy-value .ensures .1) in
     let g = decoded-after v (at-args .scratch .now) _ (at-copy-value .result) (at-copy-value .ensures .0) (at-copy-value .ensures .1) (at-behind-word .result) (omega (arith, l, at-behind-word .ensures .0)) (at-behind-word .ensures .1) in
-    at-target-ends .ensures ∙ ap (leads ts) (at-target-in .ensures ∙ ap (λ (u : Bytes). targetBy ns (typeOf bits32 u)) g) ∙ sym (ap (λ (b : Bool). b && leads ts (targetIn ns v)) e)
+    at-target-ends .ensures ∙ ap (leads ts) (at-target-in .ensures ∙ ap (λ (u : Bytes). targetBy ns (typeOf intBounds u)) g) ∙ sym (ap (λ (b : Bool). b && leads ts (targetIn ns v)) e)
 
 pub type-well-spec : {M : Type 1} → statement M
 type-well-spec =

@@ -4,7 +4,7 @@ use native.Mathlib.Omega.{arith}
 use Rattle.words.specs.Spans.{span}
 use Rattle.words.proofs.Finding.{found, not-found}
 use lib.ListN.{drop}
-use Rattle.format.specs.Numbers.{bits32}
+use Rattle.format.specs.Numbers.{intBounds}
 use Rattle.format.specs.Words.{words}
 use Rattle.format.specs.Types.{plainKind}
 use Rattle.types.proofs.Firsts.{told-fault, told-same, told-bare, told-not-bare, told-by-head}
@@ -33,7 +33,7 @@ returns c =
     let at-args = c .before .before .before .before .args in
     let at-next-word = c .before .before .next-word in
     let at-enum-told = c .enum-told in
-    told-fault (at-args .s .now) (ap (plainKind bits32) (not-found (at-args .s .now) 0 (at-next-word .ensures) (at-enum-told .given .1)))
+    told-fault (at-args .s .now) (ap (plainKind intBounds) (not-found (at-args .s .now) 0 (at-next-word .ensures) (at-enum-told .given .1)))
 
 sub-head-of : tie.Need-sub-head-of
 sub-head-of c =
@@ -90,7 +90,7 @@ returns-2 c =
     let at-h = c .before .before .before .before .h in
     let f = found (at-args .s .now) 0 (at-next-word .ensures) (at-w .given .1) (omega arith) in
     let k = found (at-args .s .now) (at-w .given .0 .1 .0) (at-next-word2 .ensures) (at-enum-told3 .given .1) (f .2) in
-    told-same (at-args .s .now) (ap (plainKind bits32) (f .3)) (told-not-bare (at-args .s .now) (span (at-w .given .0 .0) (at-w .given .0 .1 .0) (at-args .s .now)) _ (words (drop (at-w .given .0 .1 .0) (at-args .s .now))) _ (sym (at-head-of .ensures) ∙ at-h .given .1) (k .3))
+    told-same (at-args .s .now) (ap (plainKind intBounds) (f .3)) (told-not-bare (at-args .s .now) (span (at-w .given .0 .0) (at-w .given .0 .1 .0) (at-args .s .now)) _ (words (drop (at-w .given .0 .1 .0) (at-args .s .now))) _ (sym (at-head-of .ensures) ∙ at-h .given .1) (k .3))
 
 enum-told-4 : tie.Need-enum-told-4
 enum-told-4 c = search needs
@@ -137,7 +137,7 @@ returns-3 c =
     let at-h = c .before .before .before .before .h in
     let f = found (at-args .s .now) 0 (at-next-word .ensures) (at-w .given .1) (omega arith) in
     let n = not-found (at-args .s .now) (at-w .given .0 .1 .0) (at-next-word2 .ensures) (at-enum-told2 .given .1) in
-    told-same (at-args .s .now) (ap (plainKind bits32) (f .3)) (told-bare (at-args .s .now) (span (at-w .given .0 .0) (at-w .given .0 .1 .0) (at-args .s .now)) (words (drop (at-w .given .0 .1 .0) (at-args .s .now))) (sym (at-head-of .ensures) ∙ at-h .given .1) n)
+    told-same (at-args .s .now) (ap (plainKind intBounds) (f .3)) (told-bare (at-args .s .now) (span (at-w .given .0 .0) (at-w .given .0 .1 .0) (at-args .s .now)) (words (drop (at-w .given .0 .1 .0) (at-args .s .now))) (sym (at-head-of .ensures) ∙ at-h .given .1) n)
 
 returns-4 : tie.Need-returns-4
 returns-4 c =
@@ -148,7 +148,7 @@ returns-4 c =
     let at-enum-told4 = c .before .enum-told4 in
     let at-range-of = c .range-of in
     let f = found (at-args .s .now) 0 (at-next-word .ensures) (at-w .given .1) (omega arith) in
-    told-same (at-args .s .now) (ap (plainKind bits32) (f .3)) (told-by-head (at-args .s .now) (span (at-w .given .0 .0) (at-w .given .0 .1 .0) (at-args .s .now)) (words (drop (at-w .given .0 .1 .0) (at-args .s .now))) (sym (at-head-of .ensures) ∙ at-enum-told4 .given .1) (at-range-of .ensures))
+    told-same (at-args .s .now) (ap (plainKind intBounds) (f .3)) (told-by-head (at-args .s .now) (span (at-w .given .0 .0) (at-w .given .0 .1 .0) (at-args .s .now)) (words (drop (at-w .given .0 .1 .0) (at-args .s .now))) (sym (at-head-of .ensures) ∙ at-enum-told4 .given .1) (at-range-of .ensures))
 
 returns-5 : tie.Need-returns-5
 returns-5 c =
@@ -159,7 +159,7 @@ returns-5 c =
     let at-enum-told5 = c .before .enum-told5 in
     let at-size-of = c .size-of in
     let f = found (at-args .s .now) 0 (at-next-word .ensures) (at-w .given .1) (omega arith) in
-    told-same (at-args .s .now) (ap (plainKind bits32) (f .3)) (told-by-head (at-args .s .now) (span (at-w .given .0 .0) (at-w .given .0 .1 .0) (at-args .s .now)) (words (drop (at-w .given .0 .1 .0) (at-args .s .now))) (sym (at-head-of .ensures) ∙ at-enum-told5 .given .1) (at-size-of .ensures))
+    told-same (at-args .s .now) (ap (plainKind intBounds) (f .3)) (told-by-head (at-args .s .now) (span (at-w .given .0 .0) (at-w .given .0 .1 .0) (at-args .s .now)) (words (drop (at-w .given .0 .1 .0) (at-args .s .now))) (sym (at-head-of .ensures) ∙ at-enum-told5 .given .1) (at-size-of .ensures))
 
 returns-6 : tie.Need-returns-6
 returns-6 c =
@@ -170,7 +170,7 @@ returns-6 c =
     let at-enum-told6 = c .before .enum-told6 in
     let at-alias-of = c .alias-of in
     let f = found (at-args .s .now) 0 (at-next-word .ensures) (at-w .given .1) (omega arith) in
-    told-same (at-args .s .now) (ap (plainKind bits32) (f .3)) (told-by-head (at-args .s .now) (span (at-w .given .0 .0) (at-w .given .0 .1 .0) (at-args .s .now)) (words (drop (at-w .given .0 .1 .0) (at-args .s .now))) (sym (at-head-of .ensures) ∙ at-enum-told6 .given .1) (at-alias-of .ensures))
+    told-same (at-args .s .now) (ap (plainKind intBounds) (f .3)) (told-by-head (at-args .s .now) (span (at-w .given .0 .0) (at-w .given .0 .1 .0) (at-args .s .now)) (words (drop (at-w .given .0 .1 .0) (at-args .s .now))) (sym (at-head-of .ensures) ∙ at-enum-told6 .given .1) (at-alias-of .ensures))
 
 pub plain-type-spec : {M : Type 1} → statement M
 plain-type-spec =

@@ -6,7 +6,7 @@ use Rattle.format.specs.Bytes.{Bytes}
 use Rattle.words.specs.Spans.{span}
 use Rattle.words.proofs.Finding.{found, not-found}
 use mathlib.Core.Option.{some}
-use Rattle.format.specs.Numbers.{bits32, plus}
+use Rattle.format.specs.Numbers.{intBounds, plus}
 use Rattle.format.specs.Types.{rangeOf, ranged}
 use Rattle.numbers.specs.declared.IntOf.{IntOf}
 use Rattle.numbers.specs.declared.Whole.{Whole}
@@ -34,7 +34,7 @@ returns c =
     let at-args = c .before .before .before .before .args in
     let at-next-word = c .before .before .next-word in
     let at-enum-told = c .enum-told in
-    told-fault (at-args .s .now) (ap (rangeOf bits32) (not-found (at-args .s .now) (at-args .at) (at-next-word .ensures) (at-enum-told .given .1)))
+    told-fault (at-args .s .now) (ap (rangeOf intBounds) (not-found (at-args .s .now) (at-args .at) (at-next-word .ensures) (at-enum-told .given .1)))
 
 sub-end-of : tie.Need-sub-end-of
 sub-end-of c =
@@ -96,7 +96,7 @@ returns-2 c =
     let at-ranged = c .ranged in
     let f = found (at-args .s .now) (at-args .at) (at-next-word .ensures) (at-w .given .1) at-pre in
     let n = not-found (at-args .s .now) (at-w .given .0 .1 .0) (at-next-word2 .ensures) (at-enum-told2 .given .1) in
-    told-range (at-args .s .now) (IntOf.Value (Whole.Plus 0)) (at-end-of .result) (at-ranged .ensures) (ap (rangeOf bits32) (f .3 ∙ ap (λ (l : List Bytes). span (at-w .given .0 .0) (at-w .given .0 .1 .0) (at-args .s .now) ∷ l) n) ∙ ap (ranged (some (plus 0))) (sym (at-end-of .ensures)))
+    told-range (at-args .s .now) (IntOf.Value (Whole.Plus 0)) (at-end-of .result) (at-ranged .ensures) (ap (rangeOf intBounds) (f .3 ∙ ap (λ (l : List Bytes). span (at-w .given .0 .0) (at-w .given .0 .1 .0) (at-args .s .now) ∷ l) n) ∙ ap (ranged (some (plus 0))) (sym (at-end-of .ensures)))
 
 next-word-requires-3 : tie.Need-next-word-requires-3
 next-word-requires-3 c κs =
@@ -129,7 +129,7 @@ returns-3 c =
     let f = found (at-args .s .now) (at-args .at) (at-next-word .ensures) (at-w .given .1) at-pre in
     let g = found (at-args .s .now) (at-w .given .0 .1 .0) (at-next-word2 .ensures) (at-v .given .1) (f .2) in
     let k = found (at-args .s .now) (at-v .given .0 .1 .0) (at-next-word3 .ensures) (at-enum-told4 .given .1) (g .2) in
-    told-fault (at-args .s .now) (ap (rangeOf bits32) (f .3 ∙ ap (λ (l : List Bytes). span (at-w .given .0 .0) (at-w .given .0 .1 .0) (at-args .s .now) ∷ l) (g .3 ∙ ap (λ (l : List Bytes). span (at-v .given .0 .0) (at-v .given .0 .1 .0) (at-args .s .now) ∷ l) (k .3))))
+    told-fault (at-args .s .now) (ap (rangeOf intBounds) (f .3 ∙ ap (λ (l : List Bytes). span (at-w .given .0 .0) (at-w .given .0 .1 .0) (at-args .s .now) ∷ l) (g .3 ∙ ap (λ (l : List Bytes). span (at-v .given .0 .0) (at-v .given .0 .1 .0) (at-args .s .now) ∷ l) (k .3))))
 
 sub-end-of-2 : tie.Need-sub-end-of-2
 sub-end-of-2 c =
@@ -189,7 +189,7 @@ returns-4 c =
     let f = found (at-args .s .now) (at-args .at) (at-next-word .ensures) (at-w .given .1) at-pre in
     let g = found (at-args .s .now) (at-w .given .0 .1 .0) (at-next-word2 .ensures) (at-v .given .1) (f .2) in
     let n = not-found (at-args .s .now) (at-v .given .0 .1 .0) (at-next-word3 .ensures) (at-enum-told3 .given .1) in
-    told-range (at-args .s .now) (at-end-of .result) (at-end-of2 .result) (at-ranged2 .ensures) (ap (rangeOf bits32) (f .3 ∙ ap (λ (l : List Bytes). span (at-w .given .0 .0) (at-w .given .0 .1 .0) (at-args .s .now) ∷ l) (g .3 ∙ ap (λ (l : List Bytes). span (at-v .given .0 .0) (at-v .given .0 .1 .0) (at-args .s .now) ∷ l) n)) ∙ rw (← at-end-of .ensures, ← at-end-of2 .ensures))
+    told-range (at-args .s .now) (at-end-of .result) (at-end-of2 .result) (at-ranged2 .ensures) (ap (rangeOf intBounds) (f .3 ∙ ap (λ (l : List Bytes). span (at-w .given .0 .0) (at-w .given .0 .1 .0) (at-args .s .now) ∷ l) (g .3 ∙ ap (λ (l : List Bytes). span (at-v .given .0 .0) (at-v .given .0 .1 .0) (at-args .s .now) ∷ l) n)) ∙ rw (← at-end-of .ensures, ← at-end-of2 .ensures))
 
 pub range-of-spec : {M : Type 1} → statement M
 range-of-spec =

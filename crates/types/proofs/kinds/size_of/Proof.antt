@@ -5,7 +5,7 @@ use mathlib.Core.List.{List, _∷_}
 use Rattle.format.specs.Bytes.{Bytes}
 use Rattle.words.specs.Spans.{span}
 use Rattle.words.proofs.Finding.{found, not-found}
-use Rattle.format.specs.Numbers.{bits32}
+use Rattle.format.specs.Numbers.{intBounds}
 use Rattle.format.specs.Types.{sizeOf, sized}
 use Rattle.numbers.specs.Meaning.{naturalAnswer}
 use Rattle.types.proofs.Firsts.{told-fault}
@@ -31,7 +31,7 @@ returns c =
     let at-args = c .before .before .before .before .args in
     let at-next-word = c .before .before .next-word in
     let at-enum-told = c .enum-told in
-    told-fault (at-args .s .now) (ap (sizeOf bits32) (not-found (at-args .s .now) (at-args .at) (at-next-word .ensures) (at-enum-told .given .1)))
+    told-fault (at-args .s .now) (ap (sizeOf intBounds) (not-found (at-args .s .now) (at-args .at) (at-next-word .ensures) (at-enum-told .given .1)))
 
 next-word-requires-2 : tie.Need-next-word-requires-2
 next-word-requires-2 c κs =
@@ -58,7 +58,7 @@ returns-2 c =
     let at-enum-told3 = c .enum-told3 in
     let f = found (at-args .s .now) (at-args .at) (at-next-word .ensures) (at-w .given .1) at-pre in
     let k = found (at-args .s .now) (at-w .given .0 .1 .0) (at-next-word2 .ensures) (at-enum-told3 .given .1) (f .2) in
-    told-fault (at-args .s .now) (ap (sizeOf bits32) (f .3 ∙ ap (λ (l : List Bytes). span (at-w .given .0 .0) (at-w .given .0 .1 .0) (at-args .s .now) ∷ l) (k .3)))
+    told-fault (at-args .s .now) (ap (sizeOf intBounds) (f .3 ∙ ap (λ (l : List Bytes). span (at-w .given .0 .0) (at-w .given .0 .1 .0) (at-args .s .now) ∷ l) (k .3)))
 
 sub-number-of : tie.Need-sub-number-of
 sub-number-of c =
@@ -108,7 +108,7 @@ returns-3 c =
     let at-x = c .before .x in
     let f = found (at-args .s .now) (at-args .at) (at-next-word .ensures) (at-w .given .1) at-pre in
     let n = not-found (at-args .s .now) (at-w .given .0 .1 .0) (at-next-word2 .ensures) (at-enum-told2 .given .1) in
-    record { answers = sym (ap (sizeOf bits32) (f .3 ∙ ap (λ (l : List Bytes). span (at-w .given .0 .0) (at-w .given .0 .1 .0) (at-args .s .now) ∷ l) n) ∙ ap sized (sym (at-number-of .ensures) ∙ ap naturalAnswer (at-x .given .1))); sound = tt }
+    record { answers = sym (ap (sizeOf intBounds) (f .3 ∙ ap (λ (l : List Bytes). span (at-w .given .0 .0) (at-w .given .0 .1 .0) (at-args .s .now) ∷ l) n) ∙ ap sized (sym (at-number-of .ensures) ∙ ap naturalAnswer (at-x .given .1))); sound = tt }
 
 returns-4 : tie.Need-returns-4
 returns-4 c =
@@ -122,7 +122,7 @@ returns-4 c =
     let at-enum-told4 = c .enum-told4 in
     let f = found (at-args .s .now) (at-args .at) (at-next-word .ensures) (at-w .given .1) at-pre in
     let n = not-found (at-args .s .now) (at-w .given .0 .1 .0) (at-next-word2 .ensures) (at-enum-told2 .given .1) in
-    told-fault (at-args .s .now) (ap (sizeOf bits32) (f .3 ∙ ap (λ (l : List Bytes). span (at-w .given .0 .0) (at-w .given .0 .1 .0) (at-args .s .now) ∷ l) n) ∙ ap sized (sym (at-number-of .ensures) ∙ ap naturalAnswer (at-enum-told4 .given .1)))
+    told-fault (at-args .s .now) (ap (sizeOf intBounds) (f .3 ∙ ap (λ (l : List Bytes). span (at-w .given .0 .0) (at-w .given .0 .1 .0) (at-args .s .now) ∷ l) n) ∙ ap sized (sym (at-number-of .ensures) ∙ ap naturalAnswer (at-enum-told4 .given .1)))
 
 pub size-of-spec : {M : Type 1} → statement M
 size-of-spec =

@@ -7,7 +7,7 @@ use lib.Dec.{eqb}
 use lib.ListN.{length}
 use Rattle.format.specs.Bytes.{Bytes, among, isSome}
 use Rattle.format.specs.Lines.{isName}
-use Rattle.format.specs.Numbers.{bits32, intOf, isReal}
+use Rattle.format.specs.Numbers.{intBounds, intOf, isReal}
 use Rattle.format.specs.Types.{isInRange, truths, isUuid, uncomment}
 use Rattle.words.specs.Spans.{span}
 use Rattle.numbers.specs.Meaning.{intIn}
@@ -183,7 +183,7 @@ returns c =
     let at-trimmed = c .before .before .before .before .trimmed in
     let at-args = c .before .before .before .before .before .before .before .args in
     let at-enum-told = c .before .before .enum-told in
-    at-is-int .ensures ∙ (ap (λ (w : Bytes). isSome (intOf bits32 w)) (at-trimmed .ensures .2) ∙ meets-shape (at-args .text .now) (at-args .v .now) (at-enum-told .given .1))
+    at-is-int .ensures ∙ (ap (λ (w : Bytes). isSome (intOf intBounds w)) (at-trimmed .ensures .2) ∙ meets-shape (at-args .text .now) (at-args .v .now) (at-enum-told .given .1))
 
 returns-2 : tie.Need-returns-2
 returns-2 c =
@@ -191,7 +191,7 @@ returns-2 c =
     let at-k = c .before .before .before .k in
     let at-trimmed = c .before .before .before .before .before .trimmed in
     let at-args = c .before .before .before .before .before .before .before .before .args in
-    at-in-range .ensures ∙ (ap (λ (w : Bytes). isInRange (intIn (at-k .given .0 .0)) (intIn (at-k .given .0 .1 .0)) (intOf bits32 w)) (at-trimmed .ensures .2) ∙ meets-shape (at-args .text .now) (at-args .v .now) (at-k .given .1))
+    at-in-range .ensures ∙ (ap (λ (w : Bytes). isInRange (intIn (at-k .given .0 .0)) (intIn (at-k .given .0 .1 .0)) (intOf intBounds w)) (at-trimmed .ensures .2) ∙ meets-shape (at-args .text .now) (at-args .v .now) (at-k .given .1))
 
 returns-3 : tie.Need-returns-3
 returns-3 c =
