@@ -31,3 +31,42 @@ sum f (x ∷ xs) = f x + sum f xs
 abbrev pub flat : {A : Type 0} → List (List A) → List A
 flat [] = []
 flat (x ∷ xs) = x ++ flat xs
+
+-- what there is of each
+abbrev pub keep : {A : Type 0} → Option A → List A → List A
+keep none xs = xs
+keep (some x) xs = x ∷ xs
+
+abbrev pub kept : {A B : Type 0} → (A → Option B) → List A → List B
+kept f [] = []
+kept f (x ∷ xs) = keep (f x) (kept f xs)
+
+-- a list cut in front of each that passes a test: what stands before the first such one comes first
+abbrev pub onto : {A : Type 0} → A → List (List A) → List (List A)
+onto x [] = (x ∷ []) ∷ []
+onto x (g ∷ gs) = (x ∷ g) ∷ gs
+
+abbrev pub cutAt : {A : Type 0} → (A → Bool) → List A → List (List A)
+cutAt t [] = [] ∷ []
+cutAt t (x ∷ xs) = pick (t x) ([] ∷ onto x (cutAt t xs)) (onto x (cutAt t xs))
+
+-- the k-th that passes a test is here, or so many are still to be passed
+abbrev pub turn : {B : Type 0} → Bool → ℕ → B → (ℕ → B) → B
+turn true zero here later = here
+turn true (suc k) here later = later k
+turn false k here later = later k
+
+-- others in the place of the k-th that passes a test; of the k-th of all; and one more behind the last that passes it, where there is one
+abbrev pub at : {A : Type 0} → (A → Bool) → ℕ → (A → List A) → List A → List A
+at t k f [] = []
+at t k f (x ∷ xs) = turn (t x) k (f x ++ xs) (λ (j : ℕ). x ∷ at t j f xs)
+
+abbrev pub always : {A : Type 0} → A → Bool
+always x = true
+
+abbrev pub nth : {A : Type 0} → ℕ → (A → A) → List A → List A
+nth k f xs = at always k (λ x. f x ∷ []) xs
+
+abbrev pub behindLast : {A : Type 0} → (A → Bool) → A → List A → List A
+behindLast t y [] = y ∷ []
+behindLast t y (x ∷ xs) = x ∷ pick (any t xs) (behindLast t y xs) (y ∷ xs)
