@@ -24,15 +24,14 @@ use mathlib.Core.List.{List, [], _∷_, _++_}
 use lib.Dec.{eqb}
 use lib.ListN.{length, replicate}
 use Rattle.format.specs.Bytes.{Bytes, text, same}
-use Rattle.format.specs.Pieces.{pieces, bytesOf}
-use Rattle.format.specs.Records.{records}
+use Rattle.format.specs.Pieces.{pieces, readOf, bytesOf}
 use Rattle.format.specs.Sets.{setsOf}
 use Rattle.format.specs.Written.{written}
 use Rattle.format.specs.Questions.{fileOf, verdictIn, verdict}
 use Rattle.format.specs.Requests.{tagged, requestOf}
-use Rattle.format.specs.Plain.{plainOf, size, apply, step}
+use Rattle.format.specs.Plain.{plainOf, lengthOf, apply, step}
 use Rattle.format.specs.Calls.{editAnswer}
-use Rattle.format.specs.Runs.{run, Ran, Told}
+use Rattle.format.specs.Runs.{Call, run, Ran, Told}
 
 abbrev judged : Bytes → ℕ → Bool
 judged s k = eqb (verdict s (length s)) k
@@ -41,13 +40,13 @@ abbrev numbers : List Told → List ℕ
 numbers [] = []
 numbers (t ∷ ts) = t .number ∷ t .length ∷ numbers ts
 
-abbrev edited : Bytes → ℕ → List Bytes → List ℕ → Bytes → Bool
-edited file spare requests told buffer =
-    let r : Ran = run requests (file ++ replicate spare 170) (length file) in
+abbrev edited : Bytes → ℕ → List Call → List ℕ → Bytes → Bool
+edited file spare calls told buffer =
+    let r : Ran = run calls (file ++ replicate spare 170) (length file) in
     same (numbers (r .told)) told && same (r .buffer) buffer
 
 '''
-UNFOLDING = 'unfolding bytesOf pieces records setsOf written fileOf verdictIn verdict tagged requestOf plainOf size apply step editAnswer run\n'
+UNFOLDING = 'unfolding bytesOf pieces readOf setsOf written fileOf verdictIn verdict tagged requestOf plainOf lengthOf apply step editAnswer run\n'
 
 
 def literal(data):
@@ -86,7 +85,7 @@ def main(seed=1, count=300):
             told += [number, used]
             answers[number] += 1
         text += equation('run-%d' % k, 'edited %s %d %s %s %s' % (
-            literal(data), spare, listed(literal(q) for q in requests), listed(str(n) for n in told), literal(buffer)))
+            literal(data), spare, listed('Call.edit ' + literal(q) for q in requests), listed(str(n) for n in told), literal(buffer)))
     with tempfile.TemporaryDirectory() as folder:
         shutil.copytree('crates/format', folder + '/crates/format', ignore=shutil.ignore_patterns('must-fail'))
         with open(folder + '/crates.txt', 'w') as f:

@@ -9,14 +9,13 @@ use lib.ListN.{length, take, drop, replicate, take-append-drop, length-take, len
 use lib.Seq.{take-add, take-take, take-at, drop-at, drop-drop, length-take-le}
 use Rattle.format.specs.Bytes.{Bytes}
 use Rattle.format.specs.Lines.{Line, isEnded}
-use Rattle.format.specs.Pieces.{Piece}
+use Rattle.format.specs.Pieces.{Piece, readOf}
 use Rattle.format.specs.Calls.{placed}
 use Rattle.format.proofs.Filling.{padded, padded-length, padded-self, placed-padded}
 use Rattle.lines.specs.Piece.{nextOf}
 use Rattle.lines.specs.declared.Next.{Next}
 use Rattle.lines.proofs.Cuts.{rest}
 use Rattle.records.specs.Places.{isReadable, sizeIn}
-use Rattle.records.specs.Walk.{readOf}
 use Rattle.records.proofs.Readings.{readable-ended, readable-reads, reads-length}
 use Rattle.records.proofs.Walks.{size-none}
 use Rattle.records.proofs.Steps.{Passed, FieldAt, Steps, steps, drop-take}

@@ -15,14 +15,12 @@ use Rattle.format.specs.Pieces.{pieces}
 use Rattle.format.specs.Limits.{fileBytes}
 use Rattle.format.specs.Questions.{verdict}
 use Rattle.format.specs.Requests.{Request, requestOf}
-use Rattle.format.specs.Calls.{placed, Edited, refusedEdit, editAnswer}
+use Rattle.format.specs.Calls.{Answer, Filled, placed, editAnswer}
 use Rattle.format.proofs.Passing.{Passes, verdict-reads, verdict-passes}
 use Rattle.format.proofs.Judging.{textNo}
 use Rattle.format.proofs.Results.{raisedNo, editNo}
-use Rattle.format.proofs.Answers.{answer-refused, answer-accepted}
+use Rattle.format.proofs.Answers.{refusedEdit, answer-refused, answer-accepted}
 use Rattle.records.specs.Places.{isReadable}
-use Rattle.records.specs.Walk.{readOf}
-use Rattle.records.proofs.Readings.{readable-pieces}
 use Rattle.records.proofs.Applied.{appliedTo}
 use Rattle.edits.specs.declared.Splice.{Splice}
 use Rattle.edits.specs.Splices.{refusalOf, madeBy}
@@ -66,13 +64,13 @@ module _ (buffer : Bytes) (used : ℕ) (v : verdict buffer used ≡ 0) where
     number-made zero z = ap (editNo (length buffer) 0) (l .1 z .0)
     number-made (suc k) z = refl
 
-    pub edit-refused : (n : ℕ) → n ≢ 0 → n ≡ editNo (length buffer) (refusalOf x) (madeBy (take used buffer) req x) → refusedEdit n buffer used ≡ editAnswer buffer used req
+    pub edit-refused : (n : ℕ) → n ≢ 0 → n ≡ editNo (length buffer) (refusalOf x) (madeBy (take used buffer) req x) → refusedEdit n buffer ≡ editAnswer buffer used req
     edit-refused n h z =
-        sym (answer-refused buffer used req v (readOf s) (readable-pieces s file-readable) q e (refusalOf x) (l .0 (length buffer)) n (omega arith) (sym (z ∙ number-made (refusalOf x) refl)))
+        sym (answer-refused buffer used req v q e (refusalOf x) (l .0 (length buffer)) n (omega arith) (sym (z ∙ number-made (refusalOf x) refl)))
 
     -- what was carried out is what the request asks for
-    pub edit-accepted : 0 ≡ editNo (length buffer) (refusalOf x) (madeBy (take used buffer) req x) → (n : ℕ) (after : Bytes) → n ≡ length (madeBy (take used buffer) req x) → after ≡ placed (madeBy (take used buffer) req x) used buffer → _≡_ {A = Edited} (record { number = 0; length = n; buffer = after }) (editAnswer buffer used req)
+    pub edit-accepted : 0 ≡ editNo (length buffer) (refusalOf x) (madeBy (take used buffer) req x) → (n : ℕ) (after : Bytes) → n ≡ length (madeBy (take used buffer) req x) → after ≡ placed (madeBy (take used buffer) req x) used buffer → _≡_ {A = Filled} (record { result = Answer.value n; out = after }) (editAnswer buffer used req)
     edit-accepted z n after h k =
         let made : madeBy s req x ≡ appliedTo s q = l .1 (number-zero (length buffer) (refusalOf x) (madeBy s req x) (sym z) .0) .0 in
-        (λ i. record { number = 0; length = (h ∙ ap length made) i; buffer = (k ∙ ap (λ (t : Bytes). placed t used buffer) made) i })
-        ∙ sym (answer-accepted buffer used req v (readOf s) (readable-pieces s file-readable) q e (refusalOf x) (l .0 (length buffer)) (sym (z ∙ number-made (refusalOf x) refl)))
+        (λ i. record { result = Answer.value ((h ∙ ap length made) i); out = (k ∙ ap (λ (t : Bytes). placed t used buffer) made) i })
+        ∙ sym (answer-accepted buffer used req v q e (refusalOf x) (l .0 (length buffer)) (sym (z ∙ number-made (refusalOf x) refl)))

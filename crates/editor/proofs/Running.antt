@@ -7,27 +7,39 @@ use mathlib.Core.List.{List, [], _∷_, _++_, map, map-append}
 use lib.ListN.{length, take, drop, getD, set, length-append, length-drop, length-map}
 use lib.Seq.{take-suc, take-at, drop-at, drop-drop, drop-cons, set-at, append-snoc, length-take-le}
 use Rattle.format.specs.Bytes.{Bytes}
-use Rattle.format.specs.Calls.{over, Edited, editAnswer}
-use Rattle.format.specs.Runs.{Told, Ran, ranOn, run, plainRun}
-use Rattle.format.specs.Plain.{plainOf}
+use Rattle.format.specs.Calls.{numberIn, valueOr, Filled, over, editAnswer}
+use Rattle.format.specs.Runs.{Call, Told, Ran, ranOn, run, plainRun}
+use Rattle.format.specs.Plain.{Plain, plainOf}
+use Rattle.format.specs.Pieces.{readOf}
 use Rattle.format.specs.Demand.{Demand}
-use Rattle.format.proofs.Demand.{edits-meet-demand, run-told}
-use Rattle.editor.specs.Lists.{requestsIn, toldBy, ranBy, Runs}
+use Rattle.format.proofs.Demand.{calls-meet-demand, run-told}
+use Rattle.editor.specs.Lists.{editsIn, toldBy, ranBy, Leaves}
 
--- what an edit tells, and what it leaves behind what was left
+-- what an edit of a file of `used` bytes tells, and the buffer after it
+pub record Edited : Type 0 where
+  pub number : ℕ
+  pub length : ℕ
+  pub buffer : Bytes
+
+abbrev pub editedOf : ℕ → Filled → Edited
+editedOf used a = record { number = numberIn (a .result); length = valueOr used (a .result); buffer = a .out }
+
+abbrev pub editOf : Bytes → ℕ → Bytes → Edited
+editOf buffer used q = editedOf used (editAnswer buffer used q)
+
 abbrev toldOf : Edited → Told
 toldOf e = record { number = e .number; length = e .length }
 
 abbrev thenEdit : Bytes → Ran → Ran
 thenEdit q r =
-    let e : Edited = editAnswer (r .buffer) (r .length) q in
+    let e : Edited = editOf (r .buffer) (r .length) q in
     record { told = r .told ++ (toldOf e ∷ []); length = e .length; buffer = e .buffer }
 
 -- one more request
-run-more : (qs : List Bytes) (q : Bytes) (buffer : Bytes) (used : ℕ) → run (qs ++ (q ∷ [])) buffer used ≡ thenEdit q (run qs buffer used)
+run-more : (cs : List Call) (q : Bytes) (buffer : Bytes) (used : ℕ) → run (cs ++ (Call.edit q ∷ [])) buffer used ≡ thenEdit q (run cs buffer used)
 unfolding run
 run-more [] q buffer used = refl
-run-more (p ∷ qs) q buffer used = let e : Edited = editAnswer buffer used p in ap (ranOn e) (run-more qs q (e .buffer) (e .length))
+run-more (Call.edit p ∷ cs) q buffer used = let e : Edited = editOf buffer used p in ap (ranOn (toldOf e)) (run-more cs q (e .buffer) (e .length))
 
 -- one more size
 
@@ -36,9 +48,9 @@ abbrev behind : List ℕ → Bytes → Bytes
 behind [] s = s
 behind (n ∷ ns) s = behind ns (drop n s)
 
-requests-snoc : (ns : List ℕ) (n : ℕ) (s : Bytes) → requestsIn (ns ++ (n ∷ [])) s ≡ requestsIn ns s ++ (take n (behind ns s) ∷ [])
+requests-snoc : (ns : List ℕ) (n : ℕ) (s : Bytes) → editsIn (ns ++ (n ∷ [])) s ≡ editsIn ns s ++ (Call.edit (take n (behind ns s)) ∷ [])
 requests-snoc [] n s = refl
-requests-snoc (k ∷ ns) n s = ap {B = List Bytes} (λ qs. take k s ∷ qs) (requests-snoc ns n (drop k s))
+requests-snoc (k ∷ ns) n s = ap {B = List Call} (λ qs. Call.edit (take k s) ∷ qs) (requests-snoc ns n (drop k s))
 
 behind-snoc : (ns : List ℕ) (n : ℕ) (s : Bytes) → behind (ns ++ (n ∷ [])) s ≡ drop n (behind ns s)
 behind-snoc [] n s = refl
@@ -61,19 +73,19 @@ drop-min (suc n) (suc m) [] e = refl
 drop-min (suc n) zero (c ∷ s) e = absurd (omega arith)
 drop-min (suc n) (suc m) (c ∷ s) e = drop-min n m s (omega arith)
 
-requests-length : (ns : List ℕ) (s : Bytes) → length (requestsIn ns s) ≡ length ns
+requests-length : (ns : List ℕ) (s : Bytes) → length (editsIn ns s) ≡ length ns
 requests-length [] s = refl
 requests-length (n ∷ ns) s = ap suc (requests-length ns (drop n s))
 
 -- what edits told, its numbers or its lengths over the front of a slice
 
-abbrev numberIn : Told → ℕ
-numberIn t = t .number
+abbrev numberTold : Told → ℕ
+numberTold t = t .number
 
-abbrev lengthIn : Told → ℕ
-lengthIn t = t .length
+abbrev lengthTold : Told → ℕ
+lengthTold t = t .length
 
-told-by : (ts : List Told) → toldBy (map numberIn ts) (map lengthIn ts) ≡ ts
+told-by : (ts : List Told) → toldBy (map numberTold ts) (map lengthTold ts) ≡ ts
 told-by [] = refl
 told-by (t ∷ ts) = ap {B = List Told} (λ us. t ∷ us) (told-by ts)
 
@@ -96,26 +108,26 @@ module _ (f : Told → ℕ) (ts : List Told) (d : List ℕ) (i : ℕ) (e : lengt
 module _ (start : Bytes) (used : ℕ) (s : Bytes) (sizes numbers₀ lengths₀ : List ℕ) where
   -- what its first i edits leave
   abbrev first : ℕ → Ran
-  first i = run (requestsIn (take i sizes) s) start used
+  first i = run (editsIn (take i sizes) s) start used
 
   -- it has come to the i-th size, its next request stands at `at`, and the rest is what the first i edits leave
   pub record Reached (i : ℕ) (buffer : Bytes) (n at : ℕ) (numbers lengths : List ℕ) : Type 0 where
     pub behinds : behind (take i sizes) s ≡ drop at s
     pub buffers : buffer ≡ first i .buffer
     pub uses : n ≡ first i .length
-    pub tells : numbers ≡ over (map numberIn (first i .told)) numbers₀
-    pub sized : lengths ≡ over (map lengthIn (first i .told)) lengths₀
+    pub tells : numbers ≡ over (map numberTold (first i .told)) numbers₀
+    pub sized : lengths ≡ over (map lengthTold (first i .told)) lengths₀
 
   pub reached-start : Reached 0 start used 0 numbers₀ lengths₀
   unfolding run
   reached-start = record { behinds = refl; buffers = refl; uses = refl; tells = refl; sized = refl }
 
   told-length : (i : ℕ) → i ≤ length sizes → length (first i .told) ≡ i
-  told-length i h = run-told (requestsIn (take i sizes) s) start used ∙ requests-length (take i sizes) s ∙ length-take-le i sizes h
+  told-length i h = run-told (editsIn (take i sizes) s) start used ∙ requests-length (take i sizes) s ∙ length-take-le i sizes h
 
   module _ (i : ℕ) (buffer : Bytes) (n at : ℕ) (numbers lengths : List ℕ) (r : Reached i buffer n at numbers lengths) where
     -- one more edit, of the request of `size` bytes
-    module _ (more : i < length sizes) (size : ℕ) (cut : size ≡ min (getD sizes i 0) (length s - at)) (e : Edited) (answers : e ≡ editAnswer buffer n (take size (drop at s))) where
+    module _ (more : i < length sizes) (size : ℕ) (cut : size ≡ min (getD sizes i 0) (length s - at)) (e : Edited) (answers : e ≡ editOf buffer n (take size (drop at s))) where
       abbrev q : Bytes
       q = take size (drop at s)
 
@@ -125,11 +137,11 @@ module _ (start : Bytes) (used : ℕ) (s : Bytes) (sizes numbers₀ lengths₀ :
       clamp : size ≡ min (getD sizes i 0) (length (drop at s))
       clamp = cut ∙ ap (min (getD sizes i 0)) (sym (length-drop at s))
 
-      requests : requestsIn (take (i + 1) sizes) s ≡ requestsIn (take i sizes) s ++ (q ∷ [])
+      requests : editsIn (take (i + 1) sizes) s ≡ editsIn (take i sizes) s ++ (Call.edit q ∷ [])
       requests =
-          ap (λ (ns : List ℕ). requestsIn ns s) upto
+          ap (λ (ns : List ℕ). editsIn ns s) upto
           ∙ requests-snoc (take i sizes) (getD sizes i 0) s
-          ∙ ap {B = List Bytes} (λ x. requestsIn (take i sizes) s ++ (x ∷ [])) (ap (take (getD sizes i 0)) (r .behinds) ∙ sym (take-min (getD sizes i 0) size (drop at s) clamp))
+          ∙ ap {B = List Call} (λ (x : Bytes). editsIn (take i sizes) s ++ (Call.edit x ∷ [])) (ap (take (getD sizes i 0)) (r .behinds) ∙ sym (take-min (getD sizes i 0) size (drop at s) clamp))
 
       rest : behind (take (i + 1) sizes) s ≡ drop (at + size) s
       rest =
@@ -141,9 +153,9 @@ module _ (start : Bytes) (used : ℕ) (s : Bytes) (sizes numbers₀ lengths₀ :
 
       goes : first (i + 1) ≡ record { told = first i .told ++ (toldOf e ∷ []); length = e .length; buffer = e .buffer }
       goes =
-          let a : editAnswer (first i .buffer) (first i .length) q ≡ e = (λ j. editAnswer (sym (r .buffers) j) (sym (r .uses) j) q) ∙ sym answers in
-          ap (λ (qs : List Bytes). run qs start used) requests
-          ∙ run-more (requestsIn (take i sizes) s) q start used
+          let a : editOf (first i .buffer) (first i .length) q ≡ e = (λ j. editOf (sym (r .buffers) j) (sym (r .uses) j) q) ∙ sym answers in
+          ap (λ (cs : List Call). run cs start used) requests
+          ∙ run-more (editsIn (take i sizes) s) q start used
           ∙ ap (λ (x : Edited). record { told = first i .told ++ (toldOf x ∷ []); length = x .length; buffer = x .buffer }) a
 
       pub reached-more : i < length numbers₀ → i < length lengths₀ → Reached (i + 1) (e .buffer) (e .length) (at + size) (set numbers i (e .number)) (set lengths i (e .length))
@@ -155,8 +167,8 @@ module _ (start : Bytes) (used : ℕ) (s : Bytes) (sizes numbers₀ lengths₀ :
             behinds = rest;
             buffers = sym (ap (λ (x : Ran). x .buffer) goes);
             uses = sym (ap (λ (x : Ran). x .length) goes);
-            tells = ap (λ (d : List ℕ). set d i (e .number)) (r .tells) ∙ over-more numberIn ts numbers₀ i z (toldOf e) k ∙ ap (λ (x : List Told). over (map numberIn x) numbers₀) (sym t);
-            sized = ap (λ (d : List ℕ). set d i (e .length)) (r .sized) ∙ over-more lengthIn ts lengths₀ i z (toldOf e) l ∙ ap (λ (x : List Told). over (map lengthIn x) lengths₀) (sym t);
+            tells = ap (λ (d : List ℕ). set d i (e .number)) (r .tells) ∙ over-more numberTold ts numbers₀ i z (toldOf e) k ∙ ap (λ (x : List Told). over (map numberTold x) numbers₀) (sym t);
+            sized = ap (λ (d : List ℕ). set d i (e .length)) (r .sized) ∙ over-more lengthTold ts lengths₀ i z (toldOf e) l ∙ ap (λ (x : List Told). over (map lengthTold x) lengths₀) (sym t);
           }
 
     -- at the end
@@ -166,27 +178,25 @@ module _ (start : Bytes) (used : ℕ) (s : Bytes) (sizes numbers₀ lengths₀ :
 
       left : ranBy i buffer n numbers lengths ≡ first i
       left =
-          let a : take i numbers ≡ map numberIn ts = ap (take i) (r .tells) ∙ over-front numberIn ts numbers₀ i (told-length i h) in
-          let b : take i lengths ≡ map lengthIn ts = ap (take i) (r .sized) ∙ over-front lengthIn ts lengths₀ i (told-length i h) in
+          let a : take i numbers ≡ map numberTold ts = ap (take i) (r .tells) ∙ over-front numberTold ts numbers₀ i (told-length i h) in
+          let b : take i lengths ≡ map lengthTold ts = ap (take i) (r .sized) ∙ over-front lengthTold ts lengths₀ i (told-length i h) in
           let t : toldBy (take i numbers) (take i lengths) ≡ ts = (λ j. toldBy (a j) (b j)) ∙ told-by ts in
           λ j. record { told = t j; length = r .uses j; buffer = r .buffers j }
 
-      ran : Runs start used (requestsIn (take i sizes) s) (ranBy i buffer n numbers lengths)
+      ran : Leaves start used (editsIn (take i sizes) s) (ranBy i buffer n numbers lengths)
       ran =
-          let qs : List Bytes = requestsIn (take i sizes) s in
-          record {
-            runs = left;
-            demand = λ ps v p. subst (λ (x : Ran). Demand start (plainOf ps) qs x (plainRun (length start) qs (plainOf ps) used)) (sym left) (edits-meet-demand start used ps qs v p);
-          }
+          let cs : List Call = editsIn (take i sizes) s in
+          let p : Plain = plainOf (readOf (take used start)) in
+          record { runs = left; demand = λ v. subst (λ (x : Ran). Demand start used p cs x (plainRun (length start) cs p used)) (sym left) (calls-meet-demand start used cs v) }
 
       numbers-stay : drop i numbers ≡ drop i numbers₀
-      numbers-stay = ap (drop i) (r .tells) ∙ over-rest numberIn ts numbers₀ i (told-length i h)
+      numbers-stay = ap (drop i) (r .tells) ∙ over-rest numberTold ts numbers₀ i (told-length i h)
 
       lengths-stay : drop i lengths ≡ drop i lengths₀
-      lengths-stay = ap (drop i) (r .sized) ∙ over-rest lengthIn ts lengths₀ i (told-length i h)
+      lengths-stay = ap (drop i) (r .sized) ∙ over-rest lengthTold ts lengths₀ i (told-length i h)
 
   -- all of them, count being how many
-  pub reached-end : (i count : ℕ) (buffer : Bytes) (n at : ℕ) (numbers lengths : List ℕ) → Reached i buffer n at numbers lengths → i ≡ count → count ≤ length sizes → Runs start used (requestsIn (take count sizes) s) (ranBy count buffer n numbers lengths) × (drop count numbers ≡ drop count numbers₀) × (drop count lengths ≡ drop count lengths₀)
+  pub reached-end : (i count : ℕ) (buffer : Bytes) (n at : ℕ) (numbers lengths : List ℕ) → Reached i buffer n at numbers lengths → i ≡ count → count ≤ length sizes → Leaves start used (editsIn (take count sizes) s) (ranBy count buffer n numbers lengths) × (drop count numbers ≡ drop count numbers₀) × (drop count lengths ≡ drop count lengths₀)
   reached-end i count buffer n at numbers lengths r e h =
       let z : Reached count buffer n at numbers lengths = subst (λ (k : ℕ). Reached k buffer n at numbers lengths) e r in
       (ran count buffer n at numbers lengths z h, numbers-stay count buffer n at numbers lengths z h, lengths-stay count buffer n at numbers lengths z h)

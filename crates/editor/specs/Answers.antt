@@ -1,17 +1,11 @@
--- The paper's number, length and buffer for each answer of an edit.
-use Prim.Native.Nat.{ℕ}
+-- The paper's number and values for each answer of an edit, and the buffer that it leaves.
 use Rattle.format.specs.Bytes.{Bytes}
-use Rattle.format.specs.Calls.{Edited as Answer}
+use Rattle.format.specs.Calls.{Answer, Filled}
 use Rattle.editor.specs.declared.Edited.{Edited}
 
--- "An edit's refusal returns its number and the old length. An accepted edit returns the new length"
-abbrev pub numberOf : Edited → ℕ
-numberOf (Edited.Length n) = 0
-numberOf (Edited.Refused k) = k
+abbrev pub editedAnswer : Edited → Answer
+editedAnswer (Edited.Length n) = Answer.value n
+editedAnswer (Edited.Refused k) = Answer.refusal k
 
-abbrev pub lengthOf : Edited → ℕ → ℕ
-lengthOf (Edited.Length n) used = n
-lengthOf (Edited.Refused k) used = used
-
-abbrev pub editedBy : Edited → ℕ → Bytes → Answer
-editedBy r used buffer = record { number = numberOf r; length = lengthOf r used; buffer = buffer }
+abbrev pub editedBy : Edited → Bytes → Filled
+editedBy r buffer = record { result = editedAnswer r; out = buffer }

@@ -4,12 +4,12 @@ ghost use Prim.Native.Nat.{ℕ, _≤_, min};
 ghost use lib.ListN.{length, take, drop};
 ghost use Rattle.format.specs.Bytes.{classTable};
 ghost use Rattle.format.specs.Limits.{fileBytes};
-ghost use Rattle.format.specs.Calls.{editAnswer};
+ghost use Rattle.format.specs.Calls.{numberIn, valueOr, editAnswer};
 ghost use Rattle.format.proofs.Judging.{textNo};
 ghost use Rattle.format.proofs.Results.{editNo};
 ghost use Rattle.edits.specs.Splices.{refusalOf, madeBy, Sound};
-ghost use Rattle.editor.specs.Answers.{numberOf, lengthOf, editedBy};
-ghost use Rattle.editor.specs.Lists.{fewest, requestsIn, ranBy, Runs};
+ghost use Rattle.editor.specs.Answers.{editedAnswer, editedBy};
+ghost use Rattle.editor.specs.Lists.{fewest, editsIn, ranBy, Leaves};
 use edits::Splice;
 use requests::RequestOf;
 
@@ -56,7 +56,7 @@ pub enum Edited {
 
 // One request to the file in the first `used` bytes of buf. A refusal writes nothing.
 pub fn edit(buf: &mut [u8], used: usize, req: &[u8]) -> Edited
-    ensures { λ r. ⌜ editedBy r used (now (buf .exit)) ≡ editAnswer (now (buf .entry)) used (now (req .entry)) ⌝ }
+    ensures { λ r. ⌜ editedBy r (now (buf .exit)) ≡ editAnswer (now (buf .entry)) used (now (req .entry)) ⌝ }
 {
     let k = integrity::check(buf, used);
     if k != 0 {
@@ -79,7 +79,7 @@ pub fn edit(buf: &mut [u8], used: usize, req: &[u8]) -> Edited
 
 // The number that an edit tells, 0 if accepted.
 fn number_of(e: Edited) -> u32
-    ensures { λ r. ⌜ r ≡ numberOf e ⌝ }
+    ensures { λ r. ⌜ r ≡ numberIn (editedAnswer e) ⌝ }
 {
     match e {
         Edited::Length(_) => {
@@ -93,7 +93,7 @@ fn number_of(e: Edited) -> u32
 
 // The file's length after an edit; it had `used` bytes before.
 fn length_of(e: Edited, used: usize) -> usize
-    ensures { λ r. ⌜ r ≡ lengthOf e used ⌝ }
+    ensures { λ r. ⌜ r ≡ valueOr used (editedAnswer e) ⌝ }
 {
     match e {
         Edited::Length(n) => {
@@ -126,7 +126,7 @@ pub fn edit_all(
     lengths: &mut [usize],
 ) -> usize
     ensures { λ r. ⌜ (let count : ℕ = fewest (now (sizes .entry)) (now (numbers .entry)) (now (lengths .entry)) in
-        Runs (now (buf .entry)) used (requestsIn (take count (now (sizes .entry))) (now (requests .entry))) (ranBy count (now (buf .exit)) r (now (numbers .exit)) (now (lengths .exit)))
+        Leaves (now (buf .entry)) used (editsIn (take count (now (sizes .entry))) (now (requests .entry))) (ranBy count (now (buf .exit)) r (now (numbers .exit)) (now (lengths .exit)))
         × (drop count (now (numbers .exit)) ≡ drop count (now (numbers .entry)))
         × (drop count (now (lengths .exit)) ≡ drop count (now (lengths .entry)))) ⌝ }
 {

@@ -8,17 +8,18 @@ use lib.Dec.{ltb}
 use lib.ListN.{length, take, drop, length-drop}
 use lib.Seq.{length-take-le}
 use borrow.Author.Tests.{lt-ltb, le-ltb}
+use Rattle.format.specs.Pieces.{readOf}
 use Rattle.format.specs.Bytes.{Bytes, pick, all, isSome}
 use Rattle.format.specs.Limits.{fileBytes}
 use Rattle.format.specs.Sets.{valuesOf, setsOf}
 use Rattle.format.specs.Written.{Pair, written, isLegalPair, isLegalName, isLegalValue}
-use Rattle.format.specs.Edits.{Change, Edit}
+use Rattle.format.specs.Edits.{Change, Act, Edit}
 use Rattle.format.specs.Requests.{Request}
-use Rattle.format.specs.Plain.{membersAt, leavesField, isLegalChange}
+use Rattle.format.specs.Plain.{membersAt, leavesField, isLegalEdit}
 use Rattle.format.proofs.Splices.{spliced as replaced}
 use Rattle.lines.proofs.Cuts.{rest}
 use Rattle.records.specs.Places.{isReadable, placesOf, setPlace, recordPlace, fieldPlace}
-use Rattle.records.specs.Walk.{readOf, recordIn}
+use Rattle.records.specs.Walk.{recordIn}
 use Rattle.records.specs.declared.Place.{Place}
 use Rattle.records.specs.declared.FoundSet.{FoundSet}
 use Rattle.records.specs.declared.FoundRecord.{FoundRecord}
@@ -42,7 +43,7 @@ use Rattle.changes.proofs.Inserts.{told-inserted}
 use Rattle.edits.specs.declared.Splice.{Splice}
 use Rattle.edits.specs.declared.targets.Target.{Target}
 use Rattle.edits.specs.Places.{placeNo, Located, LocatedIn, FoundAt, TargetAt}
-use Rattle.edits.proofs.Asking.{OfRecord, own-readable, no-set, insert-asked, no-record, delete-asked, add-asked, no-field, change-asked}
+use Rattle.edits.proofs.Asking.{own-readable, no-set, insert-asked, no-record, delete-asked, add-asked, no-field, change-asked}
 
 -- a text with its bytes from x to y replaced, and with so many bytes replaced from x on
 as-spliced : (s : Bytes) (x y old : ℕ) (t : Bytes) → y ≡ x + old → replaced s x y t ≡ spliced s x old t
@@ -58,11 +59,11 @@ refused s req q k h e = (e, λ z. absurd (omega arith))
 
 -- a set that is not there
 pub set-missing : (s req : Bytes) (q : Request) → isReadable s ≡ true → setPlace (q .set) (placesOf s) ≡ FoundSet.Missing → Located s req q (Splice.Refused 21)
-set-missing s req q e f = refused s req q 21 (omega arith) (λ room. no-set room s (q .set) (q .row) (q .edit) (set-told s (q .set) FoundSet.Missing e (sym f) refl))
+set-missing s req q e f = refused s req q 21 (omega arith) (λ room. no-set room s (q .set) (q .edit) (set-told s (q .set) FoundSet.Missing e (sym f) refl))
 
 -- an edit, once the action's form is known
-pub located-as : (s req set : Bytes) (row : ℕ) (r : Splice) {x y : Action} → x ≡ y → Located s req (record { set = set; row = row; edit = editOf req y }) r → Located s req (record { set = set; row = row; edit = editOf req x }) r
-located-as s req set row r e h = subst (λ (z : Action). Located s req (record { set = set; row = row; edit = editOf req z }) r) (sym e) h
+pub located-as : (s req set : Bytes) (row : ℕ) (r : Splice) {x y : Action} → x ≡ y → Located s req (record { set = set; edit = editOf req row y }) r → Located s req (record { set = set; edit = editOf req row x }) r
+located-as s req set row r e h = subst (λ (z : Action). Located s req (record { set = set; edit = editOf req row z }) r) (sym e) h
 
 -- A readable text s, and a set whose records begin at a.
 module _ (s : Bytes) (a row : ℕ) (whole : isReadable s ≡ true) (within : a ≤ length s) (readable : isReadable (drop a s) ≡ true) where
@@ -70,24 +71,24 @@ module _ (s : Bytes) (a row : ℕ) (whole : isReadable s ≡ true) (within : a �
   set-at set f = set-told s set (FoundSet.At a) whole (sym f) refl
 
   -- a record that is put in
-  pub insert-illegal : (req : Bytes) (new : List Pair) → all isLegalPair new ≡ false → LocatedIn s req a row (Edit.insert new) (Splice.Refused 25)
-  insert-illegal req new h set f = refused s req _ 25 (omega arith) (λ room. insert-asked room s set row a (set-at set f) new false h)
+  pub insert-illegal : (req : Bytes) (new : List Pair) → all isLegalPair new ≡ false → LocatedIn s req a (Edit.insert new) (Splice.Refused 25)
+  insert-illegal req new h set f = refused s req _ 25 (omega arith) (λ room. insert-asked room s set a (set-at set f) new false h)
 
   pub insert-located : (req : Bytes) (e from len count : ℕ) → e ≡ setEnd 0 (placesOf (drop a s)) → isSome (pairsFrom req from) ≡ true → Weighs (pairsAt req from) (Weighed.Sums len count)
-      → LocatedIn s req a row (Edit.insert (pairsAt req from)) (Splice.Record (a + e) from len)
+      → LocatedIn s req a (Edit.insert (pairsAt req from)) (Splice.Record (a + e) from len)
   insert-located req e from len count p some w set f =
       let new : List Pair = pairsAt req from in
-      let r : Request = record { set = set; row = row; edit = Edit.insert new } in
+      let r : Request = record { set = set; edit = Edit.insert new } in
       let z : ℕ = setEnd 0 (placesOf (drop a s)) in
       let made = told-inserted s (a + z) new (appliedTo s r) (insert-applied s r a whole f new refl) in
-      (λ room. insert-asked room s set row a (set-at set f) new true (w .0), λ y. (sym (made ∙ ap (λ (x : ℕ). inserted s (a + x) new) (sym p)), (omega (arith, end-inside (drop a s) readable, length-drop a s), some, w .1)))
+      (λ room. insert-asked room s set a (set-at set f) new true (w .0), λ y. (sym (made ∙ ap (λ (x : ℕ). inserted s (a + x) new) (sym p)), (omega (arith, end-inside (drop a s) readable, length-drop a s), some, w .1)))
 
   -- a record that is not there
   no-row : recordPlace (placesOf (drop a s)) row ≡ FoundRecord.Missing → length (membersAt 0 (setsOf (readOf (drop a s)))) ≤ row
   no-row g = record-told (drop a s) row FoundRecord.Missing readable (sym g) refl
 
-  pub record-missing : (req : Bytes) (e : Edit) → OfRecord e → recordPlace (placesOf (drop a s)) row ≡ FoundRecord.Missing → LocatedIn s req a row e (Splice.Refused 22)
-  record-missing req e o g set f = refused s req _ 22 (omega arith) (λ room. no-record room s set row a (set-at set f) e o (no-row g))
+  pub record-missing : (req : Bytes) (act : Act) → recordPlace (placesOf (drop a s)) row ≡ FoundRecord.Missing → LocatedIn s req a (Edit.on row act) (Splice.Refused 22)
+  record-missing req act g set f = refused s req _ 22 (omega arith) (λ room. no-record room s set a (set-at set f) row act (no-row g))
 
   -- Its record is found at q.
   module _ (q : Place) (g : recordPlace (placesOf (drop a s)) row ≡ FoundRecord.At q) where
@@ -100,27 +101,27 @@ module _ (s : Bytes) (a row : ℕ) (whole : isReadable s ≡ true) (within : a �
     pub record-readable : isReadable (ownPart s a q) ≡ true
     record-readable = own-readable s a q row record-at
 
-    pub delete-located : (req : Bytes) → LocatedIn s req a row Edit.delete (Splice.Unfield (a + q .start) (a + q .end))
+    pub delete-located : (req : Bytes) → LocatedIn s req a (Edit.on row Act.delete) (Splice.Unfield (a + q .start) (a + q .end))
     delete-located req set f =
-        let r : Request = record { set = set; row = row; edit = Edit.delete } in
+        let r : Request = record { set = set; edit = (Edit.on row Act.delete) } in
         let h = record-inside in
         let x : ℕ = a + q .start in
         let y : ℕ = a + q .end in
-        (λ room. delete-asked room s set row a (set-at set f) q record-at, λ z. (sym (delete-applied s r a whole f q g refl ∙ as-spliced s x y (y - x) (leftOf (ownPart s a q)) (omega arith)), (omega arith, h .1, record-readable)))
+        (λ room. delete-asked room s set a (set-at set f) row q record-at, λ z. (sym (delete-applied s r a whole f row q g refl ∙ as-spliced s x y (y - x) (leftOf (ownPart s a q)) (omega arith)), (omega arith, h .1, record-readable)))
 
-    pub add-illegal : (req : Bytes) (new : Pair) → isLegalPair new ≡ false → LocatedIn s req a row (Edit.add new) (Splice.Refused 25)
-    add-illegal req new h set f = refused s req _ 25 (omega arith) (λ room. add-asked room s set row a (set-at set f) q record-at new false h)
+    pub add-illegal : (req : Bytes) (new : Pair) → isLegalPair new ≡ false → LocatedIn s req a (Edit.on row (Act.add new)) (Splice.Refused 25)
+    add-illegal req new h set f = refused s req _ 25 (omega arith) (λ room. add-asked room s set a (set-at set f) row q record-at new false h)
 
-    pub add-located : (req : Bytes) (n v : Span) → length req ≤ fileBytes → InSpan req n → InSpan req v → isLegalPair (pairOf req n v) ≡ true → LocatedIn s req a row (Edit.add (pairOf req n v)) (Splice.Field (a + q .end) 0 n v)
+    pub add-located : (req : Bytes) (n v : Span) → length req ≤ fileBytes → InSpan req n → InSpan req v → isLegalPair (pairOf req n v) ≡ true → LocatedIn s req a (Edit.on row (Act.add (pairOf req n v))) (Splice.Field (a + q .end) 0 n v)
     add-located req n v l i j h set f =
         let new : Pair = pairOf req n v in
-        let r : Request = record { set = set; row = row; edit = Edit.add new } in
+        let r : Request = record { set = set; edit = Edit.on row (Act.add new) } in
         let x : ℕ = a + q .end in
-        (λ room. add-asked room s set row a (set-at set f) q record-at new true h, λ z. (sym (add-applied s r a whole f q g new refl ∙ as-spliced s x x 0 (written (new .name) (new .value)) (omega arith)), (omega (arith, record-inside .1), l, i, j)))
+        (λ room. add-asked room s set a (set-at set f) row q record-at new true h, λ z. (sym (add-applied s r a whole f row q g new refl ∙ as-spliced s x x 0 (written (new .name) (new .value)) (omega arith)), (omega (arith, record-inside .1), l, i, j)))
 
     -- an occurrence that is not there
     pub field-missing : (n : Bytes) (o : ℕ) → fieldPlace n (ownPart s a q) o ≡ FoundField.Missing → TargetAt s a row n o (Target.Refused 23)
-    field-missing n o h = (omega arith, λ set f c room. no-field room s set row a (set-at set f) q record-at n o c (field-told n (ownPart s a q) o FoundField.Missing record-readable (sym h) refl))
+    field-missing n o h = (omega arith, λ set f c room. no-field room s set a (set-at set f) row q record-at n o c (field-told n (ownPart s a q) o FoundField.Missing record-readable (sym h) refl))
 
     pub field-inside : (n : Bytes) (o x v z : ℕ) → fieldPlace n (ownPart s a q) o ≡ FoundField.At x v z → (x < z) × (a + q .start + z ≤ length s) × (o < length (valuesOf n (recordIn (ownPart s a q))))
     field-inside n o x v z h =
@@ -131,9 +132,9 @@ module _ (s : Bytes) (a row : ℕ) (whole : isReadable s ≡ true) (within : a �
 
   -- a target that is refused
   pub target-missing : (n : Bytes) (o : ℕ) → recordPlace (placesOf (drop a s)) row ≡ FoundRecord.Missing → TargetAt s a row n o (Target.Refused 22)
-  target-missing n o g = (omega arith, λ set f c room. no-record room s set row a (set-at set f) (Edit.change n o c) (λ x. refl) (no-row g))
+  target-missing n o g = (omega arith, λ set f c room. no-record room s set a (set-at set f) row (Act.change n o c) (no-row g))
 
-  pub target-refused : (req n : Bytes) (o k : ℕ) (c : Change) → TargetAt s a row n o (Target.Refused k) → LocatedIn s req a row (Edit.change n o c) (Splice.Refused k)
+  pub target-refused : (req n : Bytes) (o k : ℕ) (c : Change) → TargetAt s a row n o (Target.Refused k) → LocatedIn s req a (Edit.on row (Act.change n o c)) (Splice.Refused k)
   target-refused req n o k c t set f = refused s req _ k (t .0) (t .1 set f c)
 
   -- The field is found from start to end.
@@ -155,16 +156,16 @@ module _ (s : Bytes) (a row : ℕ) (whole : isReadable s ≡ true) (within : a �
     pub target-readable : isReadable (take (last - first) (drop first s)) ≡ true
     target-readable = ap isReadable own-is ∙ record-readable (t .place) (t .found)
 
-    asks : (c : Change) (l b : Bool) → leavesField c (recordIn own) ≡ l → isLegalChange c ≡ b → (set : Bytes) → setPlace set (placesOf s) ≡ FoundSet.At a → (room : ℕ) → placeNo room s (record { set = set; row = row; edit = Edit.change n o c }) ≡ pick l (pick b 0 25) 24
-    asks c l b h k set f room = change-asked room s set row a (set-at set f) (t .place) (record-at (t .place) (t .found)) n o c (inside .2) l b h k
+    asks : (c : Change) (l b : Bool) → leavesField (Edit.on row (Act.change n o c)) (recordIn own) ≡ l → isLegalEdit (Edit.on row (Act.change n o c)) ≡ b → (set : Bytes) → setPlace set (placesOf s) ≡ FoundSet.At a → (room : ℕ) → placeNo room s (record { set = set; edit = Edit.on row (Act.change n o c) }) ≡ pick l (pick b 0 25) 24
+    asks c l b h k set f room = change-asked room s set a (set-at set f) row (t .place) (record-at (t .place) (t .found)) n o c (inside .2) l b h k
 
-    pub value-illegal : (req w : Bytes) → isLegalValue w ≡ false → LocatedIn s req a row (Edit.change n o (Change.value w)) (Splice.Refused 25)
+    pub value-illegal : (req w : Bytes) → isLegalValue w ≡ false → LocatedIn s req a (Edit.on row (Act.change n o (Change.value w))) (Splice.Refused 25)
     value-illegal req w h set f = refused s req _ 25 (omega arith) (asks (Change.value w) true false refl h set f)
 
-    pub name-illegal : (req m : Bytes) → isLegalName m ≡ false → LocatedIn s req a row (Edit.change n o (Change.name m)) (Splice.Refused 25)
+    pub name-illegal : (req m : Bytes) → isLegalName m ≡ false → LocatedIn s req a (Edit.on row (Act.change n o (Change.name m))) (Splice.Refused 25)
     name-illegal req m h set f = refused s req _ 25 (omega arith) (asks (Change.name m) true false refl h set f)
 
-    pub drop-last : (req : Bytes) → length (recordIn (take (last - first) (drop first s))) ≤ 1 → LocatedIn s req a row (Edit.change n o Change.dropped) (Splice.Refused 24)
+    pub drop-last : (req : Bytes) → length (recordIn (take (last - first) (drop first s))) ≤ 1 → LocatedIn s req a (Edit.on row (Act.change n o Change.dropped)) (Splice.Refused 24)
     drop-last req h set f = refused s req _ 24 (omega arith) (asks Change.dropped false true (ap (λ (x : Bytes). ltb 1 (length (recordIn x))) (sym own-is) ∙ le-ltb 1 (length (recordIn (take (last - first) (drop first s)))) h) refl set f)
 
     -- what stands from start to end becomes another text
@@ -172,34 +173,34 @@ module _ (s : Bytes) (a row : ℕ) (whole : isReadable s ≡ true) (within : a �
     made r w h =
         sym (h ∙ (λ i. replaced s (sym (t .starts) i) (sym (t .ends) i) w) ∙ as-spliced s start end (end - start) w (omega (arith, target-inside .2)))
 
-    pub drop-located : (req : Bytes) → 1 < length (recordIn (take (last - first) (drop first s))) → LocatedIn s req a row (Edit.change n o Change.dropped) (Splice.Cut start (end - start))
+    pub drop-located : (req : Bytes) → 1 < length (recordIn (take (last - first) (drop first s))) → LocatedIn s req a (Edit.on row (Act.change n o Change.dropped)) (Splice.Cut start (end - start))
     drop-located req h set f =
-        let r : Request = record { set = set; row = row; edit = Edit.change n o Change.dropped } in (
+        let r : Request = record { set = set; edit = Edit.on row (Act.change n o Change.dropped) } in (
           asks Change.dropped true true (ap (λ (x : Bytes). ltb 1 (length (recordIn x))) (sym own-is) ∙ lt-ltb 1 (length (recordIn (take (last - first) (drop first s)))) h) refl set f,
-          λ z. (made r [] (dropped-applied s r a whole f (t .place) (t .found) n o (t .from) (t .value) (t .to) (t .field) refl), omega (arith, target-inside .2, target-inside .3)),
+          λ z. (made r [] (dropped-applied s r a whole f row (t .place) (t .found) n o (t .from) (t .value) (t .to) (t .field) refl), omega (arith, target-inside .2, target-inside .3)),
         )
 
   -- The field's name is a part of the request.
   module _ (req : Bytes) (n : Span) (o first last start end : ℕ) (in-name : InSpan req n) (t : FoundAt s a row (bytesOf req n) o first last start end) where
     pub value-located : (v : Span) → length req ≤ fileBytes → InSpan req v → isLegalValue (bytesOf req v) ≡ true
-        → LocatedIn s req a row (Edit.change (bytesOf req n) o (Change.value (bytesOf req v))) (Splice.Field start (end - start) n v)
+        → LocatedIn s req a (Edit.on row (Act.change (bytesOf req n) o (Change.value (bytesOf req v)))) (Splice.Field start (end - start) n v)
     value-located v l j h set f =
         let c : Change = Change.value (bytesOf req v) in
-        let r : Request = record { set = set; row = row; edit = Edit.change (bytesOf req n) o c } in
+        let r : Request = record { set = set; edit = Edit.on row (Act.change (bytesOf req n) o c) } in
         let i = target-inside (bytesOf req n) o first last start end t in (
           asks (bytesOf req n) o first last start end t c true true refl h set f,
           λ z. (
-            made (bytesOf req n) o first last start end t r (written (bytesOf req n) (bytesOf req v)) (value-applied s r a whole f (t .place) (t .found) (bytesOf req n) o (t .from) (t .value) (t .to) (t .field) (bytesOf req v) refl),
+            made (bytesOf req n) o first last start end t r (written (bytesOf req n) (bytesOf req v)) (value-applied s r a whole f row (t .place) (t .found) (bytesOf req n) o (t .from) (t .value) (t .to) (t .field) (bytesOf req v) refl),
             (omega (arith, i .2, i .3), l, in-name, j),
           ),
         )
 
     pub name-located : (m : Span) → InSpan req m → isLegalName (bytesOf req m) ≡ true
-        → LocatedIn s req a row (Edit.change (bytesOf req n) o (Change.name (bytesOf req m))) (Splice.Name start (n .end - n .start) m)
+        → LocatedIn s req a (Edit.on row (Act.change (bytesOf req n) o (Change.name (bytesOf req m)))) (Splice.Name start (n .end - n .start) m)
     name-located m j h set f =
         let old : Bytes = bytesOf req n in
         let c : Change = Change.name (bytesOf req m) in
-        let r : Request = record { set = set; row = row; edit = Edit.change old o c } in
+        let r : Request = record { set = set; edit = Edit.on row (Act.change old o c) } in
         let i = target-inside old o first last start end t in
         let g = set-at set f in
         let x : ℕ = a + t .place .start + t .from in
@@ -207,7 +208,7 @@ module _ (s : Bytes) (a row : ℕ) (whole : isReadable s ≡ true) (within : a �
         let b : x + length old ≡ start + (n .end - n .start) = omega (arith, t .starts, span-length req n in-name) in (
           asks old o first last start end t c true true refl h set f,
           λ z. (
-            sym (name-applied s r a whole f (t .place) (t .found) old o (t .from) (t .value) (t .to) (t .field) (bytesOf req m) refl ∙ (λ y. replaced s (sym (t .starts) y) (b y) (bytesOf req m))),
+            sym (name-applied s r a whole f row (t .place) (t .found) old o (t .from) (t .value) (t .to) (t .field) (bytesOf req m) refl ∙ (λ y. replaced s (sym (t .starts) y) (b y) (bytesOf req m))),
             (omega (arith, k, t .starts, t .ends, i .3, b), j),
           ),
         )

@@ -3,25 +3,26 @@ use Prim.Native.Nat.{ℕ, _+_, _-_, _≤_, _<_}
 use native.Mathlib.Omega.{arith}
 use mathlib.Core.Path.{_≡_, refl, sym, ap, _∙_, subst}
 use mathlib.Core.Bool.{Bool, true}
-use mathlib.Core.List.{List}
+use mathlib.Core.List.{List, []}
 use mathlib.Core.Option.{none}
 use lib.Dec.{ltb}
-use lib.ListN.{length, take, drop}
+use lib.ListN.{length, take, drop, getD}
 use lib.Seq.{drop-drop}
 use borrow.Author.Tests.{lt-ltb, le-ltb}
 use Rattle.format.specs.Bytes.{Bytes, pick, all, isSome}
+use Rattle.format.specs.Pieces.{readOf}
 use Rattle.format.specs.Records.{Record, fieldsOf}
 use Rattle.format.specs.Sets.{RecSet, valuesOf, setsOf}
 use Rattle.format.specs.Written.{Pair, isLegalPair}
-use Rattle.format.specs.Edits.{Change, Edit}
+use Rattle.format.specs.Edits.{Change, Act, Edit}
+use Rattle.format.specs.Questions.{occurrences}
 use Rattle.format.specs.Requests.{Request}
-use Rattle.format.specs.Plain.{plainOf, indexOf, membersAt, recordAt, recordOf, hasSet, hasRecord, hasOccurrence, Asked, recordThere, occurrenceThere, anotherLeft, leavesField, isLegalChange, isLegalEdit}
-use Rattle.format.proofs.Asking.{asked}
+use Rattle.format.specs.Plain.{plainOf, indexOf, Occurrence, ofSome, membersAt, membersIn, recordIn as recordAt, rowOf, occurrenceOf, leavesField, isLegalEdit}
 use Rattle.records.specs.Places.{isReadable}
-use Rattle.records.specs.Walk.{readOf, recordIn}
+use Rattle.records.specs.Walk.{recordIn}
 use Rattle.records.specs.declared.Place.{Place}
 use Rattle.records.proofs.Readings.{reads-of, reads-readable}
-use Rattle.records.proofs.Members.{SetFound, RecordFound}
+use Rattle.records.proofs.Members.{recordOf, hasRecord, hasOccurrence, SetFound, RecordFound}
 use Rattle.records.proofs.RecordEdits.{ownPart}
 use Rattle.edits.specs.Places.{placeNo}
 
@@ -35,75 +36,67 @@ module _ (s : Bytes) (a : ℕ) (q : Place) (row : ℕ) (r : RecordFound (drop a 
   pub own-readable : isReadable (ownPart s a q) ≡ true
   own-readable = subst (λ (t : Bytes). isReadable t ≡ true) (sym own-part) (reads-readable (r .stand .own-reads))
 
-  own-record : recordIn (ownPart s a q) ≡ recordAt row (membersAt 0 (setsOf (readOf (drop a s))))
+  own-record : recordIn (ownPart s a q) ≡ getD (membersAt 0 (setsOf (readOf (drop a s)))) row []
   own-record = ap (λ (t : Bytes). fieldsOf (readOf t)) own-part ∙ ap fieldsOf (reads-of (r .stand .own-reads)) ∙ r .stand .own-fields
 
 -- the first that says no, by the five answers
 abbrev noOf : Bool → Bool → Bool → Bool → Bool → ℕ
 noOf set row occurrence left legal = pick set (pick row (pick occurrence (pick left (pick legal 0 25) 24) 23) 22) 21
 
--- an edit of a record
-abbrev pub OfRecord : Edit → Type 0
-OfRecord e = (x : Asked) → recordThere e x ≡ hasRecord (x .request .set) (x .request .row) (x .file .parts)
-
 -- A request to the text s, in a buffer of any length.
-module _ (room : ℕ) (s set : Bytes) (row : ℕ) where
+module _ (room : ℕ) (s set : Bytes) where
   abbrev sought : Edit → Request
-  sought e = record { set = set; row = row; edit = e }
+  sought e = record { set = set; edit = e }
 
-  abbrev file : Edit → Asked
-  file e = asked room (plainOf (readOf s)) (sought e)
+  abbrev sets : List RecSet
+  sets = setsOf (readOf s)
 
-  abbrev parts : List RecSet
-  parts = setsOf (readOf s)
+  abbrev members : List Record
+  members = membersIn sets (indexOf set sets)
 
-  by-answers : (e : Edit) {v w x y z : Bool} → hasSet set parts ≡ v → recordThere e (file e) ≡ w → occurrenceThere e (file e) ≡ x → anotherLeft e (file e) ≡ y → isLegalEdit e ≡ z → placeNo room s (sought e) ≡ noOf v w x y z
+  by-answers : (e : Edit) {v w x y z : Bool} → isSome (indexOf set sets) ≡ v → ofSome (λ (j : ℕ). ltb j (length members)) (rowOf e) ≡ w → ofSome (λ (o : Occurrence). ltb (o .number) (occurrences (o .name) (recordAt members (rowOf e)))) (occurrenceOf e) ≡ x → leavesField e (recordAt members (rowOf e)) ≡ y → isLegalEdit e ≡ z → placeNo room s (sought e) ≡ noOf v w x y z
   unfolding plainOf
   by-answers e a b c d f = λ i. noOf (a i) (b i) (c i) (d i) (f i)
 
-  pub no-set : (e : Edit) → indexOf set parts ≡ none → placeNo room s (sought e) ≡ 21
+  pub no-set : (e : Edit) → indexOf set (setsOf (readOf s)) ≡ none → placeNo room s (record { set = set; edit = e }) ≡ 21
   no-set e h = by-answers e (ap isSome h) refl refl refl refl
 
   -- The set is found at a.
   module _ (a : ℕ) (f : SetFound s set (setsOf (readOf s)) a) where
-    there : hasSet set parts ≡ true
+    there : isSome (indexOf set sets) ≡ true
     there = ap isSome (f .there)
 
-    abbrev members : List Record
-    members = membersAt 0 (setsOf (readOf (drop a s)))
+    abbrev behind : List Record
+    behind = membersAt 0 (setsOf (readOf (drop a s)))
 
-    pub insert-asked : (new : List Pair) (t : Bool) → all isLegalPair new ≡ t → placeNo room s (sought (Edit.insert new)) ≡ pick t 0 25
+    pub insert-asked : (new : List Pair) (t : Bool) → all isLegalPair new ≡ t → placeNo room s (record { set = set; edit = Edit.insert new }) ≡ pick t 0 25
     insert-asked new t h = by-answers (Edit.insert new) there refl refl refl h
 
-    pub no-record : (e : Edit) → OfRecord e → length (membersAt 0 (setsOf (readOf (drop a s)))) ≤ row → placeNo room s (sought e) ≡ 22
-    unfolding plainOf
-    no-record e o h = by-answers e there (o (file e) ∙ ap (λ (rs : List Record). ltb row (length rs)) (f .members) ∙ le-ltb row (length members) h) refl refl refl
+    module _ (row : ℕ) where
+      pub no-record : (act : Act) → length (membersAt 0 (setsOf (readOf (drop a s)))) ≤ row → placeNo room s (record { set = set; edit = Edit.on row act }) ≡ 22
+      no-record act h = by-answers (Edit.on row act) there (ap (λ (rs : List Record). ltb row (length rs)) (f .members) ∙ le-ltb row (length behind) h) refl refl refl
 
-    -- Its record is found at q.
-    module _ (q : Place) (r : RecordFound (drop a s) (membersAt 0 (setsOf (readOf (drop a s)))) row q) where
-      row-there : hasRecord set row parts ≡ true
-      row-there = ap (λ (rs : List Record). ltb row (length rs)) (f .members) ∙ lt-ltb row (length members) (r .there)
+      -- Its record is found at q.
+      module _ (q : Place) (r : RecordFound (drop a s) (membersAt 0 (setsOf (readOf (drop a s)))) row q) where
+        row-there : hasRecord set row sets ≡ true
+        row-there = ap (λ (rs : List Record). ltb row (length rs)) (f .members) ∙ lt-ltb row (length behind) (r .there)
 
-      fields-are : recordIn (ownPart s a q) ≡ recordOf set row parts
-      fields-are = own-record s a q row r ∙ ap (recordAt row) (sym (f .members))
+        fields-are : recordIn (ownPart s a q) ≡ recordOf set row sets
+        fields-are = own-record s a q row r ∙ ap (λ (rs : List Record). getD rs row []) (sym (f .members))
 
-      pub delete-asked : placeNo room s (sought Edit.delete) ≡ 0
-      unfolding plainOf
-      delete-asked = by-answers Edit.delete there row-there refl refl refl
+        pub delete-asked : placeNo room s (record { set = set; edit = Edit.on row Act.delete }) ≡ 0
+        delete-asked = by-answers (Edit.on row Act.delete) there row-there refl refl refl
 
-      pub add-asked : (new : Pair) (t : Bool) → isLegalPair new ≡ t → placeNo room s (sought (Edit.add new)) ≡ pick t 0 25
-      unfolding plainOf
-      add-asked new t h = by-answers (Edit.add new) there row-there refl refl h
+        pub add-asked : (new : Pair) (t : Bool) → isLegalPair new ≡ t → placeNo room s (record { set = set; edit = Edit.on row (Act.add new) }) ≡ pick t 0 25
+        add-asked new t h = by-answers (Edit.on row (Act.add new)) there row-there refl refl h
 
-      module _ (n : Bytes) (o : ℕ) (c : Change) where
-        occurs : {t : Bool} → ltb o (length (valuesOf n (recordIn (ownPart s a q)))) ≡ t → hasOccurrence set row n o parts ≡ t
-        occurs h = ap (λ (x : Record). ltb o (length (valuesOf n x))) (sym fields-are) ∙ h
+        module _ (n : Bytes) (o : ℕ) (c : Change) where
+          occurs : {t : Bool} → ltb o (length (valuesOf n (recordIn (ownPart s a q)))) ≡ t → hasOccurrence set row n o sets ≡ t
+          occurs h = ap (λ (x : Record). ltb o (length (valuesOf n x))) (sym fields-are) ∙ h
 
-        pub no-field : length (valuesOf n (recordIn (ownPart s a q))) ≤ o → placeNo room s (sought (Edit.change n o c)) ≡ 23
-        unfolding plainOf
-        no-field h = by-answers (Edit.change n o c) there row-there (occurs (le-ltb o (length (valuesOf n (recordIn (ownPart s a q)))) h)) refl refl
+          pub no-field : length (valuesOf n (recordIn (ownPart s a q))) ≤ o → placeNo room s (record { set = set; edit = Edit.on row (Act.change n o c) }) ≡ 23
+          no-field h = by-answers (Edit.on row (Act.change n o c)) there row-there (occurs (le-ltb o (length (valuesOf n (recordIn (ownPart s a q)))) h)) refl refl
 
-        pub change-asked : o < length (valuesOf n (recordIn (ownPart s a q))) → (l t : Bool) → leavesField c (recordIn (ownPart s a q)) ≡ l → isLegalChange c ≡ t → placeNo room s (sought (Edit.change n o c)) ≡ pick l (pick t 0 25) 24
-        unfolding plainOf
-        change-asked h l t g k =
-            by-answers (Edit.change n o c) there row-there (occurs (lt-ltb o (length (valuesOf n (recordIn (ownPart s a q)))) h)) (ap (leavesField c) (sym fields-are) ∙ g) k
+          pub change-asked : o < length (valuesOf n (recordIn (ownPart s a q))) → (l t : Bool) → leavesField (Edit.on row (Act.change n o c)) (recordIn (ownPart s a q)) ≡ l → isLegalEdit (Edit.on row (Act.change n o c)) ≡ t → placeNo room s (record { set = set; edit = Edit.on row (Act.change n o c) }) ≡ pick l (pick t 0 25) 24
+          change-asked h l t g k =
+              by-answers (Edit.on row (Act.change n o c)) there row-there (occurs (lt-ltb o (length (valuesOf n (recordIn (ownPart s a q)))) h)) (ap (leavesField (Edit.on row (Act.change n o c))) (sym fields-are) ∙ g) k

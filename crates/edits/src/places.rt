@@ -5,7 +5,7 @@ ghost use Prim.Native.Nat.{ℕ, _≤_};
 ghost use lib.ListN.{length, drop};
 ghost use Rattle.format.specs.Bytes.{Bytes, classTable};
 ghost use Rattle.format.specs.Limits.{fileBytes};
-ghost use Rattle.format.specs.Edits.{Edit};
+ghost use Rattle.format.specs.Edits.{Edit, Act};
 ghost use Rattle.records.specs.Places.{isReadable};
 ghost use Rattle.requests.specs.Fields.{InSpan};
 ghost use Rattle.requests.specs.Pairs.{pairsAt, pairOf};
@@ -29,7 +29,7 @@ fn locate_insert(table: &[u8; 256], s: &[u8], req: &[u8], begin: usize, from: us
     requires { ⌜ now table ≡ classTable ⌝ }
     requires { ⌜ (isReadable (now s) ≡ true) × (begin ≤ length (now s)) × (isReadable (drop begin (now s)) ≡ true) ⌝ }
     requires { ⌜ (length (now req) ≤ fileBytes) × InAction (now req) (Action.Insert from) ⌝ }
-    ensures { λ r. ⌜ ((row : ℕ) → LocatedIn (now (s .entry)) (now (req .entry)) begin row (Edit.insert (pairsAt (now (req .entry)) from)) r) ⌝ }
+    ensures { λ r. ⌜ LocatedIn (now (s .entry)) (now (req .entry)) begin (Edit.insert (pairsAt (now (req .entry)) from)) r ⌝ }
 {
     let w = requests::weigh(table, req, from);
     let Weighed::Sums { len, count: _ } = w else {
@@ -47,7 +47,7 @@ fn locate_insert(table: &[u8; 256], s: &[u8], req: &[u8], begin: usize, from: us
 fn locate_delete(table: &[u8; 256], s: &[u8], begin: usize, row: usize) -> Splice
     requires { ⌜ now table ≡ classTable ⌝ }
     requires { ⌜ (isReadable (now s) ≡ true) × (begin ≤ length (now s)) × (isReadable (drop begin (now s)) ≡ true) ⌝ }
-    ensures { λ r. ⌜ ((req : Bytes) → LocatedIn (now (s .entry)) req begin row Edit.delete r) ⌝ }
+    ensures { λ r. ⌜ ((req : Bytes) → LocatedIn (now (s .entry)) req begin (Edit.on row Act.delete) r) ⌝ }
 {
     let f = records::find_record(table, &s[begin..], row);
     let FoundRecord::At(p) = f else {
@@ -72,7 +72,7 @@ fn locate_add(
     requires { ⌜ now table ≡ classTable ⌝ }
     requires { ⌜ (isReadable (now s) ≡ true) × (begin ≤ length (now s)) × (isReadable (drop begin (now s)) ≡ true) ⌝ }
     requires { ⌜ (length (now req) ≤ fileBytes) × InSpan (now req) name × InSpan (now req) value ⌝ }
-    ensures { λ r. ⌜ LocatedIn (now (s .entry)) (now (req .entry)) begin row (Edit.add (pairOf (now (req .entry)) name value)) r ⌝ }
+    ensures { λ r. ⌜ LocatedIn (now (s .entry)) (now (req .entry)) begin (Edit.on row (Act.add (pairOf (now (req .entry)) name value))) r ⌝ }
 {
     let f = records::find_record(table, &s[begin..], row);
     let FoundRecord::At(p) = f else {

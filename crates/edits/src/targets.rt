@@ -5,7 +5,7 @@ ghost use Prim.Native.Nat.{_≤_};
 ghost use lib.ListN.{length, drop};
 ghost use Rattle.format.specs.Bytes.{classTable};
 ghost use Rattle.format.specs.Limits.{fileBytes};
-ghost use Rattle.format.specs.Edits.{Edit, Change};
+ghost use Rattle.format.specs.Edits.{Edit, Change, Act};
 ghost use Rattle.records.specs.Places.{isReadable};
 ghost use Rattle.records.specs.Walk.{recordIn};
 ghost use Rattle.requests.specs.Fields.{bytesOf, InSpan};
@@ -77,7 +77,7 @@ pub(crate) fn locate_set(
     requires { ⌜ now table ≡ classTable ⌝ }
     requires { ⌜ (isReadable (now s) ≡ true) × (begin ≤ length (now s)) × (isReadable (drop begin (now s)) ≡ true) ⌝ }
     requires { ⌜ (length (now req) ≤ fileBytes) × InSpan (now req) name × InSpan (now req) value ⌝ }
-    ensures { λ r. ⌜ LocatedIn (now (s .entry)) (now (req .entry)) begin row (Edit.change (bytesOf (now (req .entry)) name) occurrence (Change.value (bytesOf (now (req .entry)) value))) r ⌝ }
+    ensures { λ r. ⌜ LocatedIn (now (s .entry)) (now (req .entry)) begin (Edit.on row (Act.change (bytesOf (now (req .entry)) name) occurrence (Change.value (bytesOf (now (req .entry)) value)))) r ⌝ }
 {
     let a = name.start;
     let b = name.end;
@@ -155,7 +155,7 @@ pub(crate) fn locate_drop(
     requires { ⌜ now table ≡ classTable ⌝ }
     requires { ⌜ (isReadable (now s) ≡ true) × (begin ≤ length (now s)) × (isReadable (drop begin (now s)) ≡ true) ⌝ }
     requires { ⌜ InSpan (now req) name ⌝ }
-    ensures { λ r. ⌜ LocatedIn (now (s .entry)) (now (req .entry)) begin row (Edit.change (bytesOf (now (req .entry)) name) occurrence Change.dropped) r ⌝ }
+    ensures { λ r. ⌜ LocatedIn (now (s .entry)) (now (req .entry)) begin (Edit.on row (Act.change (bytesOf (now (req .entry)) name) occurrence Change.dropped)) r ⌝ }
 {
     let a = name.start;
     let b = name.end;
@@ -195,7 +195,7 @@ pub(crate) fn locate_rename(
     requires { ⌜ now table ≡ classTable ⌝ }
     requires { ⌜ (isReadable (now s) ≡ true) × (begin ≤ length (now s)) × (isReadable (drop begin (now s)) ≡ true) ⌝ }
     requires { ⌜ InSpan (now req) name × InSpan (now req) new ⌝ }
-    ensures { λ r. ⌜ LocatedIn (now (s .entry)) (now (req .entry)) begin row (Edit.change (bytesOf (now (req .entry)) name) occurrence (Change.name (bytesOf (now (req .entry)) new))) r ⌝ }
+    ensures { λ r. ⌜ LocatedIn (now (s .entry)) (now (req .entry)) begin (Edit.on row (Act.change (bytesOf (now (req .entry)) name) occurrence (Change.name (bytesOf (now (req .entry)) new)))) r ⌝ }
 {
     let a = name.start;
     let b = name.end;

@@ -3,19 +3,20 @@ use Prim.Native.Nat.{ℕ, zero, suc, _+_, _-_, _≤_, _<_}
 use native.Mathlib.Omega.{arith}
 use mathlib.Core.Path.{_≡_, refl, sym, ap, _∙_, subst}
 use mathlib.Core.Bool.{Bool, true, false}
-use mathlib.Core.List.{List, [], _∷_}
+use mathlib.Core.List.{List, [], _∷_, map}
 use lib.Dec.{ltb, leb}
-use lib.ListN.{length, take, drop, length-drop, length-append}
-use borrow.Author.Tests.{lt-ltb, le-ltb, le-leb, lt-leb}
-use Rattle.format.specs.Lists.{isFilled}
-use Rattle.format.specs.Bytes.{Bytes, text, pick}
+use lib.ListN.{length, take, drop, getD, length-drop, length-append}
+use borrow.Author.Tests.{lt-ltb, le-ltb}
+use Rattle.format.proofs.Records.{sets, GoodSets, good-sets}
+use Rattle.format.specs.Lists.{onlyIf, isFilled, front}
+use Rattle.format.specs.Bytes.{Bytes, text, pick, isSome}
 use Rattle.format.specs.Pieces.{Piece}
 use Rattle.format.specs.Records.{Record, fieldsOf}
-use Rattle.format.specs.Sets.{RecSet, valuesOf, sets}
-use Rattle.format.specs.Words.{notGap, frontIf, front, firstWord}
-use Rattle.format.specs.Questions.{firstNo, verdict}
-use Rattle.format.specs.Calls.{Answer, fileThen, partsOf, over, Filled, filled}
-use Rattle.format.proofs.Sets.{GoodSets, good-sets}
+use Rattle.format.specs.Sets.{RecSet, valuesOf}
+use Rattle.format.specs.Words.{notGap, firstWord}
+use Rattle.format.specs.Questions.{firstNo, nameOf}
+use Rattle.format.specs.Plain.{foundRows}
+use Rattle.format.specs.Calls.{Answer, answer, thenNo, setsIn, lookupNo, leaves, over, Filled, filled, soughtOrder, nameAnswer}
 use Rattle.lines.specs.Value.{valueFrom}
 use Rattle.lines.proofs.Decoding.{value-length}
 use Rattle.records.specs.Places.{isReadable, Placed, placesOf}
@@ -28,8 +29,9 @@ use Rattle.records.proofs.Searches.{placesAt, Stand, Met}
 use Rattle.records.proofs.Members.{sets-places, Stands, stands, others, othersBy, others-enter}
 use Rattle.records.proofs.Fields.{FieldFound}
 use Rattle.fetching.specs.declared.Fetched.{Fetched}
-use Rattle.fetching.specs.Answers.{fetchedAnswer, partsIn}
-use Rattle.fetching.specs.Names.{nameAt, orderRow, nameRow, listed, nameIn, nameAnswer, titled, descriptorBy, descriptorAt}
+use Rattle.fetching.specs.Answers.{fetchedAnswer, setsFrom, nameIn}
+use Rattle.fetching.proofs.Looking.{filled-long, filled-fits}
+use Rattle.fetching.specs.Names.{titled, descriptorBy, descriptorAt}
 
 -- the search for descriptor k, record by record
 module _ (s : Bytes) (i : ℕ) where
@@ -67,7 +69,7 @@ pub record DescriptorFound (s : Bytes) (ds : List RecSet) (k : ℕ) (q : Place) 
   pub value : Bytes
   pub values : List Bytes
   pub titles : valuesOf (text "%rec") fields ≡ value ∷ values
-  pub named : nameAt ds k ≡ firstWord value
+  pub named : getD (map nameOf ds) k [] ≡ firstWord value
 
 abbrev pub DescriptorTold : Bytes → List RecSet → ℕ → FoundRecord → Type 0
 DescriptorTold s ds k FoundRecord.Missing = length ds ≤ k
@@ -91,52 +93,54 @@ told-in s (p ∷ ps) k h =
     (told-by s vs p (sets (fieldsIn ps)) k (λ (j : ℕ). descriptorAt ps j) refl (h .0) (λ j. told-in s ps j (h .2)))
 
 -- of an answer, once its form is known
-pub descriptor-told : (s : Bytes) (k : ℕ) (x : FoundRecord) {y : FoundRecord} → isReadable s ≡ true → x ≡ descriptorAt (placesOf s) k → x ≡ y → DescriptorTold s (others (partsIn s)) k y
+pub descriptor-told : (s : Bytes) (k : ℕ) (x : FoundRecord) {y : FoundRecord} → isReadable s ≡ true → x ≡ descriptorAt (placesOf s) k → x ≡ y → DescriptorTold s (others (setsFrom s)) k y
 descriptor-told s k x {y} e f g =
-    subst (DescriptorTold s (others (partsIn s)) k) (sym f ∙ g)
+    subst (DescriptorTold s (others (setsFrom s)) k) (sym f ∙ g)
     (subst (λ (ss : List RecSet). DescriptorTold s (others ss) k (descriptorAt (placesOf s) k)) (sym (sets-places s)) (told-in s (placesOf s) k (stands s e)))
 
 -- the default set stands first and has no name
-first-set : (s : Bytes) → GoodSets (partsIn s)
+first-set : (s : Bytes) → GoodSets (setsFrom s)
 first-set s = subst GoodSets (sym (sets-places s)) (good-sets (fieldsIn (placesOf s)))
 
-default-name : (ss : List RecSet) → GoodSets ss → (0 < length ss) × (nameAt ss 0 ≡ [])
+default-name : (ss : List RecSet) → GoodSets ss → (0 < length ss) × (getD (map nameOf ss) 0 [] ≡ [])
 default-name [] g = absurd g
 default-name (d ∷ ds) g = (omega arith, g .0)
 
-other-names : (ss : List RecSet) (j : ℕ) → GoodSets ss → (length ss ≡ suc (length (others ss))) × (nameAt ss (suc j) ≡ nameAt (others ss) j)
+other-names : (ss : List RecSet) (j : ℕ) → GoodSets ss → (length ss ≡ suc (length (others ss))) × (getD (map nameOf ss) (suc j) [] ≡ getD (map nameOf (others ss)) j [])
 other-names [] j g = absurd g
 other-names (d ∷ ds) j g = (refl, refl)
 
+-- a set of a number: there, or not
+order-is : (k : ℕ) (ss : List RecSet) (b : Bool) → ltb k (length ss) ≡ b → firstNo foundRows (soughtOrder ss k) ≡ pick b 0 21
+order-is k ss b e = ap (λ (x : Bool). pick (isSome (onlyIf x k)) 0 21) e ∙ ap (λ (x : Bool). pick x 0 21) (there b)
+  where
+    there : (b : Bool) → isSome (onlyIf b k) ≡ b
+    there true = refl
+    there false = refl
+
 module _ (s : Bytes) (k : ℕ) (out : Bytes) where
-  name-by : Bool → Bytes → Filled
-  name-by x v = filled (pick x (pick (leb (length v) (length out)) 0 27) 21) v out
+  name-is : (b : Bool) (v : Bytes) → ltb k (length (setsFrom s)) ≡ b → getD (map nameOf (setsFrom s)) k [] ≡ v → nameIn s k out ≡ filled (pick b 0 21) v out
+  unfolding nameIn
+  name-is b v e f = (λ i. filled (order-is k (setsFrom s) b e i) (f i) out)
 
-  name-is : nameIn s k out ≡ name-by (ltb k (length (partsIn s))) (nameAt (partsIn s) k)
-  unfolding nameIn name-by
-  name-is = refl
-
-  name-there : (v : Bytes) → k < length (partsIn s) → nameAt (partsIn s) k ≡ v → nameIn s k out ≡ filled (pick (leb (length v) (length out)) 0 27) v out
-  unfolding name-by
-  name-there v h e = name-is ∙ ap (λ (x : Bool). name-by x (nameAt (partsIn s) k)) (lt-ltb k (length (partsIn s)) h) ∙ ap (name-by true) e
+  name-there : (v : Bytes) → k < length (setsFrom s) → getD (map nameOf (setsFrom s)) k [] ≡ v → nameIn s k out ≡ filled 0 v out
+  name-there v h e = name-is true v (lt-ltb k (length (setsFrom s)) h) e
 
   pub name-default : k ≡ 0 → nameIn s k out ≡ record { result = Answer.value 0; out = out }
   name-default z =
-      let d = default-name (partsIn s) (first-set s) in
-      name-there [] (omega (arith, d .0)) (ap (nameAt (partsIn s)) z ∙ d .1)
-      ∙ ap (λ (b : Bool). filled (pick b 0 27) [] out) (le-leb 0 (length out) (omega arith))
+      let d = default-name (setsFrom s) (first-set s) in
+      name-there [] (omega (arith, d .0)) (ap (λ (i : ℕ). getD (map nameOf (setsFrom s)) i []) z ∙ d .1) ∙ filled-fits [] out (omega arith)
 
   module _ (j : ℕ) (z : k ≡ suc j) where
-    pub name-missing : length (others (partsIn s)) ≤ j → nameIn s k out ≡ record { result = Answer.refusal 21; out = out }
-    unfolding name-by
+    pub name-missing : length (others (setsFrom s)) ≤ j → nameIn s k out ≡ record { result = Answer.refusal 21; out = out }
     name-missing h =
-        let o = other-names (partsIn s) j (first-set s) in
-        name-is ∙ ap (λ (x : Bool). name-by x (nameAt (partsIn s) k)) (le-ltb k (length (partsIn s)) (omega (arith, o .0)))
+        let o = other-names (setsFrom s) j (first-set s) in
+        name-is false (getD (map nameOf (setsFrom s)) k []) (le-ltb k (length (setsFrom s)) (omega (arith, o .0))) refl
 
-    pub name-found : (q : Place) (f : DescriptorFound s (others (partsIn s)) j q) → nameIn s k out ≡ titled (valuesOf (text "%rec") (recordIn (take (q .end - q .start) (drop (q .start) s)))) out
+    pub name-found : (q : Place) (f : DescriptorFound s (others (setsFrom s)) j q) → nameIn s k out ≡ titled (valuesOf (text "%rec") (recordIn (take (q .end - q .start) (drop (q .start) s)))) out
     name-found q f =
-        let o = other-names (partsIn s) j (first-set s) in
-        name-there (firstWord (f .value)) (omega (arith, o .0, f .there)) (ap (nameAt (partsIn s)) z ∙ o .1 ∙ f .named)
+        let o = other-names (setsFrom s) j (first-set s) in
+        name-there (firstWord (f .value)) (omega (arith, o .0, f .there)) (ap (λ (i : ℕ). getD (map nameOf (setsFrom s)) i []) z ∙ o .1 ∙ f .named)
         ∙ sym (ap (λ (vs : List Bytes). titled vs out) (ap (λ (ps : List Piece). valuesOf (text "%rec") (fieldsOf ps)) (reads-of (f .stand .own-reads)) ∙ ap (valuesOf (text "%rec")) (f .stand .own-fields) ∙ f .titles))
 
 -- the word that a value begins with is no longer than the text
@@ -144,7 +148,7 @@ front-length : (p : ℕ → Bool) (v : Bytes) → length (front p v) ≤ length 
 front-length p [] = omega arith
 front-length p (c ∷ v) = go (p c) (front p v) (front-length p v)
   where
-    go : (b : Bool) (w : Bytes) → length w ≤ length v → length (frontIf b c w) ≤ suc (length v)
+    go : (b : Bool) (w : Bytes) → length w ≤ length v → length (pick b (c ∷ w) []) ≤ suc (length v)
     go true w h = omega arith
     go false w h = omega arith
 
@@ -156,30 +160,31 @@ pub titled-none : (vs : List Bytes) (out : Bytes) → length vs ≤ 0 → titled
 titled-none [] out h = refl
 titled-none (v ∷ vs) out h = absurd (omega arith)
 
-titled-by : (d : Bytes) (vs : List Bytes) (start value end : ℕ) (out w : Bytes) → FieldFound d vs 0 start value end → w ≡ firstWord (valueFrom (take (end - value) (drop value d))) → titled vs out ≡ filled (pick (leb (length w) (length out)) 0 27) w out
+titled-by : (d : Bytes) (vs : List Bytes) (start value end : ℕ) (out w : Bytes) → FieldFound d vs 0 start value end → w ≡ firstWord (valueFrom (take (end - value) (drop value d))) → titled vs out ≡ filled 0 w out
 titled-by d [] start value end out w f e = absurd (omega (arith, f .there))
-titled-by d (v ∷ vs) start value end out w f e = ap (λ (x : Bytes). filled (pick (leb (length x) (length out)) 0 27) x out) (sym (e ∙ ap firstWord (f .decodes)))
+titled-by d (v ∷ vs) start value end out w f e = ap (λ (x : Bytes). filled 0 x out) (sym (e ∙ ap firstWord (f .decodes)))
 
 module _ (d : Bytes) (vs : List Bytes) (start value end : ℕ) (out w : Bytes) (f : FieldFound d vs 0 start value end) (e : w ≡ firstWord (valueFrom (take (end - value) (drop value d)))) where
   pub titled-long : length out < length w → titled vs out ≡ record { result = Answer.refusal 27; out = out }
-  titled-long h = titled-by d vs start value end out w f e ∙ ap (λ (b : Bool). filled (pick b 0 27) w out) (lt-leb (length w) (length out) h)
+  titled-long h = titled-by d vs start value end out w f e ∙ filled-long w out h
 
   pub titled-first : length w ≤ length out → titled vs out ≡ record { result = Answer.value (length w); out = over w out }
-  titled-first h = titled-by d vs start value end out w f e ∙ ap (λ (b : Bool). filled (pick b 0 27) w out) (le-leb (length w) (length out) h)
+  titled-first h = titled-by d vs start value end out w f e ∙ filled-fits w out h
 
 -- A name that was put into a buffer stands inside it.
 InsideIf : Answer → Bytes → Type 0
 InsideIf (Answer.value n) o = n ≤ length o
 InsideIf (Answer.refusal k) o = Unit {0}
 
-filled-inside : (number : ℕ) (t out : Bytes) → InsideIf (filled number t out .result) (filled number t out .out)
+over-inside : (number : ℕ) (t out : Bytes) → InsideIf (answer number (length t)) (leaves (answer number (length t)) (over t out) out)
 unfolding InsideIf
-filled-inside zero t out = omega (arith, length-append t (drop (length t) out))
-filled-inside (suc k) t out = tt
+over-inside zero t out = omega (arith, length-append t (drop (length t) out))
+over-inside (suc k) t out = tt
 
 pub name-inside : (buffer : Bytes) (used k : ℕ) (out : Bytes) (x : Fetched) {n : ℕ} (o : Bytes) → nameAnswer buffer used k out ≡ record { result = fetchedAnswer x; out = o } → x ≡ Fetched.Length n → n ≤ length o
 unfolding nameAnswer InsideIf
 name-inside buffer used k out x {n} o e f =
-    let ss : List RecSet = partsOf buffer used in
-    let i = filled-inside (fileThen (verdict buffer used) (firstNo (orderRow ∷ nameRow ∷ []) (listed ss k out))) (nameAt ss k) out in
+    let ss : List RecSet = setsIn buffer used in
+    let v : Bytes = getD (map nameOf ss) k [] in
+    let i = over-inside (thenNo (lookupNo buffer used (soughtOrder ss k)) (pick (leb (length v) (length out)) 0 27)) v out in
     subst (λ (y : Fetched). InsideIf (fetchedAnswer y) o) f (subst (λ (y : Filled). InsideIf (y .result) (y .out)) e i)

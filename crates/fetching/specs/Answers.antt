@@ -1,14 +1,13 @@
--- The paper's number and values for each answer, and what is asked of the sets of a file.
-use Prim.Native.Nat.{ℕ, _+_, _-_, _≤_}
-use mathlib.Core.List.{List, [], _∷_}
-use lib.ListN.{length, take, drop}
+-- The paper's number and values for each answer, and what a lookup in a readable text answers.
+use Prim.Native.Nat.{ℕ, _-_, _≤_}
+use mathlib.Core.List.{List, [], map}
+use lib.ListN.{length, take, drop, getD}
 use Rattle.format.specs.Bytes.{Bytes}
-use Rattle.format.specs.Sets.{RecSet, setsOf}
-use Rattle.format.specs.Questions.{firstNo}
-use Rattle.format.specs.Plain.{membersOf, indexOf}
-use Rattle.format.specs.Calls.{Answer, answer, Sought, setRow, recordRow, occurrenceRow, roomRow, soughtValue, Filled, filled, Part, noPart, partIn, Viewed, viewed}
-use Rattle.format.specs.Pieces.{pieces}
-use Rattle.records.specs.Walk.{readOf}
+use Rattle.format.specs.Pieces.{readOf}
+use Rattle.format.specs.Sets.{valuesOf, groups, RecSet, setsOf}
+use Rattle.format.specs.Questions.{firstNo, nameOf}
+use Rattle.format.specs.Plain.{Sought, soughtMembers, soughtRecord, foundRows}
+use Rattle.format.specs.Calls.{Answer, answer, soughtSet, Filled, filled, soughtField, soughtOrder, Viewed, viewedAt, soughtRow}
 use Rattle.fetching.specs.declared.Counted.{Counted}
 use Rattle.fetching.specs.declared.Fetched.{Fetched}
 use Rattle.fetching.specs.declared.Seen.{Seen}
@@ -23,8 +22,8 @@ fetchedAnswer (Fetched.Refused k) = Answer.refusal k
 
 -- a view as a place of the text
 abbrev pub seenAnswer : Bytes → Seen → Viewed
-seenAnswer s (Seen.At a e) = record { number = 0; part = record { start = a; bytes = take (e - a) (drop a s) } }
-seenAnswer s (Seen.Refused k) = record { number = k; part = noPart }
+seenAnswer s (Seen.At a e) = record { result = Answer.value a; part = take (e - a) (drop a s) }
+seenAnswer s (Seen.Refused k) = record { result = Answer.refusal k; part = [] }
 
 -- a view lies in the text
 abbrev pub SeenInside : Bytes → Seen → Type 0
@@ -32,24 +31,17 @@ SeenInside b (Seen.At a e) = (a ≤ e) × (e ≤ length b)
 SeenInside b (Seen.Refused k) = Unit {0}
 
 -- the sets of a text
-abbrev pub partsIn : Bytes → List RecSet
-partsIn s = setsOf (readOf s)
-
--- what a lookup in a readable text answers
-
-abbrev pub soughtSet : Bytes → Bytes → Sought
-soughtSet s n = record { parts = partsIn s; set = n; row = 0; name = []; occurrence = 0; room = 0 }
+abbrev pub setsFrom : Bytes → List RecSet
+setsFrom s = setsOf (readOf s)
 
 unfoldable pub countIn : Bytes → Bytes → Answer
-countIn s n = answer (firstNo (setRow ∷ []) (soughtSet s n)) (length (membersOf n (partsIn s)))
-
-abbrev pub soughtField : Bytes → Bytes → ℕ → Bytes → ℕ → ℕ → Sought
-soughtField s n row m o room = record { parts = partsIn s; set = n; row = row; name = m; occurrence = o; room = room }
+countIn s n = let q : Sought = soughtSet (setsFrom s) n in answer (firstNo foundRows q) (length (soughtMembers q))
 
 unfoldable pub fetchIn : Bytes → Bytes → ℕ → Bytes → ℕ → Bytes → Filled
-fetchIn s n row m o out =
-    let q : Sought = soughtField s n row m o (length out) in
-    filled (firstNo (setRow ∷ recordRow ∷ occurrenceRow ∷ roomRow ∷ []) q) (soughtValue q) out
+fetchIn s n row m o out = let q : Sought = soughtField (setsFrom s) n row m o in filled (firstNo foundRows q) (getD (valuesOf m (soughtRecord q)) o []) out
 
 unfoldable pub viewIn : Bytes → Bytes → ℕ → Viewed
-viewIn s n row = viewed (firstNo (setRow ∷ recordRow ∷ []) (soughtField s n row [] 0 0)) (partIn (partsIn s) (pieces s) row (indexOf n (partsIn s)))
+viewIn s n row = let q : Sought = soughtRow (setsFrom s) n row in viewedAt (firstNo foundRows q) (groups (readOf s)) (q .set) row
+
+unfoldable pub nameIn : Bytes → ℕ → Bytes → Filled
+nameIn s k out = filled (firstNo foundRows (soughtOrder (setsFrom s) k)) (getD (map nameOf (setsFrom s)) k []) out

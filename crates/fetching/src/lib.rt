@@ -1,17 +1,18 @@
 // Count, fetch, view and the sets' names in a text that is known to be readable.
 ghost use mathlib.Core.Path.{_≡_};
 ghost use mathlib.Core.Bool.{true};
+ghost use Rattle.format.specs.Lists.{front};
 ghost use Rattle.format.specs.Bytes.{classTable, text};
 ghost use Prim.Native.Nat.{_≤_};
 ghost use lib.ListN.{length, drop};
 ghost use Rattle.format.specs.Sets.{valuesOf};
-ghost use Rattle.format.specs.Words.{notGap, front};
+ghost use Rattle.format.specs.Words.{notGap};
 ghost use Rattle.format.specs.Calls.{over};
 ghost use Rattle.lines.specs.Value.{valueFrom};
 ghost use Rattle.records.specs.Places.{isReadable, placesOf};
 ghost use Rattle.records.specs.Walk.{recordIn};
-ghost use Rattle.fetching.specs.Answers.{countedAnswer, fetchedAnswer, seenAnswer, SeenInside, countIn, fetchIn, viewIn};
-ghost use Rattle.fetching.specs.Names.{descriptorAt, titled, nameIn};
+ghost use Rattle.fetching.specs.Answers.{countedAnswer, fetchedAnswer, seenAnswer, SeenInside, countIn, fetchIn, viewIn, nameIn};
+ghost use Rattle.fetching.specs.Names.{descriptorAt, titled};
 use lines::Decoded;
 use records::FoundField;
 use records::FoundRecord;

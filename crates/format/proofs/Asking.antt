@@ -12,9 +12,10 @@ use Rattle.format.specs.Limits.{fileBytes}
 use Rattle.format.specs.Numbers.{Bounds, intBounds}
 use Rattle.format.specs.Questions.{Row, firstNo, fileOf, questions, verdictIn, verdict}
 use Rattle.format.specs.Requests.{Request, requestOf}
-use Rattle.format.specs.Plain.{Plain, size, apply, Asked, editQuestions, Step, stepBy, stepOf, step}
+use Rattle.format.specs.Plain.{Plain, lengthOf, apply, Asked, editQuestions, Step, stepBy, stepOf, step}
 use Rattle.format.proofs.Elements.{Each}
-use Rattle.format.proofs.Requested.{HasPairs, request-pairs}
+use Rattle.format.proofs.Grouping.{HasPairs}
+use Rattle.format.proofs.Requested.{request-pairs}
 use Rattle.format.proofs.Applying.{Granted}
 
 abbrev pub Yes : {A : Type 0} → A → Row A → Type 0
@@ -49,13 +50,20 @@ pub yes-verdict : (buffer : Bytes) (used : ℕ) → Each (Yes (fileOf buffer use
 unfolding verdict verdictIn
 yes-verdict buffer used h = yes-first (questions intBounds) (fileOf buffer used) h
 
--- an edit's questions, 21 to 25 among them
-pub yes-granted : (b : Bounds) (a : Asked) → Each (Yes a) (editQuestions b) → Granted a
-yes-granted b a y = record { set = y .0; row = y .1 .0; occurrence = y .1 .1 .0; left = y .1 .1 .1 .0; legal = y .1 .1 .1 .1 .0 }
-
 -- what is asked of a request
 abbrev pub asked : ℕ → Plain → Request → Asked
-asked room p q = record { room = room; file = p; request = q; result = apply q p }
+asked room p q = record { room = room; file = p; formed = true; request = q; result = apply q p }
+
+-- an edit's questions by name: 21 to 25, 26, and those of the result
+module _ (b : Bounds) (a : Asked) (y : Each (Yes a) (editQuestions b)) where
+  pub yes-granted : Granted a
+  yes-granted = let f = y .1 in record { found = (f .0, (f .1 .0, (f .1 .1 .0, tt))); left = f .1 .1 .1 .0; legal = f .1 .1 .1 .1 .0 }
+
+  pub yes-fits : (lengthOf (a .result) ≤ a .room) × (lengthOf (a .result) ≤ fileBytes)
+  yes-fits =
+      let n : ℕ = lengthOf (a .result) in
+      let k = and-eq-true-iff (leb n (a .room)) (leb n fileBytes) .0 (y .1 .1 .1 .1 .1 .1 .0) in
+      (leb-true n (a .room) (k .0), leb-true n fileBytes (k .1))
 
 -- an accepted request has the form of one, all its questions say yes, and the plain file is what it makes of it
 pub record Accepted (room : ℕ) (p : Plain) (request : Bytes) (file : Plain) : Type 0 where
@@ -67,11 +75,8 @@ pub record Accepted (room : ℕ) (p : Plain) (request : Bytes) (file : Plain) : 
 pub accepted-pairs : (room : ℕ) (p : Plain) (request : Bytes) (file : Plain) (a : Accepted room p request file) → HasPairs (a .asks .edit)
 accepted-pairs room p request file a = request-pairs request (a .asks) (a .reads)
 
-pub accepted-fits : (room : ℕ) (p : Plain) (request : Bytes) (file : Plain) → Accepted room p request file → size file ≤ room
-accepted-fits room p request file a =
-    let r : Plain = apply (a .asks) p in
-    let k = and-eq-true-iff (leb (size r) room) (leb (size r) fileBytes) .0 (a .yes .1 .1 .1 .1 .1 .0) in
-    subst (λ (x : Plain). size x ≤ room) (sym (a .makes)) (leb-true (size r) room (k .0))
+pub accepted-fits : (room : ℕ) (p : Plain) (request : Bytes) (file : Plain) → Accepted room p request file → lengthOf file ≤ room
+accepted-fits room p request file a = subst (λ (x : Plain). lengthOf x ≤ room) (sym (a .makes)) (yes-fits intBounds (asked room p (a .asks)) (a .yes) .0)
 
 abbrev Answered : ℕ → Plain → Bytes → Step → Type 0
 Answered room p request s = (s .number ≡ 0 → Accepted room p request (s .file)) × ((k : ℕ) → s .number ≡ suc k → s .file ≡ p)

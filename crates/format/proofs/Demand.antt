@@ -1,4 +1,4 @@
--- Demand 3, over every buffer whose file passes and every list of requests of any bytes: the list does to the buffer what it does to the plain file.
+-- Demand 3, over every buffer whose file passes and every list of calls with requests of any bytes: the list does to the buffer what it does to the plain file.
 use Prim.Native.Nat.{ℕ, zero, suc, _+_, _-_, max}
 use native.Mathlib.Omega.{arith}
 use mathlib.Core.Path.{_≡_, refl, sym, ap, _∙_, subst}
@@ -9,106 +9,136 @@ use lib.Dec.{eqb}
 use lib.ListN.{length, take, drop, replicate}
 use borrow.Author.Tests.{eqb-true, eqb-false}
 use Rattle.format.specs.Bytes.{Bytes, pick, same}
-use Rattle.format.specs.Pieces.{Piece, bytesOf, pieces}
+use Rattle.format.specs.Lists.{onward}
+use Rattle.format.specs.Pieces.{Piece, bytesOf, pieces, readOf}
 use Rattle.format.specs.Sets.{RecSet}
 use Rattle.format.specs.Numbers.{intBounds}
 use Rattle.format.specs.Edits.{Edit}
 use Rattle.format.specs.Questions.{nameOf, verdict}
 use Rattle.format.specs.Requests.{Request, requestOf}
-use Rattle.format.specs.Plain.{Plain, plainOf, size, indexBy, indexOf, apply, Asked, Step, step}
-use Rattle.format.specs.Calls.{Edited, editAnswer}
-use Rattle.format.specs.Runs.{Told, run, plainRun}
-use Rattle.format.specs.Demand.{inserts, deletes, recordsHeld, ifAccepted, ofSet, asksOf, tally, Demand}
+use Rattle.format.specs.Plain.{Plain, plainOf, lengthOf, indexOf, apply, membersAt, Asked, Step, step}
+use Rattle.format.specs.Calls.{numberIn, valueOr, Filled}
+use Rattle.format.specs.Runs.{Call, callAnswer, callStep, Told, Ran, run, PlainRan, plainRun}
+use Rattle.format.specs.Origins.{ifAccepted}
+use Rattle.format.specs.Demand.{inserted, deleted, ifSet, toSet, tally, Demand}
 use Rattle.format.proofs.Describing.{apply-names}
 use Rattle.format.proofs.Applying.{Agrees, Granted, granted-set}
 use Rattle.format.proofs.Asking.{yes-granted, asked, Accepted, step-accepted, step-refused}
-use Rattle.format.proofs.Passing.{holds-agrees, holds-start}
+use Rattle.format.proofs.Passing.{verdict-read, holds-agrees, holds-start}
 use Rattle.format.proofs.Tallying.{apply-number, apply-others}
-use Rattle.format.proofs.Running.{Stands, stands-start, stands-room, stands-size, edit-stands, answer-number}
+use Rattle.format.proofs.Running.{Stands, stands-start, stands-room, stands-length, call-stands, call-told}
+use Rattle.format.proofs.Origins.{list-stays}
 
 -- the names of sets stay, and a set is found by its name
 
 abbrev indexIn : Bytes → List Bytes → Option ℕ
 indexIn n [] = none
-indexIn n (m ∷ ms) = indexBy (same n m) (indexIn n ms)
+indexIn n (m ∷ ms) = pick (same n m) (some zero) (onward (λ (i : ℕ). some (suc i)) (indexIn n ms))
 
 index-names : (n : Bytes) (ss : List RecSet) → indexOf n ss ≡ indexIn n (map nameOf ss)
 index-names n [] = refl
-index-names n (s ∷ ss) = ap (indexBy (same n (s .name))) (index-names n ss)
+index-names n (s ∷ ss) = ap (λ (x : Option ℕ). pick (same n (s .name)) (some zero) (onward (λ (i : ℕ). some (suc i)) x)) (index-names n ss)
 
-asks-names : (f : Edit → ℕ) (ss ts : List RecSet) (i : ℕ) (x : Option Request) → map nameOf ss ≡ map nameOf ts → asksOf f ss i x ≡ asksOf f ts i x
-asks-names f ss ts i none e = refl
-asks-names f ss ts i (some q) e = ap (λ (k : Option ℕ). ofSet i k (f (q .edit))) (index-names (q .set) ss ∙ ap (indexIn (q .set)) e ∙ sym (index-names (q .set) ts))
+to-names : (f : Edit → ℕ) (ss ts : List RecSet) (i : ℕ) (x : Option Request) → map nameOf ss ≡ map nameOf ts → toSet f ss i x ≡ toSet f ts i x
+to-names f ss ts i none e = refl
+to-names f ss ts i (some q) e = ap (λ (k : Option ℕ). ifSet i k (f (q .edit))) (index-names (q .set) ss ∙ ap (indexIn (q .set)) e ∙ sym (index-names (q .set) ts))
 
-tally-names : (f : Edit → ℕ) (ss ts : List RecSet) (i : ℕ) (qs : List Bytes) (os : List Told) → map nameOf ss ≡ map nameOf ts → tally f ss i qs os ≡ tally f ts i qs os
+tally-names : (f : Edit → ℕ) (ss ts : List RecSet) (i : ℕ) (cs : List Call) (os : List Told) → map nameOf ss ≡ map nameOf ts → tally f ss i cs os ≡ tally f ts i cs os
 tally-names f ss ts i [] os e = refl
-tally-names f ss ts i (q ∷ qs) [] e = refl
-tally-names f ss ts i (q ∷ qs) (o ∷ os) e = λ j. ifAccepted (o .number) (asks-names f ss ts i (requestOf q) e j) + tally-names f ss ts i qs os e j
+tally-names f ss ts i (c ∷ cs) [] e = refl
+tally-names f ss ts i (Call.edit q ∷ cs) (o ∷ os) e = λ j. ifAccepted (o .number) (to-names f ss ts i (requestOf q) e j) 0 + tally-names f ss ts i cs os e j
 
--- one step
+-- one call
 
-step-names : (room : ℕ) (p : Plain) (q : Bytes) (n : ℕ) → step room p q .number ≡ n → map nameOf (step room p q .file .parts) ≡ map nameOf (p .parts)
-step-names room p q zero e = let a = step-accepted room p q e in ap (λ (x : Plain). map nameOf (x .parts)) (a .makes) ∙ apply-names (a .asks) p
-step-names room p q (suc k) e = ap (λ (x : Plain). map nameOf (x .parts)) (step-refused room p q k e)
+abbrev held : ℕ → Plain → ℕ
+held i p = length (membersAt i (p .sets))
 
-number-at : (a : Asked) → Granted a → Agrees (a .file) → (k : ℕ) → indexOf (a .request .set) (a .file .parts) ≡ some k → (i : ℕ) (b : Bool) → eqb k i ≡ b → recordsHeld i (apply (a .request) (a .file)) + pick b (deletes (a .request .edit)) 0 ≡ recordsHeld i (a .file) + pick b (inserts (a .request .edit)) 0
+step-names : (room : ℕ) (p : Plain) (q : Bytes) (n : ℕ) → step room p q .number ≡ n → map nameOf (step room p q .file .sets) ≡ map nameOf (p .sets)
+step-names room p q zero e = let a = step-accepted room p q e in ap (λ (x : Plain). map nameOf (x .sets)) (a .makes) ∙ apply-names (a .asks) p
+step-names room p q (suc k) e = ap (λ (x : Plain). map nameOf (x .sets)) (step-refused room p q k e)
+
+call-names : (room : ℕ) (p : Plain) (c : Call) → map nameOf (callStep room p c .file .sets) ≡ map nameOf (p .sets)
+call-names room p (Call.edit q) = step-names room p q (step room p q .number) refl
+
+number-at : (a : Asked) → Granted a → Agrees (a .file) → (k : ℕ) → indexOf (a .request .set) (a .file .sets) ≡ some k → (i : ℕ) (b : Bool) → eqb k i ≡ b → held i (apply (a .request) (a .file)) + pick b (deleted (a .request .edit)) 0 ≡ held i (a .file) + pick b (inserted (a .request .edit)) 0
 number-at a g s k e i true h =
-    subst (λ (x : ℕ). recordsHeld x (apply (a .request) (a .file)) + deletes (a .request .edit) ≡ recordsHeld x (a .file) + inserts (a .request .edit)) (eqb-true k i h) (apply-number a g s k e)
+    subst (λ (x : ℕ). held x (apply (a .request) (a .file)) + deleted (a .request .edit) ≡ held x (a .file) + inserted (a .request .edit)) (eqb-true k i h) (apply-number a g s k e)
 number-at a g s k e i false h = ap (λ ms. length ms + 0) (apply-others (a .request) (a .file) k e i (eqb-false k i h))
 
-accepted-number : (room : ℕ) (p : Plain) (q : Bytes) (p′ : Plain) → Agrees p → Accepted room p q p′ → (i : ℕ) → recordsHeld i p′ + asksOf deletes (p .parts) i (requestOf q) ≡ recordsHeld i p + asksOf inserts (p .parts) i (requestOf q)
+accepted-number : (room : ℕ) (p : Plain) (q : Bytes) (p′ : Plain) → Agrees p → Accepted room p q p′ → (i : ℕ) → held i p′ + toSet deleted (p .sets) i (requestOf q) ≡ held i p + toSet inserted (p .sets) i (requestOf q)
 accepted-number room p q p′ s a i =
     let c : Asked = asked room p (a .asks) in
     let g = yes-granted intBounds c (a .yes) in
     let k : ℕ = granted-set c g .0 in
     let e = granted-set c g .1 in
-    let o : (f : Edit → ℕ) → asksOf f (p .parts) i (requestOf q) ≡ pick (eqb k i) (f (a .asks .edit)) 0 = λ f. ap (asksOf f (p .parts) i) (a .reads) ∙ ap (λ (x : Option ℕ). ofSet i x (f (a .asks .edit))) e in
-    omega (arith, ap (recordsHeld i) (a .makes), o deletes, o inserts, number-at c g s k e i (eqb k i) refl)
+    let o : (f : Edit → ℕ) → toSet f (p .sets) i (requestOf q) ≡ pick (eqb k i) (f (a .asks .edit)) 0 = λ f. ap (toSet f (p .sets) i) (a .reads) ∙ ap (λ (x : Option ℕ). ifSet i x (f (a .asks .edit))) e in
+    omega (arith, ap (held i) (a .makes), o deleted, o inserted, number-at c g s k e i (eqb k i) refl)
 
-step-number : (room : ℕ) (p : Plain) (q : Bytes) (n : ℕ) → Agrees p → step room p q .number ≡ n → (i : ℕ) → recordsHeld i (step room p q .file) + ifAccepted n (asksOf deletes (p .parts) i (requestOf q)) ≡ recordsHeld i p + ifAccepted n (asksOf inserts (p .parts) i (requestOf q))
+step-number : (room : ℕ) (p : Plain) (q : Bytes) (n : ℕ) → Agrees p → step room p q .number ≡ n → (i : ℕ) → held i (step room p q .file) + ifAccepted n (toSet deleted (p .sets) i (requestOf q)) 0 ≡ held i p + ifAccepted n (toSet inserted (p .sets) i (requestOf q)) 0
 step-number room p q zero s e i = accepted-number room p q (step room p q .file) s (step-accepted room p q e) i
-step-number room p q (suc k) s e i = ap (λ (x : Plain). recordsHeld i x + 0) (step-refused room p q k e)
+step-number room p q (suc k) s e i = ap (λ (x : Plain). held i x + 0) (step-refused room p q k e)
 
--- the list
-run-demand : (start : Bytes) (qs : List Bytes) (most : ℕ) (buffer : Bytes) (used : ℕ) (p : Plain) → Stands start most buffer used p → Demand start p qs (run qs buffer used) (plainRun (length start) qs p most)
+-- the first of a list
+call-tally : (room : ℕ) (p : Plain) (c : Call) (cs : List Call) (n l : ℕ) (ts : List Told) → Agrees p → callStep room p c .number ≡ n → (i m : ℕ)
+    → m + tally deleted (callStep room p c .file .sets) i cs ts ≡ held i (callStep room p c .file) + tally inserted (callStep room p c .file .sets) i cs ts
+    → m + tally deleted (p .sets) i (c ∷ cs) (record { number = n; length = l } ∷ ts) ≡ held i p + tally inserted (p .sets) i (c ∷ cs) (record { number = n; length = l } ∷ ts)
+call-tally room p (Call.edit q) cs n l ts a e i m h =
+    let same-tally : (f : Edit → ℕ) → tally f (step room p q .file .sets) i cs ts ≡ tally f (p .sets) i cs ts = λ f. tally-names f (step room p q .file .sets) (p .sets) i cs ts (call-names room p (Call.edit q)) in
+    omega (arith, h, same-tally deleted, same-tally inserted, step-number room p q n a e i)
+
+-- what a list leaves, from any state on the way
+record Leaves (start : Bytes) (p : Plain) (cs : List Call) (r : Ran) (l : PlainRan) : Type 0 where
+  told : r .told ≡ l .told
+  counts : (i : ℕ) → held i (l .file) + tally deleted (p .sets) i cs (r .told) ≡ held i p + tally inserted (p .sets) i cs (r .told)
+  stands : Stands start (l .most) (r .buffer) (r .length) (l .file)
+
+run-leaves : (start : Bytes) (cs : List Call) (most : ℕ) (buffer : Bytes) (used : ℕ) (p : Plain) → Stands start most buffer used p → Leaves start p cs (run cs buffer used) (plainRun (length start) cs p most)
 unfolding run plainRun
-run-demand start [] most buffer used p st =
+run-leaves start [] most buffer used p st = record { told = refl; counts = λ i. refl; stands = st }
+run-leaves start (c ∷ cs) most buffer used p st =
+    let s : Step = callStep (length start) p c in
+    let a : Filled = callAnswer c buffer used in
+    let n : ℕ = valueOr used (a .result) in
+    let m : ℕ = max most (lengthOf (s .file)) in
+    let next : Stands start m (a .out) n (s .file) = call-stands start most buffer used p st c in
+    let d = run-leaves start cs m (a .out) n (s .file) next in
+    let number : numberIn (a .result) ≡ s .number = call-told start most buffer used p st c in
+    let sized : n ≡ lengthOf (s .file) = stands-length start m (a .out) n (s .file) next in
     record {
-      told = refl;
-      room = stands-room start most buffer used p st;
-      length = stands-size start most buffer used p st;
-      bytes = st .bytes ∙ ap (λ (n : ℕ). bytesOf (p .pieces) ++ (replicate (most - n) 0 ++ drop most start)) (sym (st .uses) ∙ stands-size start most buffer used p st);
+      told = λ i. record { number = number i; length = sized i } ∷ d .told i;
+      counts = λ i. call-tally (length start) p c cs (numberIn (a .result)) n (run cs (a .out) n .told) (holds-agrees buffer used p (st .holds)) (sym number) i (held i (plainRun (length start) cs (s .file) m .file)) (d .counts i);
+      stands = d .stands;
+    }
+
+leaves-demand : (start : Bytes) (used : ℕ) (p : Plain) (cs : List Call) (r : Ran) → pieces (take used start) ≡ some (p .pieces) → Leaves start p cs r (plainRun (length start) cs p used) → Demand start used p cs r (plainRun (length start) cs p used)
+leaves-demand start used p cs r e l =
+    let x : PlainRan = plainRun (length start) cs p used in
+    let st = l .stands in
+    let sized = stands-length start (x .most) (r .buffer) (r .length) (x .file) st in
+    record {
+      starts = e;
+      told = l .told;
+      room = stands-room start (x .most) (r .buffer) (r .length) (x .file) st;
+      bytes = st .bytes ∙ ap (λ (n : ℕ). bytesOf (x .file .pieces) ++ (replicate (x .most - n) 0 ++ drop (x .most) start)) (sym (st .uses) ∙ sized);
       passes = st .holds .passes;
       reads = st .holds .reads;
       plain = st .holds .plain;
-      counts = λ i. refl;
-    }
-run-demand start (q ∷ qs) most buffer used p st =
-    let s : Step = step (length start) p q in
-    let e : Edited = editAnswer buffer used q in
-    let m : ℕ = max most (size (s .file)) in
-    let next : Stands start m (e .buffer) (e .length) (s .file) = edit-stands start most buffer used p st q in
-    let d = run-demand start qs m (e .buffer) (e .length) (s .file) next in
-    let number : e .number ≡ s .number = answer-number start most buffer used p st q in
-    let sized : e .length ≡ size (s .file) = stands-size start m (e .buffer) (e .length) (s .file) next in
-    let same-tally : (f : Edit → ℕ) (i : ℕ) → tally f (s .file .parts) i qs (run qs (e .buffer) (e .length) .told) ≡ tally f (p .parts) i qs (run qs (e .buffer) (e .length) .told) = λ f i. tally-names f (s .file .parts) (p .parts) i qs (run qs (e .buffer) (e .length) .told) (step-names (length start) p q (s .number) refl) in
-    record {
-      told = λ i. record { number = number i; length = sized i } ∷ d .told i;
-      room = d .room;
-      length = d .length;
-      bytes = d .bytes;
-      passes = d .passes;
-      reads = d .reads;
-      plain = d .plain;
-      counts = λ i. omega (arith, d .counts i, same-tally deletes i, same-tally inserts i, step-number (length start) p q (e .number) (holds-agrees buffer used p (st .holds)) (sym number) i);
+      stays = list-stays (length start) cs p used;
+      counts = l .counts;
+      length = sized;
     }
 
--- A file that passes, and any list of requests.
-pub edits-meet-demand : (buffer : Bytes) (used : ℕ) (ps : List Piece) (requests : List Bytes) → verdict buffer used ≡ 0 → pieces (take used buffer) ≡ some ps → Demand buffer (plainOf ps) requests (run requests buffer used) (plainRun (length buffer) requests (plainOf ps) used)
-edits-meet-demand buffer used ps requests v r = run-demand buffer requests used buffer used (plainOf ps) (stands-start buffer used (plainOf ps) (holds-start buffer used ps v r))
+-- A file that passes, and any list of calls.
+pub calls-meet-demand : (buffer : Bytes) (used : ℕ) (calls : List Call) → verdict buffer used ≡ 0
+    → let first : Plain = plainOf (readOf (take used buffer)) in Demand buffer used first calls (run calls buffer used) (plainRun (length buffer) calls first used)
+unfolding plainOf
+calls-meet-demand buffer used calls v =
+    let ps : List Piece = readOf (take used buffer) in
+    let r : pieces (take used buffer) ≡ some ps = verdict-read buffer used v in
+    leaves-demand buffer used (plainOf ps) calls (run calls buffer used) r (run-leaves buffer calls used buffer used (plainOf ps) (stands-start buffer used (plainOf ps) (holds-start buffer used ps v r)))
 
--- each request has its number and length in what is told
-pub run-told : (qs : List Bytes) (buffer : Bytes) (used : ℕ) → length (run qs buffer used .told) ≡ length qs
+-- each call has its number and length in what is told
+pub run-told : (cs : List Call) (buffer : Bytes) (used : ℕ) → length (run cs buffer used .told) ≡ length cs
 unfolding run
 run-told [] buffer used = refl
-run-told (q ∷ qs) buffer used = let e : Edited = editAnswer buffer used q in ap suc (run-told qs (e .buffer) (e .length))
+run-told (c ∷ cs) buffer used = let a : Filled = callAnswer c buffer used in ap suc (run-told cs (a .out) (valueOr used (a .result)))

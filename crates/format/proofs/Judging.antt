@@ -1,22 +1,22 @@
 -- The questions as a walk asks them: of the bytes, of the sets, of each set, of each record.
-use Prim.Native.Nat.{ℕ, zero, suc}
+use Prim.Native.Nat.{ℕ}
 use native.Mathlib.Omega.{arith}
-use mathlib.Core.Path.{_≡_, refl, sym, ap, _∙_}
-use mathlib.Core.Bool.{Bool, true, false, _&&_}
+use mathlib.Core.Path.{_≡_, refl, ap, _∙_}
+use mathlib.Core.Bool.{_&&_}
 use mathlib.Core.List.{List, [], _∷_, _++_, map}
 use mathlib.Core.Option.{Option, none, some}
 use lib.Dec.{leb, eqb}
 use lib.ListN.{length, take}
 use Rattle.format.specs.Bytes.{Bytes, pick, isAllowed, all, isSome}
 use Rattle.format.specs.Lines.{isEnded}
-use Rattle.format.specs.Pieces.{Piece, pieces}
+use Rattle.format.specs.Pieces.{Piece, pieces, someOf}
 use Rattle.format.specs.Records.{Record}
 use Rattle.format.specs.Sets.{RecSet, setsOf}
 use Rattle.format.specs.Limits.{fileBytes}
 use Rattle.format.specs.Numbers.{Bounds, intBounds}
 use Rattle.format.specs.Rules.{distinct}
-use Rattle.format.specs.Questions.{Row, firstNo, askOf, File, setsIn, fileOf, noneProhibited, allAllowed, allPresent, noneRepeated, allTyped, keysOf, sizeMet, limitRows, descriptorRows, ruleRows, questions, verdictIn, verdict}
-use Rattle.format.proofs.Least.{leasts, eachOf, Rise, first-leasts, first-append}
+use Rattle.format.specs.Questions.{Row, firstNo, askOf, File, fileOf, noneProhibited, allAllowed, allPresent, noneRepeated, allTyped, keysOf, sizeMet, limitRows, descriptorRows, ruleRows, verdictIn, verdict}
+use Rattle.format.proofs.Least.{leasts, Rise, first-leasts, first-append}
 
 -- questions 4 to 14, of the sets
 abbrev pub setQuestions : Bounds → List (Row (List RecSet))
@@ -31,7 +31,7 @@ abbrev pub readNo : Option (List Piece) → ℕ
 readNo none = 3
 readNo (some ps) = firstNo (setQuestions intBounds) (setsOf ps)
 
-read-no : (x : Option (List Piece)) → pick (isSome x) (firstNo (setQuestions intBounds) (setsIn x)) 3 ≡ readNo x
+read-no : (x : Option (List Piece)) → pick (isSome x) (firstNo (setQuestions intBounds) (setsOf (someOf x))) 3 ≡ readNo x
 read-no none = refl
 read-no (some ps) = refl
 
@@ -45,7 +45,7 @@ unfolding verdict verdictIn fileOf textNo
 verdict-text buffer used =
     let s : Bytes = take used buffer in
     let f : File = fileOf buffer used in
-    let e : firstNo (askOf (λ (g : File). g .parts) (setQuestions intBounds)) f ≡ firstNo (setQuestions intBounds) (setsIn (pieces s)) = first-ask (λ (g : File). g .parts) (setQuestions intBounds) f in
+    let e : firstNo (askOf (λ (g : File). g .sets) (setQuestions intBounds)) f ≡ firstNo (setQuestions intBounds) (setsOf (someOf (pieces s))) = first-ask (λ (g : File). g .sets) (setQuestions intBounds) f in
     ap (λ (n : ℕ). pick (leb used (length buffer) && leb used fileBytes) (pick (all isAllowed s && isEnded s) (pick (isSome (pieces s)) n 3) 2) 1) e
     ∙ ap (λ (n : ℕ). pick (leb used (length buffer) && leb used fileBytes) (pick (all isAllowed s && isEnded s) n 2) 1) (read-no (pieces s))
 

@@ -1,22 +1,69 @@
--- What a legal edit keeps: sound pieces, allowed bytes, and whatever legal names have.
+-- What stays true of each piece under an edit: what the pieces have that it writes. Of a legal edit these are sound, and their bytes allowed.
+use Prim.Native.Nat.{ℕ}
 use mathlib.Core.Path.{_≡_, refl, sym, ap, _∙_}
-use mathlib.Core.Bool.{Bool, true, _&&_, and-eq-true-iff}
-use mathlib.Core.List.{List, [], _∷_}
-use Rattle.format.specs.Bytes.{Bytes, isAllowed, all}
+use mathlib.Core.Bool.{Bool, true, false, _&&_, and-eq-true-iff}
+use mathlib.Core.List.{List, [], _∷_, _++_, map}
+use lib.ListN.{getD}
+use Rattle.format.specs.Bytes.{Bytes, pick, isAllowed, all, any}
+use Rattle.format.specs.Lists.{flat, always, nth}
 use Rattle.format.specs.Lines.{bytes, isName}
 use Rattle.format.specs.Pieces.{Piece, linesOf, allLines, bytesOf}
+use Rattle.format.specs.Records.{Block, isField, isRecord}
+use Rattle.format.specs.Sets.{Group, groups, isMember}
 use Rattle.format.specs.Written.{Pair, newPiece, isLegalName, isLegalValue, isLegalPair}
-use Rattle.format.specs.Edits.{Change, Edit, changePiece}
-use Rattle.format.specs.Plain.{isLegalChange, isLegalEdit}
-use Rattle.format.proofs.Elements.{Each, each-imp, each-both, all-each, each-all}
+use Rattle.format.specs.Edits.{Change, Act, Edit, isOf, changePiece, unfielded, inBlock, newline, inGroup, inGroups, newlineIf, inFront, editPieces}
+use Rattle.format.specs.Plain.{isLegalEdit}
+use Rattle.format.proofs.Elements.{Each, each-append, each-map, each-imp, each-both, all-each, each-all}
+use Rattle.format.proofs.Lists.{each-on, each-behind, each-flat}
 use Rattle.format.proofs.Lines.{bytes-append, all-append}
 use Rattle.format.proofs.Whole.{Sound, newline-sound}
 use Rattle.format.proofs.Names.{name-allowed}
 use Rattle.format.proofs.Writing.{written-bytes, written-sound, allowed-written}
 use Rattle.format.proofs.Renaming.{sound-name, sound-rename, allowed-rename}
 use Rattle.format.proofs.Legal.{legal-name, legal-is-name, legal-joins, legal-allowed, legal-sound, written-allowed}
-use Rattle.format.proofs.Editing.{Keeps}
 use Rattle.format.proofs.Named.{NewNames}
+use Rattle.format.proofs.Grouping.{fresh}
+use Rattle.format.proofs.Regrouping.{groups-each}
+
+-- the pieces that an edit writes have it
+abbrev pub Keeps : (Piece → Type 0) → Edit → Type 0
+Keeps P (Edit.insert new) = P newline × Each (λ (p : Pair). P (newPiece p)) new
+Keeps P (Edit.on j Act.delete) = Unit {0}
+Keeps P (Edit.on j (Act.add p)) = P (newPiece p)
+Keeps P (Edit.on j (Act.change n o c)) = (q : Piece) → P q → Each P (changePiece c q)
+
+module _ (P : Piece → Type 0) where
+  each-unfielded : (b : Block) → Each P b → Each P (unfielded b)
+  each-unfielded [] h = tt
+  each-unfielded (Piece.blank l ∷ b) h = (h .0, each-unfielded b (h .1))
+  each-unfielded (Piece.comment l ∷ b) h = (h .0, each-unfielded b (h .1))
+  each-unfielded (Piece.field n v ls ∷ b) h = each-unfielded b (h .1)
+
+  each-block : (j : ℕ) (a : Act) → Keeps P (Edit.on j a) → (b : Block) → Each P b → Each P (inBlock a b)
+  each-block j Act.delete k b h = each-unfielded b h
+  each-block j (Act.add p) k b h = each-behind P isField (newPiece p) k b h
+  each-block j (Act.change n o c) k b h = each-on P (isOf n) (changePiece c) (λ q x e. k q x) b h o
+
+  each-group : (e : Edit) → Keeps P e → (g : Group) → Each (Each P) g → Each (Each P) (inGroup e g)
+  each-group (Edit.insert new) k g h = each-behind (Each P) isRecord (fresh new) (k .0, each-map P newPiece new (k .1)) g h
+  each-group (Edit.on j a) k g h = each-on (Each P) isMember (λ (b : Block). inBlock a b ∷ []) (λ b x e. (each-block j a k b x, tt)) g h j
+
+  each-groups : (i : ℕ) (e : Edit) → Keeps P e → (ps : List Piece) → Each P ps → Each P (inGroups i e ps)
+  each-groups i e k ps h =
+      let gs : List Group = nth i (inGroup e) (groups ps) in
+      each-flat P (flat gs) (each-flat (Each P) gs (each-on (Each (Each P)) always (λ (g : Group). inGroup e g ∷ []) (λ g y t. (each-group e k g y, tt)) (groups ps) (groups-each P ps h) i))
+
+  each-newline : P newline → (ps : List Piece) → Each P ps → Each P (newlineIf ps ++ ps)
+  each-newline x [] h = tt
+  each-newline x (p ∷ ps) h = (x, h)
+
+  pub edit-all : (i : ℕ) (e : Edit) → Keeps P e → (ps : List Piece) → Each P ps → Each P (editPieces i e ps)
+  edit-all i (Edit.insert new) k ps h = go (any isRecord (getD (groups ps) i []))
+    where
+      go : (t : Bool) → Each P (pick t (inGroups i (Edit.insert new) ps) (inFront new ps))
+      go true = each-groups i (Edit.insert new) k ps h
+      go false = each-append P (map newPiece new) (newlineIf ps ++ ps) (each-map P newPiece new (k .1)) (each-newline (k .0) ps h)
+  edit-all i (Edit.on j a) k ps h = each-groups i (Edit.on j a) k ps h
 
 -- of each pair of a legal insert
 legal-pairs : (P : Pair → Type 0) → ((p : Pair) → isLegalPair p ≡ true → P p) → (ps : List Pair) → all isLegalPair ps ≡ true → Each P ps
@@ -25,25 +72,25 @@ legal-pairs P f ps e = each-imp (λ (p : Pair). isLegalPair p ≡ true) P f ps (
 -- the new names of a legal edit are legal
 pub legal-names : (P : Bytes → Type 0) → ((n : Bytes) → isLegalName n ≡ true → P n) → (e : Edit) → isLegalEdit e ≡ true → NewNames P e
 legal-names P f (Edit.insert ps) h = legal-pairs (λ (p : Pair). P (p .name)) (λ p x. f (p .name) (legal-name p x)) ps h
-legal-names P f Edit.delete h = tt
-legal-names P f (Edit.add p) h = f (p .name) (legal-name p h)
-legal-names P f (Edit.change n o (Change.value w)) h = tt
-legal-names P f (Edit.change n o Change.dropped) h = tt
-legal-names P f (Edit.change n o (Change.name m)) h = f m h
+legal-names P f (Edit.on j Act.delete) h = tt
+legal-names P f (Edit.on j (Act.add p)) h = f (p .name) (legal-name p h)
+legal-names P f (Edit.on j (Act.change n o (Change.value w))) h = tt
+legal-names P f (Edit.on j (Act.change n o Change.dropped)) h = tt
+legal-names P f (Edit.on j (Act.change n o (Change.name m))) h = f m h
 
 -- its pieces are sound
-change-sound : (c : Change) → isLegalChange c ≡ true → (q : Piece) → Sound q → Each Sound (changePiece c q)
-change-sound c h (Piece.blank l) s = (s, tt)
-change-sound c h (Piece.comment l) s = (s, tt)
-change-sound (Change.value w) h (Piece.field n v ls) s = (written-sound n w (sound-name n v ls s) (legal-joins w h), tt)
-change-sound Change.dropped h (Piece.field n v ls) s = tt
-change-sound (Change.name m) h (Piece.field n v ls) s = (sound-rename n v ls m (legal-is-name m h) s, tt)
+change-sound : (n : Bytes) (j o : ℕ) (c : Change) → isLegalEdit (Edit.on j (Act.change n o c)) ≡ true → (q : Piece) → Sound q → Each Sound (changePiece c q)
+change-sound n j o c h (Piece.blank l) s = (s, tt)
+change-sound n j o c h (Piece.comment l) s = (s, tt)
+change-sound n j o (Change.value w) h (Piece.field m v ls) s = (written-sound m w (sound-name m v ls s) (legal-joins w h), tt)
+change-sound n j o Change.dropped h (Piece.field m v ls) s = tt
+change-sound n j o (Change.name k) h (Piece.field m v ls) s = (sound-rename m v ls k (legal-is-name k h) s, tt)
 
 pub keeps-sound : (e : Edit) → isLegalEdit e ≡ true → Keeps Sound e
 keeps-sound (Edit.insert ps) h = (newline-sound, legal-pairs (λ (p : Pair). Sound (newPiece p)) legal-sound ps h)
-keeps-sound Edit.delete h = tt
-keeps-sound (Edit.add p) h = legal-sound p h
-keeps-sound (Edit.change n o c) h = change-sound c h
+keeps-sound (Edit.on j Act.delete) h = tt
+keeps-sound (Edit.on j (Act.add p)) h = legal-sound p h
+keeps-sound (Edit.on j (Act.change n o c)) h = change-sound n j o c h
 
 -- a sound piece of allowed bytes
 abbrev Allowed : Piece → Type 0
@@ -59,18 +106,18 @@ set-allowed : (n w : Bytes) → isName n ≡ true → isLegalValue w ≡ true �
 set-allowed n w a h =
     ap (all isAllowed) (written-bytes (record { name = n; value = w })) ∙ allowed-written n w ∙ and-eq-true-iff (all isAllowed n) (all isAllowed w) .1 (name-allowed n a, legal-allowed w h)
 
-change-proper : (c : Change) → isLegalChange c ≡ true → (q : Piece) → Proper q → Each Proper (changePiece c q)
-change-proper c h (Piece.blank l) s = (s, tt)
-change-proper c h (Piece.comment l) s = (s, tt)
-change-proper (Change.value w) h (Piece.field n v ls) s = ((change-sound (Change.value w) h (Piece.field n v ls) (s .0) .0, set-allowed n w (sound-name n v ls (s .0)) h), tt)
-change-proper Change.dropped h (Piece.field n v ls) s = tt
-change-proper (Change.name m) h (Piece.field n v ls) s = ((change-sound (Change.name m) h (Piece.field n v ls) (s .0) .0, allowed-rename n m ls (name-allowed m (legal-is-name m h)) (s .1)), tt)
+change-proper : (n : Bytes) (j o : ℕ) (c : Change) → isLegalEdit (Edit.on j (Act.change n o c)) ≡ true → (q : Piece) → Proper q → Each Proper (changePiece c q)
+change-proper n j o c h (Piece.blank l) s = (s, tt)
+change-proper n j o c h (Piece.comment l) s = (s, tt)
+change-proper n j o (Change.value w) h (Piece.field m v ls) s = ((change-sound n j o (Change.value w) h (Piece.field m v ls) (s .0) .0, set-allowed m w (sound-name m v ls (s .0)) h), tt)
+change-proper n j o Change.dropped h (Piece.field m v ls) s = tt
+change-proper n j o (Change.name k) h (Piece.field m v ls) s = ((change-sound n j o (Change.name k) h (Piece.field m v ls) (s .0) .0, allowed-rename m k ls (name-allowed k (legal-is-name k h)) (s .1)), tt)
 
-pub keeps-proper : (e : Edit) → isLegalEdit e ≡ true → Keeps Proper e
+keeps-proper : (e : Edit) → isLegalEdit e ≡ true → Keeps Proper e
 keeps-proper (Edit.insert ps) h = ((newline-sound, refl), legal-pairs (λ (p : Pair). Proper (newPiece p)) new-proper ps h)
-keeps-proper Edit.delete h = tt
-keeps-proper (Edit.add p) h = new-proper p h
-keeps-proper (Edit.change n o c) h = change-proper c h
+keeps-proper (Edit.on j Act.delete) h = tt
+keeps-proper (Edit.on j (Act.add p)) h = new-proper p h
+keeps-proper (Edit.on j (Act.change n o c)) h = change-proper n j o c h
 
 -- sound pieces are proper where their bytes are allowed
 lines-allowed : (ps : List Piece) → all isAllowed (bytes (allLines ps)) ≡ all (λ (p : Piece). all isAllowed (bytes (linesOf p))) ps
@@ -78,10 +125,14 @@ lines-allowed [] = refl
 lines-allowed (p ∷ ps) =
     ap (all isAllowed) (bytes-append (linesOf p) (allLines ps)) ∙ all-append isAllowed (bytes (linesOf p)) (bytes (allLines ps)) ∙ ap (λ (t : Bool). all isAllowed (bytes (linesOf p)) && t) (lines-allowed ps)
 
-pub pieces-proper : (ps : List Piece) → Each Sound ps → all isAllowed (bytesOf ps) ≡ true → Each Proper ps
+pieces-proper : (ps : List Piece) → Each Sound ps → all isAllowed (bytesOf ps) ≡ true → Each Proper ps
 unfolding bytesOf
 pieces-proper ps h e = each-both Sound Allowed ps h (all-each (λ (p : Piece). all isAllowed (bytes (linesOf p))) ps (sym (lines-allowed ps) ∙ e))
 
-pub proper-allowed : (ps : List Piece) → Each Proper ps → all isAllowed (bytesOf ps) ≡ true
+proper-allowed : (ps : List Piece) → Each Proper ps → all isAllowed (bytesOf ps) ≡ true
 unfolding bytesOf
 proper-allowed ps h = lines-allowed ps ∙ each-all (λ (p : Piece). all isAllowed (bytes (linesOf p))) ps (each-imp Proper Allowed (λ p s. s .1) ps h)
+
+-- allowed bytes stay allowed
+pub edit-allowed : (i : ℕ) (e : Edit) (ps : List Piece) → isLegalEdit e ≡ true → Each Sound ps → all isAllowed (bytesOf ps) ≡ true → all isAllowed (bytesOf (editPieces i e ps)) ≡ true
+edit-allowed i e ps l s h = proper-allowed (editPieces i e ps) (edit-all Proper i e (keeps-proper e l) ps (pieces-proper ps s h))

@@ -2,8 +2,9 @@
 use mathlib.Core.Path.{_≡_, refl, sym, ap, _∙_, subst}
 use mathlib.Core.List.{List, [], _∷_, _++_}
 use mathlib.Core.Option.{Option, none, some}
+use Rattle.format.specs.Lists.{onward}
 use Rattle.format.specs.Lines.{Line, Form, form}
-use Rattle.format.specs.Pieces.{allLines, Mode, after, unopened, seen, Reading, takeLine, takeIn, atEnd, readFrom}
+use Rattle.format.specs.Pieces.{allLines, Mode, after, unopened, seen, Reading, takeLine, atEnd, readFrom}
 
 abbrev Kept : List Line → Option Reading → Type 0
 Kept ls none = Unit {0}
@@ -16,13 +17,12 @@ Unowned Mode.closed (some r) = r .own ≡ []
 Unowned Mode.opened x = Unit {0}
 Unowned Mode.joined x = Unit {0}
 
-unowned-in : (F : Form) (l : Line) (x : Option Reading) → Unowned Mode.closed (takeIn (unopened F) l x)
+unowned-in : (F : Form) (l : Line) (x : Option Reading) → Unowned Mode.closed (onward (takeLine (unopened F) l) x)
 unowned-in F l none = tt
 unowned-in Form.blank l (some r) = refl
 unowned-in Form.comment l (some r) = refl
 unowned-in (Form.field n v) l (some r) = refl
-unowned-in (Form.plus v) l (some r) = tt
-unowned-in (Form.part v) l (some r) = tt
+unowned-in (Form.more v) l (some r) = tt
 unowned-in Form.fault l (some r) = tt
 
 unowned : (ls : List Line) (m : Mode) → Unowned m (readFrom m ls)
@@ -38,11 +38,10 @@ kept-take : (F : Form) (l : Line) (ls : List Line) (r : Reading) → Unowned (af
 kept-take Form.blank l ls r c k = ap (λ (x : List Line). l ∷ x) (all-kept ls r c k)
 kept-take Form.comment l ls r c k = ap (λ (x : List Line). l ∷ x) (all-kept ls r c k)
 kept-take (Form.field n v) l ls r c k = ap (λ (x : List Line). l ∷ x) k
-kept-take (Form.plus v) l ls r c k = ap (λ (x : List Line). l ∷ x) k
-kept-take (Form.part v) l ls r c k = ap (λ (x : List Line). l ∷ x) k
+kept-take (Form.more v) l ls r c k = ap (λ (x : List Line). l ∷ x) k
 kept-take Form.fault l ls r c k = tt
 
-kept-in : (F : Form) (l : Line) (ls : List Line) (x : Option Reading) → Unowned (after F) x → Kept ls x → Kept (l ∷ ls) (takeIn F l x)
+kept-in : (F : Form) (l : Line) (ls : List Line) (x : Option Reading) → Unowned (after F) x → Kept ls x → Kept (l ∷ ls) (onward (takeLine F l) x)
 kept-in F l ls none c k = tt
 kept-in F l ls (some r) c k = kept-take F l ls r c k
 

@@ -7,11 +7,10 @@ use lib.Dec.{leb}
 use lib.ListN.{length}
 use borrow.Author.Tests.{eqb-false, ne-eqb, not-true}
 use Rattle.format.specs.Bytes.{Bytes, text, isAllowed, all, same}
-use Rattle.format.specs.Lines.{isName}
+use Rattle.format.specs.Lines.{isName, isSpecial}
 use Rattle.format.specs.Pieces.{pieces}
 use Rattle.format.specs.Words.{split}
 use Rattle.format.specs.Limits.{nameBytes, valueBytes}
-use Rattle.format.specs.Rules.{isSpecial}
 use Rattle.format.specs.Written.{written, Pair, writtenAll, newPiece, isLegalName, noneJoins, isLegalValue, isLegalPair}
 use Rattle.format.proofs.Elements.{Each, each-imp, each-map, all-each}
 use Rattle.format.proofs.Lines.{all-append}

@@ -5,8 +5,9 @@ use mathlib.Core.Path.{_≡_, refl, sym, ap, _∙_}
 use mathlib.Core.Bool.{Bool, true, false, _&&_, and-assoc}
 use mathlib.Core.List.{List, [], _∷_, _++_, append-assoc}
 use borrow.Author.Tests.{eqb-true}
-use Rattle.format.specs.Bytes.{Bytes, isNewline, isAllowed, all}
-use Rattle.format.specs.Lines.{Line, put, lines, bytes, isEnded}
+use Rattle.format.specs.Bytes.{Bytes, pick, isNewline, isAllowed, all}
+use Rattle.format.specs.Lists.{onto}
+use Rattle.format.specs.Lines.{Line, lines, bytes, isEnded, joins, cut}
 use Rattle.format.proofs.Elements.{Each}
 
 -- a line holds no newline
@@ -17,6 +18,10 @@ Clean (c ∷ l) = (isNewline c ≡ false) × Clean l
 pub clean-append : (a b : Line) → Clean a → Clean b → Clean (a ++ b)
 clean-append [] b x y = y
 clean-append (c ∷ a) b x y = (x .0, clean-append a b (x .1) y)
+
+-- a byte in front of lines, by whether it is a newline
+abbrev pub put : Bool → ℕ → List Line → List Line
+put b c ls = pick b ([] ∷ ls) (onto c ls)
 
 -- the lines of the bytes of clean lines are those lines
 lines-line : (l : Line) (s : Bytes) (ls : List Line) → Clean l → lines s ≡ ls → lines (l ++ (10 ∷ s)) ≡ l ∷ ls
@@ -74,3 +79,12 @@ all-append p (x ∷ a) b = ap (λ (t : Bool). p x && t) (all-append p a b) ∙ s
 pub allowed-bytes : (ls : List Line) → all isAllowed (bytes ls) ≡ all (all isAllowed) ls
 allowed-bytes [] = refl
 allowed-bytes (l ∷ ls) = all-append isAllowed l (10 ∷ bytes ls) ∙ ap (λ (t : Bool). all isAllowed l && t) (allowed-bytes ls)
+
+-- a newline in front of a line
+pub newline-joins : (l : Line) → joins (10 ∷ l) ≡ joins l
+newline-joins [] = refl
+newline-joins (c ∷ l) = refl
+
+pub newline-cut : (l : Line) → cut (10 ∷ l) ≡ 10 ∷ cut l
+newline-cut [] = refl
+newline-cut (c ∷ l) = refl

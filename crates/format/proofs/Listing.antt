@@ -11,7 +11,7 @@ use Rattle.format.specs.Lists.{flat}
 use Rattle.format.specs.Bytes.{Bytes, pick, all, any, same, among}
 use Rattle.format.specs.Words.{words}
 use Rattle.format.specs.Records.{Field, Record}
-use Rattle.format.specs.Sets.{keepIf, valuesOf}
+use Rattle.format.specs.Sets.{valuesOf}
 use Rattle.format.specs.Rules.{listed, prohibited}
 use Rattle.format.specs.Questions.{noneProhibited, occurrences}
 use Rattle.format.proofs.Elements.{all-both, all-yes, all-alike}
@@ -39,14 +39,14 @@ same-swap (x ∷ s) [] = refl
 same-swap (x ∷ s) (y ∷ t) = (λ i. eqb-swap x y i && same-swap s t i)
 
 -- one more field in front: the words that it lists, and its occurrence
-listed-by : (b : Bool) (v : Bytes) (vs : List Bytes) → flat (map words (keepIf b v vs)) ≡ pick b (words v) [] ++ flat (map words vs)
+listed-by : (b : Bool) (v : Bytes) (vs : List Bytes) → flat (map words (pick b (v ∷ vs) vs)) ≡ pick b (words v) [] ++ flat (map words vs)
 listed-by true v vs = refl
 listed-by false v vs = refl
 
 pub listed-cons : (n : Bytes) (f : Field) (r : Record) → listed n (f ∷ r) ≡ pick (same n (f .name)) (words (f .value)) [] ++ listed n r
 listed-cons n f r = listed-by (same n (f .name)) (f .value) (valuesOf n r)
 
-occurs-by : (b : Bool) (v : Bytes) (vs : List Bytes) → length (keepIf b v vs) ≡ pick b 1 0 + length vs
+occurs-by : (b : Bool) (v : Bytes) (vs : List Bytes) → length (pick b (v ∷ vs) vs) ≡ pick b 1 0 + length vs
 occurs-by true v vs = omega arith
 occurs-by false v vs = omega arith
 
@@ -75,7 +75,7 @@ all-swap : {A B : Type 0} (p : A → B → Bool) (xs : List A) (ys : List B) →
 all-swap p [] ys = sym (all-yes ys)
 all-swap p (x ∷ xs) ys = ap (λ (b : Bool). all (p x) ys && b) (all-swap p xs ys) ∙ sym (all-both (p x) (λ y. all (λ x′. p x′ y) xs) ys)
 
-absent-by : (b : Bool) (v : Bytes) (vs : List Bytes) → eqb (length (keepIf b v vs)) 0 ≡ (not b && eqb (length vs) 0)
+absent-by : (b : Bool) (v : Bytes) (vs : List Bytes) → eqb (length (pick b (v ∷ vs) vs)) 0 ≡ (not b && eqb (length vs) 0)
 absent-by true v vs = eqb·suc-zero (length vs)
 absent-by false v vs = refl
 

@@ -6,8 +6,9 @@ use mathlib.Core.Bool.{Bool, true, false, _||_, and-eq-true-iff, false≢true}
 use mathlib.Core.List.{[], _∷_, _++_}
 use lib.Dec.{eqb, leb}
 use borrow.Author.Tests.{eqb-true, leb-true, le-leb}
-use Rattle.format.specs.Bytes.{Bytes, within, isLetter, isDigit, isBlank, isNewline, isAllowed, all}
-use Rattle.format.specs.Lines.{isFirst, isLater, isName, Form, afterColon, longer, nameBy, nameRest, formBy, form}
+use Rattle.format.specs.Bytes.{Bytes, within, isLetter, isDigit, isBlank, isNewline, isAllowed, all, pick}
+use Rattle.format.specs.Lines.{isFirst, isLater, isName, Form, afterColon, form, afterName}
+use Rattle.format.proofs.Parts.{front-stops}
 use Rattle.format.proofs.Lines.{Clean}
 
 -- a name holds no newline
@@ -65,17 +66,19 @@ pub name-allowed : (n : Bytes) → isName n ≡ true → all isAllowed n ≡ tru
 name-allowed [] e = refl
 name-allowed (c ∷ s) e = let h = and-eq-true-iff (isFirst c) (all isLater s) .0 e in and-eq-true-iff (isAllowed c) (all isAllowed s) .1 (printed-allowed c (first-printed c (h .0)), later-allowed s (h .1))
 
--- a name, a colon and what may follow it are a field line
-later-form : (s t v : Bytes) → all isLater s ≡ true → afterColon true t ≡ Form.field [] v → nameRest (s ++ (58 ∷ t)) ≡ Form.field s v
-later-form [] t v e h = h
-later-form (c ∷ s) t v e h =
-    let k = and-eq-true-iff (isLater c) (all isLater s) .0 e in
-    let y : Bytes = s ++ (58 ∷ t) in
-    ap (λ (b : Bool). nameBy b c y (nameRest y)) (k .0) ∙ ap (longer c) (later-form s t v (k .1) h)
-
-pub name-form : (n t v : Bytes) → isName n ≡ true → afterColon true t ≡ Form.field [] v → form (n ++ (58 ∷ t)) ≡ Form.field n v
-name-form [] t v e h = absurd (false≢true e)
-name-form (c ∷ s) t v e h =
+-- a line of a name, a colon and a text
+pub name-form : (n y : Bytes) → isName n ≡ true → form (n ++ (58 ∷ y)) ≡ afterColon n y
+name-form [] y e = absurd (false≢true e)
+name-form (c ∷ s) y e =
     let k = and-eq-true-iff (isFirst c) (all isLater s) .0 e in
-    let y : Bytes = s ++ (58 ∷ t) in
-    ap (λ (b : Bool). formBy b (eqb c 35) (eqb c 43) (all isBlank (c ∷ y)) c y) (k .0) ∙ ap (longer c) (later-form s t v (k .1) h)
+    let h = front-stops isLater s 58 y (k .1) refl in
+    rw (k .0) (λ i. afterName (c ∷ h .0 i) (h .1 i))
+
+-- what may follow a colon does so behind any name
+pub colon-any : (m n y v : Bytes) → afterColon m y ≡ Form.field m v → afterColon n y ≡ Form.field n v
+colon-any m n [] v e = let z : [] ≡ v = cc in ap (Form.field n) z
+colon-any m n (c ∷ y) v e = go (isBlank c) e
+  where
+    go : (b : Bool) → pick b (Form.field m y) Form.fault ≡ Form.field m v → pick b (Form.field n y) Form.fault ≡ Form.field n v
+    go true q = let z : y ≡ v = cc in ap (Form.field n) z
+    go false q = let z : _≡_ {A = ℕ} 0 1 = cc in absurd (omega arith)

@@ -11,22 +11,20 @@ use lib.Seq.{take-append-seam}
 use borrow.Author.Tests.{leb-true, le-leb}
 use Rattle.format.specs.Bytes.{Bytes, isAllowed, all, isSome}
 use Rattle.format.specs.Lines.{isEnded}
-use Rattle.format.specs.Pieces.{Piece, allLines, bytesOf, pieces}
+use Rattle.format.specs.Pieces.{Piece, allLines, bytesOf, pieces, someOf, readOf}
 use Rattle.format.specs.Sets.{RecSet, setsOf}
 use Rattle.format.specs.Limits.{fileBytes}
 use Rattle.format.specs.Numbers.{intBounds}
-use Rattle.format.specs.Questions.{setsIn, fileOf, limitRows, descriptorRows, ruleRows, verdict}
+use Rattle.format.specs.Questions.{fileOf, limitRows, descriptorRows, ruleRows, verdict}
 use Rattle.format.specs.Requests.{Request}
-use Rattle.format.specs.Plain.{Plain, plainOf, size, apply, editQuestions, step}
+use Rattle.format.specs.Plain.{Plain, plainOf, lengthOf, apply, editQuestions}
 use Rattle.format.specs.Calls.{placed}
 use Rattle.format.proofs.Elements.{Each}
 use Rattle.format.proofs.Lines.{ended-bytes}
 use Rattle.format.proofs.Whole.{Sound, pieces-sound, sound-pieces}
-use Rattle.format.proofs.Sets.{GoodSets}
-use Rattle.format.proofs.Requested.{HasPairs}
-use Rattle.format.proofs.Staying.{apply-allowed}
-use Rattle.format.proofs.Applying.{Agrees, agrees-size, agrees-parts, agrees-good, apply-agrees}
-use Rattle.format.proofs.Asking.{Yes, verdict-yes, yes-verdict, yes-granted, asked, Accepted, accepted-pairs, step-accepted}
+use Rattle.format.proofs.Grouping.{HasPairs}
+use Rattle.format.proofs.Applying.{Agrees, agrees-length, agrees-sets, apply-agrees, apply-allowed}
+use Rattle.format.proofs.Asking.{Yes, verdict-yes, yes-verdict, yes-granted, yes-fits, asked, Accepted, accepted-pairs}
 use Rattle.format.proofs.Describing.{describes-once, describes-well, types-well}
 
 -- questions 4 to 14 say yes of sets
@@ -50,20 +48,28 @@ pub verdict-reads : (buffer : Bytes) (used : ℕ) → verdict buffer used ≡ 0 
 unfolding fileOf
 verdict-reads buffer used e = some-reads (pieces (take used buffer)) (verdict-yes buffer used e .1 .1 .0)
 
+-- what reads is read
+pub reads-as : (s : Bytes) (ps : List Piece) → pieces s ≡ some ps → readOf s ≡ ps
+unfolding readOf
+reads-as s ps e = ap someOf e
+
+pub verdict-read : (buffer : Bytes) (used : ℕ) → verdict buffer used ≡ 0 → pieces (take used buffer) ≡ some (readOf (take used buffer))
+verdict-read buffer used e = let r = verdict-reads buffer used e in r .1 ∙ ap {B = Option (List Piece)} (λ ps. some ps) (sym (reads-as (take used buffer) (r .0) (r .1)))
+
 pub verdict-passes : (buffer : Bytes) (used : ℕ) (ps : List Piece) → verdict buffer used ≡ 0 → pieces (take used buffer) ≡ some ps → Passes buffer used ps
 unfolding fileOf
 verdict-passes buffer used ps e r =
     let y = verdict-yes buffer used e in
     let a = and-eq-true-iff (leb used (length buffer)) (leb used fileBytes) .0 (y .0) in
     let b = and-eq-true-iff (all isAllowed (take used buffer)) (isEnded (take used buffer)) .0 (y .1 .0) in
-    record { fits = leb-true used (length buffer) (a .0); small = leb-true used fileBytes (a .1); allowed = b .0; ended = b .1; reads = r; sets = subst (λ (x : Option (List Piece)). SetsPass (setsIn x)) r (y .1 .1 .1) }
+    record { fits = leb-true used (length buffer) (a .0); small = leb-true used fileBytes (a .1); allowed = b .0; ended = b .1; reads = r; sets = subst (λ (x : Option (List Piece)). SetsPass (setsOf (someOf x))) r (y .1 .1 .1) }
 
 pub passes-verdict : (buffer : Bytes) (used : ℕ) (ps : List Piece) → Passes buffer used ps → verdict buffer used ≡ 0
 unfolding fileOf
 passes-verdict buffer used ps h =
     let inside = and-eq-true-iff (leb used (length buffer)) (leb used fileBytes) .1 (le-leb used (length buffer) (h .fits), le-leb used fileBytes (h .small)) in
     let clear = and-eq-true-iff (all isAllowed (take used buffer)) (isEnded (take used buffer)) .1 (h .allowed, h .ended) in
-    let sets = subst (λ (x : Option (List Piece)). SetsPass (setsIn x)) (sym (h .reads)) (h .sets) in
+    let sets = subst (λ (x : Option (List Piece)). SetsPass (setsOf (someOf x))) (sym (h .reads)) (h .sets) in
     yes-verdict buffer used (inside, (clear, (ap isSome (h .reads), sets)))
 
 pub bytes-ended : (ps : List Piece) → isEnded (bytesOf ps) ≡ true
@@ -102,10 +108,11 @@ placed-take s used buffer = take-append-seam s (replicate (used - length s) 0 ++
 
 -- an accepted request: the result passes, and reads as what the request makes of the plain file
 module _ (buffer : Bytes) (used : ℕ) (p : Plain) (request : Bytes) (h : Holds buffer used p) where
-  result-sets : (q : Request) → SetsPass (p .parts) → GoodSets (p .parts) → Each (Yes (asked (length buffer) p q)) (editQuestions intBounds) → SetsPass (apply q p .parts)
-  result-sets q s g y =
-      let m = y .1 .1 .1 .1 .1 .1 in
-      (m .0, (describes-once q p (y .1 .1 .1 .1 .0) g (s .1 .0), (describes-well intBounds q p ∙ s .1 .1 .0, (types-well intBounds q p ∙ s .1 .1 .1 .0, m .1))))
+  result-sets : (q : Request) → SetsPass (p .sets) → Agrees p → Each (Yes (asked (length buffer) p q)) (editQuestions intBounds) → SetsPass (apply q p .sets)
+  result-sets q s a y =
+      let l = yes-granted intBounds (asked (length buffer) p q) y .legal in
+      let m = y .1 .1 .1 .1 .1 .1 .1 in
+      (m .0, (describes-once q p l a (s .1 .0), (describes-well intBounds q p ∙ s .1 .1 .0, (types-well intBounds q p ∙ s .1 .1 .1 .0, m .1))))
 
   result-holds : (q : Request) → HasPairs (q .edit) → Each (Yes (asked (length buffer) p q)) (editQuestions intBounds) → Holds (placed (bytesOf (apply q p .pieces)) used buffer) (length (bytesOf (apply q p .pieces))) (apply q p)
   result-holds q f y =
@@ -115,26 +122,21 @@ module _ (buffer : Bytes) (used : ℕ) (p : Plain) (request : Bytes) (h : Holds 
       let a = holds-agrees buffer used p h in
       let g = yes-granted intBounds (asked (length buffer) p q) y in
       let b : Agrees r = apply-agrees (asked (length buffer) p q) f g a in
-      let n : size r ≡ length s = agrees-size r b in
-      let k = and-eq-true-iff (leb (size r) (length buffer)) (leb (size r) fileBytes) .0 (y .1 .1 .1 .1 .1 .0) in
-      let l : length s ≤ length buffer = omega (arith, leb-true (size r) (length buffer) (k .0)) in
+      let n : lengthOf r ≡ length s = agrees-length r b in
+      let k = yes-fits intBounds (asked (length buffer) p q) y in
+      let l : length s ≤ length buffer = omega (arith, k .0) in
       let t : take (length s) (placed s used buffer) ≡ s = placed-take s used buffer in
       let e : pieces (take (length s) (placed s used buffer)) ≡ some (r .pieces) = ap pieces t ∙ sound-pieces (r .pieces) (b .0) in
       let w : all isAllowed s ≡ true = apply-allowed q p (g .legal) (a .0) (ap (all isAllowed) (holds-bytes buffer used p h) ∙ c .allowed) in
       let v : Passes (placed s used buffer) (length s) (r .pieces) = record {
         fits = subst (λ (x : ℕ). length s ≤ x) (sym (placed-length s used buffer l (c .fits))) l;
-        small = omega (arith, leb-true (size r) fileBytes (k .1));
+        small = omega (arith, k .1);
         allowed = ap (all isAllowed) t ∙ w;
         ended = ap isEnded t ∙ bytes-ended (r .pieces);
         reads = e;
-        sets = subst SetsPass (sym (agrees-parts r b)) (result-sets q (subst SetsPass (agrees-parts p a) (c .sets)) (agrees-good p a) y);
+        sets = subst SetsPass (sym (agrees-sets r b)) (result-sets q (subst SetsPass (agrees-sets p a) (c .sets)) a y);
       } in
       record { passes = passes-verdict (placed s used buffer) (length s) (r .pieces) v; reads = e; plain = b .1 }
 
   pub edit-holds : (p′ : Plain) → Accepted (length buffer) p request p′ → Holds (placed (bytesOf (p′ .pieces)) used buffer) (length (bytesOf (p′ .pieces))) p′
   edit-holds p′ a = subst (λ (x : Plain). Holds (placed (bytesOf (x .pieces)) used buffer) (length (bytesOf (x .pieces))) x) (sym (a .makes)) (result-holds (a .asks) (accepted-pairs (length buffer) p request p′ a) (a .yes))
-
--- A file that passes, passes after an accepted edit: of the bytes and the length that the edit leaves.
-pub edit-passes : (buffer : Bytes) (used : ℕ) (ps : List Piece) (request : Bytes) → verdict buffer used ≡ 0 → pieces (take used buffer) ≡ some ps → step (length buffer) (plainOf ps) request .number ≡ 0 → (p : Plain) → step (length buffer) (plainOf ps) request .file ≡ p → Holds (placed (bytesOf (p .pieces)) used buffer) (length (bytesOf (p .pieces))) p
-edit-passes buffer used ps request v r z p e =
-    edit-holds buffer used (plainOf ps) request (holds-start buffer used ps v r) p (subst (Accepted (length buffer) (plainOf ps) request) e (step-accepted (length buffer) (plainOf ps) request z))

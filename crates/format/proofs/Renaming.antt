@@ -9,59 +9,56 @@ use lib.Dec.{eqb}
 use lib.ListN.{length, drop, length-append, length-drop}
 use lib.Seq.{drop-append-seam}
 use borrow.Author.Tests.{eqb-true}
-use Rattle.format.specs.Bytes.{Bytes, isBlank, isAllowed, all}
-use Rattle.format.specs.Lines.{Line, bytes, isFirst, isLater, isName, Form, afterBlank, afterColon, longer, nameBy, nameRest, formBy, form, cut}
-use Rattle.format.specs.Pieces.{Piece, after, unopened, Reading, begins, takeIn, readFrom}
+use Rattle.format.specs.Lists.{onward, front, behind}
+use Rattle.format.specs.Bytes.{Bytes, isBlank, isAllowed, all, pick}
+use Rattle.format.specs.Lines.{Line, bytes, isFirst, isLater, isName, Form, afterColon, form, cut, afterName, afterPlus}
+use Rattle.format.specs.Pieces.{Piece, after, unopened, Reading, begins, readFrom, takeLine}
 use Rattle.format.specs.Records.{countOf}
 use Rattle.format.specs.Edits.{renamedLines}
+use Rattle.format.proofs.Parts.{front-behind, front-passes}
 use Rattle.format.proofs.Lines.{Clean, clean-append, all-append, allowed-bytes}
 use Rattle.format.proofs.Whole.{alone, Whole, Sound, readAs}
-use Rattle.format.proofs.Names.{name-clean, name-form}
+use Rattle.format.proofs.Names.{name-clean, name-form, colon-any}
 
--- of a text with a field's form: it is a name that passes a test, a colon, and what may follow it
-abbrev Starts : (Bytes → Bool) → Form → Bytes → Type 0
-Starts p Form.blank x = Unit {0}
-Starts p Form.comment x = Unit {0}
-Starts p (Form.field n v) x = (t : Bytes) × (p n ≡ true) × (x ≡ n ++ (58 ∷ t)) × (afterColon true t ≡ Form.field [] v)
-Starts p (Form.plus v) x = Unit {0}
-Starts p (Form.part v) x = Unit {0}
-Starts p Form.fault x = Unit {0}
+-- a line of a field's form is a name, a colon, and what may follow it
+abbrev pub Starts : Form → Bytes → Type 0
+Starts Form.blank x = Unit {0}
+Starts Form.comment x = Unit {0}
+Starts (Form.field n v) x = (y : Bytes) × (isName n ≡ true) × (x ≡ n ++ (58 ∷ y)) × (afterColon n y ≡ Form.field n v)
+Starts (Form.more v) x = Unit {0}
+Starts Form.fault x = Unit {0}
 
-starts-longer : (p q : Bytes → Bool) (c : ℕ) (x : Bytes) (F : Form) → ((n : Bytes) → p n ≡ true → q (c ∷ n) ≡ true) → Starts p F x → Starts q (longer c F) (c ∷ x)
-starts-longer p q c x Form.blank f h = tt
-starts-longer p q c x Form.comment f h = tt
-starts-longer p q c x (Form.field n v) f h = (h .0, f n (h .1), ap {B = Bytes} (λ y. c ∷ y) (h .2), h .3)
-starts-longer p q c x (Form.plus v) f h = tt
-starts-longer p q c x (Form.part v) f h = tt
-starts-longer p q c x Form.fault f h = tt
+starts-colon : (n y x : Bytes) → isName n ≡ true → x ≡ n ++ (58 ∷ y) → Starts (afterColon n y) x
+starts-colon n [] x h e = ([], h, e, refl)
+starts-colon n (d ∷ y) x h e = go (isBlank d) refl
+  where
+    go : (b : Bool) → isBlank d ≡ b → Starts (pick b (Form.field n y) Form.fault) x
+    go true q = (d ∷ y, h, e, ap (λ (b : Bool). pick b (Form.field n y) Form.fault) q)
+    go false q = tt
 
-starts-blank : (b : Bool) (c d : ℕ) (x : Bytes) → isBlank d ≡ b → c ≡ 58 → Starts (all isLater) (afterBlank b x) (c ∷ d ∷ x)
-starts-blank true c d x e q = (d ∷ x, refl, ap {B = Bytes} (λ y. y ∷ d ∷ x) q, ap (λ (b : Bool). afterBlank b x) e)
-starts-blank false c d x e q = tt
+starts-name : (n y x : Bytes) → isName n ≡ true → x ≡ n ++ y → Starts (afterName n y) x
+starts-name n [] x h e = tt
+starts-name n (d ∷ y) x h e = go (eqb d 58) refl
+  where
+    go : (b : Bool) → eqb d 58 ≡ b → Starts (pick b (afterColon n y) Form.fault) x
+    go true q = starts-colon n y x h (e ∙ ap (λ (k : ℕ). n ++ (k ∷ y)) (eqb-true d 58 q))
+    go false q = tt
 
-starts-colon : (b : Bool) (c : ℕ) (x : Bytes) → eqb c 58 ≡ b → Starts (all isLater) (afterColon b x) (c ∷ x)
-starts-colon true c [] e = ([], refl, ap {B = Bytes} (λ y. y ∷ []) (eqb-true c 58 e), refl)
-starts-colon true c (d ∷ x) e = starts-blank (isBlank d) c d x refl (eqb-true c 58 e)
-starts-colon false c x e = tt
-
-starts-by : (b : Bool) (c : ℕ) (x : Bytes) (F : Form) → isLater c ≡ b → Starts (all isLater) F x → Starts (all isLater) (nameBy b c x F) (c ∷ x)
-starts-by true c x F e h = starts-longer (all isLater) (all isLater) c x F (λ n k. and-eq-true-iff (isLater c) (all isLater n) .1 (e, k)) h
-starts-by false c x F e h = starts-colon (eqb c 58) c x refl
-
-starts-rest : (x : Bytes) → Starts (all isLater) (nameRest x) x
-starts-rest [] = tt
-starts-rest (c ∷ x) = starts-by (isLater c) c x (nameRest x) refl (starts-rest x)
-
-starts-form : (f h p b : Bool) (c : ℕ) (x : Bytes) → isFirst c ≡ f → Starts isName (formBy f h p b c x) (c ∷ x)
-starts-form true h p b c x e = starts-longer (all isLater) isName c x (nameRest x) (λ n k. and-eq-true-iff (isFirst c) (all isLater n) .1 (e, k)) (starts-rest x)
-starts-form false true p b c x e = tt
-starts-form false false true b c x e = tt
-starts-form false false false true c x e = tt
-starts-form false false false false c x e = tt
-
-starts : (l : Line) → Starts isName (form l) l
+pub starts : (l : Line) → Starts (form l) l
 starts [] = tt
-starts (c ∷ x) = starts-form (isFirst c) (eqb c 35) (eqb c 43) (all isBlank (c ∷ x)) c x refl
+starts (c ∷ x) = go (isFirst c) (eqb c 35) (eqb c 43) (all isBlank (c ∷ x)) refl
+  where
+    n : Bytes
+    n = c ∷ front isLater x
+
+    go : (f h p b : Bool) → isFirst c ≡ f → Starts (pick f (afterName n (behind isLater x)) (pick h Form.comment (pick p (Form.more (10 ∷ afterPlus x)) (pick b Form.blank Form.fault)))) (c ∷ x)
+    go true h p b e =
+        starts-name n (behind isLater x) (c ∷ x) (and-eq-true-iff (isFirst c) (all isLater (front isLater x)) .1 (e, front-passes isLater x))
+        (ap (λ (y : Bytes). c ∷ y) (sym (front-behind isLater x)))
+    go false true p b e = tt
+    go false false true b e = tt
+    go false false false true e = tt
+    go false false false false e = tt
 
 -- A whole field has a first line, of a field's form and its name; another line of that form, of any name, may take its place.
 no-lines : (n v : Bytes) → Whole (Piece.field n v []) → ⊥
@@ -71,7 +68,7 @@ no-lines n v e =
 
 module _ (n v : Bytes) (l : Line) (ls : List Line) where
   abbrev FieldLine : Form → Option Reading → Type 0
-  FieldLine F x = (w : Bytes) × (F ≡ Form.field n w) × ((m : Bytes) (k : Line) → takeIn (Form.field m w) k x ≡ some (alone (Piece.field m v (k ∷ ls) ∷ [])))
+  FieldLine F x = (w : Bytes) × (F ≡ Form.field n w) × ((m : Bytes) (k : Line) → onward (takeLine (Form.field m w) k) x ≡ some (alone (Piece.field m v (k ∷ ls) ∷ [])))
 
   field-line : (p w : Bytes) (r : Reading) → Piece.field p (cut w ++ r .value) (l ∷ r .own) ∷ r .pieces ≡ Piece.field n v (l ∷ ls) ∷ [] → FieldLine (Form.field p w) (some r)
   field-line p w r e =
@@ -84,21 +81,20 @@ module _ (n v : Bytes) (l : Line) (ls : List Line) where
   piece-of : (p : Piece) (r : Reading) → some (begins p r) ≡ some (alone (Piece.field n v (l ∷ ls) ∷ [])) → p ∷ r .pieces ≡ Piece.field n v (l ∷ ls) ∷ []
   piece-of p r e = ap (λ (y : Reading). y .pieces) (Option·some-injective (begins p r) (alone (Piece.field n v (l ∷ ls) ∷ [])) e)
 
-  line-of : (F : Form) (x : Option Reading) → takeIn (unopened F) l x ≡ some (alone (Piece.field n v (l ∷ ls) ∷ [])) → FieldLine F x
+  line-of : (F : Form) (x : Option Reading) → onward (takeLine (unopened F) l) x ≡ some (alone (Piece.field n v (l ∷ ls) ∷ [])) → FieldLine F x
   line-of F none e = absurd (Option·none-ne-some (alone (Piece.field n v (l ∷ ls) ∷ [])) e)
   line-of Form.blank (some r) e = let p = piece-of (Piece.blank l) r e in let z : _≡_ {A = ℕ} 0 1 = cc in absurd (omega arith)
   line-of Form.comment (some r) e = let p = piece-of (Piece.comment l) r e in let z : _≡_ {A = ℕ} 0 1 = cc in absurd (omega arith)
   line-of (Form.field p w) (some r) e = field-line p w r (piece-of (Piece.field p (cut w ++ r .value) (l ∷ r .own)) r e)
-  line-of (Form.plus w) (some r) e = absurd (Option·none-ne-some (alone (Piece.field n v (l ∷ ls) ∷ [])) e)
-  line-of (Form.part w) (some r) e = absurd (Option·none-ne-some (alone (Piece.field n v (l ∷ ls) ∷ [])) e)
+  line-of (Form.more w) (some r) e = absurd (Option·none-ne-some (alone (Piece.field n v (l ∷ ls) ∷ [])) e)
   line-of Form.fault (some r) e = absurd (Option·none-ne-some (alone (Piece.field n v (l ∷ ls) ∷ [])) e)
 
   module _ (whole : Whole (Piece.field n v (l ∷ ls))) where
     first-line : FieldLine (form l) (readFrom (after (unopened (form l))) ls)
     first-line = line-of (form l) (readFrom (after (unopened (form l))) ls) whole
 
-    first-starts : Starts isName (Form.field n (first-line .0)) l
-    first-starts = subst (λ (F : Form). Starts isName F l) (first-line .1) (starts l)
+    first-starts : Starts (Form.field n (first-line .0)) l
+    first-starts = subst (λ (F : Form). Starts F l) (first-line .1) (starts l)
 
     whole-rename : (m : Bytes) → isName m ≡ true → Whole (Piece.field m v (renamedLines n m (l ∷ ls)))
     whole-rename m e =
@@ -106,9 +102,9 @@ module _ (n v : Bytes) (l : Line) (ls : List Line) where
         let t : Bytes = first-starts .0 in
         let k : Line = m ++ drop (length n) l in
         let d : k ≡ m ++ (58 ∷ t) = ap (λ (y : Line). m ++ drop (length n) y) (first-starts .2) ∙ ap (λ (y : Line). m ++ y) (drop-append-seam n (58 ∷ t)) in
-        let g : form k ≡ Form.field m w = ap form d ∙ name-form m t w e (first-starts .3) in
+        let g : form k ≡ Form.field m w = ap form d ∙ name-form m t e ∙ colon-any n m t w (first-starts .3) in
         let q : readFrom (after (unopened (form l))) ls ≡ readFrom (after (Form.field n w)) ls = ap (λ (F : Form). readFrom (after (unopened F)) ls) (first-line .1) in
-        ap (λ (F : Form). readAs (unopened F) k ls) g ∙ ap (takeIn (Form.field m w) k) (sym q) ∙ first-line .2 m k
+        ap (λ (F : Form). readAs (unopened F) k ls) g ∙ ap (onward (takeLine (Form.field m w) k)) (sym q) ∙ first-line .2 m k
 
 -- the name of a field is a name, and its first line begins with it and a colon
 pub sound-name : (n v : Bytes) (ls : List Line) → Sound (Piece.field n v ls) → isName n ≡ true

@@ -6,67 +6,96 @@ use mathlib.Core.List.{List, [], _∷_}
 use mathlib.Core.Option.{Option, none, some}
 use lib.Dec.{eqb, leb}
 use lib.ListN.{length}
-use Rattle.format.specs.Lists.{onward}
 use Rattle.format.specs.Bytes.{Bytes, pick, same}
+use Rattle.format.specs.Lists.{onward}
 use Rattle.format.specs.Limits.{fileBytes}
 use Rattle.format.specs.Written.{Pair}
-use Rattle.format.specs.Edits.{Edit}
-use Rattle.format.specs.Requests.{Tagged, tagged, Request, withText, twoBytes, withNumber, ends, pairsOf, inserts, changes, byKind, requestOf}
-use Rattle.format.proofs.Elements.{Filled}
+use Rattle.format.specs.Edits.{Change, Act, Edit}
+use Rattle.format.specs.Requests.{Tagged, tagged, Request, shortAt, withText, withNumber, ends, pairsOf, inserts, changes, byKind, asksFor, requestOf}
+use Rattle.format.proofs.Grouping.{HasPairs}
 
-abbrev pub HasPairs : Edit → Type 0
-HasPairs (Edit.insert ps) = Filled ps
-HasPairs Edit.delete = Unit {0}
-HasPairs (Edit.add p) = Unit {0}
-HasPairs (Edit.change n o c) = Unit {0}
+-- where there is an edit, it has that
+abbrev Paired : Option Edit → Type 0
+Paired none = Unit {0}
+Paired (some e) = HasPairs e
 
--- where there is a request, it has that
+paired-pick : (b : Bool) (x y : Option Edit) → Paired x → Paired y → Paired (pick b x y)
+paired-pick true x y h k = h
+paired-pick false x y h k = k
+
+paired-onward : {A : Type 0} (f : A → Option Edit) (x : Option A) → ((a : A) → Paired (f a)) → Paired (onward f x)
+paired-onward f none h = tt
+paired-onward f (some a) h = h a
+
+paired-text : (t : ℕ) (k : Bytes → List Tagged → Option Edit) (fs : List Tagged) → ((c : Bytes) (gs : List Tagged) → Paired (k c gs)) → Paired (withText t k fs)
+paired-text t k [] h = tt
+paired-text t k (f ∷ fs) h = paired-pick (eqb t (f .tag)) (k (f .contents) fs) none (h (f .contents) fs) tt
+
+paired-number : (t : ℕ) (k : ℕ → List Tagged → Option Edit) (fs : List Tagged) → ((n : ℕ) (gs : List Tagged) → Paired (k n gs)) → Paired (withNumber t k fs)
+paired-number t k fs h = paired-text t (λ (c : Bytes) (gs : List Tagged). pick (eqb (length c) 2) (k (shortAt c) gs) none) fs (λ c gs. paired-pick (eqb (length c) 2) (k (shortAt c) gs) none (h (shortAt c) gs) tt)
+
+paired-ends : (j : ℕ) (a : Act) (fs : List Tagged) → Paired (ends (Edit.on j a) fs)
+paired-ends j a [] = tt
+paired-ends j a (f ∷ fs) = tt
+
+paired-inserts : (ps : List Pair) → Paired (inserts ps)
+paired-inserts [] = tt
+paired-inserts (p ∷ ps) = tt
+
+paired-changes : (k : List Tagged → Option Change) (fs : List Tagged) → Paired (changes k fs)
+paired-changes k fs =
+    let made : ℕ → Bytes → ℕ → List Tagged → Option Edit = λ r n o gs. onward (λ (c : Change). some (Edit.on r (Act.change n o c))) (k gs) in
+    paired-number 3 (λ (r : ℕ). withText 4 (λ (n : Bytes). withNumber 5 (made r n))) fs (λ r gs.
+    paired-text 4 (λ (n : Bytes). withNumber 5 (made r n)) gs (λ n hs.
+    paired-number 5 (made r n) hs (λ o is. paired-onward (λ (c : Change). some (Edit.on r (Act.change n o c))) (k is) (λ c. tt))))
+
+paired-add : (fs : List Tagged) → Paired (withNumber 3 (λ (r : ℕ). withText 4 (λ (n : Bytes). withText 6 (λ (v : Bytes). ends (Edit.on r (Act.add (record { name = n; value = v })))))) fs)
+paired-add fs =
+    let made : ℕ → Bytes → Bytes → List Tagged → Option Edit = λ r n v. ends (Edit.on r (Act.add (record { name = n; value = v }))) in
+    paired-number 3 (λ (r : ℕ). withText 4 (λ (n : Bytes). withText 6 (made r n))) fs (λ r gs.
+    paired-text 4 (λ (n : Bytes). withText 6 (made r n)) gs (λ n hs.
+    paired-text 6 (made r n) hs (λ v is. paired-ends r (Act.add (record { name = n; value = v })) is)))
+
+paired-kind : (k : Bytes) (fs : List Tagged) → Paired (byKind k fs)
+paired-kind k fs =
+    paired-pick (same k (1 ∷ [])) _ _ (paired-onward inserts (pairsOf fs) paired-inserts)
+    (paired-pick (same k (2 ∷ [])) _ _ (paired-number 3 (λ (r : ℕ). ends (Edit.on r Act.delete)) fs (λ r gs. paired-ends r Act.delete gs))
+    (paired-pick (same k (3 ∷ [])) _ _ (paired-add fs)
+    (paired-pick (same k (4 ∷ [])) _ _ (paired-changes (withText 6 (λ (v : Bytes). ends (Change.value v))) fs)
+    (paired-pick (same k (5 ∷ [])) _ _ (paired-changes (ends Change.dropped) fs)
+    (paired-pick (same k (6 ∷ [])) _ _ (paired-changes (withText 7 (λ (m : Bytes). ends (Change.name m))) fs)
+    tt)))))
+
+-- and so has a request
+
 abbrev Formed : Option Request → Type 0
 Formed none = Unit {0}
 Formed (some q) = HasPairs (q .edit)
 
-formed-pick : (b : Bool) (x y : Option Request) → Formed x → Formed y → Formed (pick b x y)
-formed-pick true x y h k = h
-formed-pick false x y h k = k
+formed-pick : (b : Bool) (x : Option Request) → Formed x → Formed (pick b x none)
+formed-pick true x h = h
+formed-pick false x h = tt
 
-formed-onward : {A : Type 0} (f : A → Option Request) (x : Option A) → ((a : A) → Formed (f a)) → Formed (onward f x)
-formed-onward f none h = tt
-formed-onward f (some a) h = h a
+formed-edit : (s : Bytes) (x : Option Edit) → Paired x → Formed (onward (λ (e : Edit). some (record { set = s; edit = e })) x)
+formed-edit s none h = tt
+formed-edit s (some e) h = h
 
 formed-text : (t : ℕ) (k : Bytes → List Tagged → Option Request) (fs : List Tagged) → ((c : Bytes) (gs : List Tagged) → Formed (k c gs)) → Formed (withText t k fs)
 formed-text t k [] h = tt
-formed-text t k (f ∷ fs) h = formed-pick (eqb t (f .tag)) (k (f .contents) fs) none (h (f .contents) fs) tt
+formed-text t k (f ∷ fs) h = formed-pick (eqb t (f .tag)) (k (f .contents) fs) (h (f .contents) fs)
 
-formed-number : (t : ℕ) (k : ℕ → List Tagged → Option Request) (fs : List Tagged) → ((n : ℕ) (gs : List Tagged) → Formed (k n gs)) → Formed (withNumber t k fs)
-formed-number t k fs h = formed-text t (λ (c : Bytes) (gs : List Tagged). onward (λ (n : ℕ). k n gs) (twoBytes c)) fs (λ c gs. formed-onward (λ (n : ℕ). k n gs) (twoBytes c) (λ n. h n gs))
+formed-asks : (fs : List Tagged) → Formed (asksFor fs)
+formed-asks fs =
+    let made : Bytes → Bytes → List Tagged → Option Request = λ k s gs. onward (λ (e : Edit). some (record { set = s; edit = e })) (byKind k gs) in
+    formed-text 1 (λ (k : Bytes). withText 2 (made k)) fs (λ k gs. formed-text 2 (made k) gs (λ s hs. formed-edit s (byKind k hs) (paired-kind k hs)))
 
-formed-ends : (q : Request) (fs : List Tagged) → HasPairs (q .edit) → Formed (ends q fs)
-formed-ends q [] h = h
-formed-ends q (f ∷ fs) h = tt
-
-formed-inserts : (s : Bytes) (ps : List Pair) → Formed (inserts s ps)
-formed-inserts s [] = tt
-formed-inserts s (p ∷ ps) = tt
-
-formed-changes : (s : Bytes) (k : Bytes → ℕ → ℕ → List Tagged → Option Request) (fs : List Tagged) → ((n : Bytes) (r o : ℕ) (gs : List Tagged) → Formed (k n r o gs)) → Formed (changes s k fs)
-formed-changes s k fs h =
-    formed-number 3 (λ (r : ℕ). withText 4 (λ (n : Bytes). withNumber 5 (λ (o : ℕ). k n r o))) fs (λ r gs.
-    formed-text 4 (λ (n : Bytes). withNumber 5 (λ (o : ℕ). k n r o)) gs (λ n hs.
-    formed-number 5 (λ (o : ℕ). k n r o) hs (λ o is. h n r o is)))
-
-formed-kind : (k s : Bytes) (fs : List Tagged) → Formed (byKind k s fs)
-formed-kind k s fs =
-    formed-pick (same k (1 ∷ [])) _ _ (formed-onward (inserts s) (pairsOf fs) (formed-inserts s))
-    (formed-pick (same k (2 ∷ [])) _ _ (formed-number 3 _ fs (λ r gs. formed-ends _ gs tt))
-    (formed-pick (same k (3 ∷ [])) _ _ (formed-number 3 _ fs (λ r gs. formed-text 4 _ gs (λ n hs. formed-text 6 _ hs (λ v is. formed-ends _ is tt))))
-    (formed-pick (same k (4 ∷ [])) _ _ (formed-changes s _ fs (λ n r o gs. formed-text 6 _ gs (λ v hs. formed-ends _ hs tt)))
-    (formed-pick (same k (5 ∷ [])) _ _ (formed-changes s _ fs (λ n r o gs. formed-ends _ gs tt))
-    (formed-pick (same k (6 ∷ [])) _ _ (formed-changes s _ fs (λ n r o gs. formed-text 7 _ gs (λ m hs. formed-ends _ hs tt)))
-    tt)))))
+formed-tagged : (x : Option (List Tagged)) → Formed (onward asksFor x)
+formed-tagged none = tt
+formed-tagged (some fs) = formed-asks fs
 
 formed : (s : Bytes) → Formed (requestOf s)
-unfolding requestOf tagged
-formed s = formed-pick (leb (length s) fileBytes) _ none (formed-onward _ (tagged s) (λ fs. formed-text 1 _ fs (λ k gs. formed-text 2 (byKind k) gs (λ c hs. formed-kind k c hs)))) tt
+unfolding requestOf
+formed s = formed-pick (leb (length s) fileBytes) (onward asksFor (tagged s)) (formed-tagged (tagged s))
 
 -- "insert .. one or more pairs"
 pub request-pairs : (s : Bytes) (q : Request) → requestOf s ≡ some q → HasPairs (q .edit)

@@ -6,7 +6,7 @@ use mathlib.Core.Bool.{Bool, true, false, _&&_, and-eq-true-iff}
 use mathlib.Core.List.{List, [], _∷_, _++_, map}
 use mathlib.Core.Option.{Option, none, some}
 use lib.Dec.{leb, eqb}
-use lib.ListN.{length, take}
+use lib.ListN.{length, take, drop}
 use borrow.Author.Tests.{ne-eqb, leb-true}
 use Rattle.format.specs.Bytes.{Bytes, pick, isAllowed, all}
 use Rattle.format.specs.Lines.{isEnded}
@@ -16,11 +16,10 @@ use Rattle.format.specs.Limits.{fileBytes}
 use Rattle.format.specs.Numbers.{intBounds}
 use Rattle.format.specs.Questions.{Row, firstNo, askOf, fitsLimits, describesOnce, describesWell, typesWell, limitRows, ruleRows}
 use Rattle.format.specs.Requests.{Request}
-use Rattle.format.specs.Plain.{Plain, size, apply, Asked, resultFits, raised, editQuestions}
+use Rattle.format.specs.Plain.{Plain, lengthOf, apply, Asked, raised, editQuestions}
 use Rattle.format.proofs.Whole.{sound-pieces}
-use Rattle.format.proofs.Requested.{HasPairs}
-use Rattle.format.proofs.Staying.{apply-allowed}
-use Rattle.format.proofs.Applying.{Agrees, agrees-size, agrees-parts, agrees-good, Granted, apply-agrees}
+use Rattle.format.proofs.Grouping.{HasPairs}
+use Rattle.format.proofs.Applying.{Agrees, agrees-length, agrees-sets, Granted, apply-agrees, apply-allowed}
 use Rattle.format.proofs.Asking.{first-yes, asked}
 use Rattle.format.proofs.Describing.{describes-once, describes-well, types-well}
 use Rattle.format.proofs.Passing.{SetsPass, bytes-ended, Holds, holds-passes, holds-bytes, holds-agrees}
@@ -29,7 +28,7 @@ use Rattle.format.proofs.Judging.{setQuestions, first-ask, readNo, text
 
 -- questions 21 to 25
 abbrev pub placeRows : List (Row Asked)
-placeRows = take 5 (editQuestions intBounds)
+placeRows = take 5 (drop 1 (editQuestions intBounds))
 
 -- "numbered 104 and 108 to 114"
 abbrev pub raisedNo : ℕ → ℕ
@@ -53,22 +52,26 @@ first-raised [] a h = refl
 first-raised (r ∷ rs) a h = ap (λ (n : ℕ). pick (r .asks a) n (100 + r .number)) (first-raised rs a (rise-less rs (r .number) (h .1))) ∙ raised-by (r .asks a) (firstNo rs a) (r .number) (h .0)
 
 -- questions 26 on
-abbrev resultNo : Asked → ℕ
-resultNo a = pick (resultFits a) (raisedNo (firstNo (limitRows ++ ruleRows intBounds) (a .result .parts))) 26
+abbrev resultFits : Asked → Bool
+resultFits a = leb (lengthOf (a .result)) (a .room) && leb (lengthOf (a .result)) fileBytes
 
-cut-number : (a : Asked) → firstNo (editQuestions intBounds) a ≡ pick (eqb (firstNo placeRows a) 0) (resultNo a) (firstNo placeRows a)
-cut-number a =
-    let parts : Asked → List RecSet = λ (x : Asked). x .result .parts in
+abbrev resultNo : Asked → ℕ
+resultNo a = pick (resultFits a) (raisedNo (firstNo (limitRows ++ ruleRows intBounds) (a .result .sets))) 26
+
+cut-number : (a : Asked) → a .formed ≡ true → firstNo (editQuestions intBounds) a ≡ pick (eqb (firstNo placeRows a) 0) (resultNo a) (firstNo placeRows a)
+cut-number a f =
+    let parts : Asked → List RecSet = λ (x : Asked). x .result .sets in
     let rows : List (Row (List RecSet)) = limitRows ++ ruleRows intBounds in
     let e : firstNo (askOf parts (map raised rows)) a ≡ raisedNo (firstNo rows (parts a)) = first-ask parts (map raised rows) a ∙ first-raised rows (parts a) (omega arith) in
-    first-append placeRows (record { number = 26; asks = resultFits } ∷ askOf parts (map raised rows)) a (omega arith)
+    ap (λ (b : Bool). pick b (firstNo (drop 1 (editQuestions intBounds)) a) 20) f
+    ∙ first-append placeRows (record { number = 26; asks = resultFits } ∷ askOf parts (map raised rows)) a (omega arith)
     ∙ ap (λ (n : ℕ). pick (eqb (firstNo placeRows a) 0) (pick (resultFits a) n 26) (firstNo placeRows a)) e
 
 -- questions 21 to 25 say yes
 place-granted : (a : Asked) → firstNo placeRows a ≡ 0 → Granted a
 place-granted a e =
     let y = first-yes placeRows a refl e in
-    record { set = y .0; row = y .1 .0; occurrence = y .1 .1 .0; left = y .1 .1 .1 .0; legal = y .1 .1 .1 .1 .0 }
+    record { found = (y .0, (y .1 .0, (y .1 .1 .0, tt))); left = y .1 .1 .1 .0; legal = y .1 .1 .1 .1 .0 }
 
 -- of sets whose descriptors pass, questions 4 to 14 are 4 and 8 to 14
 skip-descriptors : (ss : List RecSet) → describesOnce ss ≡ true → describesWell intBounds ss ≡ true → typesWell intBounds ss ≡ true → firstNo (setQuestions intBounds) ss ≡ firstNo (limitRows ++ ruleRows intBounds) ss
@@ -85,39 +88,39 @@ module _ (buffer : Bytes) (used : ℕ) (p : Plain) (h : Holds buffer used p) (ro
   agrees = apply-agrees (asked room p q) f granted (holds-agrees buffer used p h)
 
   -- its length is that of its bytes
-  result-size : size (apply q p) ≡ length (bytesOf (apply q p .pieces))
-  result-size = agrees-size (apply q p) agrees
+  result-length : lengthOf (apply q p) ≡ length (bytesOf (apply q p .pieces))
+  result-length = agrees-length (apply q p) agrees
 
   -- the number of its bytes is that of questions 4 and 8 to 14
-  result-text : textNo (bytesOf (apply q p .pieces)) ≡ firstNo (limitRows ++ ruleRows intBounds) (apply q p .parts)
+  result-text : textNo (bytesOf (apply q p .pieces)) ≡ firstNo (limitRows ++ ruleRows intBounds) (apply q p .sets)
   unfolding textNo
   result-text =
       let r : Plain = apply q p in
       let s : Bytes = bytesOf (r .pieces) in
       let c = holds-passes buffer used p h in
       let a = holds-agrees buffer used p h in
-      let old : SetsPass (p .parts) = subst SetsPass (agrees-parts p a) (c .sets) in
+      let old : SetsPass (p .sets) = subst SetsPass (agrees-sets p a) (c .sets) in
       let allowed : all isAllowed s ≡ true = apply-allowed q p (granted .legal) (a .0) (ap (all isAllowed) (holds-bytes buffer used p h) ∙ c .allowed) in
       let clear : (all isAllowed s && isEnded s) ≡ true = and-eq-true-iff (all isAllowed s) (isEnded s) .1 (allowed, bytes-ended (r .pieces)) in
       ap (λ (b : Bool). pick b (readNo (pieces s)) 2) clear
       ∙ ap readNo (sound-pieces (r .pieces) (agrees .0))
-      ∙ ap (firstNo (setQuestions intBounds)) (agrees-parts r agrees)
-      ∙ skip-descriptors (r .parts) (describes-once q p (granted .legal) (agrees-good p a) (old .1 .0)) (describes-well intBounds q p ∙ old .1 .1 .0) (types-well intBounds q p ∙ old .1 .1 .1 .0)
+      ∙ ap (firstNo (setQuestions intBounds)) (agrees-sets r agrees)
+      ∙ skip-descriptors (r .sets) (describes-once q p (granted .legal) a (old .1 .0)) (describes-well intBounds q p ∙ old .1 .1 .0) (types-well intBounds q p ∙ old .1 .1 .1 .0)
 
   made-number : firstNo (editQuestions intBounds) (asked room p q) ≡ editNo room 0 (bytesOf (apply q p .pieces))
   made-number =
-      cut-number (asked room p q)
+      cut-number (asked room p q) refl
       ∙ ap (λ (n : ℕ). pick (eqb n 0) (resultNo (asked room p q)) n) e
-      ∙ (λ i. pick (leb (result-size i) room && leb (result-size i) fileBytes) (raisedNo (sym result-text i)) 26)
+      ∙ (λ i. pick (leb (result-length i) room && leb (result-length i) fileBytes) (raisedNo (sym result-text i)) 26)
 
-refused-number : (a : Asked) (k : ℕ) → firstNo placeRows a ≡ suc k → firstNo (editQuestions intBounds) a ≡ suc k
-refused-number a k e =
-    cut-number a ∙ ap (λ (n : ℕ). pick (eqb n 0) (resultNo a) n) e ∙ ap (λ (b : Bool). pick b (resultNo a) (suc k)) (ne-eqb (suc k) 0 (λ x. omega arith))
+refused-number : (a : Asked) (k : ℕ) → a .formed ≡ true → firstNo placeRows a ≡ suc k → firstNo (editQuestions intBounds) a ≡ suc k
+refused-number a k f e =
+    cut-number a f ∙ ap (λ (n : ℕ). pick (eqb n 0) (resultNo a) n) e ∙ ap (λ (b : Bool). pick b (resultNo a) (suc k)) (ne-eqb (suc k) 0 (λ x. omega arith))
 
 -- the number of an edit
 pub edit-number : (buffer : Bytes) (used : ℕ) (p : Plain) → Holds buffer used p → (room : ℕ) (q : Request) → HasPairs (q .edit) → (k : ℕ) → firstNo placeRows (asked room p q) ≡ k → firstNo (editQuestions intBounds) (asked room p q) ≡ editNo room k (bytesOf (apply q p .pieces))
 edit-number buffer used p h room q f zero e = made-number buffer used p h room q f e
-edit-number buffer used p h room q f (suc k) e = refused-number (asked room p q) k e
+edit-number buffer used p h room q f (suc k) e = refused-number (asked room p q) k refl e
 
 -- no number of a text is above 14
 

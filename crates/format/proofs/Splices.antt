@@ -2,16 +2,23 @@
 use Prim.Native.Nat.{ℕ, _+_, _-_, _≤_, _<_}
 use native.Mathlib.Omega.{arith}
 use mathlib.Core.Path.{_≡_, refl, sym, ap, _∙_}
+use mathlib.Core.Bool.{true}
+use mathlib.Core.Option.{some}
 use mathlib.Core.List.{List, [], _∷_, _++_, append-assoc, append-nil, map}
 use lib.ListN.{length, take, drop, length-append, length-drop}
 use lib.Seq.{length-take-le, take-at, drop-at, drop-drop, drop-append-le}
-use Rattle.format.specs.Bytes.{Bytes}
+use Rattle.format.specs.Bytes.{Bytes, all}
 use Rattle.format.specs.Lines.{Line, bytes}
-use Rattle.format.specs.Pieces.{Piece, linesOf, allLines, bytesOf}
-use Rattle.format.specs.Written.{Pair, written, writtenAll, newPiece}
-use Rattle.format.specs.Edits.{renamedLines, newline, gap, inFront}
-use Rattle.format.proofs.Elements.{Each}
+use Rattle.format.specs.Pieces.{Piece, linesOf, allLines, bytesOf, pieces}
+use Rattle.format.specs.Sets.{setsOf}
+use Rattle.format.specs.Written.{Pair, written, writtenAll, newField, newPiece, isLegalPair}
+use Rattle.format.specs.Edits.{renamedLines, newline, newlineIf, inFront}
+use Rattle.format.proofs.Elements.{Each, each-imp, all-each}
 use Rattle.format.proofs.Lines.{bytes-append}
+use Rattle.format.proofs.Legal.{legal-name, legal-not-rec, record-reads-back}
+use Rattle.format.proofs.Named.{NotRec}
+use Rattle.format.proofs.Grouping.{setBy}
+use Rattle.format.proofs.Regrouping.{sets-front}
 use Rattle.format.proofs.Whole.{Sound, bytesOf-append}
 use Rattle.format.proofs.Writing.{written-bytes, writtenAll-bytes}
 use Rattle.format.proofs.Renaming.{sound-starts}
@@ -92,10 +99,17 @@ sound-some (Piece.field n v ls) h ps =
     let f = sound-starts n v ls h in
     omega (arith, ap length (bytes-append ls (allLines ps)), length-append (bytes ls) (bytes (allLines ps)), ap (λ (x : List Line). length (bytes x)) (f .3), line-some (f .0) (f .1))
 
-gap-bytes : (ps : List Piece) → Each Sound ps → bytesOf (gap ps) ≡ gapBytes (bytesOf ps) ++ bytesOf ps
+gap-bytes : (ps : List Piece) → Each Sound ps → bytesOf (newlineIf ps ++ ps) ≡ gapBytes (bytesOf ps) ++ bytesOf ps
 unfolding bytesOf
 gap-bytes [] h = refl
 gap-bytes (p ∷ ps) h = ap (λ (x : Bytes). x ++ bytesOf (p ∷ ps)) (sym (gap-some (bytesOf (p ∷ ps)) (sound-some p (h .0) ps)))
 
 pub front-bytes : (new : List Pair) (ps : List Piece) → Each Sound ps → bytesOf (inFront new ps) ≡ writtenAll new ++ (gapBytes (bytesOf ps) ++ bytesOf ps)
-front-bytes new ps h = bytesOf-append (map newPiece new) (gap ps) ∙ (λ i. writtenAll-bytes new i ++ gap-bytes ps h i)
+front-bytes new ps h = bytesOf-append (map newPiece new) (newlineIf ps ++ ps) ∙ (λ i. writtenAll-bytes new i ++ gap-bytes ps h i)
+
+-- a record that is written alone reads back as a file of that record
+pub set-reads-back : (p : Pair) (ps : List Pair) → all isLegalPair (p ∷ ps) ≡ true → (qs : List Piece) × (pieces (writtenAll (p ∷ ps)) ≡ some qs) × (setsOf qs ≡ setBy [] (map newField (p ∷ ps) ∷ []) ∷ [])
+unfolding setsOf
+set-reads-back p ps e =
+    let n = each-imp (λ (q : Pair). isLegalPair q ≡ true) (λ (q : Pair). NotRec (q .name)) (λ q x. legal-not-rec (q .name) (legal-name q x)) (p ∷ ps) (all-each isLegalPair (p ∷ ps) e) in
+    (map newPiece (p ∷ ps), record-reads-back (p ∷ ps) e, ap setsOf (sym (append-nil (map newPiece (p ∷ ps)))) ∙ sets-front p ps n [] refl)

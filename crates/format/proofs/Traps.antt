@@ -9,7 +9,6 @@ use lib.Dec.{eqb}
 use lib.ListN.{length}
 use Rattle.format.specs.Bytes.{Bytes, text, all}
 use Rattle.format.specs.Pieces.{Piece, pieces}
-use Rattle.format.specs.Records.{records}
 use Rattle.format.specs.Sets.{setsOf}
 use Rattle.format.specs.Questions.{fileOf, verdictIn, verdict}
 
@@ -85,7 +84,7 @@ lines-told : meeting (
     each 0 ("" ∷ "\n \t\n" ∷ "# only a comment\n" ∷ "A:\n" ∷ "A: \\\n\nB: c\n" ∷ "A_1:\tb\n" ∷ "A: a\n#\nB: b\n" ∷ []) ∷
     each 2 ("A: b" ∷ "A: \u{7f}\n" ∷ "A: b\r\n" ∷ []) ∷
     each 3 ("A:\\\nb\n" ∷ "A: b\\\n" ∷ "# c\n+ d\n" ∷ "A: b\n# c\n+ d\n" ∷ "A: b\n\n+ d\n" ∷ "+ d\n" ∷ "A b: c\n" ∷ "1A: c\n" ∷ "_A: c\n" ∷ "A:b\n" ∷ "A : b\n" ∷ " A: b\n" ∷ "A\n" ∷ ": b\n" ∷ []) ∷ []) ≡ true
-unfolding pieces records setsOf fileOf verdictIn verdict
+unfolding pieces setsOf fileOf verdictIn verdict
 lines-told = refl
 
 -- descriptors: `%rec` once and first, then each field's shape, then the types
@@ -96,7 +95,7 @@ descriptors-told : meeting (
     these 0 (("foo: x\n" has "") ∷ ("%doc:\n%doc: a\n" has "") ∷ ("" has "") ∷ ("%key: %a\n" has "") ∷ ("%mandatory: a\n%mandatory: b\n+ c\n" has "") ∷ ("%size: -0\n" has "") ∷ ("%size: 0x0\n" has "") ∷ ("%size: <=\n+ 00\n" has "") ∷ ("%size: > 0\n" has "A: b\n") ∷ ("%size: >= 1\n" has "A: b\n") ∷ ("%size: < 2\n" has "A: b\n") ∷ []) ∷
     these 7 (("%typedef: T\n" has "") ∷ ("%typedef:\n" has "") ∷ ("%typedef: 1 int\n" has "") ∷ ("%typedef: %T int\n" has "") ∷ ("%typedef: int real\n" has "") ∷ ("%typedef: rec int\n" has "") ∷ ("%typedef: date int\n" has "") ∷ ("%typedef: N int\n%typedef: N int\n" has "") ∷ ("%typedef: N M\n" has "") ∷ ("%typedef: N N\n" has "") ∷ ("%typedef: A B\n%typedef: B C\n%typedef: C A\n" has "") ∷ ("%typedef: N int x\n" has "") ∷ ("%type: a\n" has "") ∷ ("%type: a,,b int\n" has "") ∷ ("%type: ,a int\n" has "") ∷ ("%type: a, int\n" has "") ∷ ("%type: 1 int\n" has "") ∷ ("%type: a email\n" has "") ∷ ("%type: a M\n" has "") ∷ ("%type: a range\n" has "") ∷ ("%type: a range 1 2 3\n" has "") ∷ ("%type: a range x\n" has "") ∷ ("%type: a size\n" has "") ∷ ("%type: a size -1\n" has "") ∷ ("%type: a size 1 2\n" has "") ∷ ("%type: a size MAX\n" has "") ∷ ("%type: a real 1\n" has "") ∷ ("%type: a enum\n" has "") ∷ ("%type: a enum (x)\n" has "") ∷ ("%type: a enum -x\n" has "") ∷ ("%type: a enum a (b\n" has "") ∷ ("%type: a enum a b)\n" has "") ∷ ("%type: a enum a (b (c) d)\n" has "") ∷ ("%type: a int (x)\n" has "") ∷ ("%type: a (x) enum a\n" has "") ∷ []) ∷
     these 0 (("%typedef: A B\n%typedef: B C\n%typedef: C int\n%type: x A\n" has "x: 1\n") ∷ ("%type: a enum(c) a\n" has "a: a\n") ∷ ("%type: a enum a(b)c\n" has "a: c\n") ∷ ("%type: a enum a (b\n+ c) d\n" has "a: d\n") ∷ ("%type: a enum a a\n" has "a: a\n") ∷ ("%type: a range 3 1\n" has "") ∷ ("%type: a range -3\n" has "") ∷ ("%typedef: enum_ enum x\n%type: a enum_\n" has "a: x\n") ∷ []) ∷ []) ≡ true
-unfolding pieces records setsOf fileOf verdictIn verdict
+unfolding pieces setsOf fileOf verdictIn verdict
 descriptors-told = refl
 
 -- the rules of a set's records, and which question comes first
@@ -109,12 +108,12 @@ rules-told : meeting (
     these 13 (("%key: A\n" has "A: b\n\nA: b\n") ∷ ("%key: A\n%size: 1\n" has "A: b\n\nA:\tb\n") ∷ ("%key: A\n" has "A: b\nB: c\n\n# x\nA: \\\nb\n") ∷ []) ∷
     these 14 (("%size: 1\n" has "") ∷ ("%size: 0\n" has "A: b\n") ∷ ("%size: > 1\n" has "A: b\n") ∷ ("%size: < 1\n" has "A: b\n") ∷ ("%size: <= 0\n" has "A: b\n") ∷ ("%size: >= 2\n" has "A: b\n") ∷ []) ∷
     these 0 (("%unique: A\n" has "A: b\n\nA: b\n") ∷ ("%key: A\n" has "A: b\n\nA:  b\n") ∷ ("%prohibit: A\n" has "a: b\n") ∷ ("%size: 1\n" has "# c\n\nA: b\n\n# d\n") ∷ ("%mandatory: A\n" has "") ∷ ("%key: A\n%size: 2\n" has "A: 1\n\nA: 01\n") ∷ []) ∷ []) ≡ true
-unfolding pieces records setsOf fileOf verdictIn verdict
+unfolding pieces setsOf fileOf verdictIn verdict
 rules-told = refl
 
 -- values and types
 types-told : meeting (
     these 0 (typed "int" ("0" ∷ "-0" ∷ "00" ∷ "010" ∷ "-0x0" ∷ "0x1F" ∷ "0xff" ∷ "2147483647" ∷ "-2147483648" ∷ "017777777777" ∷ " 7\n+ " ∷ "-020000000000" ∷ []) ∷ typed "range 2" ("0" ∷ "1" ∷ "2" ∷ []) ∷ typed "range -1 1" ("-1" ∷ "0" ∷ "1" ∷ "-0" ∷ []) ∷ typed "range MIN MAX" ("-2147483648" ∷ "2147483647" ∷ []) ∷ typed "range 1 MAX" ("1" ∷ []) ∷ typed "real" ("1" ∷ "-1.5" ∷ "00.10" ∷ "0" ∷ "12345678901234567890.5" ∷ " 1.5 " ∷ []) ∷ typed "line" ("" ∷ "a b" ∷ "x\\\n+ y" ∷ []) ∷ typed "size 3" ("" ∷ "abc" ∷ " a " ∷ "a\n+ b" ∷ []) ∷ typed "size 0" ("" ∷ []) ∷ typed "enum a b-c 1_ (x)" ("a" ∷ "b-c" ∷ "1_" ∷ " a\n+ " ∷ []) ∷ typed "bool" ("yes" ∷ "no" ∷ "0" ∷ "1" ∷ "true" ∷ "false" ∷ " yes" ∷ []) ∷ typed "field" ("A" ∷ "%" ∷ "a_1" ∷ " %rec " ∷ []) ∷ typed "uuid" ("550e8400-e29b-41d4-a716-446655440000" ∷ "550E8400-E29B-41D4-A716-446655440000" ∷ []) ∷ []) ∷
     these 12 (typed "int" ("08" ∷ []) ∷ typed "int" ("" ∷ []) ∷ typed "int" ("-" ∷ []) ∷ typed "int" ("0x" ∷ []) ∷ typed "int" ("0X1" ∷ []) ∷ typed "int" ("+1" ∷ []) ∷ typed "int" ("1 2" ∷ []) ∷ typed "int" ("2147483648" ∷ []) ∷ typed "int" ("-2147483649" ∷ []) ∷ typed "int" ("0x80000000" ∷ []) ∷ typed "int" ("1.0" ∷ []) ∷ typed "int" ("--1" ∷ []) ∷ typed "int" ("1a" ∷ []) ∷ typed "range 2" ("3" ∷ []) ∷ typed "range 2" ("-1" ∷ []) ∷ typed "range -1 1" ("2" ∷ []) ∷ typed "range 1 0" ("1" ∷ []) ∷ typed "range MIN" ("0" ∷ []) ∷ typed "real" ("1." ∷ []) ∷ typed "real" (".5" ∷ []) ∷ typed "real" ("1.2.3" ∷ []) ∷ typed "real" ("" ∷ []) ∷ typed "real" ("1e5" ∷ []) ∷ typed "real" ("+1" ∷ []) ∷ typed "line" ("a\n+ b" ∷ []) ∷ typed "size 3" ("abcd" ∷ []) ∷ typed "size 3" ("ab\n+ c" ∷ []) ∷ typed "enum a b" ("c" ∷ []) ∷ typed "enum a b" ("a b" ∷ []) ∷ typed "enum a b" ("A" ∷ []) ∷ typed "bool" ("YES" ∷ []) ∷ typed "bool" ("2" ∷ []) ∷ typed "bool" ("" ∷ []) ∷ typed "field" ("1" ∷ []) ∷ typed "field" ("a b" ∷ []) ∷ typed "field" ("" ∷ []) ∷ typed "uuid" ("550e8400-e29b-41d4-a716-44665544000" ∷ []) ∷ typed "uuid" ("550e8400-e29b-41d4-a716-44665544000g" ∷ []) ∷ typed "uuid" ("550e8400e29b41d4a716446655440000" ∷ []) ∷ typed "uuid" ("550e8400-e29b-41d4-a716-446655440000-" ∷ []) ∷ []) ∷ []) ≡ true
-unfolding pieces records setsOf fileOf verdictIn verdict
+unfolding pieces setsOf fileOf verdictIn verdict
 types-told = refl

@@ -7,20 +7,21 @@ use mathlib.Core.Option.{some}
 use lib.Dec.{leb, eqb, leb·zero, leb·suc-suc}
 use lib.ListN.{length}
 use borrow.Author.Tests.{not-true}
-use Rattle.format.specs.Lists.{isFilled, filter}
-use Rattle.format.specs.Bytes.{Bytes, text, pick, isAllowed, all, any, same, among}
+use Rattle.format.specs.Lists.{isFilled, filter, front, behind}
+use Rattle.format.specs.Bytes.{Bytes, text, pick, isAllowed, all, same, among}
 use Rattle.format.specs.Lines.{isEnded}
-use Rattle.format.specs.Words.{isGap, notGap, frontIf, front, behind, firstWord, wordOn, words, isTypeName}
+use Rattle.format.specs.Words.{isGap, notGap, firstWord, words, isTypeName}
 use Rattle.format.specs.Pieces.{Piece, pieces}
-use Rattle.format.specs.Records.{Field, Record, records}
-use Rattle.format.specs.Sets.{keepIf, valuesOf, RecSet, default, enters, sets, setsOf}
+use Rattle.format.specs.Records.{Field, Record}
+use Rattle.format.specs.Sets.{valuesOf, recValues, RecSet}
 use Rattle.format.specs.Limits.{descriptors}
 use Rattle.format.specs.Numbers.{Bounds, intBounds}
 use Rattle.format.specs.Rules.{one, isShaped, isWellFormed, isTypedWell, distinct}
 use Rattle.format.specs.Plain.{membersAt}
-use Rattle.format.specs.Questions.{firstNo, fitsRecord, fitsRules, fitsLimits, hasRecOnce, describesOnce, nameOf, describesWell, typesWell, occurrences, ruleRows}
+use Rattle.format.specs.Questions.{firstNo, fitsRecord, fitsRules, fitsLimits, hasRecOnce, describesOnce, nameOf, describesWell, typesWell, ruleRows}
+use Rattle.format.proofs.Parts.{words-gap}
 use Rattle.format.proofs.Elements.{Each, all-each, all-both, all-yes, all-alike, Filled}
-use Rattle.format.proofs.Sets.{recValues}
+use Rattle.format.proofs.Records.{records, default, enters, sets, sets-records}
 use Rattle.format.proofs.Least.{least, leasts}
 use Rattle.format.proofs.Judging.{setQuestions, readNo, textNo, wholeRows, recordNo, setNo, rules-no}
 use Rattle.format.proofs.Listing.{same-true}
@@ -145,9 +146,9 @@ once-walk rs = records-all hasRecOnce refl rs
 
 wordless-by : (c : ℕ) (s : Bytes) (b : Bool) → isGap c ≡ b → (firstWord s ≡ [] → words s ≡ []) → firstWord (c ∷ s) ≡ [] → words (c ∷ s) ≡ []
 wordless-by c s true g h e =
-    ap (λ (b : Bool). pick b (words s) (wordOn c s (words s))) g ∙ h (ap (λ (b : Bool). front notGap (pick b (behind isGap s) (c ∷ s))) (sym g) ∙ e)
+    words-gap c s g ∙ h (ap (λ (b : Bool). front notGap (pick b (behind isGap s) (c ∷ s))) (sym g) ∙ e)
 wordless-by c s false g h e =
-    let k : c ∷ front notGap s ≡ [] = ap (λ (b : Bool). frontIf (not b) c (front notGap s)) (sym g) ∙ ap (λ (b : Bool). front notGap (pick b (behind isGap s) (c ∷ s))) (sym g) ∙ e in
+    let k : c ∷ front notGap s ≡ [] = ap (λ (b : Bool). pick (not b) (c ∷ front notGap s) []) (sym g) ∙ ap (λ (b : Bool). front notGap (pick b (behind isGap s) (c ∷ s))) (sym g) ∙ e in
     absurd (subst Filled k tt)
 
 wordless : (s : Bytes) → firstWord s ≡ [] → words s ≡ []
@@ -165,7 +166,7 @@ rec-named v h = go (same [] (firstWord v)) refl
     go true e = absurd (false≢true (ap (one isTypeName) (sym (wordless v (sym (same-true [] (firstWord v) e)))) ∙ h))
     go false e = e
 
-named-by : (b : Bounds) (f : Field) (t : Bool) (vs : List Bytes) → same (text "%rec") (f .name) ≡ t → isShaped b f ≡ true → (not (isFilled vs) || not (same [] (nameIn vs))) ≡ true → (not (isFilled (keepIf t (f .value) vs)) || not (same [] (nameIn (keepIf t (f .value) vs)))) ≡ true
+named-by : (b : Bounds) (f : Field) (t : Bool) (vs : List Bytes) → same (text "%rec") (f .name) ≡ t → isShaped b f ≡ true → (not (isFilled vs) || not (same [] (nameIn vs))) ≡ true → (not (isFilled (pick t (f .value ∷ vs) vs)) || not (same [] (nameIn (pick t (f .value ∷ vs) vs)))) ≡ true
 named-by b f true vs e h k = ap not (rec-named (f .value) (rec-shaped b (f .name) (f .value) (f .count) (same-true (text "%rec") (f .name) e) h))
 named-by b f false vs e h k = k
 
@@ -274,5 +275,5 @@ records-no b rs =
     (λ i. pick (limits-walk rs i) (pick (once-walk rs i) (pick (well-walk b rs i) (pick (types-walk b rs i) (rest i) 7) 6) 5) 4)
 
 pub text-walk : (s : Bytes) (ps : List Piece) → all isAllowed s ≡ true → isEnded s ≡ true → pieces s ≡ some ps → textNo s ≡ recordsNo intBounds (records ps)
-unfolding textNo setsOf
-text-walk s ps a e r = (λ i. pick (a i && e i) (readNo (r i)) 2) ∙ records-no intBounds (records ps)
+unfolding textNo
+text-walk s ps a e r = (λ i. pick (a i && e i) (readNo (r i)) 2) ∙ ap (firstNo (setQuestions intBounds)) (sets-records ps) ∙ records-no intBounds (records ps)

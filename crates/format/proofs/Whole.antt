@@ -6,10 +6,11 @@ use mathlib.Core.Logic.{_≢_}
 use mathlib.Core.Bool.{true}
 use mathlib.Core.List.{List, [], _∷_, _++_, append-assoc}
 use mathlib.Core.Option.{Option, none, some, Option·none-ne-some}
+use Rattle.format.specs.Lists.{onward}
 use Rattle.format.specs.Bytes.{Bytes}
 use Rattle.format.specs.Lines.{Line, lines, bytes, isEnded, Form, form}
 use Rattle.format.specs.Pieces.{Piece, linesOf, allLines, bytesOf, Mode, after, unopened, seen}
-use Rattle.format.specs.Pieces.{Reading, takeLine, takeIn, atEnd, readFrom, piecesIn, pieces}
+use Rattle.format.specs.Pieces.{Reading, takeLine, atEnd, readFrom, piecesIn, pieces}
 use Rattle.format.specs.Edits.{newline}
 use Rattle.format.proofs.Elements.{Each, each-append, each-parts, each-imp}
 use Rattle.format.proofs.Kept.{read-lines}
@@ -29,22 +30,21 @@ Sound p = Each Clean (linesOf p) × Whole p
 
 -- a line that is seen as a form, then lines
 abbrev pub readAs : Form → Line → List Line → Option Reading
-readAs F l ls = takeIn F l (readFrom (after F) ls)
+readAs F l ls = onward (takeLine F l) (readFrom (after F) ls)
 
 -- Lines that read with no field open read the same behind a field.
-fault-reads : (x : Option Reading) (l : Line) → takeIn Form.fault l x ≡ none
+fault-reads : (x : Option Reading) (l : Line) → onward (takeLine Form.fault l) x ≡ none
 fault-reads none l = refl
 fault-reads (some r) l = refl
 
-no-fault : (x : Option Reading) (l : Line) (r : Reading) → takeIn Form.fault l x ≡ some r → ⊥
+no-fault : (x : Option Reading) (l : Line) (r : Reading) → onward (takeLine Form.fault l) x ≡ some r → ⊥
 no-fault x l r e = Option·none-ne-some r (sym (fault-reads x l) ∙ e)
 
 form-behind : (F : Form) (l : Line) (ls : List Line) (r : Reading) → readAs (unopened F) l ls ≡ some r → readAs F l ls ≡ some r
 form-behind Form.blank l ls r e = e
 form-behind Form.comment l ls r e = e
 form-behind (Form.field n v) l ls r e = e
-form-behind (Form.plus v) l ls r e = absurd (no-fault (readFrom Mode.closed ls) l r e)
-form-behind (Form.part v) l ls r e = absurd (no-fault (readFrom Mode.closed ls) l r e)
+form-behind (Form.more v) l ls r e = absurd (no-fault (readFrom Mode.closed ls) l r e)
 form-behind Form.fault l ls r e = e
 
 reads-behind : (ls : List Line) (r : Reading) → readFrom Mode.closed ls ≡ some r → readFrom Mode.opened ls ≡ some r
@@ -63,8 +63,7 @@ take-followed : (F : Form) (l : Line) (r : Reading) (qs : List Piece) → takeLi
 take-followed Form.blank l r qs = refl
 take-followed Form.comment l r qs = refl
 take-followed (Form.field n v) l r qs = refl
-take-followed (Form.plus v) l r qs = refl
-take-followed (Form.part v) l r qs = refl
+take-followed (Form.more v) l r qs = refl
 take-followed Form.fault l r qs = refl
 
 module _ (b : List Line) (qs : List Piece) (reads : readFrom Mode.closed b ≡ some (alone qs)) where
@@ -73,9 +72,9 @@ module _ (b : List Line) (qs : List Piece) (reads : readFrom Mode.closed b ≡ s
   end-followed Mode.opened r e = reads-behind b (alone qs) reads ∙ ap (followedIn qs) e
   end-followed Mode.joined r e = absurd (Option·none-ne-some r e)
 
-  line-followed : (F : Form) (l : Line) (a : List Line) (r : Reading) (x : Option Reading) → ((s : Reading) → x ≡ some s → readFrom (after F) (a ++ b) ≡ some (followed qs s)) → takeIn F l x ≡ some r → readAs F l (a ++ b) ≡ some (followed qs r)
+  line-followed : (F : Form) (l : Line) (a : List Line) (r : Reading) (x : Option Reading) → ((s : Reading) → x ≡ some s → readFrom (after F) (a ++ b) ≡ some (followed qs s)) → onward (takeLine F l) x ≡ some r → readAs F l (a ++ b) ≡ some (followed qs r)
   line-followed F l a r none ih e = absurd (Option·none-ne-some r e)
-  line-followed F l a r (some s) ih e = ap (takeIn F l) (ih s refl) ∙ take-followed F l s qs ∙ ap (followedIn qs) e
+  line-followed F l a r (some s) ih e = ap (onward (takeLine F l)) (ih s refl) ∙ take-followed F l s qs ∙ ap (followedIn qs) e
 
   lines-followed : (a : List Line) (m : Mode) (r : Reading) → readFrom m a ≡ some r → readFrom m (a ++ b) ≡ some (followed qs r)
   lines-followed [] m r e = end-followed m r e
@@ -94,7 +93,7 @@ Good m none = Unit {0}
 Good m (some r) = Each Whole (r .pieces) × (readFrom m (r .own) ≡ some (ownOnly r))
 
 own-seen : (m : Mode) (F : Form) (l : Line) (r : Reading) → seen m l ≡ F → readFrom (after F) (r .own) ≡ some (ownOnly r) → readFrom m (l ∷ r .own) ≡ takeLine F l (ownOnly r)
-own-seen m F l r e h = ap (λ (G : Form). readAs G l (r .own)) e ∙ ap (takeIn F l) h
+own-seen m F l r e h = ap (λ (G : Form). readAs G l (r .own)) e ∙ ap (onward (takeLine F l)) h
 
 -- a form that begins a piece begins it with no field open too, and stands where lines may end
 abbrev Begins : Form → Type 0
@@ -118,11 +117,10 @@ good-take : (m : Mode) (F : Form) (l : Line) (r : Reading) → seen m l ≡ F �
 good-take m Form.blank l r e g = let f = begins-closed m Form.blank l begins-blank e in ((own-seen Mode.closed Form.blank l (alone []) (f .0) refl, g .0), f .1)
 good-take m Form.comment l r e g = let f = begins-closed m Form.comment l begins-comment e in ((own-seen Mode.closed Form.comment l (alone []) (f .0) refl, g .0), f .1)
 good-take m (Form.field n v) l r e g = let f = begins-closed m (Form.field n v) l (begins-field n v) e in ((own-seen Mode.closed (Form.field n v) l r (f .0) (g .1), g .0), f .1)
-good-take m (Form.plus v) l r e g = (g .0, own-seen m (Form.plus v) l r e (g .1))
-good-take m (Form.part v) l r e g = (g .0, own-seen m (Form.part v) l r e (g .1))
+good-take m (Form.more v) l r e g = (g .0, own-seen m (Form.more v) l r e (g .1))
 good-take m Form.fault l r e g = tt
 
-good-in : (m : Mode) (l : Line) (x : Option Reading) → Good (after (seen m l)) x → Good m (takeIn (seen m l) l x)
+good-in : (m : Mode) (l : Line) (x : Option Reading) → Good (after (seen m l)) x → Good m (onward (takeLine (seen m l) l) x)
 good-in m l none g = tt
 good-in m l (some r) g = good-take m (seen m l) l r refl g
 

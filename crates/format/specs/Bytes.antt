@@ -70,6 +70,11 @@ abbrev pub any : {A : Type 0} → (A → Bool) → List A → Bool
 any p [] = false
 any p (c ∷ s) = p c || any p s
 
+-- a byte of one kind, then bytes of another
+abbrev pub isSpelt : (ℕ → Bool) → (ℕ → Bool) → Bytes → Bool
+isSpelt first later [] = false
+isSpelt first later (c ∷ s) = first c && all later s
+
 -- are two byte strings the same
 abbrev pub same : Bytes → Bytes → Bool
 same [] [] = true

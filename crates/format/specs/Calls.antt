@@ -1,21 +1,20 @@
 -- The answer of each call: its result and every buffer after it.
-use Prim.Native.Nat.{ℕ, zero, suc, _+_, _-_, max}
-use mathlib.Core.Bool.{Bool, true, false}
-use mathlib.Core.List.{List, [], _∷_, _++_}
+use Prim.Native.Nat.{ℕ, zero, suc, _-_, max}
+use mathlib.Core.List.{List, [], _∷_, _++_, map}
 use mathlib.Core.Option.{Option, none, some}
-use lib.Dec.{leb}
-use lib.ListN.{length, take, drop, replicate}
-use Rattle.format.specs.Lists.{onward, isFilled}
+use lib.Dec.{leb, ltb}
+use lib.ListN.{length, take, drop, getD, replicate}
 use Rattle.format.specs.Bytes.{Bytes, pick, all}
-use Rattle.format.specs.Pieces.{Piece, pieces, bytesOf}
-use Rattle.format.specs.Records.{Block, blocks, fieldsOf}
-use Rattle.format.specs.Sets.{RecSet, valuesOf}
+use Rattle.format.specs.Lists.{onlyIf, onward, flat, filter, front, behind, before}
+use Rattle.format.specs.Pieces.{Piece, bytesOf, readOf}
+use Rattle.format.specs.Records.{Block, isLoose, isRecord}
+use Rattle.format.specs.Sets.{valuesOf, Group, groups, isMember, RecSet, setsOf}
 use Rattle.format.specs.Limits.{fileBytes, recordFields}
 use Rattle.format.specs.Written.{Pair, writtenAll, isLegalPair}
-use Rattle.format.specs.Edits.{Edit, ordinal}
-use Rattle.format.specs.Questions.{Row, firstNo, setsIn, verdict}
+use Rattle.format.specs.Edits.{Edit}
+use Rattle.format.specs.Questions.{Row, firstNo, nameOf, verdict}
 use Rattle.format.specs.Requests.{Request, requestOf}
-use Rattle.format.specs.Plain.{plainOf, indexOf, membersOf, recordOf, hasSet, hasRecord, hasOccurrence, Step, step}
+use Rattle.format.specs.Plain.{plainOf, indexOf, Sought, soughtMembers, soughtRecord, foundRows, Step, step}
 
 -- a number, "marked as no refusal", or a refusal's number
 pub data Answer : Type 0 where
@@ -26,197 +25,145 @@ abbrev pub answer : ℕ → ℕ → Answer
 answer zero n = value n
 answer (suc k) n = refusal (suc k)
 
--- the file's own questions come first
-abbrev pub fileThen : ℕ → ℕ → ℕ
-fileThen zero n = n
-fileThen (suc k) n = suc k
+-- the same in two numbers: the refusal's, 0 if there is none, and the value, or another in its place
+abbrev pub numberIn : Answer → ℕ
+numberIn (value n) = 0
+numberIn (refusal k) = k
 
--- the sets of a used buffer
-abbrev pub partsOf : Bytes → ℕ → List RecSet
-partsOf buffer used = setsIn (pieces (take used buffer))
+abbrev pub valueOr : ℕ → Answer → ℕ
+valueOr m (value n) = n
+valueOr m (refusal k) = m
 
--- what is looked for
-pub record Sought : Type 0 where
-  pub parts : List RecSet
-  pub set : Bytes
-  pub row : ℕ
-  pub name : Bytes
-  pub occurrence : ℕ
-  pub room : ℕ
-
-abbrev pub setRow : Row Sought
-setRow = record { number = 21; asks = λ (q : Sought). hasSet (q .set) (q .parts) }
-
-abbrev pub recordRow : Row Sought
-recordRow = record { number = 22; asks = λ (q : Sought). hasRecord (q .set) (q .row) (q .parts) }
-
-abbrev pub occurrenceRow : Row Sought
-occurrenceRow = record { number = 23; asks = λ (q : Sought). hasOccurrence (q .set) (q .row) (q .name) (q .occurrence) (q .parts) }
-
--- the value of one occurrence
-abbrev pub valueAt : ℕ → List Bytes → Bytes
-valueAt o [] = []
-valueAt zero (v ∷ vs) = v
-valueAt (suc o) (v ∷ vs) = valueAt o vs
-
-abbrev pub soughtValue : Sought → Bytes
-soughtValue q = valueAt (q .occurrence) (valuesOf (q .name) (recordOf (q .set) (q .row) (q .parts)))
-
--- "27 if it is longer than that buffer"
-abbrev pub roomRow : Row Sought
-roomRow = record { number = 27; asks = λ (q : Sought). leb (length (soughtValue q)) (q .room) }
+-- the first number that is not 0: later questions are asked where the earlier ones say yes
+abbrev pub thenNo : ℕ → ℕ → ℕ
+thenNo zero n = n
+thenNo (suc k) n = suc k
 
 -- check
 
 unfoldable pub checkAnswer : Bytes → ℕ → ℕ
 checkAnswer buffer used = verdict buffer used
 
+-- The lookups: the file's own questions come first, then those about what is looked for.
+
+abbrev pub setsIn : Bytes → ℕ → List RecSet
+setsIn buffer used = setsOf (readOf (take used buffer))
+
+abbrev pub lookupNo : Bytes → ℕ → Sought → ℕ
+lookupNo buffer used q = thenNo (verdict buffer used) (firstNo foundRows q)
+
 -- "Count answers a refusal, 1 to 14 or 21, or, marked as no refusal, the count."
+abbrev pub soughtSet : List RecSet → Bytes → Sought
+soughtSet ss n = record { sets = ss; set = indexOf n ss; row = none; field = none }
 
 unfoldable pub countAnswer : Bytes → ℕ → Bytes → Answer
-countAnswer buffer used set =
-    let q : Sought = record { parts = partsOf buffer used; set = set; row = 0; name = []; occurrence = 0; room = 0 } in
-    answer (fileThen (verdict buffer used) (firstNo (setRow ∷ []) q)) (length (membersOf set (q .parts)))
+countAnswer buffer used set = let q : Sought = soughtSet (setsIn buffer used) set in answer (lookupNo buffer used q) (length (soughtMembers q))
 
--- "Fetch, given set, record, name and occurrence, puts the value into a second buffer and returns its length, marked likewise, or a refusal"
-
--- "Bytes after a fetched or written text stay."
-abbrev pub over : Bytes → Bytes → Bytes
-over text out = text ++ drop (length text) out
-
-abbrev pub overIf : Answer → Bytes → Bytes → Bytes
-overIf (value n) text out = over text out
-overIf (refusal k) text out = out
-
--- a number and what the second buffer holds after the call
+-- what a second buffer holds after a call; "Bytes after a fetched or written text stay."
 pub record Filled : Type 0 where
   pub result : Answer
   pub out : Bytes
 
+abbrev pub leaves : Answer → Bytes → Bytes → Bytes
+leaves (value n) new old = new
+leaves (refusal k) new old = old
+
+abbrev pub over : Bytes → Bytes → Bytes
+over text out = text ++ drop (length text) out
+
+-- "27 if it is longer than that buffer"
 abbrev pub filled : ℕ → Bytes → Bytes → Filled
-filled number text out = let a : Answer = answer number (length text) in record { result = a; out = overIf a text out }
+filled number text out =
+    let a : Answer = answer (thenNo number (pick (leb (length text) (length out)) 0 27)) (length text) in
+    record { result = a; out = leaves a (over text out) out }
+
+-- "Fetch, given set, record, name and occurrence, puts the value into a second buffer and returns its length, marked likewise, or a refusal"
+abbrev pub soughtField : List RecSet → Bytes → ℕ → Bytes → ℕ → Sought
+soughtField ss n row m o = record { sets = ss; set = indexOf n ss; row = some row; field = some (record { name = m; number = o }) }
 
 unfoldable pub fetchAnswer : Bytes → ℕ → Bytes → ℕ → Bytes → ℕ → Bytes → Filled
 fetchAnswer buffer used set row name occurrence out =
-    let q : Sought = record { parts = partsOf buffer used; set = set; row = row; name = name; occurrence = occurrence; room = length out } in
-    filled (fileThen (verdict buffer used) (firstNo (setRow ∷ recordRow ∷ occurrenceRow ∷ roomRow ∷ []) q)) (soughtValue q) out
+    let q : Sought = soughtField (setsIn buffer used) set row name occurrence in
+    filled (lookupNo buffer used q) (getD (valuesOf name (soughtRecord q)) occurrence []) out
 
--- "View returns the part of the file from a record's first field line to the newline that ends its last field, included"
+-- the name of the set of a number, the default set's 0
+abbrev pub soughtOrder : List RecSet → ℕ → Sought
+soughtOrder ss k = record { sets = ss; set = onlyIf (ltb k (length ss)) k; row = none; field = none }
+
+unfoldable pub nameAnswer : Bytes → ℕ → ℕ → Bytes → Filled
+nameAnswer buffer used k out =
+    let ss : List RecSet = setsIn buffer used in
+    filled (lookupNo buffer used (soughtOrder ss k)) (getD (map nameOf ss) k []) out
+
+-- "View returns the part of the file from a record's first field line to the newline that ends its last field, included": its place and its bytes
+pub record Viewed : Type 0 where
+  pub result : Answer
+  pub part : Bytes
 
 -- the pieces of a block before its first field, and those from there to its last
 abbrev pub lead : Block → Block
-lead [] = []
-lead (Piece.blank l ∷ b) = Piece.blank l ∷ lead b
-lead (Piece.comment l ∷ b) = Piece.comment l ∷ lead b
-lead (Piece.field n v ls ∷ b) = []
+lead b = front isLoose b
 
 abbrev pub fromFirst : Block → Block
-fromFirst [] = []
-fromFirst (Piece.blank l ∷ b) = fromFirst b
-fromFirst (Piece.comment l ∷ b) = fromFirst b
-fromFirst (Piece.field n v ls ∷ b) = Piece.field n v ls ∷ b
+fromFirst b = behind isLoose b
 
 abbrev pub toLast : Block → Block
 toLast [] = []
-toLast (p ∷ b) = pick (isFilled (fieldsOf (p ∷ b))) (p ∷ toLast b) []
+toLast (p ∷ b) = pick (isRecord (p ∷ b)) (p ∷ toLast b) []
 
--- the place and the bytes of a part of the file
-pub record Part : Type 0 where
-  pub start : ℕ
-  pub bytes : Bytes
+-- the block of record j of group i, and the pieces in front of it
+abbrev pub blockAt : List Group → ℕ → ℕ → Block
+blockAt gs i j = getD (filter isMember (getD gs i [])) j []
 
-abbrev pub noPart : Part
-noPart = record { start = 0; bytes = [] }
-
-abbrev pub blockPart : ℕ → Block → Part
-blockPart at b = record { start = at + length (bytesOf (lead b)); bytes = bytesOf (toLast (fromFirst b)) }
-
--- of the k-th record of blocks, descriptors counted, the first block at a place
-abbrev pub partBy : Bool → ℕ → Part → (ℕ → Part) → Part
-partBy false k here later = later k
-partBy true zero here later = here
-partBy true (suc k) here later = later k
-
-abbrev pub partAt : List Block → ℕ → ℕ → Part
-partAt [] at k = noPart
-partAt (b ∷ bs) at k = partBy (isFilled (fieldsOf b)) k (blockPart at b) (λ (j : ℕ). partAt bs (at + length (bytesOf b)) j)
-
-abbrev pub partIn : List RecSet → Option (List Piece) → ℕ → Option ℕ → Part
-partIn ss none row i = noPart
-partIn ss (some ps) row none = noPart
-partIn ss (some ps) row (some i) = partAt (blocks ps) 0 (ordinal ss i row)
-
-pub record Viewed : Type 0 where
-  pub number : ℕ
-  pub part : Part
+abbrev pub piecesBefore : List Group → ℕ → ℕ → List Piece
+piecesBefore gs i j = flat (flat (take i gs)) ++ flat (before isMember j (getD gs i []))
 
 -- "refused .. it returns the empty part. The number, 0 if accepted, goes into a lent single number."
-abbrev pub viewed : ℕ → Part → Viewed
-viewed zero p = record { number = zero; part = p }
-viewed (suc k) p = record { number = suc k; part = noPart }
+abbrev pub viewed : ℕ → ℕ → Bytes → Viewed
+viewed number start part = let a : Answer = answer number start in record { result = a; part = leaves a part [] }
+
+abbrev pub viewedAt : ℕ → List Group → Option ℕ → ℕ → Viewed
+viewedAt number gs none row = viewed number 0 []
+viewedAt number gs (some i) row =
+    let b : Block = blockAt gs i row in
+    viewed number (length (bytesOf (piecesBefore gs i row ++ lead b))) (bytesOf (toLast (fromFirst b)))
+
+abbrev pub soughtRow : List RecSet → Bytes → ℕ → Sought
+soughtRow ss n row = record { sets = ss; set = indexOf n ss; row = some row; field = none }
 
 unfoldable pub viewAnswer : Bytes → ℕ → Bytes → ℕ → Viewed
 viewAnswer buffer used set row =
-    let q : Sought = record { parts = partsOf buffer used; set = set; row = row; name = []; occurrence = 0; room = 0 } in
-    viewed (fileThen (verdict buffer used) (firstNo (setRow ∷ recordRow ∷ []) q)) (partIn (q .parts) (pieces (take used buffer)) row (indexOf set (q .parts)))
+    let q : Sought = soughtRow (setsIn buffer used) set row in
+    viewedAt (lookupNo buffer used q) (groups (readOf (take used buffer))) (q .set) row
 
--- "Writing turns an insert into its record's text in a second buffer and returns its length, marked likewise, or a refusal"
-
--- what is to be written, and the second buffer's length
-pub record Writing : Type 0 where
-  pub pairs : List Pair
-  pub room : ℕ
-
--- "25, 26 (text over 65,536 bytes), 104 (over 256 pairs), 27 (text longer than that buffer)"
-abbrev pub writeRows : List (Row Writing)
+-- "Writing turns an insert into its record's text in a second buffer and returns its length, marked likewise, or a refusal, asked in this order:
+-- 20 (also for another kind), 25, 26 (text over 65,536 bytes), 104 (over 256 pairs), 27"
+abbrev pub writeRows : List (Row (List Pair))
 writeRows =
-    record { number = 25; asks = λ (w : Writing). all isLegalPair (w .pairs) } ∷
-    record { number = 26; asks = λ (w : Writing). leb (length (writtenAll (w .pairs))) fileBytes } ∷
-    record { number = 104; asks = λ (w : Writing). leb (length (w .pairs)) recordFields } ∷
-    record { number = 27; asks = λ (w : Writing). leb (length (writtenAll (w .pairs))) (w .room) } ∷ []
+    record { number = 25; asks = λ (ps : List Pair). all isLegalPair ps } ∷
+    record { number = 26; asks = λ (ps : List Pair). leb (length (writtenAll ps)) fileBytes } ∷
+    record { number = 104; asks = λ (ps : List Pair). leb (length ps) recordFields } ∷ []
 
--- "20 (also for another kind)"
 abbrev pub insertOf : Edit → Option (List Pair)
 insertOf (Edit.insert new) = some new
-insertOf Edit.delete = none
-insertOf (Edit.add q) = none
-insertOf (Edit.change n o c) = none
+insertOf (Edit.on j a) = none
 
-abbrev pub writeBy : Option (List Pair) → Bytes → Filled
-writeBy none out = filled 20 [] out
-writeBy (some new) out = filled (firstNo writeRows (record { pairs = new; room = length out })) (writtenAll new) out
+abbrev pub writtenBy : Option (List Pair) → Bytes → Filled
+writtenBy none out = filled 20 [] out
+writtenBy (some new) out = filled (firstNo writeRows new) (writtenAll new) out
 
 unfoldable pub writeAnswer : Bytes → Bytes → Filled
-writeAnswer request out = writeBy (onward (λ (q : Request). insertOf (q .edit)) (requestOf request)) out
+writeAnswer request out = writtenBy (onward (λ (q : Request). insertOf (q .edit)) (requestOf request)) out
 
 -- "An edit's refusal returns its number and the old length. An accepted edit returns the new length; bytes from it to the old length become 0, later ones stay."
-
-pub record Edited : Type 0 where
-  pub number : ℕ
-  pub length : ℕ
-  pub buffer : Bytes
-
 abbrev pub placed : Bytes → ℕ → Bytes → Bytes
 placed text used buffer = text ++ (replicate (used - length text) 0 ++ drop (max used (length text)) buffer)
 
-abbrev pub refusedEdit : ℕ → Bytes → ℕ → Edited
-refusedEdit k buffer used = record { number = k; length = used; buffer = buffer }
-
-abbrev pub editedBy : ℕ → Bytes → Bytes → ℕ → Edited
-editedBy zero text buffer used = record { number = zero; length = length text; buffer = placed text used buffer }
-editedBy (suc k) text buffer used = refusedEdit (suc k) buffer used
-
-abbrev pub editedStep : Step → Bytes → ℕ → Edited
-editedStep r buffer used = editedBy (r .number) (bytesOf (r .file .pieces)) buffer used
-
-abbrev pub editedIn : Option (List Piece) → Bytes → ℕ → Bytes → Edited
-editedIn none buffer used request = refusedEdit 3 buffer used
-editedIn (some ps) buffer used request = editedStep (step (length buffer) (plainOf ps) request) buffer used
-
-abbrev pub editedFile : ℕ → Bytes → ℕ → Bytes → Edited
-editedFile zero buffer used request = editedIn (pieces (take used buffer)) buffer used request
-editedFile (suc k) buffer used request = refusedEdit (suc k) buffer used
+abbrev pub edited : ℕ → Bytes → Bytes → ℕ → Filled
+edited number text buffer used = let a : Answer = answer number (length text) in record { result = a; out = leaves a (placed text used buffer) buffer }
 
 -- the file's questions, then what the edit makes of what the file reads as
-unfoldable pub editAnswer : Bytes → ℕ → Bytes → Edited
-editAnswer buffer used request = editedFile (verdict buffer used) buffer used request
+unfoldable pub editAnswer : Bytes → ℕ → Bytes → Filled
+editAnswer buffer used request =
+    let s : Step = step (length buffer) (plainOf (readOf (take used buffer))) request in
+    edited (thenNo (verdict buffer used) (s .number)) (bytesOf (s .file .pieces)) buffer used

@@ -32,6 +32,15 @@ abbrev pub flat : {A : Type 0} → List (List A) → List A
 flat [] = []
 flat (x ∷ xs) = x ++ flat xs
 
+-- the longest front that passes a test, and what is behind it
+abbrev pub front : {A : Type 0} → (A → Bool) → List A → List A
+front p [] = []
+front p (x ∷ xs) = pick (p x) (x ∷ front p xs) []
+
+abbrev pub behind : {A : Type 0} → (A → Bool) → List A → List A
+behind p [] = []
+behind p (x ∷ xs) = pick (p x) (behind p xs) (x ∷ xs)
+
 -- what there is of each
 abbrev pub keep : {A : Type 0} → Option A → List A → List A
 keep none xs = xs
@@ -49,6 +58,11 @@ onto x (g ∷ gs) = (x ∷ g) ∷ gs
 abbrev pub cutAt : {A : Type 0} → (A → Bool) → List A → List (List A)
 cutAt t [] = [] ∷ []
 cutAt t (x ∷ xs) = pick (t x) ([] ∷ onto x (cutAt t xs)) (onto x (cutAt t xs))
+
+-- the parts between those that pass a test: at least one
+abbrev pub splitBy : {A : Type 0} → (A → Bool) → List A → List (List A)
+splitBy t [] = [] ∷ []
+splitBy t (x ∷ xs) = pick (t x) ([] ∷ splitBy t xs) (onto x (splitBy t xs))
 
 -- the k-th that passes a test is here, or so many are still to be passed
 abbrev pub turn : {B : Type 0} → Bool → ℕ → B → (ℕ → B) → B
@@ -70,3 +84,8 @@ nth k f xs = at always k (λ x. f x ∷ []) xs
 abbrev pub behindLast : {A : Type 0} → (A → Bool) → A → List A → List A
 behindLast t y [] = y ∷ []
 behindLast t y (x ∷ xs) = x ∷ pick (any t xs) (behindLast t y xs) (y ∷ xs)
+
+-- what stands before the k-th that passes a test, or all where there is none
+abbrev pub before : {A : Type 0} → (A → Bool) → ℕ → List A → List A
+before t k [] = []
+before t k (x ∷ xs) = turn (t x) k [] (λ (j : ℕ). x ∷ before t j xs)

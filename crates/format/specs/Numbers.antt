@@ -1,13 +1,12 @@
 -- Ints and reals.
 use Prim.Native.Nat.{ℕ, _+_, _-_, _*_}
-use mathlib.Core.Bool.{Bool, true, false, _&&_}
-use mathlib.Core.List.{List, [], _∷_}
-use mathlib.Core.Option.{Option, none, some}
+use mathlib.Core.Bool.{Bool, true, false, _&&_, not}
+use mathlib.Core.List.{[], _∷_}
+use mathlib.Core.Option.{Option, some}
 use lib.Dec.{leb, ltb, eqb}
 use lib.ListN.{drop, getD}
-use Rattle.format.specs.Bytes.{Bytes, pick, within, isDigit, all}
-use Rattle.format.specs.Lists.{onlyIf}
-use Rattle.format.specs.Words.{split}
+use Rattle.format.specs.Bytes.{Bytes, pick, within, isDigit, isSpelt, isSome}
+use Rattle.format.specs.Lists.{onlyIf, onward, front, behind}
 
 -- a number below zero, or not: −n, n
 pub data Int : Type 0 where
@@ -37,8 +36,7 @@ numeral base m (c ∷ s) = numeral base (m * base + digit c) s
 
 -- one or more digits of a base
 abbrev pub areDigits : ℕ → Bytes → Bool
-areDigits base [] = false
-areDigits base (c ∷ s) = all (isDigitOf base) (c ∷ s)
+areDigits base s = isSpelt (isDigitOf base) (isDigitOf base) s
 
 abbrev pub natural : ℕ → Bytes → Option ℕ
 natural base s = onlyIf (areDigits base s) (numeral base 0 s)
@@ -47,9 +45,9 @@ natural base s = onlyIf (areDigits base s) (numeral base 0 s)
 abbrev pub unsigned : Bytes → Option ℕ
 unsigned s = pick (eqb (getD s 0 0) 48) (pick (eqb (getD s 1 0) 120) (natural 16 (drop 2 s)) (natural 8 s)) (natural 10 s)
 
+-- with its sign, if it is within the limit
 abbrev pub upTo : ℕ → (ℕ → Int) → Option ℕ → Option Int
-upTo limit sign none = none
-upTo limit sign (some n) = onlyIf (leb n limit) (sign n)
+upTo limit sign x = onward (λ (n : ℕ). onlyIf (leb n limit) (sign n)) x
 
 -- "An int: optional `-`, then .."
 abbrev pub intOf : Bounds → Bytes → Option Int
@@ -62,20 +60,32 @@ isAtMost (plus m) (minus n) = eqb m 0 && eqb n 0
 isAtMost (plus m) (plus n) = leb m n
 
 -- "ints of at least 0"; −0 is 0
-abbrev pub notBelow0 : Option Int → Option ℕ
-notBelow0 none = none
-notBelow0 (some (plus n)) = some n
-notBelow0 (some (minus n)) = onlyIf (eqb n 0) 0
+abbrev pub notBelow0 : Int → Option ℕ
+notBelow0 (plus n) = some n
+notBelow0 (minus n) = onlyIf (eqb n 0) 0
 
 abbrev pub numberOf : Bounds → Bytes → Option ℕ
-numberOf b s = notBelow0 (intOf b s)
+numberOf b s = onward notBelow0 (intOf b s)
 
--- "A real: optional `-`, digits, optionally a dot and digits."
-abbrev pub isDecimal : List Bytes → Bool
-isDecimal [] = false
-isDecimal (a ∷ []) = areDigits 10 a
-isDecimal (a ∷ d ∷ []) = areDigits 10 a && areDigits 10 d
-isDecimal (a ∷ d ∷ e ∷ es) = false
+-- "A real: optional `-`, digits, optionally a dot and digits."; no digits behind the dot where there is none
+pub record Decimal : Type 0 where
+  pub negative : Bool
+  pub whole : Bytes
+  pub fraction : Bytes
+
+abbrev pub notDot : ℕ → Bool
+notDot c = not (eqb c 46)
+
+-- by what stands before a dot, and the dot with what stands behind it
+abbrev pub decimalBy : Bool → Bytes → Bytes → Option Decimal
+decimalBy sign a [] = onlyIf (areDigits 10 a) (record { negative = sign; whole = a; fraction = [] })
+decimalBy sign a (c ∷ d) = onlyIf (areDigits 10 a && areDigits 10 d) (record { negative = sign; whole = a; fraction = d })
+
+abbrev pub decimalIn : Bool → Bytes → Option Decimal
+decimalIn sign s = decimalBy sign (front notDot s) (behind notDot s)
+
+abbrev pub decimalOf : Bytes → Option Decimal
+decimalOf s = pick (eqb (getD s 0 0) 45) (decimalIn true (drop 1 s)) (decimalIn false s)
 
 abbrev pub isReal : Bytes → Bool
-isReal s = isDecimal (split 46 (pick (eqb (getD s 0 0) 45) (drop 1 s) s))
+isReal s = isSome (decimalOf s)

@@ -1,20 +1,20 @@
 -- The fourteen questions of a file, in order.
 use Prim.Native.Nat.{ℕ}
-use mathlib.Core.Bool.{Bool, true, false, _&&_, _||_, not}
+use mathlib.Core.Bool.{Bool, _&&_, _||_, not}
 use mathlib.Core.List.{List, [], _∷_, _++_, map}
-use mathlib.Core.Option.{Option, none, some}
+use mathlib.Core.Option.{Option}
 use lib.Dec.{leb, eqb}
 use lib.ListN.{length, take}
 use Rattle.format.specs.Lists.{isFilled, filter, flat}
-use Rattle.format.specs.Bytes.{Bytes, text, pick, isAllowed, all, any, same, among, isSome}
-use Rattle.format.specs.Lines.{isEnded}
-use Rattle.format.specs.Pieces.{Piece, pieces}
-use Rattle.format.specs.Records.{Field, Record, records}
+use Rattle.format.specs.Bytes.{Bytes, text, pick, isAllowed, all, any, among, isSome}
+use Rattle.format.specs.Lines.{isEnded, isSpecial}
+use Rattle.format.specs.Pieces.{Piece, pieces, someOf}
+use Rattle.format.specs.Records.{Field, Record}
 use Rattle.format.specs.Sets.{RecSet, valuesOf, setsOf}
 use Rattle.format.specs.Limits.{fileBytes, nameBytes, valueBytes, recordFields, descriptors, typedefs, typeFields, listWords}
 use Rattle.format.specs.Words.{words}
 use Rattle.format.specs.Numbers.{Bounds, intBounds}
-use Rattle.format.specs.Rules.{isSpecial, listed, mandatory, prohibited, allowed, unique, key, sizeRule, meetsSize, typeRules, isTyped, isWellFormed, isTypedWell, distinct}
+use Rattle.format.specs.Rules.{mandatory, prohibited, allowed, unique, key, sizeRule, meetsSize, typeRules, isTyped, isWellFormed, isTypedWell, distinct}
 
 -- a question and the number of its no
 pub record Row (A : Type 0) : Type 0 where
@@ -28,8 +28,7 @@ firstNo (r ∷ rs) a = let others : ℕ = firstNo rs a in pick (r .asks a) other
 
 -- the same questions, asked of what another thing holds
 abbrev pub askOf : {A B : Type 0} → (A → B) → List (Row B) → List (Row A)
-askOf f [] = []
-askOf f (r ∷ rs) = record { number = r .number; asks = λ (a : _). r .asks (f a) } ∷ askOf f rs
+askOf f rs = map (λ (r : Row _). record { number = r .number; asks = λ (a : _). r .asks (f a) }) rs
 
 -- A used buffer and what it reads as.
 pub record File : Type 0 where
@@ -37,29 +36,13 @@ pub record File : Type 0 where
   pub used : ℕ
   pub content : Bytes
   pub reads : Option (List Piece)
-  pub parts : List RecSet
-
-abbrev pub setsIn : Option (List Piece) → List RecSet
-setsIn none = []
-setsIn (some ps) = setsOf ps
+  pub sets : List RecSet
 
 unfoldable pub fileOf : Bytes → ℕ → File
 fileOf buffer used =
     let s : Bytes = take used buffer in
     let ps : Option (List Piece) = pieces s in
-    record { room = length buffer; used = used; content = s; reads = ps; parts = setsIn ps }
-
--- "1. Is the used length at most the buffer's and 65,536?"
-abbrev pub isInside : File → Bool
-isInside f = leb (f .used) (f .room) && leb (f .used) fileBytes
-
--- "2. Allowed bytes, final newline?"
-abbrev pub isText : File → Bool
-isText f = all isAllowed (f .content) && isEnded (f .content)
-
--- "3. Every line of a form above?"
-abbrev pub isFormed : File → Bool
-isFormed f = isSome (f .reads)
+    record { room = length buffer; used = used; content = s; reads = ps; sets = setsOf (someOf ps) }
 
 -- "4. Limits held?"
 abbrev pub fitsField : Field → Bool
@@ -132,9 +115,13 @@ noneRepeated rules r = all (λ (n : Bytes). leb (occurrences n r) 1) (unique rul
 abbrev pub allTyped : Bounds → Record → Record → Bool
 allTyped b rules r = all (isTyped b (typeRules b rules)) r
 
+-- the values of a name in records
+abbrev pub valuesIn : Bytes → List Record → List Bytes
+valuesIn n rs = flat (map (valuesOf n) rs)
+
 -- "13. Keys distinct?" "no two records of the set have the same bytes there"
 abbrev pub keysOf : RecSet → List Bytes
-keysOf s = flat (map (λ (n : Bytes). flat (map (valuesOf n) (s .members))) (key (s .rules)))
+keysOf s = flat (map (λ (n : Bytes). valuesIn n (s .members)) (key (s .rules)))
 
 abbrev pub keysDistinct : List RecSet → Bool
 keysDistinct ss = all (λ (s : RecSet). distinct (keysOf s)) ss
@@ -163,12 +150,13 @@ ruleRows b =
     record { number = 13; asks = keysDistinct } ∷
     record { number = 14; asks = λ (ss : List RecSet). all (sizeMet b) ss } ∷ []
 
+-- "1. Is the used length at most the buffer's and 65,536? 2. Allowed bytes, final newline? 3. Every line of a form above?", then those about the sets
 abbrev pub questions : Bounds → List (Row File)
 questions b =
-    record { number = 1; asks = isInside } ∷
-    record { number = 2; asks = isText } ∷
-    record { number = 3; asks = isFormed } ∷
-    askOf (λ (f : File). f .parts) (limitRows ++ descriptorRows b ++ ruleRows b)
+    record { number = 1; asks = λ (f : File). leb (f .used) (f .room) && leb (f .used) fileBytes } ∷
+    record { number = 2; asks = λ (f : File). all isAllowed (f .content) && isEnded (f .content) } ∷
+    record { number = 3; asks = λ (f : File). isSome (f .reads) } ∷
+    askOf (λ (f : File). f .sets) (limitRows ++ descriptorRows b ++ ruleRows b)
 
 unfoldable pub verdictIn : Bounds → Bytes → ℕ → ℕ
 verdictIn b buffer used = firstNo (questions b) (fileOf buffer used)

@@ -1,8 +1,11 @@
 -- Blocks and records.
 use Prim.Native.Nat.{ℕ}
-use mathlib.Core.List.{List, [], _∷_}
+use mathlib.Core.Bool.{Bool, true, false, not}
+use mathlib.Core.List.{List}
+use mathlib.Core.Option.{Option, none, some}
 use lib.ListN.{length}
-use Rattle.format.specs.Bytes.{Bytes}
+use Rattle.format.specs.Bytes.{Bytes, isSome}
+use Rattle.format.specs.Lists.{isFilled, kept, cutAt}
 use Rattle.format.specs.Lines.{Line, bytes}
 use Rattle.format.specs.Pieces.{Piece}
 
@@ -15,41 +18,36 @@ pub record Field : Type 0 where
 abbrev pub Record : Type 0
 Record = List Field
 
+abbrev pub countOf : List Line → ℕ
+countOf ls = length (bytes ls)
+
+abbrev pub fieldOf : Piece → Option Field
+fieldOf (Piece.blank l) = none
+fieldOf (Piece.comment l) = none
+fieldOf (Piece.field n v ls) = some (record { name = n; value = v; count = countOf ls })
+
+abbrev pub isField : Piece → Bool
+isField p = isSome (fieldOf p)
+
+abbrev pub isLoose : Piece → Bool
+isLoose p = not (isField p)
+
+abbrev pub isBlankLine : Piece → Bool
+isBlankLine (Piece.blank l) = true
+isBlankLine (Piece.comment l) = false
+isBlankLine (Piece.field n v ls) = false
+
 -- "A block is a run of lines without a blank line." Each blank line stands at the head of the block that follows it.
 abbrev pub Block : Type 0
 Block = List Piece
 
-abbrev pub onto : Piece → List Block → List Block
-onto p [] = (p ∷ []) ∷ []
-onto p (b ∷ bs) = (p ∷ b) ∷ bs
-
-abbrev pub place : Piece → List Block → List Block
-place (Piece.blank l) bs = [] ∷ onto (Piece.blank l) bs
-place (Piece.comment l) bs = onto (Piece.comment l) bs
-place (Piece.field n v ls) bs = onto (Piece.field n v ls) bs
-
 abbrev pub blocks : List Piece → List Block
-blocks [] = [] ∷ []
-blocks (p ∷ ps) = place p (blocks ps)
-
-abbrev pub countOf : List Line → ℕ
-countOf ls = length (bytes ls)
+blocks ps = cutAt isBlankLine ps
 
 -- "comments in it are skipped and don't divide it"
 abbrev pub fieldsOf : Block → Record
-fieldsOf [] = []
-fieldsOf (Piece.blank l ∷ b) = fieldsOf b
-fieldsOf (Piece.comment l ∷ b) = fieldsOf b
-fieldsOf (Piece.field n v ls ∷ b) = record { name = n; value = v; count = countOf ls } ∷ fieldsOf b
+fieldsOf b = kept fieldOf b
 
 -- "A block with a field is a record."
-abbrev pub close : Record → List Record → List Record
-close [] rs = rs
-close (f ∷ fs) rs = (f ∷ fs) ∷ rs
-
-abbrev pub recordsIn : List Block → List Record
-recordsIn [] = []
-recordsIn (b ∷ bs) = close (fieldsOf b) (recordsIn bs)
-
-unfoldable pub records : List Piece → List Record
-records ps = recordsIn (blocks ps)
+abbrev pub isRecord : Block → Bool
+isRecord b = isFilled (fieldsOf b)

@@ -1,122 +1,119 @@
 -- Requests: tagged fields and the six kinds.
-use Prim.Native.Nat.{ℕ, zero, suc, _+_, _*_}
-use mathlib.Core.Bool.{Bool, true, false, _&&_}
-use mathlib.Core.List.{List, [], _∷_}
+use Prim.Native.Nat.{ℕ, zero, suc, _+_, _*_, _/_, _%_}
+use mathlib.Core.Bool.{_&&_}
+use mathlib.Core.List.{List, [], _∷_, _++_, map}
 use mathlib.Core.Option.{Option, none, some}
 use lib.Dec.{leb, eqb}
-use lib.ListN.{length}
-use Rattle.format.specs.Lists.{onward}
+use lib.ListN.{length, take, drop, getD}
 use Rattle.format.specs.Bytes.{Bytes, pick, same}
+use Rattle.format.specs.Lists.{onward, flat}
 use Rattle.format.specs.Limits.{fileBytes}
 use Rattle.format.specs.Written.{Pair}
-use Rattle.format.specs.Edits.{Edit, Change}
+use Rattle.format.specs.Edits.{Change, Act, Edit}
 
 -- "one-byte tag, two-byte length (high byte first), contents"
 pub record Tagged : Type 0 where
   pub tag : ℕ
   pub contents : Bytes
 
--- what the next byte is: contents, so many of them, and then a tag; the high byte of a length, behind its tag; the low one
-pub data Awaits : Type 0 where
-  contents : ℕ → Awaits
-  high : ℕ → Awaits
-  low : ℕ → ℕ → Awaits
+-- the number of the two bytes that a text begins with
+abbrev pub shortAt : Bytes → ℕ
+shortAt s = getD s 0 0 * 256 + getD s 1 0
 
--- what bytes read as: the rest of the contents of the field that is open before them, and the fields that follow
-pub record Opened : Type 0 where
-  pub rest : Bytes
-  pub fields : List Tagged
-
-abbrev pub next : Awaits → ℕ → Awaits
-next (contents zero) c = high c
-next (contents (suc n)) c = contents n
-next (high t) c = low t c
-next (low t h) c = contents (h * 256 + c)
-
-abbrev pub took : Awaits → ℕ → Opened → Opened
-took (contents zero) c o = o
-took (contents (suc n)) c o = record { rest = c ∷ o .rest; fields = o .fields }
-took (high t) c o = o
-took (low t h) c o = record { rest = []; fields = record { tag = t; contents = o .rest } ∷ o .fields }
-
-abbrev pub tookIn : Awaits → ℕ → Option Opened → Option Opened
-tookIn a c none = none
-tookIn a c (some o) = some (took a c o)
-
-abbrev pub complete : Awaits → Option Opened
-complete (contents zero) = some (record { rest = []; fields = [] })
-complete (contents (suc n)) = none
-complete (high t) = none
-complete (low t h) = none
-
-abbrev pub taggedFrom : Bytes → Awaits → Option Opened
-taggedFrom [] a = complete a
-taggedFrom (c ∷ s) a = tookIn a c (taggedFrom s (next a c))
-
-abbrev pub fieldsIn : Option Opened → Option (List Tagged)
-fieldsIn none = none
-fieldsIn (some o) = some (o .fields)
+-- the fields of a text, behind so many bytes that a field before it has
+abbrev pub taggedFrom : ℕ → Bytes → Option (List Tagged)
+taggedFrom zero [] = some []
+taggedFrom (suc k) [] = none
+taggedFrom zero (t ∷ s) = onward (λ (fs : List Tagged). some (record { tag = t; contents = take (shortAt s) (drop 2 s) } ∷ fs)) (taggedFrom (suc (suc (shortAt s))) s)
+taggedFrom (suc k) (c ∷ s) = taggedFrom k s
 
 unfoldable pub tagged : Bytes → Option (List Tagged)
-tagged s = fieldsIn (taggedFrom s (contents zero))
+tagged s = taggedFrom zero s
 
--- an edit of a record of a set; an insert names no record, and 0 stands there
+-- an edit of the set of a name
 pub record Request : Type 0 where
   pub set : Bytes
-  pub row : ℕ
   pub edit : Edit
 
 -- the next field has a tag, and what follows from its contents
-abbrev pub withText : ℕ → (Bytes → List Tagged → Option Request) → List Tagged → Option Request
+abbrev pub withText : {A : Type 0} → ℕ → (Bytes → List Tagged → Option A) → List Tagged → Option A
 withText t k [] = none
 withText t k (f ∷ fs) = pick (eqb t (f .tag)) (k (f .contents) fs) none
 
 -- "record (two bytes, from 0)", "occurrence of that name (two bytes, from 0)"
-abbrev pub twoBytes : Bytes → Option ℕ
-twoBytes [] = none
-twoBytes (h ∷ []) = none
-twoBytes (h ∷ l ∷ []) = some (h * 256 + l)
-twoBytes (h ∷ l ∷ m ∷ s) = none
+abbrev pub withNumber : {A : Type 0} → ℕ → (ℕ → List Tagged → Option A) → List Tagged → Option A
+withNumber t k fs = withText t (λ (c : Bytes) (gs : List Tagged). pick (eqb (length c) 2) (k (shortAt c) gs) none) fs
 
-abbrev pub withNumber : ℕ → (ℕ → List Tagged → Option Request) → List Tagged → Option Request
-withNumber t k fs = withText t (λ (c : Bytes) (gs : List Tagged). onward (λ (n : ℕ). k n gs) (twoBytes c)) fs
+abbrev pub ends : {A : Type 0} → A → List Tagged → Option A
+ends a [] = some a
+ends a (f ∷ fs) = none
 
-abbrev pub ends : Request → List Tagged → Option Request
-ends q [] = some q
-ends q (f ∷ fs) = none
-
--- pairs of a name (4) and a value (6)
-abbrev pub pairOn : Bool → Bytes → Bytes → Option (List Pair) → Option (List Pair)
-pairOn false n v ps = none
-pairOn true n v none = none
-pairOn true n v (some ps) = some (record { name = n; value = v } ∷ ps)
-
+-- "one or more pairs 4 6"
 abbrev pub pairsOf : List Tagged → Option (List Pair)
 pairsOf [] = some []
 pairsOf (f ∷ []) = none
-pairsOf (f ∷ g ∷ fs) = pairOn (eqb 4 (f .tag) && eqb 6 (g .tag)) (f .contents) (g .contents) (pairsOf fs)
+pairsOf (f ∷ g ∷ fs) = pick (eqb 4 (f .tag) && eqb 6 (g .tag)) (onward (λ (ps : List Pair). some (record { name = f .contents; value = g .contents } ∷ ps)) (pairsOf fs)) none
 
--- "one or more pairs"
-abbrev pub inserts : Bytes → List Pair → Option Request
-inserts s [] = none
-inserts s (p ∷ ps) = some (record { set = s; row = 0; edit = Edit.insert (p ∷ ps) })
+abbrev pub inserts : List Pair → Option Edit
+inserts [] = none
+inserts (p ∷ ps) = some (Edit.insert (p ∷ ps))
 
 -- record, name and occurrence, and then the change
-abbrev pub changes : Bytes → (Bytes → ℕ → ℕ → List Tagged → Option Request) → List Tagged → Option Request
-changes s k fs = withNumber 3 (λ (r : ℕ). withText 4 (λ (n : Bytes). withNumber 5 (λ (o : ℕ). k n r o))) fs
+abbrev pub changes : (List Tagged → Option Change) → List Tagged → Option Edit
+changes k fs =
+    withNumber 3 (λ (r : ℕ). withText 4 (λ (n : Bytes). withNumber 5 (λ (o : ℕ) (gs : List Tagged). onward (λ (c : Change). some (Edit.on r (Act.change n o c))) (k gs)))) fs
 
 -- "1 insert 1 2 then one or more pairs 4 6; 2 delete 1 2 3; 3 add 1 2 3 4 6; 4 set 1 2 3 4 5 6; 5 drop 1 2 3 4 5; 6 rename 1 2 3 4 5 7"
-abbrev pub byKind : Bytes → Bytes → List Tagged → Option Request
-byKind k s fs =
-    pick (same k (1 ∷ [])) (onward (inserts s) (pairsOf fs))
-    (pick (same k (2 ∷ [])) (withNumber 3 (λ (r : ℕ). ends (record { set = s; row = r; edit = Edit.delete })) fs)
-    (pick (same k (3 ∷ [])) (withNumber 3 (λ (r : ℕ). withText 4 (λ (n : Bytes). withText 6 (λ (v : Bytes). ends (record { set = s; row = r; edit = Edit.add (record { name = n; value = v }) })))) fs)
-    (pick (same k (4 ∷ [])) (changes s (λ (n : Bytes) (r o : ℕ). withText 6 (λ (v : Bytes). ends (record { set = s; row = r; edit = Edit.change n o (Change.value v) }))) fs)
-    (pick (same k (5 ∷ [])) (changes s (λ (n : Bytes) (r o : ℕ). ends (record { set = s; row = r; edit = Edit.change n o Change.dropped })) fs)
-    (pick (same k (6 ∷ [])) (changes s (λ (n : Bytes) (r o : ℕ). withText 7 (λ (m : Bytes). ends (record { set = s; row = r; edit = Edit.change n o (Change.name m) }))) fs)
+abbrev pub byKind : Bytes → List Tagged → Option Edit
+byKind k fs =
+    pick (same k (1 ∷ [])) (onward inserts (pairsOf fs))
+    (pick (same k (2 ∷ [])) (withNumber 3 (λ (r : ℕ). ends (Edit.on r Act.delete)) fs)
+    (pick (same k (3 ∷ [])) (withNumber 3 (λ (r : ℕ). withText 4 (λ (n : Bytes). withText 6 (λ (v : Bytes). ends (Edit.on r (Act.add (record { name = n; value = v })))))) fs)
+    (pick (same k (4 ∷ [])) (changes (withText 6 (λ (v : Bytes). ends (Change.value v))) fs)
+    (pick (same k (5 ∷ [])) (changes (ends Change.dropped) fs)
+    (pick (same k (6 ∷ [])) (changes (withText 7 (λ (m : Bytes). ends (Change.name m))) fs)
     none)))))
+
+abbrev pub asksFor : List Tagged → Option Request
+asksFor fs = withText 1 (λ (k : Bytes). withText 2 (λ (s : Bytes) (gs : List Tagged). onward (λ (e : Edit). some (record { set = s; edit = e })) (byKind k gs))) fs
 
 -- "request of the form above, at most 65,536 bytes?"
 unfoldable pub requestOf : Bytes → Option Request
 unfolding tagged
-requestOf s = pick (leb (length s) fileBytes) (onward (withText 1 (λ (k : Bytes). withText 2 (byKind k))) (tagged s)) none
+requestOf s = pick (leb (length s) fileBytes) (onward asksFor (tagged s)) none
+
+-- The same the other way: the fields of a request, and their bytes.
+
+abbrev pub short : ℕ → Bytes
+short n = n / 256 ∷ n % 256 ∷ []
+
+abbrev pub tag : ℕ → Bytes → Tagged
+tag t c = record { tag = t; contents = c }
+
+abbrev pub pairFields : Pair → List Tagged
+pairFields p = tag 4 (p .name) ∷ tag 6 (p .value) ∷ []
+
+abbrev pub changeFields : Change → List Tagged
+changeFields (Change.value v) = tag 6 v ∷ []
+changeFields Change.dropped = []
+changeFields (Change.name m) = tag 7 m ∷ []
+
+abbrev pub editFields : Edit → List Tagged
+editFields (Edit.insert new) = flat (map pairFields new)
+editFields (Edit.on r Act.delete) = tag 3 (short r) ∷ []
+editFields (Edit.on r (Act.add p)) = tag 3 (short r) ∷ pairFields p
+editFields (Edit.on r (Act.change n o c)) = tag 3 (short r) ∷ tag 4 n ∷ tag 5 (short o) ∷ changeFields c
+
+abbrev pub kindOf : Edit → ℕ
+kindOf (Edit.insert new) = 1
+kindOf (Edit.on r Act.delete) = 2
+kindOf (Edit.on r (Act.add p)) = 3
+kindOf (Edit.on r (Act.change n o (Change.value v))) = 4
+kindOf (Edit.on r (Act.change n o Change.dropped)) = 5
+kindOf (Edit.on r (Act.change n o (Change.name m))) = 6
+
+abbrev pub taggedBytes : Tagged → Bytes
+taggedBytes f = f .tag ∷ (short (length (f .contents)) ++ f .contents)
+
+unfoldable pub encoded : Request → Bytes
+encoded q = flat (map taggedBytes (tag 1 (kindOf (q .edit) ∷ []) ∷ tag 2 (q .set) ∷ editFields (q .edit)))

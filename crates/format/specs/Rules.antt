@@ -1,21 +1,18 @@
 -- The rules of a descriptor.
 use Prim.Native.Nat.{ℕ}
 use mathlib.Core.Bool.{Bool, true, false, _&&_, _||_, not}
-use mathlib.Core.List.{List, [], _∷_, _++_, map}
-use mathlib.Core.Option.{Option, none, some}
+use mathlib.Core.List.{List, [], _∷_, map}
+use mathlib.Core.Option.{Option, none, some, Option·map}
 use lib.Dec.{leb, ltb, eqb}
-use lib.ListN.{length, getD}
-use Rattle.format.specs.Lists.{onward, flat}
+use lib.ListN.{length}
+use Rattle.format.specs.Lists.{onward, flat, kept, always}
 use Rattle.format.specs.Bytes.{Bytes, text, pick, all, any, same, among, isSome}
-use Rattle.format.specs.Lines.{isName}
+use Rattle.format.specs.Lines.{isName, isSpecial}
 use Rattle.format.specs.Records.{Field, Record}
 use Rattle.format.specs.Sets.{valuesOf}
 use Rattle.format.specs.Words.{firstWord, afterWord, words, split, isTypeName}
 use Rattle.format.specs.Numbers.{Bounds, numberOf}
 use Rattle.format.specs.Types.{Kind, Typed, Typedef, typeOf, kindOf, meets}
-
-abbrev pub isSpecial : Bytes → Bool
-isSpecial n = eqb (getD n 0 0) 37
 
 -- "several such fields make a union": the words of all fields of one name
 abbrev pub listed : Bytes → Record → List Bytes
@@ -37,12 +34,7 @@ unique r = listed (text "%unique") r
 abbrev pub key : Record → List Bytes
 key r = listed (text "%key") r
 
--- "`%size`: .. one word, a number (exactly that many), or two words, one of `<` `<=` `>` `>=` and a number"
-
-pub record Size : Type 0 where
-  pub order : ℕ → ℕ → Bool
-  pub number : ℕ
-
+-- "`%size`: .. one word, a number (exactly that many), or two words, one of `<` `<=` `>` `>=` and a number": a test of the record count
 abbrev pub orderOf : Bytes → Option (ℕ → ℕ → Bool)
 orderOf w =
     pick (same w (text "<")) (some (λ m n. ltb m n))
@@ -51,31 +43,26 @@ orderOf w =
     (pick (same w (text ">=")) (some (λ m n. leb n m))
     none)))
 
-abbrev pub sizeBy : Option (ℕ → ℕ → Bool) → Option ℕ → Option Size
-sizeBy none x = none
-sizeBy (some o) none = none
-sizeBy (some o) (some n) = some (record { order = o; number = n })
+-- an order and a number, where there are both
+abbrev pub sizeBy : Option (ℕ → ℕ → Bool) → Option ℕ → Option (ℕ → Bool)
+sizeBy order number = onward (λ (o : ℕ → ℕ → Bool). Option·map (λ (n : ℕ) (m : ℕ). o m n) number) order
 
-abbrev pub sizeRule : Bounds → List Bytes → Option Size
+abbrev pub sizeRule : Bounds → List Bytes → Option (ℕ → Bool)
 sizeRule b [] = none
 sizeRule b (w ∷ []) = sizeBy (some (λ m n. eqb m n)) (numberOf b w)
 sizeRule b (w ∷ v ∷ []) = sizeBy (orderOf w) (numberOf b v)
 sizeRule b (w ∷ v ∷ u ∷ us) = none
 
-abbrev pub meetsSize : Option Size → ℕ → Bool
-meetsSize none n = true
-meetsSize (some z) n = z .order n (z .number)
+abbrev pub meetsSize : Option (ℕ → Bool) → ℕ → Bool
+meetsSize none m = true
+meetsSize (some p) m = p m
 
 -- "`%typedef`: a name and a type."
-abbrev pub defines : Bytes → Option Typed → List Typedef
-defines n none = []
-defines n (some t) = record { name = n; type = t } ∷ []
-
-abbrev pub typedefOf : Bounds → Bytes → List Typedef
-typedefOf b v = defines (firstWord v) (typeOf b (afterWord v))
+abbrev pub typedefOf : Bounds → Bytes → Option Typedef
+typedefOf b v = Option·map (λ (t : Typed). record { name = firstWord v; type = t }) (typeOf b (afterWord v))
 
 abbrev pub typedefsOf : Bounds → Record → List Typedef
-typedefsOf b r = flat (map (typedefOf b) (valuesOf (text "%typedef") r))
+typedefsOf b r = kept (typedefOf b) (valuesOf (text "%typedef") r)
 
 -- "`%type`: names joined by commas in one word, then a type"
 pub record TypeRule : Type 0 where
@@ -85,16 +72,15 @@ pub record TypeRule : Type 0 where
 abbrev pub typedNames : Bytes → List Bytes
 typedNames v = split 44 (firstWord v)
 
-abbrev pub typeRuleBy : List Bytes → Option Kind → List TypeRule
-typeRuleBy ns none = []
-typeRuleBy ns (some k) = record { names = ns; kind = k } ∷ []
-
 -- the kind at the end of a type, where it has one
 abbrev pub endKind : Bounds → List Typedef → Bytes → Option Kind
 endKind b ds v = onward (kindOf ds) (typeOf b (afterWord v))
 
+abbrev pub typeRuleOf : Bounds → List Typedef → Bytes → Option TypeRule
+typeRuleOf b ds v = Option·map (λ (k : Kind). record { names = typedNames v; kind = k }) (endKind b ds v)
+
 abbrev pub typeRules : Bounds → Record → List TypeRule
-typeRules b r = flat (map (λ (v : Bytes). typeRuleBy (typedNames v) (endKind b (typedefsOf b r) v)) (valuesOf (text "%type") r))
+typeRules b r = kept (typeRuleOf b (typedefsOf b r)) (valuesOf (text "%type") r)
 
 -- "all that name a field hold"
 abbrev pub isTyped : Bounds → List TypeRule → Field → Bool
@@ -115,25 +101,22 @@ abbrev pub several : (Bytes → Bool) → List Bytes → Bool
 several p [] = false
 several p (w ∷ ws) = all p (w ∷ ws)
 
--- any text; `%typedef` and `%type` fields have a question of their own
-abbrev pub free : Bytes → Bool
-free v = true
-
 abbrev pub nameList : Bytes → Bool
 nameList v = several isName (words v)
 
+-- `%typedef` and `%type` fields have a question of their own
 abbrev pub shapes : Bounds → List Shape
 shapes b =
     record { name = text "%rec"; fits = λ (v : Bytes). one isTypeName (words v) } ∷
-    record { name = text "%doc"; fits = free } ∷
+    record { name = text "%doc"; fits = always } ∷
     record { name = text "%mandatory"; fits = nameList } ∷
     record { name = text "%prohibit"; fits = nameList } ∷
     record { name = text "%allowed"; fits = nameList } ∷
     record { name = text "%unique"; fits = nameList } ∷
     record { name = text "%key"; fits = λ (v : Bytes). one isName (words v) } ∷
     record { name = text "%size"; fits = λ (v : Bytes). isSome (sizeRule b (words v)) } ∷
-    record { name = text "%typedef"; fits = free } ∷
-    record { name = text "%type"; fits = free } ∷ []
+    record { name = text "%typedef"; fits = always } ∷
+    record { name = text "%type"; fits = always } ∷ []
 
 -- "Other `%` names are faults. Names without `%` have no effect."
 abbrev pub isShaped : Bounds → Field → Bool

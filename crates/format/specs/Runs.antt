@@ -1,12 +1,21 @@
--- A list of edits, run on a buffer and on the plain file.
+-- A list of calls, run on a buffer and on the plain file.
 use Prim.Native.Nat.{ℕ, max}
 use mathlib.Core.List.{List, [], _∷_}
-use lib.ListN.{length}
 use Rattle.format.specs.Bytes.{Bytes}
-use Rattle.format.specs.Plain.{Plain, size, Step, step}
-use Rattle.format.specs.Calls.{Edited, editAnswer}
+use Rattle.format.specs.Plain.{Plain, lengthOf, Step, step}
+use Rattle.format.specs.Calls.{numberIn, valueOr, Filled, editAnswer}
 
--- an edit's number, 0 if accepted, and the length after it
+-- an edit, by its request
+pub data Call : Type 0 where
+  edit : Bytes → Call
+
+abbrev pub callAnswer : Call → Bytes → ℕ → Filled
+callAnswer (edit q) buffer used = editAnswer buffer used q
+
+abbrev pub callStep : ℕ → Plain → Call → Step
+callStep room p (edit q) = step room p q
+
+-- a call's number, 0 if accepted, and the length after it
 pub record Told : Type 0 where
   pub number : ℕ
   pub length : ℕ
@@ -17,12 +26,15 @@ pub record Ran : Type 0 where
   pub length : ℕ
   pub buffer : Bytes
 
-abbrev pub ranOn : Edited → Ran → Ran
-ranOn e r = record { told = record { number = e .number; length = e .length } ∷ r .told; length = r .length; buffer = r .buffer }
+abbrev pub ranOn : Told → Ran → Ran
+ranOn t r = record { told = t ∷ r .told; length = r .length; buffer = r .buffer }
 
-unfoldable pub run : List Bytes → Bytes → ℕ → Ran
+unfoldable pub run : List Call → Bytes → ℕ → Ran
 run [] buffer used = record { told = []; length = used; buffer = buffer }
-run (q ∷ qs) buffer used = let e : Edited = editAnswer buffer used q in ranOn e (run qs (e .buffer) (e .length))
+run (c ∷ cs) buffer used =
+    let a : Filled = callAnswer c buffer used in
+    let n : ℕ = valueOr used (a .result) in
+    ranOn (record { number = numberIn (a .result); length = n }) (run cs (a .out) n)
 
 -- the plain file under the same list, given the buffer's length; most: "the largest length so far, the start's included"
 pub record PlainRan : Type 0 where
@@ -31,8 +43,8 @@ pub record PlainRan : Type 0 where
   pub most : ℕ
 
 abbrev pub plainRanOn : Step → PlainRan → PlainRan
-plainRanOn s r = record { told = record { number = s .number; length = size (s .file) } ∷ r .told; file = r .file; most = r .most }
+plainRanOn s r = record { told = record { number = s .number; length = lengthOf (s .file) } ∷ r .told; file = r .file; most = r .most }
 
-unfoldable pub plainRun : ℕ → List Bytes → Plain → ℕ → PlainRan
+unfoldable pub plainRun : ℕ → List Call → Plain → ℕ → PlainRan
 plainRun room [] p most = record { told = []; file = p; most = most }
-plainRun room (q ∷ qs) p most = let s : Step = step room p q in plainRanOn s (plainRun room qs (s .file) (max most (size (s .file))))
+plainRun room (c ∷ cs) p most = let s : Step = callStep room p c in plainRanOn s (plainRun room cs (s .file) (max most (lengthOf (s .file))))

@@ -1,20 +1,39 @@
 -- Descriptors and sets, the default set first.
-use mathlib.Core.Bool.{Bool, true, false}
-use mathlib.Core.List.{List, [], _∷_}
-use mathlib.Core.Option.{none}
-use Rattle.format.specs.Bytes.{Bytes, text, same}
+use mathlib.Core.Bool.{Bool, _&&_, not}
+use mathlib.Core.List.{List, [], _∷_, map}
+use mathlib.Core.Option.{Option}
+use lib.ListN.{getD}
+use Rattle.format.specs.Bytes.{Bytes, text, pick, same}
+use Rattle.format.specs.Lists.{onlyIf, isFilled, kept, cutAt}
 use Rattle.format.specs.Words.{firstWord}
 use Rattle.format.specs.Pieces.{Piece}
-use Rattle.format.specs.Records.{Record, records}
+use Rattle.format.specs.Records.{Record, Block, blocks, fieldsOf, isRecord}
 
 -- the values of a record's fields of one name
-abbrev pub keepIf : {A : Type 0} → Bool → A → List A → List A
-keepIf true v vs = v ∷ vs
-keepIf false v vs = vs
-
 abbrev pub valuesOf : Bytes → Record → List Bytes
 valuesOf n [] = []
-valuesOf n (f ∷ fs) = keepIf (same n (f .name)) (f .value) (valuesOf n fs)
+valuesOf n (f ∷ fs) = pick (same n (f .name)) (f .value ∷ valuesOf n fs) (valuesOf n fs)
+
+abbrev pub recValues : Record → List Bytes
+recValues r = valuesOf (text "%rec") r
+
+-- "A record with `%rec` is a descriptor and opens its set."
+abbrev pub isDescriptor : Block → Bool
+isDescriptor b = isFilled (recValues (fieldsOf b))
+
+-- The blocks of each set, its descriptor's first. "Records before any descriptor form the default set": its group comes first and has no descriptor.
+abbrev pub Group : Type 0
+Group = List Block
+
+abbrev pub groups : List Piece → List Group
+groups ps = cutAt isDescriptor (blocks ps)
+
+-- the set's records: those that are no descriptor
+abbrev pub isMember : Block → Bool
+isMember b = isRecord b && not (isDescriptor b)
+
+abbrev pub memberOf : Block → Option Record
+memberOf b = onlyIf (isMember b) (fieldsOf b)
 
 -- a set: its name, its rules (the fields of its descriptor, none in the default set) and its records
 pub record RecSet : Type 0 where
@@ -22,28 +41,13 @@ pub record RecSet : Type 0 where
   pub rules : Record
   pub members : List Record
 
-abbrev pub default : List Record → RecSet
-default rs = record { name = []; rules = []; members = rs }
+abbrev pub rulesOf : Group → Record
+rulesOf [] = []
+rulesOf (b ∷ g) = pick (isDescriptor b) (fieldsOf b) []
 
--- a record goes to the front of the first set
-abbrev pub joinsSet : Record → List RecSet → List RecSet
-joinsSet r [] = default (r ∷ []) ∷ []
-joinsSet r (s ∷ ss) = record { name = s .name; rules = s .rules; members = r ∷ s .members } ∷ ss
-
--- "A record with `%rec` is a descriptor and opens its set": the records gathered so far are that set's
-abbrev pub opensSet : Bytes → Record → List RecSet → List RecSet
-opensSet n r [] = default [] ∷ record { name = n; rules = r; members = [] } ∷ []
-opensSet n r (s ∷ ss) = default [] ∷ record { name = n; rules = r; members = s .members } ∷ ss
-
--- the set's name is the one word of its `%rec` value
-abbrev pub enters : List Bytes → Record → List RecSet → List RecSet
-enters [] r ss = joinsSet r ss
-enters (v ∷ vs) r ss = opensSet (firstWord v) r ss
-
--- "Records before any descriptor form the default set, whose name is empty and which has no rules. It always exists."
-abbrev pub sets : List Record → List RecSet
-sets [] = default [] ∷ []
-sets (r ∷ rs) = enters (valuesOf (text "%rec") r) r (sets rs)
+-- the set's name is the one word of its `%rec` value, and empty without one
+abbrev pub setOf : Group → RecSet
+setOf g = record { name = firstWord (getD (recValues (rulesOf g)) 0 []); rules = rulesOf g; members = kept memberOf g }
 
 unfoldable pub setsOf : List Piece → List RecSet
-setsOf ps = sets (records ps)
+setsOf ps = map setOf (groups ps)

@@ -2,13 +2,13 @@
 use Prim.Native.Nat.{ℕ, zero, suc}
 use mathlib.Core.Bool.{Bool, true, false, _&&_, _||_, not}
 use mathlib.Core.List.{List, [], _∷_, map}
-use mathlib.Core.Option.{Option, none, some}
+use mathlib.Core.Option.{Option, none, some, Option·map}
 use lib.Dec.{leb, eqb}
 use lib.ListN.{length}
-use Rattle.format.specs.Lists.{onlyIf, onward}
-use Rattle.format.specs.Bytes.{Bytes, text, pick, isLetter, isDigit, isNewline, all, any, same, among, isSome}
+use Rattle.format.specs.Lists.{onlyIf, onward, isFilled, front, behind}
+use Rattle.format.specs.Bytes.{Bytes, text, pick, isLetter, isDigit, isNewline, all, any, isSpelt, same, among, isSome}
 use Rattle.format.specs.Lines.{isName}
-use Rattle.format.specs.Words.{isGap, notGap, front, behind, words, split, trim, isTypeName}
+use Rattle.format.specs.Words.{isGap, notGap, words, split, trim, isTypeName}
 use Rattle.format.specs.Numbers.{Int, plus, minus, Bounds, isDigitOf, intOf, isAtMost, numberOf, isReal}
 
 -- "A type is one of nine kinds, some with numbers"
@@ -32,17 +32,15 @@ pub data Typed : Type 0 where
 
 -- kinds that take nothing after them
 abbrev pub bare : Kind → List Bytes → Option Typed
-bare k [] = some (kind k)
-bare k (w ∷ ws) = none
+bare k ws = onlyIf (not (isFilled ws)) (kind k)
 
 -- "`MIN`, `MAX` are the ends of int"
 abbrev pub endOf : Bounds → Bytes → Option Int
 endOf b w = pick (same w (text "MIN")) (some (minus (b .least))) (pick (same w (text "MAX")) (some (plus (b .greatest))) (intOf b w))
 
+-- a range, where there are both ends
 abbrev pub ranged : Option Int → Option Int → Option Typed
-ranged none y = none
-ranged (some x) none = none
-ranged (some x) (some y) = some (kind (range x y))
+ranged low high = onward (λ (x : Int). Option·map (λ (y : Int). kind (range x y)) high) low
 
 -- "`range` with one or two ends (one: from 0 ..)"
 abbrev pub rangeOf : Bounds → List Bytes → Option Typed
@@ -51,19 +49,15 @@ rangeOf b (w ∷ []) = ranged (some (plus 0)) (endOf b w)
 rangeOf b (w ∷ v ∷ []) = ranged (endOf b w) (endOf b v)
 rangeOf b (w ∷ v ∷ u ∷ us) = none
 
-abbrev pub sized : Option ℕ → Option Typed
-sized none = none
-sized (some n) = some (kind (size n))
-
+-- "`size` n"
 abbrev pub sizeOf : Bounds → List Bytes → Option Typed
 sizeOf b [] = none
-sizeOf b (w ∷ []) = sized (numberOf b w)
+sizeOf b (w ∷ []) = Option·map (λ (n : ℕ). kind (size n)) (numberOf b w)
 sizeOf b (w ∷ v ∷ vs) = none
 
 -- a typedef's name, with nothing after it
 abbrev pub aliasOf : Bytes → List Bytes → Option Typed
-aliasOf w [] = onlyIf (isTypeName w) (alias w)
-aliasOf w (v ∷ vs) = none
+aliasOf w ws = onlyIf (not (isFilled ws) && isTypeName w) (alias w)
 
 abbrev pub plainKind : Bounds → List Bytes → Option Typed
 plainKind b [] = none
@@ -78,53 +72,37 @@ plainKind b (w ∷ ws) =
     (pick (same w (text "uuid")) (bare uuid ws)
     (aliasOf w ws))))))))
 
--- "comments in unnested parentheses, each read as a blank"; o: within a comment
+-- a byte in front of a text, where there is one
 abbrev pub consTo : ℕ → Option Bytes → Option Bytes
-consTo c none = none
-consTo c (some s) = some (c ∷ s)
+consTo c x = Option·map (λ (s : Bytes). c ∷ s) x
 
-abbrev pub blanked : Bool → Bool → Bool → ℕ → Option Bytes → Option Bytes
-blanked false true k c rest = consTo 32 rest
-blanked false false true c rest = none
-blanked false false false c rest = consTo c rest
-blanked true true k c rest = none
-blanked true false k c rest = rest
-
-abbrev pub inComment : Bool → Bool → Bool → Bool
-inComment o true k = true
-inComment o false true = false
-inComment o false false = o
-
+-- "comments in unnested parentheses, each read as a blank"; true: the text begins within one
 abbrev pub uncomment : Bool → Bytes → Option Bytes
-uncomment true [] = none
 uncomment false [] = some []
-uncomment o (c ∷ s) = blanked o (eqb c 40) (eqb c 41) c (uncomment (inComment o (eqb c 40) (eqb c 41)) s)
+uncomment false (c ∷ s) = pick (eqb c 40) (consTo 32 (uncomment true s)) (pick (eqb c 41) none (consTo c (uncomment false s)))
+uncomment true [] = none
+uncomment true (c ∷ s) = pick (eqb c 40) none (uncomment (not (eqb c 41)) s)
 
 -- "symbols (letter or digit, then letters, digits, `_`, `-`)"
 abbrev pub isSymbolByte : ℕ → Bool
 isSymbolByte c = isLetter c || isDigit c || eqb c 95 || eqb c 45
 
 abbrev pub isSymbol : Bytes → Bool
-isSymbol [] = false
-isSymbol (c ∷ s) = (isLetter c || isDigit c) && all isSymbolByte s
+isSymbol s = isSpelt (λ (c : ℕ). isLetter c || isDigit c) isSymbolByte s
 
 -- "`enum` with one or more symbols"
-abbrev pub symbols : List Bytes → Option Typed
-symbols [] = none
-symbols (w ∷ ws) = onlyIf (all isSymbol (w ∷ ws)) (kind (enum (w ∷ ws)))
-
-abbrev pub enumOf : Option Bytes → Option Typed
-enumOf none = none
-enumOf (some s) = symbols (words s)
+abbrev pub enumIn : Bytes → Option Typed
+enumIn s = let ws : List Bytes = words s in onlyIf (isFilled ws && all isSymbol ws) (kind (enum ws))
 
 -- comments are looked for behind the word `enum`, which a parenthesis ends too
 abbrev pub beforeComment : ℕ → Bool
 beforeComment c = notGap c && not (eqb c 40)
 
+-- a type, by its first word
 abbrev pub typeOf : Bounds → Bytes → Option Typed
 typeOf b s =
     pick (same (front beforeComment (behind isGap s)) (text "enum"))
-    (enumOf (uncomment false (behind beforeComment (behind isGap s))))
+    (onward enumIn (uncomment false (behind beforeComment (behind isGap s))))
     (plainKind b (words s))
 
 -- typedefs
@@ -133,22 +111,17 @@ pub record Typedef : Type 0 where
   pub name : Bytes
   pub type : Typed
 
-abbrev pub found : Bool → Typed → Option Typed → Option Typed
-found true t other = some t
-found false t other = other
-
+-- the type that a name is defined as
 abbrev pub lookup : Bytes → List Typedef → Option Typed
 lookup n [] = none
-lookup n (d ∷ ds) = found (same n (d .name)) (d .type) (lookup n ds)
+lookup n (d ∷ ds) = pick (same n (d .name)) (some (d .type)) (lookup n ds)
 
 -- "An alias is followed to its end": `left` typedefs may still be met; none where a name is missing or in a loop
-abbrev pub endAt : (Bytes → Option Kind) → Typed → Option Kind
-endAt f (kind k) = some k
-endAt f (alias n) = f n
-
 abbrev pub follow : ℕ → List Typedef → Typed → Option Kind
-follow zero ds t = endAt (λ (n : Bytes). none) t
-follow (suc left) ds t = endAt (λ (n : Bytes). onward (λ (u : Typed). follow left ds u) (lookup n ds)) t
+follow zero ds (kind k) = some k
+follow zero ds (alias n) = none
+follow (suc left) ds (kind k) = some k
+follow (suc left) ds (alias n) = onward (λ (t : Typed). follow left ds t) (lookup n ds)
 
 abbrev pub kindOf : List Typedef → Typed → Option Kind
 kindOf ds t = follow (length ds) ds t
@@ -161,29 +134,20 @@ isInRange low high none = false
 isInRange low high (some x) = isAtMost low x && isAtMost x high
 
 -- "8-4-4-4-12 hex digits, of either case"
-abbrev pub hexGroups : List ℕ → List Bytes → Bool
-hexGroups [] [] = true
-hexGroups [] (g ∷ gs) = false
-hexGroups (n ∷ ns) [] = false
-hexGroups (n ∷ ns) (g ∷ gs) = eqb (length g) n && all (isDigitOf 16) g && hexGroups ns gs
-
 abbrev pub isUuid : Bytes → Bool
-isUuid s = hexGroups (8 ∷ 4 ∷ 4 ∷ 4 ∷ 12 ∷ []) (split 45 s)
+isUuid s = let gs : List Bytes = split 45 s in same (map length gs) (8 ∷ 4 ∷ 4 ∷ 4 ∷ 12 ∷ []) && all (all (isDigitOf 16)) gs
 
+-- "`yes no 0 1 true false`"
 abbrev pub truths : List Bytes
 truths = map text ("yes" ∷ "no" ∷ "0" ∷ "1" ∷ "true" ∷ "false" ∷ [])
 
--- "`size` n (at most n bytes)"
-abbrev pub sizeCount : Bytes → ℕ
-sizeCount v = length v
-
--- "Blanks and newlines around a value are ignored for all kinds but `line` and `size`."
+-- "`line` (no newline); `size` n (at most n bytes)", "Blanks and newlines around a value are ignored for all kinds but `line` and `size`."
 abbrev pub meets : Bounds → Kind → Bytes → Bool
 meets b int v = isSome (intOf b (trim v))
 meets b (range low high) v = isInRange low high (intOf b (trim v))
 meets b real v = isReal (trim v)
 meets b line v = not (any isNewline v)
-meets b (size n) v = leb (sizeCount v) n
+meets b (size n) v = leb (length v) n
 meets b (enum ws) v = among (trim v) ws
 meets b bool v = among (trim v) truths
 meets b field v = isName (trim v)

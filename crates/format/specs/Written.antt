@@ -1,24 +1,20 @@
 -- How a field and a record are written.
-use Prim.Native.Nat.{ℕ}
-use mathlib.Core.Bool.{Bool, true, false, _&&_, not}
-use mathlib.Core.List.{List, [], _∷_, _++_}
-use lib.Dec.{eqb, leb}
-use lib.ListN.{length, getD}
-use Rattle.format.specs.Bytes.{Bytes, isNewline, isAllowed, all}
-use Rattle.format.specs.Lines.{Line, lines, isName, joins}
+use mathlib.Core.Bool.{Bool, _&&_, not}
+use mathlib.Core.List.{List, [], _∷_, _++_, map}
+use lib.Dec.{leb}
+use lib.ListN.{length}
+use Rattle.format.specs.Bytes.{Bytes, pick, isNewline, isAllowed, all}
+use Rattle.format.specs.Lists.{flat}
+use Rattle.format.specs.Lines.{Line, lines, isName, isSpecial, joins}
 use Rattle.format.specs.Pieces.{Piece}
 use Rattle.format.specs.Records.{Field}
 use Rattle.format.specs.Words.{split}
 use Rattle.format.specs.Limits.{nameBytes, valueBytes}
 
 -- "with `+ ` after each newline inside"
-abbrev pub indentBy : Bool → ℕ → Bytes → Bytes
-indentBy true c s = c ∷ 43 ∷ 32 ∷ s
-indentBy false c s = c ∷ s
-
 abbrev pub indent : Bytes → Bytes
 indent [] = []
-indent (c ∷ s) = indentBy (isNewline c) c (indent s)
+indent (c ∷ s) = c ∷ pick (isNewline c) (43 ∷ 32 ∷ indent s) (indent s)
 
 -- "A field is written as name, colon, space, value, newline."
 unfoldable pub written : Bytes → Bytes → Bytes
@@ -30,8 +26,7 @@ pub record Pair : Type 0 where
   pub value : Bytes
 
 abbrev pub writtenAll : List Pair → Bytes
-writtenAll [] = []
-writtenAll (p ∷ ps) = written (p .name) (p .value) ++ writtenAll ps
+writtenAll ps = flat (map (λ (p : Pair). written (p .name) (p .value)) ps)
 
 -- the field that is written, in the plain file and as a piece
 abbrev pub newField : Pair → Field
@@ -42,7 +37,7 @@ newPiece p = Piece.field (p .name) (p .value) (lines (written (p .name) (p .valu
 
 -- "New names legal, at most 64 bytes, not starting with `%`"
 abbrev pub isLegalName : Bytes → Bool
-isLegalName n = isName n && leb (length n) nameBytes && not (eqb (getD n 0 0) 37)
+isLegalName n = isName n && leb (length n) nameBytes && not (isSpecial n)
 
 -- "values at most 4,096 allowed bytes, no line of them ending in a backslash"
 abbrev pub noneJoins : List Line → Bool

@@ -8,11 +8,12 @@ use mathlib.Core.Option.{Option, none, some}
 use lib.Dec.{leb, eqb}
 use lib.ListN.{length, take, drop, getD, drop-of-length-le}
 use borrow.Author.Tests.{eq-eqb, ne-eqb, leb-true}
+use Rattle.format.proofs.Records.{records}
 use Rattle.format.specs.Bytes.{Bytes, pick, isAllowed, classOf, all, isSome}
 use Rattle.format.specs.Lines.{isEnded}
-use Rattle.format.specs.Pieces.{Piece, pieces}
+use Rattle.format.specs.Pieces.{Piece, pieces, readOf}
 use Rattle.format.specs.Numbers.{intBounds}
-use Rattle.format.specs.Records.{Record, records}
+use Rattle.format.specs.Records.{Record}
 use Rattle.format.specs.Limits.{fileBytes}
 use Rattle.format.specs.Calls.{checkAnswer}
 use Rattle.format.proofs.Table.{control-class}
@@ -20,7 +21,6 @@ use Rattle.format.proofs.Judging.{readNo, textNo, verdict-text}
 use Rattle.format.proofs.Walking.{walkFits, walkOnce, walkWell, walkTypes, walkNo, recordsNo, text-walk}
 use Rattle.lines.proofs.Cuts.{at-cons}
 use Rattle.records.specs.Places.{isReadable}
-use Rattle.records.specs.Walk.{readOf}
 use Rattle.records.proofs.Readings.{readable-pieces}
 use Rattle.integrity.specs.Stages.{formNo}
 

@@ -6,10 +6,10 @@ use mathlib.Core.Bool.{Bool, true, false, _||_, not, or-assoc}
 use mathlib.Core.List.{[], _∷_}
 use lib.Dec.{eqb}
 use lib.ListN.{length}
+use Rattle.format.specs.Lines.{isSpecial}
 use Rattle.format.specs.Bytes.{text, pick, same, any}
 use Rattle.format.specs.Records.{Field, Record}
 use Rattle.format.specs.Sets.{valuesOf}
-use Rattle.format.specs.Rules.{isSpecial}
 use Rattle.format.specs.Questions.{hasRecOnce}
 use Rattle.limits.proofs.Tallies.{values-one}
 

@@ -10,7 +10,7 @@ use Rattle.format.specs.Lists.{flat}
 use Rattle.format.specs.Bytes.{Bytes, text, pick, same}
 use Rattle.format.specs.Words.{words}
 use Rattle.format.specs.Records.{Field, Record}
-use Rattle.format.specs.Sets.{keepIf, valuesOf}
+use Rattle.format.specs.Sets.{valuesOf}
 use Rattle.format.specs.Rules.{listed}
 use Rattle.format.specs.Limits.{typedefs, typeFields, listWords}
 use Rattle.format.specs.Questions.{fitsRules}
@@ -24,11 +24,11 @@ counts-path d e a b m p l u = λ i. record { typedefs = a i; types = b i; mandat
 
 -- one more field of a name, and its words
 
-pub values-one : (b : Bool) (v : Bytes) (vs : List Bytes) → length (keepIf b v vs) ≡ pick b 1 0 + length vs
+pub values-one : (b : Bool) (v : Bytes) (vs : List Bytes) → length (pick b (v ∷ vs) vs) ≡ pick b 1 0 + length vs
 values-one true v vs = omega arith
 values-one false v vs = omega arith
 
-listed-one : (b : Bool) (v : Bytes) (vs : List Bytes) → length (flat (map words (keepIf b v vs))) ≡ pick b (length (words v)) 0 + length (flat (map words vs))
+listed-one : (b : Bool) (v : Bytes) (vs : List Bytes) → length (flat (map words (pick b (v ∷ vs) vs))) ≡ pick b (length (words v)) 0 + length (flat (map words vs))
 listed-one true v vs = length-append (words v) (flat (map words vs))
 listed-one false v vs = omega arith
 

@@ -1,36 +1,29 @@
 -- Words counted from the front: a byte that is no gap begins a word where a gap, or nothing, stands before it.
-use Prim.Native.Nat.{ℕ, suc, _+_, _<_}
+use Prim.Native.Nat.{ℕ, _+_}
 use native.Mathlib.Omega.{arith}
 use mathlib.Core.Path.{_≡_, refl, sym, ap, _∙_}
 use mathlib.Core.Bool.{Bool, true, false, _&&_, not}
 use mathlib.Core.List.{List, [], _∷_}
 use lib.ListN.{length}
 use Rattle.format.specs.Bytes.{Bytes, pick}
-use Rattle.format.specs.Words.{isGap, extend, wordOn, words}
+use Rattle.format.specs.Lists.{behind}
+use Rattle.format.specs.Words.{isGap, notGap, words}
+use Rattle.format.proofs.Parts.{words-gap, words-cut}
 
 -- the words that begin in a text; gap: no byte of a word stands before it
 abbrev pub wordsFrom : Bool → Bytes → ℕ
 wordsFrom gap [] = 0
 wordsFrom gap (c ∷ s) = pick (gap && not (isGap c)) 1 0 + wordsFrom (isGap c) s
 
-extend-length : (c : ℕ) (ws : List Bytes) → 0 < length ws → length (extend c ws) ≡ length ws
-extend-length c [] h = absurd (omega arith)
-extend-length c (w ∷ ws) h = refl
-
-module _ (c : ℕ) (s : Bytes) (here : length (words s) ≡ wordsFrom true s) (on : (d : ℕ) → length (wordOn d s (words s)) ≡ suc (wordsFrom false s)) where
-  words-by : (b : Bool) → length (pick b (words s) (wordOn c s (words s))) ≡ pick (not b) 1 0 + wordsFrom b s
-  words-by true = omega (arith, here)
-  words-by false = omega (arith, on c)
-
-  on-by : (d : ℕ) (b : Bool) (ws : List Bytes) → ws ≡ pick b (words s) (wordOn c s (words s)) → length (pick b ((d ∷ []) ∷ ws) (extend d ws)) ≡ suc (0 + wordsFrom b s)
-  on-by d true ws e = omega (arith, ap (λ (x : List Bytes). length x) e, here)
-  on-by d false ws e =
-      let k : length ws ≡ suc (wordsFrom false s) = ap (λ (x : List Bytes). length x) e ∙ on c in
-      omega (arith, extend-length d ws (omega arith))
-
-both : (s : Bytes) → (length (words s) ≡ wordsFrom true s) × ((d : ℕ) → length (wordOn d s (words s)) ≡ suc (wordsFrom false s))
-both [] = (refl, λ d. refl)
-both (c ∷ s) = let h = both s in (words-by c s (h .0) (h .1) (isGap c), λ d. on-by c s (h .0) (h .1) d (isGap c) (words (c ∷ s)) refl)
+-- and those of the text behind a word that it goes on with
+both : (s : Bytes) → (length (words s) ≡ wordsFrom true s) × (length (words (behind notGap s)) ≡ wordsFrom false s)
+both [] = (refl, refl)
+both (c ∷ s) = go (isGap c) refl (both s)
+  where
+    go : (b : Bool) → isGap c ≡ b → (length (words s) ≡ wordsFrom true s) × (length (words (behind notGap s)) ≡ wordsFrom false s)
+        → (length (words (c ∷ s)) ≡ pick (not b) 1 0 + wordsFrom b s) × (length (words (pick (not b) (behind notGap s) (c ∷ s))) ≡ 0 + wordsFrom b s)
+    go true e h = let k : length (words (c ∷ s)) ≡ wordsFrom true s = ap (λ (ws : List Bytes). length ws) (words-gap c s e) ∙ h .0 in (omega (arith, k), omega (arith, k))
+    go false e h = (omega (arith, ap (λ (ws : List Bytes). length ws) (words-cut c s e), h .1), omega (arith, h .1))
 
 pub words-from : (s : Bytes) → length (words s) ≡ wordsFrom true s
 words-from s = both s .0

@@ -11,7 +11,8 @@ use lib.Dec.{eqb}
 use lib.ListN.{length, take, drop, getD, drop-of-length-le, length-drop}
 use lib.Seq.{drop-cons, length-take-le, take-all, getD-take, getD-drop}
 use Rattle.format.specs.Bytes.{Bytes, pick, isNewline, same}
-use Rattle.format.specs.Lines.{put, lines, isEnded, joins}
+use Rattle.format.specs.Lines.{lines, isEnded, joins}
+use Rattle.format.proofs.Lines.{put}
 use Rattle.lines.specs.Line.{lineLen, firstLine}
 
 -- the rest from i on is the byte at i and the rest from i + 1 on

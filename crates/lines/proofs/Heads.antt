@@ -10,8 +10,9 @@ use borrow.Author.Tests.{eqb-true, eq-eqb, ne-eqb}
 use lib.Dec.{eqb}
 use lib.ListN.{length, take, drop, getD, drop-of-length-le}
 use lib.Seq.{drop-cons}
+use Rattle.format.specs.Lists.{front, behind}
 use Rattle.format.specs.Bytes.{Bytes, pick, classOf, isNewline, isBlank}
-use Rattle.format.specs.Lines.{isEnded, isFirst, isLater, Form, afterColon, afterBlank, longer, nameRest, form}
+use Rattle.format.specs.Lines.{isEnded, isFirst, isLater, Form, afterColon, form, afterName}
 use Rattle.format.proofs.Table.{newline-class, blank-class}
 use Rattle.lines.specs.Line.{lineLen, firstLine, GoesOn, run, nameLen}
 use Rattle.lines.proofs.Cuts.{ended-tail}
@@ -110,59 +111,80 @@ Told true true k n len name F = (F ≡ Form.field name []) × (len ≡ suc n)
 Told true false true n len name F = (v : Bytes) × (F ≡ Form.field name v) × (suc n < len)
 Told true false false n len name F = F ≡ Form.fault
 
-told-longer : (c : ℕ) (a e k : Bool) (n len : ℕ) (name : Bytes) (F : Form) → Told a e k n len name F → Told a e k (suc n) (suc len) (c ∷ name) (longer c F)
-told-longer c false e k n len name F h = ap (longer c) h
-told-longer c true true k n len name F h = (ap (longer c) (h .0), ap suc (h .1))
-told-longer c true false true n len name F h = (h .0, ap (longer c) (h .1), omega (arith, h .2))
-told-longer c true false false n len name F h = ap (longer c) h
+told-more : (a e k : Bool) (n len : ℕ) (name : Bytes) (F : Form) → Told a e k n len name F → Told a e k (suc n) (suc len) name F
+told-more false e k n len name F h = h
+told-more true true k n len name F h = (h .0, ap suc (h .1))
+told-more true false true n len name F h = (h .0, h .1, omega (arith, h .2))
+told-more true false false n len name F h = h
 
-blank-told : (d : ℕ) (s : Bytes) (k : Bool) → Told true false k 0 (suc (suc (lineLen s))) [] (afterBlank k (firstLine s))
-blank-told d s true = (firstLine s, refl, omega arith)
-blank-told d s false = refl
+blank-told : (name : Bytes) (d : ℕ) (s : Bytes) (k : Bool) → Told true false k 0 (suc (suc (lineLen s))) name (pick k (Form.field name (firstLine s)) Form.fault)
+blank-told name d s true = (firstLine s, refl, omega arith)
+blank-told name d s false = refl
 
-colon-told : (b : Bool) (s : Bytes) → (b ≡ true → 0 < length s) → Told b (isNewline (getD s 0 0)) (isBlank (getD s 0 0)) 0 (suc (lineLen s)) [] (afterColon b (firstLine s))
+colon-told : (name : Bytes) (b : Bool) (s : Bytes) → (b ≡ true → 0 < length s) → Told b (isNewline (getD s 0 0)) (isBlank (getD s 0 0)) 0 (suc (lineLen s)) name (pick b (afterColon name (firstLine s)) Form.fault)
 unfolding lineLen
-colon-told false s h = refl
-colon-told true [] h = absurd (not-suc-le-zero (h refl))
-colon-told true (d ∷ s) h = go (isNewline d)
+colon-told name false s h = refl
+colon-told name true [] h = absurd (not-suc-le-zero (h refl))
+colon-told name true (d ∷ s) h = go (isNewline d)
   where
-    go : (t : Bool) → Told true t (isBlank d) 0 (suc (pick t 0 (suc (lineLen s)))) [] (afterColon true (take (pick t 0 (suc (lineLen s))) (d ∷ s)))
+    go : (t : Bool) → Told true t (isBlank d) 0 (suc (pick t 0 (suc (lineLen s)))) name (afterColon name (take (pick t 0 (suc (lineLen s))) (d ∷ s)))
     go true = (refl, refl)
-    go false = blank-told d s (isBlank d)
+    go false = blank-told name d s (isBlank d)
 
--- the same of the first n bytes of a text
+-- the same of a name that a text goes on with, n bytes of it
+abbrev Behind : ℕ → ℕ → Bytes → Bytes → Form → Type 0
+Behind n len s name F = Told (eqb (getD s n 0) 58) (isNewline (getD s (suc n) 0)) (isBlank (getD s (suc n) 0)) n len name F
+
 abbrev pub At : ℕ → ℕ → Bytes → Form → Type 0
-At n len s F = Told (eqb (getD s n 0) 58) (isNewline (getD s (suc n) 0)) (isBlank (getD s (suc n) 0)) n len (take n s) F
+At n len s F = Behind n len s (take n s) F
 
-at-longer : (c n len : ℕ) (s : Bytes) (F : Form) → At n len s F → At (suc n) (suc len) (c ∷ s) (longer c F)
-at-longer c n len s F h = told-longer c (eqb (getD s n 0) 58) (isNewline (getD s (suc n) 0)) (isBlank (getD s (suc n) 0)) n len (take n s) F h
+behind-more : (c n len : ℕ) (s name : Bytes) (F : Form) → Behind n len s name F → Behind (suc n) (suc len) (c ∷ s) name F
+behind-more c n len s name F h = told-more (eqb (getD s n 0) 58) (isNewline (getD s (suc n) 0)) (isBlank (getD s (suc n) 0)) n len name F h
 
 more-behind : (c : ℕ) (s : Bytes) → isEnded (c ∷ s) ≡ true → isNewline c ≡ false → 0 < length s
 more-behind c [] e q = absurd (false≢true (sym q ∙ e))
 more-behind c (d ∷ s) e q = omega arith
 
-rest-told : (s : Bytes) → isEnded s ≡ true → At (run isLater s) (lineLen s) s (nameRest (firstLine s))
+rest-told : (name s : Bytes) → isEnded s ≡ true → Behind (run isLater s) (lineLen s) s name (afterName name (behind isLater (firstLine s)))
 unfolding run lineLen
-rest-told [] e = refl
-rest-told (c ∷ s) e = go (isNewline c) (isLater c) refl refl (rest-told s (ended-tail c s e))
+rest-told name [] e = refl
+rest-told name (c ∷ s) e = go (isNewline c) (isLater c) refl refl (rest-told name s (ended-tail c s e))
   where
-    go : (t u : Bool) → isNewline c ≡ t → isLater c ≡ u → At (run isLater s) (lineLen s) s (nameRest (firstLine s))
-        → At (pick u (suc (run isLater s)) 0) (pick t 0 (suc (lineLen s))) (c ∷ s) (nameRest (take (pick t 0 (suc (lineLen s))) (c ∷ s)))
+    go : (t u : Bool) → isNewline c ≡ t → isLater c ≡ u → Behind (run isLater s) (lineLen s) s name (afterName name (behind isLater (firstLine s)))
+        → Behind (pick u (suc (run isLater s)) 0) (pick t 0 (suc (lineLen s))) (c ∷ s) name (afterName name (behind isLater (take (pick t 0 (suc (lineLen s))) (c ∷ s))))
     go true true p q h = absurd (false≢true (ap isLater (sym (eqb-true c 10 p)) ∙ q))
     go true false p q h = rw (eqb-true c 10 p)
-    go false true p q h = rw q (at-longer c (run isLater s) (lineLen s) s (nameRest (firstLine s)) h)
-    go false false p q h = rw q (colon-told (eqb c 58) s (λ x. more-behind c s e p))
+    go false true p q h = rw q (behind-more c (run isLater s) (lineLen s) s name (afterName name (behind isLater (firstLine s))) h)
+    go false false p q h = rw q (colon-told name (eqb c 58) s (λ x. more-behind c s e p))
+
+-- the later bytes of a name stand on the first line
+later-front : (s : Bytes) → front isLater (firstLine s) ≡ take (run isLater s) s
+unfolding run lineLen
+later-front [] = refl
+later-front (c ∷ s) = go (isNewline c) (isLater c) refl refl (later-front s)
+  where
+    go : (t u : Bool) → isNewline c ≡ t → isLater c ≡ u → front isLater (firstLine s) ≡ take (run isLater s) s
+        → front isLater (take (pick t 0 (suc (lineLen s))) (c ∷ s)) ≡ take (pick u (suc (run isLater s)) 0) (c ∷ s)
+    go true true p q h = absurd (false≢true (ap isLater (sym (eqb-true c 10 p)) ∙ q))
+    go true false p q h = refl
+    go false true p q h = rw q (ap (λ (x : Bytes). c ∷ x) h)
+    go false false p q h = rw q
 
 pub name-told : (s : Bytes) → isEnded s ≡ true → 0 < nameLen s → At (nameLen s) (lineLen s) s (form (firstLine s))
 unfolding nameLen run lineLen
 name-told [] e h = absurd (not-suc-le-zero h)
 name-told (c ∷ s) e h = go (isNewline c) (isFirst c) refl refl h
   where
+    told-line : (n : Bytes) → front isLater (firstLine s) ≡ n → Behind (suc (run isLater s)) (suc (lineLen s)) (c ∷ s) (c ∷ n) (afterName (c ∷ front isLater (firstLine s)) (behind isLater (firstLine s)))
+    told-line n q =
+        subst (λ (x : Bytes). Behind (suc (run isLater s)) (suc (lineLen s)) (c ∷ s) (c ∷ n) (afterName (c ∷ x) (behind isLater (firstLine s)))) (sym q)
+        (behind-more c (run isLater s) (lineLen s) s (c ∷ n) (afterName (c ∷ n) (behind isLater (firstLine s))) (rest-told (c ∷ n) s (ended-tail c s e)))
+
     go : (t u : Bool) → isNewline c ≡ t → isFirst c ≡ u → 0 < pick u (suc (run isLater s)) 0
         → At (pick u (suc (run isLater s)) 0) (pick t 0 (suc (lineLen s))) (c ∷ s) (form (take (pick t 0 (suc (lineLen s))) (c ∷ s)))
     go t false p q h = absurd (not-suc-le-zero h)
     go true true p q h = absurd (false≢true (ap isFirst (sym (eqb-true c 10 p)) ∙ q))
-    go false true p q h = rw q (at-longer c (run isLater s) (lineLen s) s (nameRest (firstLine s)) (rest-told s (ended-tail c s e)))
+    go false true p q h = rw q (told-line (take (run isLater s) s) (later-front s))
 
 -- So the line goes on behind the colon before a newline, and behind the colon and a blank.
 told-newline : (a e k : Bool) (n len : ℕ) (name : Bytes) (F : Form) → Told a e k n len name F → a ≡ true → e ≡ true → len ≡ suc n

@@ -1,11 +1,11 @@
 -- What a text goes on with lies in the text, and takes some of its bytes.
-use Prim.Native.Nat.{ℕ, suc, _+_, _-_, _≤_, _<_}
+use Prim.Native.Nat.{ℕ, suc, _+_, _≤_, _<_}
 use native.Mathlib.Omega.{arith}
 use mathlib.Core.Path.{_≡_, refl, sym, ap, _∙_, subst}
 use mathlib.Core.Logic.{_≢_}
 use mathlib.Core.Bool.{true}
 use mathlib.Core.List.{List, [], _∷_}
-use lib.ListN.{length, drop, length-append, length-drop}
+use lib.ListN.{length, drop, length-append}
 use Rattle.format.specs.Bytes.{Bytes}
 use Rattle.format.specs.Lines.{Line, lines, bytes, isEnded, Form, form, joins}
 use Rattle.format.proofs.Elements.{Each}
@@ -14,11 +14,10 @@ use Rattle.lines.specs.Line.{lineLen, firstLine}
 use Rattle.lines.specs.Piece.{lineSize, extentOf, valueAt, fieldNext, nextBy, nextOf, sizeOf}
 use Rattle.lines.specs.declared.Extent.{Extent}
 use Rattle.lines.specs.declared.Next.{Next}
-use Rattle.lines.proofs.Cuts.{ended-drop}
 use Rattle.lines.proofs.Nexts.{next-first}
 use Rattle.lines.proofs.Owned.{Owns, owns}
 use Rattle.lines.proofs.Pieces.{part-le, first-clean, first-bytes}
-use Rattle.lines.proofs.Shapes.{Shaped, shaped, name-some, value-inside}
+use Rattle.lines.proofs.Shapes.{shaped, name-some, value-inside}
 
 abbrev pub Inside : ℕ → Next → Type 0
 Inside len Next.End = ⊥
@@ -34,7 +33,7 @@ module _ (s : Bytes) (l : Line) (ls : List Line) (clean : Each Clean (l ∷ ls))
   field-inside : (n v : Bytes) → form l ≡ Form.field n v → (e : Extent) → Owns (joins l) (0 + lineSize l) ls e → Inside (length s) (fieldNext (length n) (valueAt (length n) l) e)
   field-inside n v is Extent.Open h = tt
   field-inside n v is (Extent.Size k) h =
-      let shape = subst (Shaped l) is (shaped l) in
+      let shape = shaped l n v is in
       let a : List Line = l ∷ h .own in
       let size : k ≡ length (bytes a) = omega (arith, h .size, length-append l (10 ∷ bytes (h .own))) in
       let fits = part-le s a (h .rest) k (subst (λ (x : List Line). Each Clean (l ∷ x)) (h .parts) clean) (ap (λ (x : List Line). bytes (l ∷ x)) (sym (h .parts)) ∙ are) size in
@@ -46,8 +45,7 @@ module _ (s : Bytes) (l : Line) (ls : List Line) (clean : Each Clean (l ∷ ls))
   line-inside-by Form.blank is = (omega arith, line-fits)
   line-inside-by Form.comment is = (omega arith, line-fits)
   line-inside-by (Form.field n v) is = field-inside n v is (extentOf (joins l) (0 + lineSize l) ls) (owns ls (joins l) (0 + lineSize l))
-  line-inside-by (Form.plus v) is = tt
-  line-inside-by (Form.part v) is = tt
+  line-inside-by (Form.more v) is = tt
   line-inside-by Form.fault is = tt
 
 pub next-inside : (s : Bytes) → isEnded s ≡ true → 0 < length s → Inside (length s) (nextOf s)

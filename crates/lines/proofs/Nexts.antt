@@ -11,7 +11,7 @@ use lib.Dec.{eqb}
 use lib.ListN.{length, take, drop, getD}
 use lib.Seq.{length-take-le}
 use Rattle.format.specs.Bytes.{Bytes, pick, classOf, isNewline, isBlank, all}
-use Rattle.format.specs.Lines.{Line, lines, isEnded, isFirst, Form, formBy, form}
+use Rattle.format.specs.Lines.{Line, lines, isEnded, isFirst, Form, form, afterPlus}
 use Rattle.format.proofs.Table.{newline-class, blank-class}
 use Rattle.lines.specs.Line.{lineLen, firstLine, nameLen}
 use Rattle.lines.specs.Piece.{extentOf, lineSize, valueAt, fieldNext, nextBy, nextOf}
@@ -60,12 +60,12 @@ pub next-class : (s : Bytes) (n k : ℕ) → isEnded s ≡ true → 0 < nameLen 
 next-class s n k e h p small r = rw (next-named s e h, ← p, newline-class (getD s (n + 1) 0) small, blank-class (getD s (n + 1) 0) small, ← r)
 
 -- a text that begins with no name
-unnamed-by : (h p b : Bool) (c : ℕ) (r l : Line) (ls : List Line) → (p ≡ true → b ≡ false) → nextBy (formBy false h p b c r) l ls ≡ pick h (Next.Comment (lineSize l)) (pick b (Next.Blank (lineSize l)) Next.Fault)
-unnamed-by true p b c r l ls k = refl
-unnamed-by false true true c r l ls k = absurd (false≢true (sym (k refl)))
-unnamed-by false true false c r l ls k = refl
-unnamed-by false false true c r l ls k = refl
-unnamed-by false false false c r l ls k = refl
+unnamed-by : (h p b : Bool) (v : Bytes) (l : Line) (ls : List Line) → (p ≡ true → b ≡ false) → nextBy (pick h Form.comment (pick p (Form.more v) (pick b Form.blank Form.fault))) l ls ≡ pick h (Next.Comment (lineSize l)) (pick b (Next.Blank (lineSize l)) Next.Fault)
+unnamed-by true p b v l ls k = refl
+unnamed-by false true true v l ls k = absurd (false≢true (sym (k refl)))
+unnamed-by false true false v l ls k = refl
+unnamed-by false false true v l ls k = refl
+unnamed-by false false false v l ls k = refl
 
 plus-not-blank : (c : ℕ) (s : Bytes) → eqb c 43 ≡ true → all isBlank (c ∷ s) ≡ false
 plus-not-blank c s e = ap (λ (x : ℕ). all isBlank (x ∷ s)) (eqb-true c 43 e)
@@ -80,7 +80,7 @@ unnamed-first (c ∷ s) ls h q = go (isNewline c) refl
 
     go : (t : Bool) → isNewline c ≡ t → nextBy (form (l t)) (l t) ls ≡ pick (eqb c 35) (Next.Comment (lineSize (l t))) (pick (all isBlank (l t)) (Next.Blank (lineSize (l t))) Next.Fault)
     go true p = rw (eqb-true c 10 p)
-    go false p = rw q (unnamed-by (eqb c 35) (eqb c 43) (all isBlank (c ∷ firstLine s)) c (firstLine s) (l false) ls (plus-not-blank c (firstLine s)))
+    go false p = rw q (unnamed-by (eqb c 35) (eqb c 43) (all isBlank (c ∷ firstLine s)) (10 ∷ afterPlus (firstLine s)) (l false) ls (plus-not-blank c (firstLine s)))
 
 pub next-unnamed : (s : Bytes) → 0 < length s → isFirst (getD s 0 0) ≡ false
     → nextOf s ≡ pick (eqb (getD s 0 0) 35) (Next.Comment (lineLen s + 1)) (pick (all isBlank (firstLine s)) (Next.Blank (lineLen s + 1)) Next.Fault)

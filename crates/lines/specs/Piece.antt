@@ -39,8 +39,7 @@ abbrev pub nextBy : Form → Line → List Line → Next
 nextBy Form.blank l ls = Next.Blank (lineSize l)
 nextBy Form.comment l ls = Next.Comment (lineSize l)
 nextBy (Form.field n v) l ls = fieldNext (length n) (valueAt (length n) l) (extentOf true 0 (l ∷ ls))
-nextBy (Form.plus v) l ls = Next.Fault
-nextBy (Form.part v) l ls = Next.Fault
+nextBy (Form.more v) l ls = Next.Fault
 nextBy Form.fault l ls = Next.Fault
 
 abbrev pub nextIn : List Line → Next

@@ -9,8 +9,9 @@ use lib.Dec.{eqb}
 use lib.ListN.{length, drop, getD, set, drop-of-length-le}
 use lib.Seq.{drop-cons, getD-set-same, getD-set-other}
 use borrow.Author.Count.{below-more}
+use Rattle.format.specs.Lists.{front}
 use Rattle.format.specs.Bytes.{Bytes, pick, same}
-use Rattle.format.specs.Words.{notGap, front}
+use Rattle.format.specs.Words.{notGap}
 use Rattle.format.specs.Records.{Record}
 use Rattle.format.specs.Questions.{occurrences}
 use Rattle.format.proofs.Listing.{same-swap, occurrences-cons}

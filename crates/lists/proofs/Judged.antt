@@ -1,6 +1,5 @@
 -- The number of a record by the listed words is that of the first of questions 8 to 11 that it fails, where the rules are well formed.
 use Prim.Native.Nat.{ℕ}
-use native.Mathlib.Omega.{arith}
 use mathlib.Core.Path.{_≡_, refl, sym, ap, _∙_}
 use mathlib.Core.Bool.{Bool, true, false, _&&_, _||_, not}
 use mathlib.Core.List.{List, [], _∷_, _++_}
@@ -8,21 +7,19 @@ use lib.Dec.{leb, eqb, eqb·suc-zero}
 use lib.ListN.{length, take}
 use Rattle.format.specs.Bytes.{Bytes, pick, all, any, same, among}
 use Rattle.format.specs.Records.{Field, Record}
-use Rattle.format.specs.Sets.{keepIf}
 use Rattle.format.specs.Numbers.{Bounds}
 use Rattle.format.specs.Rules.{allowed, isWellFormed}
-use Rattle.format.specs.Questions.{firstNo, occurrences, eachName, noneProhibited, allAllowed, allPresent, noneRepeated, allTyped}
+use Rattle.format.specs.Questions.{firstNo, occurrences, eachName, noneProhibited, allAllowed, allPresent, noneRepeated}
 use Rattle.format.proofs.Elements.{all-both, all-yes, all-alike}
 use Rattle.format.proofs.Lines.{all-append}
-use Rattle.format.proofs.Least.{first-append}
 use Rattle.format.proofs.Listing.{among-any, prohibited-walk}
-use Rattle.format.proofs.Judging.{recordRows, recordNo}
+use Rattle.format.proofs.Judging.{recordRows}
 use Rattle.lists.specs.Entries.{Entry, entriesOf, wordsOf}
 use Rattle.lists.specs.Names.{isListed, onlyListed, isAbsent, isAlone, isPresent, isSingle, namesNo}
 use Rattle.lists.proofs.Listed.{mandatory-words, prohibited-words, allowed-words, unique-words, key-words, allowed-some}
 
 -- a test of the entries in one list is one of its words
-all-by : (t : Bool) (p : Bytes → Bool) (w : Bytes) (ws : List Bytes) (b : Bool) → b ≡ all p ws → ((not t || p w) && b) ≡ all p (keepIf t w ws)
+all-by : (t : Bool) (p : Bytes → Bool) (w : Bytes) (ws : List Bytes) (b : Bool) → b ≡ all p ws → ((not t || p w) && b) ≡ all p (pick t (w ∷ ws) ws)
 all-by true p w ws b e = ap (λ (x : Bool). p w && x) e
 all-by false p w ws b e = e
 
@@ -30,7 +27,7 @@ all-list : (k : ℕ) (p : Bytes → Bool) (es : List Entry) → all (λ (e : Ent
 all-list k p [] = refl
 all-list k p (e ∷ es) = all-by (eqb (e .list) k) p (e .word) (wordsOf k es) (all (λ (x : Entry). not (eqb (x .list) k) || p (x .word)) es) (all-list k p es)
 
-any-by : (t : Bool) (p : Bytes → Bool) (w : Bytes) (ws : List Bytes) (b : Bool) → b ≡ any p ws → ((t && p w) || b) ≡ any p (keepIf t w ws)
+any-by : (t : Bool) (p : Bytes → Bool) (w : Bytes) (ws : List Bytes) (b : Bool) → b ≡ any p ws → ((t && p w) || b) ≡ any p (pick t (w ∷ ws) ws)
 any-by true p w ws b e = ap (λ (x : Bool). p w || x) e
 any-by false p w ws b e = e
 

@@ -10,7 +10,7 @@ use borrow.Author.Tests.{eqb-true, leb-true, eq-eqb, ne-eqb}
 use Rattle.format.specs.Bytes.{Bytes, text, pick, all, same}
 use Rattle.format.specs.Words.{words}
 use Rattle.format.specs.Records.{Field, Record}
-use Rattle.format.specs.Sets.{keepIf, valuesOf}
+use Rattle.format.specs.Sets.{valuesOf}
 use Rattle.format.specs.Lines.{isName}
 use Rattle.format.specs.Numbers.{Bounds}
 use Rattle.format.specs.Limits.{typedefs, typeFields, listWords}
@@ -20,7 +20,7 @@ use Rattle.format.proofs.Listing.{same-true, listed-cons}
 use Rattle.lists.specs.Entries.{listOf, Entry, entryOf, entriesBy, fieldEntries, entriesOf, wordsOf}
 
 -- the words of one list among entries
-words-join : (t : Bool) (w : Bytes) (a b c : List Bytes) → c ≡ a ++ b → keepIf t w c ≡ keepIf t w a ++ b
+words-join : (t : Bool) (w : Bytes) (a b c : List Bytes) → c ≡ a ++ b → pick t (w ∷ c) c ≡ pick t (w ∷ a) a ++ b
 words-join true w a b c e = ap {B = List Bytes} (λ ws. w ∷ ws) e
 words-join false w a b c e = e
 
@@ -32,13 +32,13 @@ pick-none : (t : Bool) → pick {A = List Bytes} t [] [] ≡ []
 pick-none true = refl
 pick-none false = refl
 
-pick-more : (t : Bool) (w : Bytes) (ws : List Bytes) → keepIf t w (pick t ws []) ≡ pick t (w ∷ ws) []
+pick-more : (t : Bool) (w : Bytes) (ws : List Bytes) → pick t (w ∷ pick t ws []) (pick t ws []) ≡ pick t (w ∷ ws) []
 pick-more true w ws = refl
 pick-more false w ws = refl
 
 words-map : (j k : ℕ) (ws : List Bytes) → wordsOf k (map (entryOf j) ws) ≡ pick (eqb j k) ws []
 words-map j k [] = sym (pick-none (eqb j k))
-words-map j k (w ∷ ws) = ap (keepIf (eqb j k) w) (words-map j k ws) ∙ pick-more (eqb j k) w ws
+words-map j k (w ∷ ws) = ap (λ (xs : List Bytes). pick (eqb j k) (w ∷ xs) xs) (words-map j k ws) ∙ pick-more (eqb j k) w ws
 
 words-by : (j k : ℕ) (ws : List Bytes) → (k ≡ 0 → ⊥) → wordsOf k (entriesBy j ws) ≡ pick (eqb j k) ws []
 words-by j k ws h = go (eqb j 0) refl
@@ -184,7 +184,7 @@ one-length p (w ∷ v ∷ ws) e = absurd (false≢true e)
 -- a `%allowed` field lists a word, so that there is one exactly where there is such a field
 module _ (b : Bounds) where
   allowed-by : (t : Bool) (v : Bytes) (vs : List Bytes) (ws : List Bytes) → (t ≡ true → 0 < length (words v)) → eqb (length ws) 0 ≡ eqb (length vs) 0
-      → eqb (length (pick t (words v) [] ++ ws)) 0 ≡ eqb (length (keepIf t v vs)) 0
+      → eqb (length (pick t (words v) [] ++ ws)) 0 ≡ eqb (length (pick t (v ∷ vs) vs)) 0
   allowed-by true v vs ws h e =
       let some : 0 < length (words v) = h refl in
       ne-eqb (length (words v ++ ws)) 0 (λ q. omega (arith, length-append (words v) ws)) ∙ sym (eqb·suc-zero (length vs))
@@ -209,7 +209,7 @@ module _ (b : Bounds) where
   allowed-some r e = allowed-all r (formed-parts r e .0)
 
   -- and a `%key` field lists one
-  key-by : (t : Bool) (v : Bytes) (vs : List Bytes) (ws : List Bytes) → (t ≡ true → length (words v) ≡ 1) → length ws ≡ length vs → length (pick t (words v) [] ++ ws) ≡ length (keepIf t v vs)
+  key-by : (t : Bool) (v : Bytes) (vs : List Bytes) (ws : List Bytes) → (t ≡ true → length (words v) ≡ 1) → length ws ≡ length vs → length (pick t (words v) [] ++ ws) ≡ length (pick t (v ∷ vs) vs)
   key-by true v vs ws h e = omega (arith, length-append (words v) ws, h refl)
   key-by false v vs ws h e = e
 

@@ -2,28 +2,21 @@
 use Prim.Native.Nat.{ℕ, _≤_, _<_}
 use native.Mathlib.Omega.{arith}
 use mathlib.Core.Path.{_≡_, refl, sym, ap, _∙_, subst}
-use mathlib.Core.Bool.{Bool, true, false, not}
+use mathlib.Core.Bool.{Bool, true, false}
 use mathlib.Core.List.{List, [], _∷_, map}
 use lib.ListN.{length, take}
 use lib.Seq.{length-take-le}
 use borrow.Author.Tests.{eq-eqb, ne-eqb}
+use Rattle.format.specs.Lists.{front, behind}
 use Rattle.format.specs.Bytes.{Bytes, pick}
-use Rattle.format.specs.Words.{isGap, notGap, frontIf, front, behind, extend, wordOn, words}
+use Rattle.format.specs.Words.{isGap, notGap, words}
+use Rattle.format.proofs.Parts.{words-skip, words-cut}
 use Rattle.lines.specs.Value.{valueFrom}
 use Rattle.records.proofs.Steps.{drop-take}
 use Rattle.records.proofs.Words.{word-on}
 use Rattle.lists.specs.Entries.{Entry, entryOf, entriesBy}
 use Rattle.lists.specs.Tables.{part, Cuts, valueEntries}
 use Rattle.lists.specs.declared.NextWord.{NextWord}
-
--- gaps at the front do not matter
-words-skip : (v : Bytes) → words v ≡ words (behind isGap v)
-words-skip [] = refl
-words-skip (c ∷ s) = go (isGap c) refl (words-skip s)
-  where
-    go : (t : Bool) → isGap c ≡ t → words s ≡ words (behind isGap s) → pick t (words s) (wordOn c s (words s)) ≡ words (pick t (behind isGap s) (c ∷ s))
-    go true e h = h
-    go false e h = ap (λ (t : Bool). pick t (words s) (wordOn c s (words s))) (sym e)
 
 -- behind them stands no gap
 behind-head : (v w : Bytes) (b : ℕ) → behind isGap v ≡ b ∷ w → isGap b ≡ false
@@ -33,15 +26,6 @@ behind-head (c ∷ s) w b e = go (isGap c) refl e (λ f. behind-head s w b f)
     go : (t : Bool) → isGap c ≡ t → pick t (behind isGap s) (c ∷ s) ≡ b ∷ w → (behind isGap s ≡ b ∷ w → isGap b ≡ false) → isGap b ≡ false
     go true q f h = h f
     go false q f h = ap isGap (let x : b ≡ c = cc in x) ∙ q
-
--- a word at the front, and the words behind it
-words-cut : (c : ℕ) (s : Bytes) → isGap c ≡ false → words (c ∷ s) ≡ (c ∷ front notGap s) ∷ words (behind notGap s)
-words-cut c [] e = ap (λ (t : Bool). pick t [] ((c ∷ []) ∷ [])) e
-words-cut c (d ∷ s) e = ap (λ (t : Bool). pick t (words (d ∷ s)) (wordOn c (d ∷ s) (words (d ∷ s)))) e ∙ go (isGap d) refl (λ q. words-cut d s q)
-  where
-    go : (t : Bool) → isGap d ≡ t → (isGap d ≡ false → words (d ∷ s) ≡ (d ∷ front notGap s) ∷ words (behind notGap s)) → pick t ((c ∷ []) ∷ words (d ∷ s)) (extend c (words (d ∷ s))) ≡ (c ∷ frontIf (not t) d (front notGap s)) ∷ words (pick (not t) (behind notGap s) (d ∷ s))
-    go true q h = refl
-    go false q h = ap (extend c) (h q)
 
 -- v behind its gaps is a
 module _ (v a : Bytes) (g : a ≡ behind isGap v) where

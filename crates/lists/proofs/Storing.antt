@@ -7,8 +7,9 @@ use mathlib.Core.List.{List, [], _∷_, _++_}
 use lib.ListN.{length, drop, getD, set, length-drop, length-append}
 use lib.Seq.{drop-cons, getD-set-same, getD-set-other}
 use borrow.Author.Count.{below-more}
+use Rattle.format.specs.Lists.{front}
 use Rattle.format.specs.Bytes.{Bytes}
-use Rattle.format.specs.Words.{notGap, front}
+use Rattle.format.specs.Words.{notGap}
 use Rattle.lines.specs.Value.{valueFrom}
 use Rattle.records.specs.Walk.{recordIn}
 use Rattle.records.proofs.Steps.{FieldAt, record-field}

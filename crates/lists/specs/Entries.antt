@@ -7,7 +7,6 @@ use Rattle.format.specs.Lists.{flat}
 use Rattle.format.specs.Bytes.{Bytes, text, pick, same}
 use Rattle.format.specs.Words.{words}
 use Rattle.format.specs.Records.{Field, Record}
-use Rattle.format.specs.Sets.{keepIf}
 
 -- the list that a field of this name makes, 0 where it makes none
 unfoldable pub listOf : Bytes → ℕ
@@ -44,4 +43,4 @@ entryAt es k = getD es k (entryOf 0 [])
 -- the words in list k
 abbrev pub wordsOf : ℕ → List Entry → List Bytes
 wordsOf k [] = []
-wordsOf k (e ∷ es) = keepIf (eqb (e .list) k) (e .word) (wordsOf k es)
+wordsOf k (e ∷ es) = pick (eqb (e .list) k) (e .word ∷ wordsOf k es) (wordsOf k es)

@@ -3,8 +3,9 @@ use Prim.Native.Nat.{ℕ, _+_, _-_, _≤_, _<_, min}
 use mathlib.Core.Path.{_≡_}
 use mathlib.Core.List.{List, [], _∷_, _++_}
 use lib.ListN.{length, take, drop, getD}
+use Rattle.format.specs.Lists.{front}
 use Rattle.format.specs.Bytes.{Bytes}
-use Rattle.format.specs.Words.{notGap, front, words}
+use Rattle.format.specs.Words.{notGap, words}
 use Rattle.format.specs.Records.{Record}
 use Rattle.format.specs.Questions.{occurrences}
 use Rattle.lines.specs.Value.{valueFrom}

@@ -1,9 +1,8 @@
 // The calls count, fetch, view and the sets' names, of any buffer: the file's own questions come first.
 ghost use mathlib.Core.Path.{_≡_};
 ghost use lib.ListN.{take};
-ghost use Rattle.format.specs.Calls.{countAnswer, fetchAnswer, viewAnswer};
+ghost use Rattle.format.specs.Calls.{numberIn, countAnswer, fetchAnswer, nameAnswer, viewAnswer};
 ghost use Rattle.fetching.specs.Answers.{countedAnswer, fetchedAnswer, seenAnswer, SeenInside};
-ghost use Rattle.fetching.specs.Names.{nameAnswer};
 use fetching::Counted;
 use fetching::Fetched;
 use fetching::Seen;
@@ -54,7 +53,7 @@ pub fn view_place(buf: &[u8], used: usize, set: &[u8], row: usize) -> Seen
 
 // The part of the file that a record of a set stands in, the empty part where it is refused; the number, 0 if accepted, goes into `number`.
 pub fn view<'a>(buf: &'a [u8], used: usize, set: &[u8], row: usize, number: &mut u32) -> &'a [u8]
-    ensures { λ r. ⌜ (now (number .exit) ≡ viewAnswer (now (buf .entry)) used (now (set .entry)) row .number) × (now r ≡ viewAnswer (now (buf .entry)) used (now (set .entry)) row .part .bytes) ⌝ }
+    ensures { λ r. ⌜ (now (number .exit) ≡ numberIn (viewAnswer (now (buf .entry)) used (now (set .entry)) row .result)) × (now r ≡ viewAnswer (now (buf .entry)) used (now (set .entry)) row .part) ⌝ }
 {
     let v = view_place(buf, used, set, row);
     match v {

@@ -6,10 +6,12 @@ use mathlib.Core.Path.{_≡_, refl, sym, ap, _∙_}
 use mathlib.Core.List.{List, _∷_, _++_, map}
 use lib.ListN.{length, drop, getD}
 use lib.Seq.{length-take-le}
+use Rattle.format.specs.Lists.{front, behind}
 use Rattle.format.specs.Bytes.{Bytes}
-use Rattle.format.specs.Words.{notGap, isGap, front, behind, split}
+use Rattle.format.specs.Words.{notGap, isGap, split}
+use Rattle.format.proofs.Parts.{split-cut}
 use Rattle.lines.specs.Value.{valueFrom}
-use Rattle.names.specs.Names.{wordFrom, Behind}
+use Rattle.names.specs.Names.{wordFrom, isComma, Behind}
 use Rattle.names.specs.Entries.{Entry, entryOf, textTo, entryAt, InRow, Rows, entriesFrom, entriesIn, entriesAt, Starts, Goes}
 use Rattle.names.specs.declared.Cursor.{Cursor}
 use Rattle.names.specs.declared.Part.{Part}
@@ -69,6 +71,7 @@ module _ (d : Bytes) (values ends : List ℕ) (n : ℕ) (h : Rows d values ends 
             less = omega (arith, b .0, b .1, text-length l, h .inside row l, h .short);
             entries =
                 at-cut at
+                ∙ ap (λ (ns : List Bytes). map (entryOf row) ns ++ later) (split-cut isComma (wordFrom text at))
                 ∙ ap (λ (ns : List Bytes). entryAt d ends row at ∷ (map (entryOf row) ns ++ later)) (b .2)
                 ∙ ap (λ (es : List Entry). entryAt d ends row at ∷ es) (sym (at-cut i));
           }
@@ -82,6 +85,7 @@ module _ (d : Bytes) (values ends : List ℕ) (n : ℕ) (h : Rows d values ends 
             less = omega (arith, h .inside row l, h .short);
             entries =
                 at-cut at
+                ∙ ap (λ (ns : List Bytes). map (entryOf row) ns ++ later) (split-cut isComma (wordFrom text at))
                 ∙ ap (λ (ns : List Bytes). entryAt d ends row at ∷ (map (entryOf row) ns ++ later)) b
                 ∙ ap (λ (m : ℕ). entryAt d ends row at ∷ entriesFrom d values ends m (n - m)) (sym (add-one row))
                 ∙ ap (λ (es : List Entry). entryAt d ends row at ∷ es) (sym (s .entries));

@@ -2,35 +2,40 @@
 use Prim.Native.Nat.{ℕ, _≤_, _<_}
 use native.Mathlib.Omega.{arith}
 use mathlib.Core.Path.{_≡_, refl, sym, ap, _∙_, subst}
-use mathlib.Core.Bool.{Bool, true, false, and-eq-true-iff, false≢true}
+use mathlib.Core.Bool.{Bool, true, false, not, and-eq-true-iff, false≢true}
 use mathlib.Core.List.{[], _∷_}
 use lib.Dec.{eqb}
 use borrow.Author.Tests.{eq-eqb, ne-eqb}
 use lib.ListN.{length}
-use Rattle.format.specs.Bytes.{Bytes, all}
+use Rattle.format.specs.Bytes.{Bytes, pick, all}
 use Rattle.format.specs.Lines.{isFirst, isLater, isName}
-use Rattle.format.specs.Words.{isGap, notGap, front, Parts, partBy, partsBy, split}
+use Rattle.format.specs.Lists.{front, behind}
+use Rattle.format.specs.Words.{isGap, notGap, split}
+use Rattle.format.proofs.Parts.{partsBehind}
 use Rattle.lines.specs.Value.{valueFrom}
 use Rattle.lines.specs.declared.Decoded.{Decoded}
 use Rattle.lines.proofs.Decoding.{value-plain, nothing-at}
 use Rattle.records.proofs.Words.{word-on}
-use Rattle.names.specs.Names.{wordFrom, nameFrom, NameByte, Behind}
+use Rattle.names.specs.Names.{wordFrom, isComma, nameOf, othersOf, nameFrom, NameByte, Behind}
 use Rattle.names.specs.declared.Part.{Part}
 
 -- a word that has ended, one that begins with a comma, and one that begins with another byte
 module _ (w : Bytes) where
-  pub parts-none : w ≡ [] → (partsBy 44 w .first ≡ []) × (partsBy 44 w .others ≡ [])
-  parts-none e = (ap (λ (x : Bytes). partsBy 44 x .first) e, ap (λ (x : Bytes). partsBy 44 x .others) e)
+  pub parts-none : w ≡ [] → (nameOf w ≡ []) × (othersOf w ≡ [])
+  parts-none e = (ap nameOf e, ap othersOf e)
 
   module _ (b : ℕ) (u : Bytes) (e : w ≡ b ∷ u) where
-    parts-by : (t : Bool) → eqb b 44 ≡ t → partsBy 44 w ≡ partBy t b (partsBy 44 u)
-    parts-by t q = ap (partsBy 44) e ∙ ap (λ (x : Bool). partBy x b (partsBy 44 u)) q
+    name-by : (t : Bool) → eqb b 44 ≡ t → nameOf w ≡ pick (not t) (b ∷ nameOf u) []
+    name-by t q = ap nameOf e ∙ ap (λ (x : Bool). pick (not x) (b ∷ nameOf u) []) q
 
-    pub parts-comma : eqb b 44 ≡ true → (partsBy 44 w .first ≡ []) × (partsBy 44 w .others ≡ split 44 u)
-    parts-comma q = (ap (λ (p : Parts). p .first) (parts-by true q), ap (λ (p : Parts). p .others) (parts-by true q))
+    others-by : (t : Bool) → eqb b 44 ≡ t → othersOf w ≡ partsBehind isComma (pick (not t) (behind (λ (c : ℕ). not (isComma c)) u) (b ∷ u))
+    others-by t q = ap othersOf e ∙ ap (λ (x : Bool). partsBehind isComma (pick (not x) (behind (λ (c : ℕ). not (isComma c)) u) (b ∷ u))) q
 
-    pub parts-on : eqb b 44 ≡ false → (partsBy 44 w .first ≡ b ∷ partsBy 44 u .first) × (partsBy 44 w .others ≡ partsBy 44 u .others)
-    parts-on q = (ap (λ (p : Parts). p .first) (parts-by false q), ap (λ (p : Parts). p .others) (parts-by false q))
+    pub parts-comma : eqb b 44 ≡ true → (nameOf w ≡ []) × (othersOf w ≡ split 44 u)
+    parts-comma q = (name-by true q, others-by true q)
+
+    pub parts-on : eqb b 44 ≡ false → (nameOf w ≡ b ∷ nameOf u) × (othersOf w ≡ othersOf u)
+    parts-on q = (name-by false q, others-by false q)
 
 -- the next byte of a name
 module _ (s : Bytes) (i : ℕ) where

@@ -1,10 +1,14 @@
 -- The names of a `%type` field, part by part.
 use Prim.Native.Nat.{ℕ, _≤_, _<_, _+_, _*_, _/_, _%_}
 use mathlib.Core.Path.{_≡_}
-use mathlib.Core.List.{[], _∷_}
+use mathlib.Core.Bool.{Bool, not}
+use mathlib.Core.List.{List, [], _∷_}
+use lib.Dec.{eqb}
 use lib.ListN.{length, drop}
 use Rattle.format.specs.Bytes.{Bytes}
-use Rattle.format.specs.Words.{notGap, front, Parts, partsBy, split}
+use Rattle.format.specs.Lists.{front, behind}
+use Rattle.format.specs.Words.{notGap, split}
+use Rattle.format.proofs.Parts.{partsBehind}
 use Rattle.lines.specs.Value.{valueFrom}
 use Rattle.lines.specs.declared.Decoded.{Decoded}
 use Rattle.names.specs.declared.Part.{Part}
@@ -13,13 +17,21 @@ use Rattle.names.specs.declared.Part.{Part}
 abbrev pub wordFrom : Bytes → ℕ → Bytes
 wordFrom s i = front notGap (valueFrom (drop i s))
 
--- its parts between commas
-abbrev pub partsFrom : Bytes → ℕ → Parts
-partsFrom s i = partsBy 44 (wordFrom s i)
+abbrev pub isComma : ℕ → Bool
+isComma c = eqb c 44
 
--- the first of them
+-- its bytes before a comma, and its parts behind that
+abbrev pub nameOf : Bytes → Bytes
+nameOf w = front (λ (c : ℕ). not (isComma c)) w
+
+abbrev pub othersOf : Bytes → List Bytes
+othersOf w = partsBehind isComma (behind (λ (c : ℕ). not (isComma c)) w)
+
 abbrev pub nameFrom : Bytes → ℕ → Bytes
-nameFrom s i = partsFrom s i .first
+nameFrom s i = nameOf (wordFrom s i)
+
+abbrev pub othersFrom : Bytes → ℕ → List Bytes
+othersFrom s i = othersOf (wordFrom s i)
 
 -- what reading one byte of that name says of the rest
 abbrev pub NameByte : Bytes → ℕ → Decoded → Type 0
@@ -28,8 +40,8 @@ NameByte s i (Decoded.Byte b k) = (nameFrom s i ≡ b ∷ nameFrom s k) × (i < 
 
 -- what is told of the parts behind the first one
 abbrev pub Behind : Bytes → ℕ → Part → Type 0
-Behind s i Part.Nothing = partsFrom s i .others ≡ []
-Behind s i (Part.At k) = (i < k) × (k ≤ length s) × (partsFrom s i .others ≡ split 44 (wordFrom s k))
+Behind s i Part.Nothing = othersFrom s i ≡ []
+Behind s i (Part.At k) = (i < k) × (k ≤ length s) × (othersFrom s i ≡ split 44 (wordFrom s k))
 
 -- the bytes of a name mixed into a number below 4294967296
 unfoldable pub mixed : ℕ → Bytes → ℕ

@@ -1,81 +1,59 @@
 -- A real without its sign, by the bytes before its first dot and those behind it.
 use Prim.Native.Nat.{ℕ, _+_, _≤_, _<_}
 use mathlib.Core.Path.{_≡_, refl, sym, ap, _∙_}
-use mathlib.Core.Bool.{Bool, true, false, _&&_, and-true, and-false}
-use mathlib.Core.List.{List, [], _∷_}
-use borrow.Author.Tests.{eqb-true, eq-eqb, ne-eqb}
-use lib.Dec.{eqb}
+use mathlib.Core.Bool.{Bool, true, false, _&&_}
+use mathlib.Core.List.{[], _∷_}
+use borrow.Author.Tests.{eq-eqb, ne-eqb}
 use lib.ListN.{length, drop, getD, drop-of-length-le}
-use Rattle.format.specs.Bytes.{Bytes, all}
-use Rattle.format.specs.Words.{partBy, partsBy, split}
-use Rattle.format.specs.Numbers.{isDigitOf, areDigits, isDecimal, isReal}
+use Rattle.format.specs.Bytes.{Bytes, isSome}
+use Rattle.format.specs.Lists.{onlyIf, behind, front}
+use Rattle.format.specs.Numbers.{areDigits, Decimal, notDot, decimalBy, decimalIn, isReal}
 use Rattle.lines.proofs.Cuts.{at-cons}
-use Rattle.words.specs.Spans.{span, runEnd, notByte}
-use Rattle.words.proofs.Splitting.{splitBehind, split-at}
+use Rattle.words.specs.Spans.{span, runEnd}
+use Rattle.words.proofs.Finding.{front-at, behind-at}
 
--- the parts behind a dot: one of digits, or none
-abbrev behindDot : List Bytes → Bool
-behindDot [] = true
-behindDot (d ∷ []) = areDigits 10 d
-behindDot (d ∷ e ∷ es) = false
+some-if : (t : Bool) (d : Decimal) → isSome (onlyIf t d) ≡ t
+some-if true d = refl
+some-if false d = refl
 
-decimal-first : (a : Bytes) (others : List Bytes) → isDecimal (a ∷ others) ≡ areDigits 10 a && behindDot others
-decimal-first a [] = sym (and-true (areDigits 10 a))
-decimal-first a (d ∷ []) = refl
-decimal-first a (d ∷ e ∷ es) = sym (and-false (areDigits 10 a))
+-- is there a decimal; its sign does not matter
+abbrev decimal : Bool → Bytes → Bytes → Bool
+decimal sign a d = isSome (decimalBy sign a d)
 
--- digits hold no dot: one part of digits is a text of digits
-abbrev alone : List Bytes → Bool
-alone [] = false
-alone (d ∷ []) = all (isDigitOf 10) d
-alone (d ∷ e ∷ es) = false
+decimal-none : (sign : Bool) (a : Bytes) → decimal sign a [] ≡ areDigits 10 a
+decimal-none sign a = some-if (areDigits 10 a) (record { negative = sign; whole = a; fraction = [] })
 
-alone-more : (c : ℕ) (f : Bytes) (others : List Bytes) → alone ((c ∷ f) ∷ others) ≡ isDigitOf 10 c && alone (f ∷ others)
-alone-more c f [] = refl
-alone-more c f (e ∷ es) = sym (and-false (isDigitOf 10 c))
+decimal-some : (sign : Bool) (a d : Bytes) (c : ℕ) → decimal sign a (c ∷ d) ≡ areDigits 10 a && areDigits 10 d
+decimal-some sign a d c = some-if (areDigits 10 a && areDigits 10 d) (record { negative = sign; whole = a; fraction = d })
 
-alone-all : (s : Bytes) → alone (split 46 s) ≡ all (isDigitOf 10) s
-alone-all [] = refl
-alone-all (c ∷ s) = go (eqb c 46) refl (alone-all s)
-  where
-    go : (t : Bool) → eqb c 46 ≡ t → alone (split 46 s) ≡ all (isDigitOf 10) s
-        → alone (partBy t c (partsBy 46 s) .first ∷ partBy t c (partsBy 46 s) .others) ≡ isDigitOf 10 c && all (isDigitOf 10) s
-    go true q e = rw (eqb-true c 46 q)
-    go false q e = alone-more c (partsBy 46 s .first) (partsBy 46 s .others) ∙ ap (λ (b : Bool). isDigitOf 10 c && b) e
+signed : (a d : Bytes) → decimal true a d ≡ decimal false a d
+signed a [] = decimal-none true a ∙ sym (decimal-none false a)
+signed a (c ∷ d) = decimal-some true a d c ∙ sym (decimal-some false a d c)
 
-behind-alone : (c : ℕ) (f : Bytes) (others : List Bytes) → behindDot ((c ∷ f) ∷ others) ≡ alone ((c ∷ f) ∷ others)
-behind-alone c f [] = refl
-behind-alone c f (e ∷ es) = refl
-
-behind-digits : (s : Bytes) → behindDot (split 46 s) ≡ areDigits 10 s
-behind-digits [] = refl
-behind-digits (c ∷ s) = go (eqb c 46) refl (alone-all (c ∷ s))
-  where
-    go : (t : Bool) → eqb c 46 ≡ t → alone (partBy t c (partsBy 46 s) .first ∷ partBy t c (partsBy 46 s) .others) ≡ areDigits 10 (c ∷ s)
-        → behindDot (partBy t c (partsBy 46 s) .first ∷ partBy t c (partsBy 46 s) .others) ≡ areDigits 10 (c ∷ s)
-    go true q e = e
-    go false q e = behind-alone c (partsBy 46 s .first) (partsBy 46 s .others) ∙ e
+no-digits : (a d : Bytes) → areDigits 10 a ≡ false → decimal false a d ≡ false
+no-digits a [] h = decimal-none false a ∙ h
+no-digits a (c ∷ d) h = decimal-some false a d c ∙ ap (λ (t : Bool). t && areDigits 10 d) h
 
 -- by where the first dot is
 module _ (s : Bytes) where
   abbrev dot : ℕ
-  dot = runEnd (notByte 46) s 0
+  dot = runEnd notDot s 0
 
-  by-dot : isDecimal (split 46 s) ≡ areDigits 10 (span 0 dot s) && behindDot (splitBehind 46 (drop dot s))
-  by-dot = ap isDecimal (split-at 46 s 0) ∙ decimal-first (span 0 dot s) (splitBehind 46 (drop dot s))
+  by-dot : isSome (decimalIn false s) ≡ decimal false (span 0 dot s) (drop dot s)
+  by-dot = (λ i. decimal false (front-at notDot s 0 i) (behind-at notDot s 0 i))
 
-  pub decimal-dotted : dot < length s → isDecimal (split 46 s) ≡ areDigits 10 (span 0 dot s) && areDigits 10 (drop (dot + 1) s)
-  decimal-dotted h = by-dot ∙ rw (at-cons s dot h, behind-digits)
+  pub decimal-dotted : dot < length s → isSome (decimalIn false s) ≡ areDigits 10 (span 0 dot s) && areDigits 10 (drop (dot + 1) s)
+  decimal-dotted h = by-dot ∙ ap (decimal false (span 0 dot s)) (at-cons s dot h) ∙ decimal-some false (span 0 dot s) (drop (dot + 1) s) (getD s dot 0)
 
-  pub decimal-plain : length s ≤ dot → isDecimal (split 46 s) ≡ areDigits 10 (span 0 dot s)
-  decimal-plain h = by-dot ∙ rw (drop-of-length-le s h, and-true)
+  pub decimal-plain : length s ≤ dot → isSome (decimalIn false s) ≡ areDigits 10 (span 0 dot s)
+  decimal-plain h = by-dot ∙ ap (decimal false (span 0 dot s)) (drop-of-length-le s h) ∙ decimal-none false (span 0 dot s)
 
-  pub decimal-not : areDigits 10 (span 0 dot s) ≡ false → isDecimal (split 46 s) ≡ false
-  decimal-not h = by-dot ∙ rw h
+  pub decimal-not : areDigits 10 (span 0 dot s) ≡ false → isSome (decimalIn false s) ≡ false
+  decimal-not h = by-dot ∙ no-digits (span 0 dot s) (drop dot s) h
 
 -- a real with its sign
-pub real-minus : (s : Bytes) → getD s 0 0 ≡ 45 → isReal s ≡ isDecimal (split 46 (drop 1 s))
-real-minus s h = rw (eq-eqb _ _ h)
+pub real-minus : (s : Bytes) → getD s 0 0 ≡ 45 → isReal s ≡ isSome (decimalIn false (drop 1 s))
+real-minus s h = rw (eq-eqb _ _ h) (signed (front notDot (drop 1 s)) (behind notDot (drop 1 s)))
 
-pub real-plain : (s : Bytes) → (getD s 0 0 ≡ 45 → ⊥) → isReal s ≡ isDecimal (split 46 s)
+pub real-plain : (s : Bytes) → (getD s 0 0 ≡ 45 → ⊥) → isReal s ≡ isSome (decimalIn false s)
 real-plain s h = rw (ne-eqb _ _ h)

@@ -3,9 +3,8 @@ ghost use mathlib.Core.Path.{_≡_};
 ghost use mathlib.Core.Bool.{true, false};
 ghost use Prim.Native.Nat.{_<_, _≤_};
 ghost use lib.ListN.{drop};
-ghost use Rattle.format.specs.Bytes.{within};
-ghost use Rattle.format.specs.Words.{split};
-ghost use Rattle.format.specs.Numbers.{intBounds, digit, areDigits, natural, unsigned, intOf, isAtMost, numberOf, isDecimal, isReal};
+ghost use Rattle.format.specs.Bytes.{within, isSome};
+ghost use Rattle.format.specs.Numbers.{intBounds, digit, areDigits, natural, unsigned, intOf, isAtMost, numberOf, decimalIn, isReal};
 ghost use Rattle.numbers.specs.Meaning.{intIn, intAnswer, naturalAnswer, boundsIn, upToLimit};
 
 // An int: below zero, or not.
@@ -183,7 +182,7 @@ pub fn at_most(a: Whole, b: Whole) -> bool
 
 // Digits, or digits, a dot and digits.
 fn is_decimal(s: &[u8]) -> bool
-    ensures { λ r. ⌜ r ≡ isDecimal (split 46 (now (s .entry))) ⌝ }
+    ensures { λ r. ⌜ r ≡ isSome (decimalIn false (now (s .entry))) ⌝ }
 {
     let e = words::part_end(s, 0, 46);
     if are_digits(&s[0..e], 10) {

@@ -1,2 +1,3 @@
--- What each case of an answer tells C.
+-- What each case of an answer tells C, and calls one after another.
 pub mod Told
+pub mod Chains

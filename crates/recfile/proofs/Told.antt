@@ -1,12 +1,11 @@
 -- What each case of an answer tells: its value and its number.
 use Prim.Native.Nat.{ℕ, _-_, _≤_}
 use native.Mathlib.Omega.{arith}
-use mathlib.Core.Path.{_≡_, refl, sym, ap, _∙_, subst}
-use mathlib.Core.List.{List}
+use mathlib.Core.Path.{_≡_, sym, ap, _∙_, subst}
 use lib.ListN.{length, take, drop, length-drop}
 use lib.Seq.{length-take-le}
 use Rattle.format.specs.Bytes.{Bytes}
-use Rattle.format.specs.Calls.{Answer, Filled, Viewed, Edited as Answered}
+use Rattle.format.specs.Calls.{Answer, numberIn, valueOr, Filled, Viewed}
 use Rattle.fetching.specs.declared.Counted.{Counted}
 use Rattle.fetching.specs.declared.Fetched.{Fetched}
 use Rattle.fetching.specs.declared.Seen.{Seen}
@@ -14,30 +13,29 @@ use Rattle.fetching.specs.Answers.{countedAnswer, fetchedAnswer, seenAnswer, Se
 use Rattle.requests.specs.declared.Written.{Written}
 use Rattle.requests.specs.Writes.{writtenAnswer, filledBy}
 use Rattle.editor.specs.declared.Edited.{Edited}
-use Rattle.editor.specs.Answers.{editedBy}
-use Rattle.recfile.specs.Interface.{valueIn, numberIn}
+use Rattle.editor.specs.Answers.{editedAnswer, editedBy}
 
 -- an answer's value and number
 abbrev Tells : ℕ → ℕ → Answer → Type 0
-Tells r number a = (r ≡ valueIn a) × (number ≡ numberIn a)
+Tells r number a = (r ≡ valueOr 0 a) × (number ≡ numberIn a)
 
-tells : (x a : Answer) → x ≡ a → Tells (valueIn x) (numberIn x) a
-tells x a e = (ap valueIn e, ap numberIn e)
+tells : (x a : Answer) → x ≡ a → Tells (valueOr 0 x) (numberIn x) a
+tells x a e = (ap (valueOr 0) e, ap numberIn e)
 
-pub count-tells : (c x : Counted) (a : Answer) → countedAnswer c ≡ a → c ≡ x → Tells (valueIn (countedAnswer x)) (numberIn (countedAnswer x)) a
+pub count-tells : (c x : Counted) (a : Answer) → countedAnswer c ≡ a → c ≡ x → Tells (valueOr 0 (countedAnswer x)) (numberIn (countedAnswer x)) a
 count-tells c x a h e = tells (countedAnswer x) a (ap countedAnswer (sym e) ∙ h)
 
 -- and what a second buffer holds
 abbrev Fills : ℕ → ℕ → Bytes → Filled → Type 0
-Fills r number out f = (r ≡ valueIn (f .result)) × (number ≡ numberIn (f .result)) × (out ≡ f .out)
+Fills r number out f = (r ≡ valueOr 0 (f .result)) × (number ≡ numberIn (f .result)) × (out ≡ f .out)
 
-fills : (x : Answer) (out : Bytes) (f : Filled) → record { result = x; out = out } ≡ f → Fills (valueIn x) (numberIn x) out f
-fills x out f e = (ap (λ (g : Filled). valueIn (g .result)) e, ap (λ (g : Filled). numberIn (g .result)) e, ap (λ (g : Filled). g .out) e)
+fills : (x : Answer) (out : Bytes) (f : Filled) → record { result = x; out = out } ≡ f → Fills (valueOr 0 x) (numberIn x) out f
+fills x out f e = (ap (λ (g : Filled). valueOr 0 (g .result)) e, ap (λ (g : Filled). numberIn (g .result)) e, ap (λ (g : Filled). g .out) e)
 
-pub fetch-fills : (c x : Fetched) (out : Bytes) (f : Filled) → f ≡ record { result = fetchedAnswer c; out = out } → c ≡ x → Fills (valueIn (fetchedAnswer x)) (numberIn (fetchedAnswer x)) out f
+pub fetch-fills : (c x : Fetched) (out : Bytes) (f : Filled) → f ≡ record { result = fetchedAnswer c; out = out } → c ≡ x → Fills (valueOr 0 (fetchedAnswer x)) (numberIn (fetchedAnswer x)) out f
 fetch-fills c x out f h e = fills (fetchedAnswer x) out f (sym (h ∙ ap (λ (y : Fetched). record { result = fetchedAnswer y; out = out }) e))
 
-pub write-fills : (c x : Written) (out : Bytes) (f : Filled) → filledBy c out ≡ f → c ≡ x → Fills (valueIn (writtenAnswer x)) (numberIn (writtenAnswer x)) out f
+pub write-fills : (c x : Written) (out : Bytes) (f : Filled) → filledBy c out ≡ f → c ≡ x → Fills (valueOr 0 (writtenAnswer x)) (numberIn (writtenAnswer x)) out f
 write-fills c x out f h e = fills (writtenAnswer x) out f (ap (λ (y : Written). filledBy y out) (sym e) ∙ h)
 
 -- where a record stands
@@ -48,19 +46,19 @@ module _ (s : Bytes) (c : Seen) (v : Viewed) (h : (seenAnswer s c ≡ v) × Seen
   pub view-ordered : (a e : ℕ) → c ≡ Seen.At a e → a ≤ e
   view-ordered a e is = at (Seen.At a e) is .1 .0
 
-  pub view-tells : (a e : ℕ) → c ≡ Seen.At a e → (e - a ≡ length (v .part .bytes)) × (a ≡ v .part .start) × (0 ≡ v .number)
+  pub view-tells : (a e : ℕ) → c ≡ Seen.At a e → (e - a ≡ length (v .part)) × (a ≡ valueOr 0 (v .result)) × (0 ≡ numberIn (v .result))
   view-tells a e is =
       let k = at (Seen.At a e) is in
       let l : length (take (e - a) (drop a s)) ≡ e - a = length-take-le (e - a) (drop a s) (omega (arith, k .1 .0, k .1 .1, length-drop a s)) in
-      (sym l ∙ ap (λ (x : Viewed). length (x .part .bytes)) (k .0), ap (λ (x : Viewed). x .part .start) (k .0), ap (λ (x : Viewed). x .number) (k .0))
+      (sym l ∙ ap (λ (x : Viewed). length (x .part)) (k .0), ap (λ (x : Viewed). valueOr 0 (x .result)) (k .0), ap (λ (x : Viewed). numberIn (x .result)) (k .0))
 
-  pub view-refused : (k : ℕ) → c ≡ Seen.Refused k → (0 ≡ length (v .part .bytes)) × (0 ≡ v .part .start) × (k ≡ v .number)
+  pub view-refused : (k : ℕ) → c ≡ Seen.Refused k → (0 ≡ length (v .part)) × (0 ≡ valueOr 0 (v .result)) × (k ≡ numberIn (v .result))
   view-refused k is =
       let e = at (Seen.Refused k) is .0 in
-      (ap (λ (x : Viewed). length (x .part .bytes)) e, ap (λ (x : Viewed). x .part .start) e, ap (λ (x : Viewed). x .number) e)
+      (ap (λ (x : Viewed). length (x .part)) e, ap (λ (x : Viewed). valueOr 0 (x .result)) e, ap (λ (x : Viewed). numberIn (x .result)) e)
 
 -- an edit's length, number and buffer
-pub edit-tells : (c x : Edited) (used : ℕ) (buffer : Bytes) (a : Answered) → editedBy c used buffer ≡ a → c ≡ x → (editedBy x used buffer .length ≡ a .length) × (editedBy x used buffer .number ≡ a .number) × (buffer ≡ a .buffer)
-edit-tells c x used buffer a h e =
-    let k : editedBy x used buffer ≡ a = ap (λ (y : Edited). editedBy y used buffer) (sym e) ∙ h in
-    (ap (λ (y : Answered). y .length) k, ap (λ (y : Answered). y .number) k, ap (λ (y : Answered). y .buffer) k)
+pub edit-tells : (c x : Edited) (used : ℕ) (buffer : Bytes) (f : Filled) → editedBy c buffer ≡ f → c ≡ x → (valueOr used (editedAnswer x) ≡ valueOr used (f .result)) × (numberIn (editedAnswer x) ≡ numberIn (f .result)) × (buffer ≡ f .out)
+edit-tells c x used buffer f h e =
+    let k : editedBy x buffer ≡ f = ap (λ (y : Edited). editedBy y buffer) (sym e) ∙ h in
+    (ap (λ (g : Filled). valueOr used (g .result)) k, ap (λ (g : Filled). numberIn (g .result)) k, ap (λ (g : Filled). g .out) k)

@@ -1,2 +1,2 @@
--- An answer as C gets it.
-pub mod Interface
+-- Calls from C, one after another.
+pub mod Chains

@@ -1,8 +1,7 @@
 // The calls for C: slices are a pointer and a length, a refusal's number goes through a pointer (0: accepted). include/recfile.h says the same in C.
 ghost use mathlib.Core.Path.{_≡_};
 ghost use lib.ListN.{length};
-ghost use Rattle.format.specs.Calls.{checkAnswer, countAnswer, fetchAnswer, viewAnswer, writeAnswer, editAnswer};
-ghost use Rattle.recfile.specs.Interface.{valueIn, numberIn};
+ghost use Rattle.format.specs.Calls.{numberIn, valueOr, checkAnswer, countAnswer, fetchAnswer, viewAnswer, writeAnswer, editAnswer};
 use editor::Edited;
 use fetching::Counted;
 use fetching::Fetched;
@@ -20,7 +19,7 @@ pub extern "C" fn recfile_check(buf: &[u8], used: usize) -> u32
 // The number of records of a set, 0 where it is refused.
 #[no_mangle]
 pub extern "C" fn recfile_count(buf: &[u8], used: usize, set: &[u8], number: &mut u32) -> usize
-    ensures { λ r. ⌜ (r ≡ valueIn (countAnswer (now (buf .entry)) used (now (set .entry)))) × (now (number .exit) ≡ numberIn (countAnswer (now (buf .entry)) used (now (set .entry)))) ⌝ }
+    ensures { λ r. ⌜ (r ≡ valueOr 0 (countAnswer (now (buf .entry)) used (now (set .entry)))) × (now (number .exit) ≡ numberIn (countAnswer (now (buf .entry)) used (now (set .entry)))) ⌝ }
 {
     let c = lookup::count(buf, used, set);
     match c {
@@ -47,7 +46,7 @@ pub extern "C" fn recfile_fetch(
     out: &mut [u8],
     number: &mut u32,
 ) -> usize
-    ensures { λ r. ⌜ (r ≡ valueIn (fetchAnswer (now (buf .entry)) used (now (set .entry)) row (now (name .entry)) occurrence (now (out .entry)) .result))
+    ensures { λ r. ⌜ (r ≡ valueOr 0 (fetchAnswer (now (buf .entry)) used (now (set .entry)) row (now (name .entry)) occurrence (now (out .entry)) .result))
         × (now (number .exit) ≡ numberIn (fetchAnswer (now (buf .entry)) used (now (set .entry)) row (now (name .entry)) occurrence (now (out .entry)) .result))
         × (now (out .exit) ≡ fetchAnswer (now (buf .entry)) used (now (set .entry)) row (now (name .entry)) occurrence (now (out .entry)) .out) ⌝ }
 {
@@ -74,9 +73,9 @@ pub extern "C" fn recfile_view(
     start: &mut usize,
     number: &mut u32,
 ) -> usize
-    ensures { λ r. ⌜ (r ≡ length (viewAnswer (now (buf .entry)) used (now (set .entry)) row .part .bytes))
-        × (now (start .exit) ≡ viewAnswer (now (buf .entry)) used (now (set .entry)) row .part .start)
-        × (now (number .exit) ≡ viewAnswer (now (buf .entry)) used (now (set .entry)) row .number) ⌝ }
+    ensures { λ r. ⌜ (r ≡ length (viewAnswer (now (buf .entry)) used (now (set .entry)) row .part))
+        × (now (start .exit) ≡ valueOr 0 (viewAnswer (now (buf .entry)) used (now (set .entry)) row .result))
+        × (now (number .exit) ≡ numberIn (viewAnswer (now (buf .entry)) used (now (set .entry)) row .result)) ⌝ }
 {
     let v = lookup::view_place(buf, used, set, row);
     match v {
@@ -96,7 +95,7 @@ pub extern "C" fn recfile_view(
 // The length of the text of an insert's record that was put into out, 0 where it is refused.
 #[no_mangle]
 pub extern "C" fn recfile_write(request: &[u8], out: &mut [u8], number: &mut u32) -> usize
-    ensures { λ r. ⌜ (r ≡ valueIn (writeAnswer (now (request .entry)) (now (out .entry)) .result))
+    ensures { λ r. ⌜ (r ≡ valueOr 0 (writeAnswer (now (request .entry)) (now (out .entry)) .result))
         × (now (number .exit) ≡ numberIn (writeAnswer (now (request .entry)) (now (out .entry)) .result))
         × (now (out .exit) ≡ writeAnswer (now (request .entry)) (now (out .entry)) .out) ⌝ }
 {
@@ -121,9 +120,9 @@ pub extern "C" fn recfile_edit(
     request: &[u8],
     number: &mut u32,
 ) -> usize
-    ensures { λ r. ⌜ (r ≡ editAnswer (now (buf .entry)) used (now (request .entry)) .length)
-        × (now (number .exit) ≡ editAnswer (now (buf .entry)) used (now (request .entry)) .number)
-        × (now (buf .exit) ≡ editAnswer (now (buf .entry)) used (now (request .entry)) .buffer) ⌝ }
+    ensures { λ r. ⌜ (r ≡ valueOr used (editAnswer (now (buf .entry)) used (now (request .entry)) .result))
+        × (now (number .exit) ≡ numberIn (editAnswer (now (buf .entry)) used (now (request .entry)) .result))
+        × (now (buf .exit) ≡ editAnswer (now (buf .entry)) used (now (request .entry)) .out) ⌝ }
 {
     let e = editor::edit(&mut *buf, used, request);
     match e {

@@ -1,20 +1,19 @@
 -- What an accepted request does to the bytes, by the answers of the searches.
 use Prim.Native.Nat.{ℕ, _+_}
-use mathlib.Core.Path.{_≡_, refl, sym, ap, _∙_, subst}
+use mathlib.Core.Path.{_≡_, refl, sym, _∙_, subst}
 use mathlib.Core.Bool.{true}
 use mathlib.Core.List.{List, []}
-use mathlib.Core.Option.{Option, some}
+use mathlib.Core.Option.{some}
 use lib.ListN.{length, drop}
 use Rattle.format.specs.Bytes.{Bytes}
-use Rattle.format.specs.Pieces.{bytesOf}
+use Rattle.format.specs.Pieces.{bytesOf, readOf}
 use Rattle.format.specs.Sets.{setsOf}
 use Rattle.format.specs.Written.{Pair, written}
-use Rattle.format.specs.Edits.{Change, Edit}
+use Rattle.format.specs.Edits.{Change, Act, Edit, editPieces}
 use Rattle.format.specs.Requests.{Request}
-use Rattle.format.specs.Plain.{plainOf, indexOf, applyAt, applyIn, apply}
+use Rattle.format.specs.Plain.{plainOf, indexOf, applyIn, apply}
 use Rattle.format.proofs.Splices.{spliced}
 use Rattle.records.specs.Places.{isReadable, placesOf, setPlace, recordPlace, fieldPlace}
-use Rattle.records.specs.Walk.{readOf}
 use Rattle.records.specs.declared.Place.{Place}
 use Rattle.records.specs.declared.FoundSet.{FoundSet}
 use Rattle.records.specs.declared.FoundRecord.{FoundRecord}
@@ -37,35 +36,28 @@ module _ (s : Bytes) (r : Request) (a : ℕ) (e : isReadable s ≡ true) (f : se
   abbrev i : ℕ
   i = index .0
 
-  applied-at : (edit : Edit) → r .edit ≡ edit → appliedTo s r ≡ bytesOf (applyAt edit i (r .row) (plainOf (readOf s)) .pieces)
+  applied-at : (edit : Edit) → r .edit ≡ edit → appliedTo s r ≡ bytesOf (editPieces i edit (readOf s))
   unfolding apply plainOf
-  applied-at edit h =
-      ap (λ (x : Option ℕ). bytesOf (applyIn x r (plainOf (readOf s)) .pieces)) (index .1) ∙ ap (λ (x : Edit). bytesOf (applyAt x i (r .row) (plainOf (readOf s)) .pieces)) h
+  applied-at edit h = (λ j. bytesOf (applyIn (index .1 j) (h j) (plainOf (readOf s)) .pieces))
 
   pub insert-applied : (new : List Pair) → r .edit ≡ Edit.insert new → InsertTold s (a + setEnd 0 (placesOf (drop a s))) new (appliedTo s r)
-  unfolding plainOf
   insert-applied new h = subst (InsertTold s (a + setEnd 0 (placesOf (drop a s))) new) (sym (applied-at (Edit.insert new) h)) (insert-told s new e (r .set) a i f (index .1))
 
   -- its record at q from there on
-  module _ (q : Place) (g : recordPlace (placesOf (drop a s)) (r .row) ≡ FoundRecord.At q) where
-    pub add-applied : (new : Pair) → r .edit ≡ Edit.add new → appliedTo s r ≡ spliced s (a + q .end) (a + q .end) (written (new .name) (new .value))
-    unfolding plainOf
-    add-applied new h = applied-at (Edit.add new) h ∙ add-found s (r .set) a (r .row) i q e f g (index .1) new
+  module _ (row : ℕ) (q : Place) (g : recordPlace (placesOf (drop a s)) row ≡ FoundRecord.At q) where
+    pub add-applied : (new : Pair) → r .edit ≡ Edit.on row (Act.add new) → appliedTo s r ≡ spliced s (a + q .end) (a + q .end) (written (new .name) (new .value))
+    add-applied new h = applied-at (Edit.on row (Act.add new)) h ∙ add-found s (r .set) a row i q e f g (index .1) new
 
-    pub delete-applied : r .edit ≡ Edit.delete → appliedTo s r ≡ spliced s (a + q .start) (a + q .end) (leftOf (ownPart s a q))
-    unfolding plainOf
-    delete-applied h = applied-at Edit.delete h ∙ delete-found s (r .set) a (r .row) i q e f g (index .1)
+    pub delete-applied : r .edit ≡ Edit.on row Act.delete → appliedTo s r ≡ spliced s (a + q .start) (a + q .end) (leftOf (ownPart s a q))
+    delete-applied h = applied-at (Edit.on row Act.delete) h ∙ delete-found s (r .set) a row i q e f g (index .1)
 
     -- its field from x to z in the record's own part
     module _ (n : Bytes) (o x v z : ℕ) (k : fieldPlace n (ownPart s a q) o ≡ FoundField.At x v z) where
-      pub value-applied : (w : Bytes) → r .edit ≡ Edit.change n o (Change.value w) → appliedTo s r ≡ spliced s (a + q .start + x) (a + q .start + z) (written n w)
-      unfolding plainOf
-      value-applied w h = applied-at (Edit.change n o (Change.value w)) h ∙ value-found s (r .set) a (r .row) i q e f g (index .1) n o x v z k w
+      pub value-applied : (w : Bytes) → r .edit ≡ Edit.on row (Act.change n o (Change.value w)) → appliedTo s r ≡ spliced s (a + q .start + x) (a + q .start + z) (written n w)
+      value-applied w h = applied-at (Edit.on row (Act.change n o (Change.value w))) h ∙ value-found s (r .set) a row i q e f g (index .1) n o x v z k w
 
-      pub dropped-applied : r .edit ≡ Edit.change n o Change.dropped → appliedTo s r ≡ spliced s (a + q .start + x) (a + q .start + z) []
-      unfolding plainOf
-      dropped-applied h = applied-at (Edit.change n o Change.dropped) h ∙ dropped-found s (r .set) a (r .row) i q e f g (index .1) n o x v z k
+      pub dropped-applied : r .edit ≡ Edit.on row (Act.change n o Change.dropped) → appliedTo s r ≡ spliced s (a + q .start + x) (a + q .start + z) []
+      dropped-applied h = applied-at (Edit.on row (Act.change n o Change.dropped)) h ∙ dropped-found s (r .set) a row i q e f g (index .1) n o x v z k
 
-      pub name-applied : (m : Bytes) → r .edit ≡ Edit.change n o (Change.name m) → appliedTo s r ≡ spliced s (a + q .start + x) (a + q .start + x + length n) m
-      unfolding plainOf
-      name-applied m h = applied-at (Edit.change n o (Change.name m)) h ∙ name-found s (r .set) a (r .row) i q e f g (index .1) n o x v z k m
+      pub name-applied : (m : Bytes) → r .edit ≡ Edit.on row (Act.change n o (Change.name m)) → appliedTo s r ≡ spliced s (a + q .start + x) (a + q .start + x + length n) m
+      name-applied m h = applied-at (Edit.on row (Act.change n o (Change.name m))) h ∙ name-found s (r .set) a row i q e f g (index .1) n o x v z k m

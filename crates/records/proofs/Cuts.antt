@@ -5,13 +5,14 @@ use mathlib.Core.Path.{_≡_, refl, sym, ap, _∙_}
 use mathlib.Core.Bool.{Bool, true, false}
 use mathlib.Core.List.{List, [], _∷_, _++_}
 use lib.ListN.{length, take, drop}
-use Rattle.format.specs.Lists.{flat}
+use Rattle.format.proofs.Records.{close, recordsIn, records}
+use Rattle.format.specs.Lists.{flat, onto}
 use Rattle.format.specs.Bytes.{Bytes, pick}
-use Rattle.format.specs.Pieces.{Piece}
-use Rattle.format.specs.Records.{Record, Block, onto, blocks, countOf, fieldsOf, close, recordsIn, records}
+use Rattle.format.specs.Pieces.{Piece, readOf}
+use Rattle.format.specs.Records.{Record, Block, blocks, countOf, fieldsOf}
 use Rattle.format.proofs.Walking.{isHead, heads, before}
 use Rattle.records.specs.Places.{Placed, placesOf}
-use Rattle.records.specs.Walk.{readOf, recordIn}
+use Rattle.records.specs.Walk.{recordIn}
 use Rattle.records.specs.declared.Place.{Place}
 use Rattle.records.proofs.Walks.{places-records}
 use Rattle.records.proofs.Shifts.{fieldsIn, raise-fields}

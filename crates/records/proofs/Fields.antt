@@ -5,15 +5,14 @@ use mathlib.Core.Path.{_≡_, refl, sym, ap, _∙_, subst}
 use mathlib.Core.Bool.{Bool, true, false}
 use mathlib.Core.List.{List, [], _∷_, _++_}
 use mathlib.Core.Option.{Option, none, some}
-use lib.ListN.{length, take, drop, length-append, length-drop}
+use lib.ListN.{length, take, drop, length-append, length-drop, getD}
 use lib.Seq.{drop-drop, drop-append-le, take-at}
-use Rattle.format.specs.Bytes.{Bytes, text, same}
+use Rattle.format.specs.Bytes.{Bytes, text, same, pick}
 use Rattle.format.specs.Lines.{Line, bytes}
-use Rattle.format.specs.Pieces.{Piece, linesOf, allLines, bytesOf, pieces}
+use Rattle.format.specs.Pieces.{Piece, linesOf, allLines, bytesOf, pieces, someOf, readOf}
 use Rattle.format.specs.Records.{countOf, fieldsOf}
-use Rattle.format.specs.Sets.{keepIf, valuesOf}
+use Rattle.format.specs.Sets.{valuesOf}
 use Rattle.format.specs.Words.{firstWord}
-use Rattle.format.specs.Calls.{valueAt as valueNumber}
 use Rattle.format.proofs.Lines.{bytes-append}
 use Rattle.format.proofs.Whole.{Sound}
 use Rattle.format.proofs.Renaming.{sound-starts}
@@ -22,13 +21,13 @@ use Rattle.lines.specs.Value.{valueFrom}
 use Rattle.lines.proofs.Shapes.{value-inside}
 use Rattle.lines.proofs.Values.{field-value as decoded}
 use Rattle.records.specs.Places.{isReadable, namesSet, headLine, fieldBy, fieldIn, fieldFrom, fieldPlace}
-use Rattle.records.specs.Walk.{readIn, readOf, opensSet}
+use Rattle.records.specs.Walk.{opensSet}
 use Rattle.records.specs.declared.FoundField.{FoundField}
 use Rattle.records.proofs.Walks.{size-piece, size-none}
 use Rattle.records.proofs.Readings.{Reads, reads-length, readable-reads, reads-drop}
 use Rattle.records.proofs.Steps.{Passed, FieldAt}
 
-field-from : (name : Bytes) (x : Option (List Piece)) (o : ℕ) → fieldFrom name x o ≡ fieldIn name (readIn x) 0 o
+field-from : (name : Bytes) (x : Option (List Piece)) (o : ℕ) → fieldFrom name x o ≡ fieldIn name (someOf x) 0 o
 field-from name none o = refl
 field-from name (some ps) o = refl
 
@@ -73,7 +72,7 @@ pub record FieldFound (s : Bytes) (vs : List Bytes) (o start value end : ℕ) : 
   pub begins : start < value
   pub within : value ≤ end
   pub inside : end ≤ length s
-  pub decodes : valueFrom (take (end - value) (drop value s)) ≡ valueNumber o vs
+  pub decodes : valueFrom (take (end - value) (drop value s)) ≡ getD vs o []
 
 abbrev pub FieldTold : Bytes → List Bytes → ℕ → FoundField → Type 0
 FieldTold s vs o FoundField.Missing = length vs ≤ o
@@ -112,7 +111,7 @@ told-on s v vs o (FoundField.At a b e) h = record { there = omega (arith, h .the
 module _ (name s : Bytes) where
   told-by : (t : Bool) (n v : Bytes) (ls : List Line) (ps : List Piece) (i o : ℕ) → i ≤ length s → Reads (drop i s) (Piece.field n v ls ∷ ps)
       → ((k : ℕ) → FieldTold s (valuesOf name (fieldsOf ps)) k (fieldIn name ps (i + countOf ls) k))
-      → FieldTold s (keepIf t v (valuesOf name (fieldsOf ps))) o (fieldBy t o i n ls (λ (k : ℕ). fieldIn name ps (i + countOf ls) k))
+      → FieldTold s (pick t (v ∷ valuesOf name (fieldsOf ps)) (valuesOf name (fieldsOf ps))) o (fieldBy t o i n ls (λ (k : ℕ). fieldIn name ps (i + countOf ls) k))
   told-by false n v ls ps i o h r ih = ih o
   told-by true n v ls ps i zero h r ih =
       let d = head-value n v ls (r .sound .0) in
@@ -145,7 +144,7 @@ names-none : (n : Bytes) (vs : List Bytes) → length vs ≤ 0 → namesSet n vs
 names-none n [] h = refl
 names-none n (v ∷ vs) h = absurd (omega arith)
 
-names-first : (n w : Bytes) (vs : List Bytes) → 0 < length vs → w ≡ valueNumber 0 vs → namesSet n vs ≡ same n (firstWord w)
+names-first : (n w : Bytes) (vs : List Bytes) → 0 < length vs → w ≡ getD vs 0 [] → namesSet n vs ≡ same n (firstWord w)
 names-first n w [] h e = absurd (omega arith)
 names-first n w (v ∷ vs) h e = ap (λ (x : Bytes). same n (firstWord x)) (sym e)
 

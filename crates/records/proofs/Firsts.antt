@@ -9,14 +9,14 @@ use lib.Seq.{drop-drop}
 use Rattle.format.specs.Lists.{isFilled}
 use Rattle.format.specs.Bytes.{Bytes, pick}
 use Rattle.format.specs.Lines.{Line, bytes}
-use Rattle.format.specs.Pieces.{Piece}
+use Rattle.format.specs.Pieces.{Piece, readOf}
 use Rattle.format.specs.Records.{Record, Block, blocks, countOf, fieldsOf}
 use Rattle.format.specs.Calls.{lead, fromFirst, toLast}
 use Rattle.format.proofs.Whole.{Sound}
 use Rattle.format.proofs.Renaming.{sound-starts}
 use Rattle.lines.specs.Line.{nameLen}
 use Rattle.records.specs.Places.{isReadable, Placed, sizeIn, placesIn, placesOf, isDescriptor, firstPlace}
-use Rattle.records.specs.Walk.{readOf, leadSize, untilBlank, fromBlank, isRec, runFrom}
+use Rattle.records.specs.Walk.{leadSize, untilBlank, fromBlank, isRec, runFrom}
 use Rattle.records.specs.declared.Run.{Run}
 use Rattle.records.specs.declared.Place.{Place}
 use Rattle.records.specs.declared.NextRecord.{NextRecord}

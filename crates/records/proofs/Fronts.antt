@@ -6,15 +6,15 @@ use mathlib.Core.Bool.{true}
 use mathlib.Core.List.{List, [], _∷_, _++_, append-assoc, map}
 use lib.ListN.{length, take, drop}
 use lib.Seq.{take-add}
+use Rattle.format.proofs.Grouping.{fields-append}
 use Rattle.format.specs.Bytes.{Bytes}
-use Rattle.format.specs.Pieces.{Piece, bytesOf}
+use Rattle.format.specs.Pieces.{Piece, bytesOf, readOf}
 use Rattle.format.specs.Records.{Record, Block, fieldsOf}
 use Rattle.format.specs.Calls.{lead, fromFirst}
 use Rattle.format.proofs.Elements.{each-append}
 use Rattle.format.proofs.Whole.{bytesOf-append, Sound}
-use Rattle.format.proofs.Editing.{fields-append}
 use Rattle.records.specs.Places.{isReadable, Placed, sizeIn, placesOf}
-use Rattle.records.specs.Walk.{readOf, recordIn, untilBlank, fromBlank}
+use Rattle.records.specs.Walk.{recordIn, untilBlank, fromBlank}
 use Rattle.records.specs.declared.Place.{Place}
 use Rattle.records.proofs.Walks.{size-append, placesRun, places-walk}
 use Rattle.records.proofs.Shifts.{raise}

@@ -5,16 +5,17 @@ use mathlib.Core.Path.{_≡_, refl, sym, ap, _∙_, subst}
 use mathlib.Core.Bool.{Bool, true, false}
 use mathlib.Core.List.{List, [], _∷_}
 use mathlib.Core.Option.{Option, none, some}
-use lib.ListN.{length, drop}
-use Rattle.format.specs.Lists.{isFilled}
+use lib.Dec.{ltb}
+use lib.ListN.{length, drop, getD}
+use Rattle.format.specs.Pieces.{readOf}
+use Rattle.format.proofs.Records.{sets-records, enters, sets, GoodSets, good-sets}
+use Rattle.format.specs.Lists.{onward, isFilled}
 use Rattle.format.specs.Bytes.{Bytes, text, pick, same}
 use Rattle.format.specs.Records.{Record}
-use Rattle.format.specs.Sets.{valuesOf, RecSet, enters, sets, setsOf}
+use Rattle.format.specs.Sets.{valuesOf, RecSet, setsOf}
 use Rattle.format.specs.Words.{firstWord}
-use Rattle.format.specs.Plain.{stepOn, indexBy, indexOf, membersAt, membersIn, membersOf, recordAt}
-use Rattle.format.proofs.Sets.{GoodSets, good-sets}
+use Rattle.format.specs.Plain.{indexOf, membersAt, membersIn}
 use Rattle.records.specs.Places.{isReadable, Placed, placesOf, isDescriptor, firstPlace, namesSet, descriptorPlace, setPlace, recordBy, recordPlace, countBefore}
-use Rattle.records.specs.Walk.{readOf}
 use Rattle.records.specs.declared.Place.{Place}
 use Rattle.records.specs.declared.NextRecord.{NextRecord}
 use Rattle.records.specs.declared.FoundSet.{FoundSet}
@@ -24,10 +25,29 @@ use Rattle.records.proofs.Shifts.{raise, fieldsIn, raise-fields}
 use Rattle.records.proofs.Readings.{places-read}
 use Rattle.records.proofs.Searches.{placesAt, places-all, Stand, Meets, meets-first, set-default, set-named}
 
+-- the place of a set, one further on or here
+abbrev pub stepOn : Option ℕ → Option ℕ
+stepOn x = onward (λ (i : ℕ). some (suc i)) x
+
+abbrev pub indexBy : Bool → Option ℕ → Option ℕ
+indexBy b x = pick b (some zero) (stepOn x)
+
+-- the records of the set of a name, one of them, and whether it and an occurrence in it are there
+abbrev pub membersOf : Bytes → List RecSet → List Record
+membersOf n ss = membersIn ss (indexOf n ss)
+
+abbrev pub recordOf : Bytes → ℕ → List RecSet → Record
+recordOf n row ss = getD (membersOf n ss) row []
+
+abbrev pub hasRecord : Bytes → ℕ → List RecSet → Bool
+hasRecord n row ss = ltb row (length (membersOf n ss))
+
+abbrev pub hasOccurrence : Bytes → ℕ → Bytes → ℕ → List RecSet → Bool
+hasOccurrence n row m o ss = ltb o (length (valuesOf m (recordOf n row ss)))
+
 -- the sets of a part, by the places of its records
 pub sets-places : (s : Bytes) → setsOf (readOf s) ≡ sets (fieldsIn (placesOf s))
-unfolding setsOf
-sets-places s = ap sets (sym (ap (λ (ps : List Placed). fieldsIn ps) (places-read s) ∙ places-records 0 (readOf s)))
+sets-places s = sets-records (readOf s) ∙ ap sets (sym (ap (λ (ps : List Placed). fieldsIn ps) (places-read s) ∙ places-records 0 (readOf s)))
 
 sets-at : (s : Bytes) (i : ℕ) → sets (fieldsIn (placesAt s i)) ≡ setsOf (readOf (drop i s))
 sets-at s i = ap sets (raise-fields i (placesOf (drop i s))) ∙ sym (sets-places (drop i s))
@@ -83,7 +103,7 @@ count-sets s = count-in (placesOf s) ∙ sym (ap (λ (ss : List RecSet). length 
 -- The record of a number is that member of the first set, and there is none where the set has not so many.
 pub record RecordFound (s : Bytes) (rs : List Record) (k : ℕ) (q : Place) : Type 0 where
   pub there : k < length rs
-  pub stand : Stand s (q .start) (q .end) (q .after) (recordAt k rs)
+  pub stand : Stand s (q .start) (q .end) (q .after) (getD rs k [])
 
 abbrev pub RecordTold : Bytes → List Record → ℕ → FoundRecord → Type 0
 RecordTold s rs k FoundRecord.Missing = length rs ≤ k

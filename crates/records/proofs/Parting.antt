@@ -4,24 +4,30 @@ use native.Mathlib.Omega.{arith}
 use mathlib.Core.Path.{_≡_, refl, sym, ap, _∙_}
 use mathlib.Core.Bool.{Bool, true, false, false≢true}
 use mathlib.Core.List.{List, [], _∷_, _++_, append-assoc}
-use Rattle.format.specs.Lists.{isFilled}
-use Rattle.format.specs.Bytes.{Bytes, pick, same}
+use Rattle.format.specs.Lists.{isFilled, turn, at as placeAt, behindLast}
+use Rattle.format.specs.Bytes.{Bytes, pick, any, same}
 use Rattle.format.specs.Lines.{Line}
 use Rattle.format.specs.Pieces.{Piece}
-use Rattle.format.specs.Records.{Record, Block, countOf, fieldsOf}
-use Rattle.format.specs.Edits.{turn, fieldTurn, atPiece, unfielded, lastThen, addLast}
+use Rattle.format.specs.Records.{Record, Block, countOf, isField, fieldsOf}
+use Rattle.format.specs.Edits.{isOf, unfielded}
 use Rattle.format.specs.Calls.{lead, fromFirst, toLast}
 use Rattle.format.proofs.Listing.{same-true}
 use Rattle.records.specs.Places.{sizeIn, fieldBy, fieldIn}
 use Rattle.records.specs.declared.FoundField.{FoundField}
 use Rattle.records.proofs.Walks.{size-piece, size-none}
 
+any-fields : (b : Block) → any isField b ≡ isFilled (fieldsOf b)
+any-fields [] = refl
+any-fields (Piece.blank l ∷ b) = any-fields b
+any-fields (Piece.comment l ∷ b) = any-fields b
+any-fields (Piece.field n v ls ∷ b) = refl
+
 -- what stands behind the last field: no field, and a new last one goes in front of it
 record Behind (b : Block) : Type 0 where
   last : Block
   whole : toLast b ++ last ≡ b
   bare : fieldsOf last ≡ []
-  added : (q : Piece) → isFilled (fieldsOf b) ≡ true → addLast q b ≡ toLast b ++ (q ∷ last)
+  added : (q : Piece) → isFilled (fieldsOf b) ≡ true → behindLast isField q b ≡ toLast b ++ (q ∷ last)
 
 no-fields : (r : Record) → isFilled r ≡ false → r ≡ []
 no-fields [] e = refl
@@ -31,16 +37,16 @@ last-none : (b : Block) → fieldsOf b ≡ [] → toLast b ≡ []
 last-none [] e = refl
 last-none (p ∷ b) e = ap (λ (r : Record). pick (isFilled r) (p ∷ toLast b) []) e
 
-behind-loose : (p : Piece) (b : Block) (t : Bool) → fieldsOf (p ∷ b) ≡ fieldsOf b → ((q : Piece) → addLast q (p ∷ b) ≡ p ∷ addLast q b) → isFilled (fieldsOf b) ≡ t → Behind b → Behind (p ∷ b)
-behind-loose p b true f g e h =
+behind-loose : (p : Piece) (b : Block) (t : Bool) → fieldsOf (p ∷ b) ≡ fieldsOf b → isFilled (fieldsOf b) ≡ t → Behind b → Behind (p ∷ b)
+behind-loose p b true f e h =
     let d : isFilled (fieldsOf (p ∷ b)) ≡ true = ap isFilled f ∙ e in
     record {
       last = h .last;
       whole = ap (λ (t : Bool). pick t (p ∷ toLast b) [] ++ h .last) d ∙ ap {B = Block} (λ x. p ∷ x) (h .whole);
       bare = h .bare;
-      added = λ q k. g q ∙ ap {B = Block} (λ x. p ∷ x) (h .added q e) ∙ sym (ap (λ (t : Bool). pick t (p ∷ toLast b) [] ++ (q ∷ h .last)) d);
+      added = λ q k. ap (λ (t : Bool). p ∷ pick t (behindLast isField q b) (q ∷ b)) (any-fields b ∙ e) ∙ ap {B = Block} (λ x. p ∷ x) (h .added q e) ∙ sym (ap (λ (t : Bool). pick t (p ∷ toLast b) [] ++ (q ∷ h .last)) d);
     }
-behind-loose p b false f g e h =
+behind-loose p b false f e h =
     let d : isFilled (fieldsOf (p ∷ b)) ≡ false = ap isFilled f ∙ e in
     record {
       last = p ∷ b;
@@ -56,7 +62,7 @@ behind-field n v ls b [] e h =
       last = b;
       whole = ap {B = Block} (λ (x : Block). p ∷ (x ++ b)) (last-none b e);
       bare = e;
-      added = λ q k. ap (λ (r : Record). lastThen r q p b (addLast q b)) e ∙ sym (ap {B = Block} (λ (x : Block). p ∷ (x ++ (q ∷ b))) (last-none b e));
+      added = λ q k. ap (λ (t : Bool). p ∷ pick t (behindLast isField q b) (q ∷ b)) (any-fields b ∙ ap isFilled e) ∙ sym (ap {B = Block} (λ (x : Block). p ∷ (x ++ (q ∷ b))) (last-none b e));
     }
 behind-field n v ls b (f ∷ fs) e h =
     let p : Piece = Piece.field n v ls in
@@ -64,13 +70,13 @@ behind-field n v ls b (f ∷ fs) e h =
       last = h .last;
       whole = ap {B = Block} (λ x. p ∷ x) (h .whole);
       bare = h .bare;
-      added = λ q k. ap (λ (r : Record). lastThen r q p b (addLast q b)) e ∙ ap {B = Block} (λ x. p ∷ x) (h .added q (ap isFilled e));
+      added = λ q k. ap (λ (t : Bool). p ∷ pick t (behindLast isField q b) (q ∷ b)) (any-fields b ∙ ap isFilled e) ∙ ap {B = Block} (λ x. p ∷ x) (h .added q (ap isFilled e));
     }
 
 behind : (b : Block) → Behind b
 behind [] = record { last = []; whole = refl; bare = refl; added = λ q k. absurd (false≢true k) }
-behind (Piece.blank l ∷ b) = behind-loose (Piece.blank l) b (isFilled (fieldsOf b)) refl (λ q. refl) refl (behind b)
-behind (Piece.comment l ∷ b) = behind-loose (Piece.comment l) b (isFilled (fieldsOf b)) refl (λ q. refl) refl (behind b)
+behind (Piece.blank l ∷ b) = behind-loose (Piece.blank l) b (isFilled (fieldsOf b)) refl refl (behind b)
+behind (Piece.comment l ∷ b) = behind-loose (Piece.comment l) b (isFilled (fieldsOf b)) refl refl (behind b)
 behind (Piece.field n v ls ∷ b) = behind-field n v ls b (fieldsOf b) refl (behind b)
 
 -- up to the last field stand what is before the first and what is between
@@ -109,7 +115,7 @@ ownOf b = toLast (fromFirst b)
 pub record Parted (b : Block) : Type 0 where
   pub last : Block
   pub all : lead b ++ (ownOf b ++ last) ≡ b
-  pub added : (q : Piece) → addLast q b ≡ lead b ++ (ownOf b ++ (q ∷ last))
+  pub added : (q : Piece) → behindLast isField q b ≡ lead b ++ (ownOf b ++ (q ∷ last))
   pub deleted : unfielded b ≡ lead b ++ (unfielded (ownOf b) ++ last)
 
 pub parted : (b : Block) → isFilled (fieldsOf b) ≡ true → Parted b
@@ -137,7 +143,7 @@ pub record Picked (n : Bytes) (o : ℕ) (ps : List Piece) (at a e : ℕ) : Type 
   pub all : before ++ (Piece.field n value own ∷ behind) ≡ ps
   pub begins : at + sizeIn before ≡ a
   pub ends : a + countOf own ≡ e
-  pub changed : (g : Piece → Block) (c : List Piece) → atPiece (fieldTurn n o (fieldsOf (ps ++ c))) n g (ps ++ c) ≡ before ++ (g (Piece.field n value own) ++ (behind ++ c))
+  pub changed : (g : Piece → Block) (c : List Piece) → placeAt (isOf n) o g (ps ++ c) ≡ before ++ (g (Piece.field n value own) ++ (behind ++ c))
 
 abbrev pub Picks : Bytes → ℕ → List Piece → ℕ → FoundField → Type 0
 Picks n o ps at FoundField.Missing = Unit {0}
@@ -146,7 +152,7 @@ Picks n o ps at (FoundField.At a v e) = Picked n o ps at a e
 module _ (n : Bytes) where
   -- one more piece that the search passes
   picks-on : (p : Piece) (size : ℕ) (ps : List Piece) (at o j : ℕ) (x : FoundField) → sizeIn (p ∷ []) ≡ size
-      → ((g : Piece → Block) (c : List Piece) → atPiece (fieldTurn n o (fieldsOf (p ∷ (ps ++ c)))) n g (p ∷ (ps ++ c)) ≡ p ∷ atPiece (fieldTurn n j (fieldsOf (ps ++ c))) n g (ps ++ c))
+      → ((g : Piece → Block) (c : List Piece) → placeAt (isOf n) o g (p ∷ (ps ++ c)) ≡ p ∷ placeAt (isOf n) j g (ps ++ c))
       → Picks n j ps (at + size) x → Picks n o (p ∷ ps) at x
   picks-on p size ps at o j FoundField.Missing s f h = tt
   picks-on p size ps at o j (FoundField.At a v e) s f h =
@@ -171,9 +177,9 @@ module _ (n : Bytes) where
     picks-by : (t : Bool) (o : ℕ) → same n m ≡ t → ((j : ℕ) → Picks n j ps (at + countOf ls) (fieldIn n ps (at + countOf ls) j))
         → Picks n o (here ∷ ps) at (fieldBy t o at m ls (λ (k : ℕ). fieldIn n ps (at + countOf ls) k))
     picks-by false o e ih =
-        picks-on here (countOf ls) ps at o o (fieldIn n ps (at + countOf ls) o) here-size (λ g c. ap (λ (t : Bool). atPiece (turn t o) n g (here ∷ (ps ++ c))) e) (ih o)
+        picks-on here (countOf ls) ps at o o (fieldIn n ps (at + countOf ls) o) here-size (λ g c. ap (λ (t : Bool). turn t o (g here ++ (ps ++ c)) (λ (j : ℕ). here ∷ placeAt (isOf n) j g (ps ++ c))) e) (ih o)
     picks-by true (suc o) e ih =
-        picks-on here (countOf ls) ps at (suc o) o (fieldIn n ps (at + countOf ls) o) here-size (λ g c. ap (λ (t : Bool). atPiece (turn t (suc o)) n g (here ∷ (ps ++ c))) e) (ih o)
+        picks-on here (countOf ls) ps at (suc o) o (fieldIn n ps (at + countOf ls) o) here-size (λ g c. ap (λ (t : Bool). turn t (suc o) (g here ++ (ps ++ c)) (λ (j : ℕ). here ∷ placeAt (isOf n) j g (ps ++ c))) e) (ih o)
     picks-by true zero e ih =
         let q : n ≡ m = same-true n m e in
         record {
@@ -184,7 +190,7 @@ module _ (n : Bytes) where
           all = ap {B = List Piece} (λ (x : Bytes). Piece.field x v ls ∷ ps) q;
           begins = omega (arith, size-none);
           ends = refl;
-          changed = λ g c. ap (λ (t : Bool). atPiece (turn t 0) n g (here ∷ (ps ++ c))) e ∙ sym (ap (λ (x : Bytes). g (Piece.field x v ls) ++ (ps ++ c)) q);
+          changed = λ g c. ap (λ (t : Bool). turn t 0 (g here ++ (ps ++ c)) (λ (j : ℕ). here ∷ placeAt (isOf n) j g (ps ++ c))) e ∙ sym (ap (λ (x : Bytes). g (Piece.field x v ls) ++ (ps ++ c)) q);
         }
 
   pub picks : (ps : List Piece) (at o : ℕ) → Picks n o ps at (fieldIn n ps at o)
@@ -196,13 +202,13 @@ module _ (n : Bytes) where
   picks (Piece.field m v ls ∷ ps) at o = picks-by m v ls ps at (same n m) o refl (picks ps (at + countOf ls))
 
   -- what stands before the first field is passed
-  lead-passed : (o : ℕ) (g : Piece → Block) (b c : Block) → atPiece (fieldTurn n o (fieldsOf (lead b ++ c))) n g (lead b ++ c) ≡ lead b ++ atPiece (fieldTurn n o (fieldsOf c)) n g c
+  lead-passed : (o : ℕ) (g : Piece → Block) (b c : Block) → placeAt (isOf n) o g (lead b ++ c) ≡ lead b ++ placeAt (isOf n) o g c
   lead-passed o g [] c = refl
   lead-passed o g (Piece.blank l ∷ b) c = ap {B = Block} (λ x. Piece.blank l ∷ x) (lead-passed o g b c)
   lead-passed o g (Piece.comment l ∷ b) c = ap {B = Block} (λ x. Piece.comment l ∷ x) (lead-passed o g b c)
   lead-passed o g (Piece.field m v ls ∷ b) c = refl
 
   pub block-changed : (o : ℕ) (g : Piece → Block) (b : Block) (at a e : ℕ) (h : Parted b) (f : Picked n o (ownOf b) at a e)
-      → atPiece (fieldTurn n o (fieldsOf b)) n g b ≡ lead b ++ (f .before ++ (g (Piece.field n (f .value) (f .own)) ++ (f .behind ++ h .last)))
+      → placeAt (isOf n) o g b ≡ lead b ++ (f .before ++ (g (Piece.field n (f .value) (f .own)) ++ (f .behind ++ h .last)))
   block-changed o g b at a e h f =
-      ap (λ (x : Block). atPiece (fieldTurn n o (fieldsOf x)) n g x) (sym (h .all)) ∙ lead-passed o g b (ownOf b ++ h .last) ∙ ap (λ (x : Block). lead b ++ x) (f .changed g (h .last))
+      ap (λ (x : Block). placeAt (isOf n) o g x) (sym (h .all)) ∙ lead-passed o g b (ownOf b ++ h .last) ∙ ap (λ (x : Block). lead b ++ x) (f .changed g (h .last))

@@ -9,13 +9,12 @@ use lib.Seq.{take-at, drop-at}
 use Rattle.format.proofs.Elements.{Each, each-parts}
 use Rattle.format.specs.Bytes.{Bytes, isSome}
 use Rattle.format.specs.Lines.{isEnded}
-use Rattle.format.specs.Pieces.{Piece, allLines, bytesOf, pieces}
+use Rattle.format.specs.Pieces.{Piece, allLines, bytesOf, pieces, someOf, readOf}
 use Rattle.format.specs.Records.{blocks}
 use Rattle.format.proofs.Lines.{ended-bytes}
 use Rattle.format.proofs.Whole.{pieces-sound, sound-pieces, bytesOf-append, Sound}
 use Rattle.lines.proofs.Cuts.{rest}
 use Rattle.records.specs.Places.{isReadable, sizeIn, placesIn, placesFrom, placesOf}
-use Rattle.records.specs.Walk.{readIn, readOf}
 
 -- a part reads as pieces
 pub record Reads (s : Bytes) (ps : List Piece) : Type 0 where
@@ -35,7 +34,7 @@ reads-readable {s} {ps} r = rw (reads-ended r, reads-pieces r)
 
 pub reads-of : {s : Bytes} {ps : List Piece} → Reads s ps → readOf s ≡ ps
 unfolding readOf
-reads-of r = ap readIn (reads-pieces r)
+reads-of r = ap someOf (reads-pieces r)
 
 pub reads-length : {s : Bytes} {ps : List Piece} → Reads s ps → sizeIn ps ≡ length s
 reads-length r = ap length (r .all)
@@ -44,7 +43,7 @@ pub readable-ended : (s : Bytes) → isReadable s ≡ true → isEnded s ≡ tru
 unfolding isReadable
 readable-ended s e = and-eq-true-iff (isEnded s) (isSome (pieces s)) .0 e .0
 
-some-read : (x : Option (List Piece)) → isSome x ≡ true → x ≡ some (readIn x)
+some-read : (x : Option (List Piece)) → isSome x ≡ true → x ≡ some (someOf x)
 some-read none e = absurd (false≢true e)
 some-read (some ps) e = refl
 
@@ -74,7 +73,7 @@ pub part-ended : (s : Bytes) (i : ℕ) → isReadable (drop i s) ≡ true → is
 part-ended s i e = readable-ended (take (length s - i) (drop i s)) (part-readable s i e)
 
 -- the places of the part, by its pieces
-places-from : (x : Option (List Piece)) → placesFrom x ≡ placesIn 0 (blocks (readIn x))
+places-from : (x : Option (List Piece)) → placesFrom x ≡ placesIn 0 (blocks (someOf x))
 places-from none = refl
 places-from (some ps) = refl
 

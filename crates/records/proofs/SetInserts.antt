@@ -6,25 +6,27 @@ use mathlib.Core.Bool.{Bool, true, false}
 use mathlib.Core.List.{List, [], _∷_, _++_}
 use mathlib.Core.Option.{some, Option·none-ne-some, Option·some-injective}
 use lib.ListN.{drop, getElem?}
-use Rattle.format.specs.Lists.{isFilled}
+use Rattle.format.proofs.Grouping.{fresh}
+use Rattle.format.proofs.Applying.{index-has}
+use Rattle.format.proofs.Ordinals.{past, lastAt, lastOf, onRecord, HasLast, has-last, first-has-last, insert-last, insert-front}
+use Rattle.format.proofs.Records.{close, sets, GoodSets, good-sets}
+use Rattle.format.specs.Lists.{flat, isFilled}
 use Rattle.format.specs.Bytes.{Bytes, text, pick, same}
-use Rattle.format.specs.Pieces.{bytesOf}
-use Rattle.format.specs.Records.{Record, close}
-use Rattle.format.specs.Sets.{valuesOf, RecSet, sets, setsOf}
+use Rattle.format.specs.Pieces.{bytesOf, readOf}
+use Rattle.format.specs.Records.{Block, blocks, Record}
+use Rattle.format.specs.Sets.{valuesOf, RecSet, setsOf}
 use Rattle.format.specs.Words.{firstWord}
 use Rattle.format.specs.Written.{Pair, writtenAll}
-use Rattle.format.specs.Edits.{Edit, onPieces, past, lastAt, lastOf}
-use Rattle.format.specs.Plain.{plainOf, stepOn, indexBy, indexOf, membersAt, insertBy}
+use Rattle.format.specs.Edits.{Edit, editPieces}
+use Rattle.format.specs.Plain.{indexOf, membersAt}
 use Rattle.format.proofs.Elements.{Filled}
-use Rattle.format.proofs.Sets.{GoodSets, good-sets}
 use Rattle.format.proofs.Splices.{spliced, gapBytes, front-bytes}
 use Rattle.records.specs.Places.{isReadable, Placed, placesOf, isDescriptor, namesSet, descriptorPlace, setPlace}
-use Rattle.records.specs.Walk.{readOf}
 use Rattle.records.specs.declared.FoundSet.{FoundSet}
 use Rattle.records.proofs.Shifts.{fieldsIn}
 use Rattle.records.proofs.Readings.{readable-reads, places-read}
 use Rattle.records.proofs.Searches.{placesAt, set-default, set-named}
-use Rattle.records.proofs.Members.{Stands, stands, others, othersBy, others-enter, members-on, firstMembers, other-index, sets-places}
+use Rattle.records.proofs.Members.{stepOn, indexBy, Stands, stands, others, othersBy, others-enter, members-on, firstMembers, other-index, sets-places}
 use Rattle.records.proofs.SetEnds.{setEnd, end-whole}
 use Rattle.records.proofs.Splicing.{cut, insert-bytes}
 
@@ -141,13 +143,13 @@ default-index (d ∷ ds) g = ap (λ (m : Bytes). indexBy (same [] m) (indexOf []
 
 -- an insert into set i
 abbrev pub insertedAt : Bytes → ℕ → List Pair → Bytes
-insertedAt s i new = bytesOf (insertBy i (membersAt i (setsOf (readOf s))) new (plainOf (readOf s)) .pieces)
+insertedAt s i new = bytesOf (editPieces i (Edit.insert new) (readOf s))
 
 module _ (s : Bytes) (new : List Pair) (e : isReadable s ≡ true) where
   abbrev ss : List RecSet
   ss = setsOf (readOf s)
 
-  last-inserted : (k z : ℕ) → EndsAt (placesOf s) k z → InsertTold s z new (bytesOf (onPieces k (Edit.insert new) (readOf s)))
+  last-inserted : (k z : ℕ) → EndsAt (placesOf s) k z → InsertTold s z new (bytesOf (flat (onRecord k (λ (b : Block). b ∷ fresh new ∷ []) (blocks (readOf s)))))
   last-inserted k z h =
       let c = cut (readOf s) k (h .0) (ap (λ (ps : List Placed). getElem? ps k) (sym (places-read s)) ∙ h .1) in
       record {
@@ -155,18 +157,18 @@ module _ (s : Bytes) (new : List Pair) (e : isReadable s ≡ true) where
         behind = λ f. insert-bytes (readable-reads s e) c new ∙ ap (λ (x : ℕ). spliced s x x (10 ∷ writtenAll new)) (h .2);
       }
 
-  default-by : (ds : List RecSet) (ms : List Record) → GoodSets ds → ds ≡ ss → firstMembers (placesOf s) ≡ membersAt 0 ds → membersAt 0 ds ≡ ms → InsertTold s (setEnd 0 (placesOf s)) new (bytesOf (insertBy 0 ms new (plainOf (readOf s)) .pieces))
-  unfolding plainOf
+  default-by : (ds : List RecSet) (ms : List Record) → GoodSets ds → ds ≡ ss → firstMembers (placesOf s) ≡ membersAt 0 ds → membersAt 0 ds ≡ ms → InsertTold s (setEnd 0 (placesOf s)) new (insertedAt s 0 new)
   default-by [] ms g q f h = absurd g
   default-by (d ∷ ds) [] g q f h =
       record {
-        front = λ z. front-bytes new (readOf s) (readable-reads s e .sound) ∙ ap (λ (x : Bytes). writtenAll new ++ (gapBytes x ++ x)) (readable-reads s e .all);
+        front = λ z. ap bytesOf (insert-front new (readOf s) (ap (membersAt 0) (sym q) ∙ h)) ∙ front-bytes new (readOf s) (readable-reads s e .sound) ∙ ap (λ (x : Bytes). writtenAll new ++ (gapBytes x ++ x)) (readable-reads s e .all);
         behind = λ z. absurd (omega (arith, first-none (placesOf s) (f ∙ h)));
       }
   default-by (d ∷ ds) (r ∷ rs) g q f h =
       let k : EndsAt (placesOf s) (lastAt (firstMembers (placesOf s))) (setEnd 0 (placesOf s)) = first-in (placesOf s) (subst (λ (ms : List Record). Filled ms) (sym (f ∙ h)) tt) in
       let x : lastAt (firstMembers (placesOf s)) ≡ lastOf ss 0 = ap lastAt f ∙ ap (λ (y : Record). lastAt (close y (d .members))) (sym (g .1)) ∙ ap (λ (ys : List RecSet). lastOf ys 0) q in
-      last-inserted (lastOf ss 0) (setEnd 0 (placesOf s)) (subst (λ (j : ℕ). EndsAt (placesOf s) j (setEnd 0 (placesOf s))) x k)
+      let filled : HasLast ss 0 = first-has-last ss (subst (λ (ms : List Record). Filled ms) (sym (ap (membersAt 0) (sym q) ∙ h)) tt) in
+      subst (InsertTold s (setEnd 0 (placesOf s)) new) (ap bytesOf (sym (insert-last new 0 (readOf s) filled))) (last-inserted (lastOf ss 0) (setEnd 0 (placesOf s)) (subst (λ (j : ℕ). EndsAt (placesOf s) j (setEnd 0 (placesOf s))) x k))
 
   good : GoodSets ss
   good = subst GoodSets (sym (sets-places s)) (good-sets (fieldsIn (placesOf s)))
@@ -175,11 +177,12 @@ module _ (s : Bytes) (new : List Pair) (e : isReadable s ≡ true) where
   default-inserted = default-by ss (membersAt 0 ss) good refl (ap (membersAt 0) (sym (sets-places s))) refl
 
   named-inserted : (n : Bytes) (a i : ℕ) → same n [] ≡ false → Lasts s n (placesOf s) (membersAt 0 ss) (others ss) (FoundSet.At a) → indexOf n ss ≡ some i → InsertTold s (setEnd a (placesAt s a)) new (insertedAt s i new)
-  unfolding plainOf
   named-inserted n a i q h f =
       let l = lasts-all s n (placesOf s) ss a good q h in
       let x : suc (l .0) ≡ i = Option·some-injective (suc (l .0)) i (sym (l .1) ∙ f) in
-      subst (λ (j : ℕ). InsertTold s (setEnd a (placesAt s a)) new (insertedAt s j new)) x (last-inserted (lastOf ss (suc (l .0))) (setEnd a (placesAt s a)) (l .2))
+      let last : HasLast ss (suc (l .0)) = has-last ss good (l .0) (index-has n ss (suc (l .0)) (l .1)) in
+      subst (λ (j : ℕ). InsertTold s (setEnd a (placesAt s a)) new (insertedAt s j new)) x
+      (subst (InsertTold s (setEnd a (placesAt s a)) new) (ap bytesOf (sym (insert-last new (suc (l .0)) (readOf s) last))) (last-inserted (lastOf ss (suc (l .0))) (setEnd a (placesAt s a)) (l .2)))
 
   -- into the set that is found at a
   pub insert-told : (set : Bytes) (a i : ℕ) → setPlace set (placesOf s) ≡ FoundSet.At a → indexOf set (setsOf (readOf s)) ≡ some i → InsertTold s (a + setEnd 0 (placesOf (drop a s))) new (insertedAt s i new)

@@ -7,17 +7,20 @@ use mathlib.Core.List.{List, [], _∷_, _++_, append-assoc, append-nil, map}
 use mathlib.Core.Option.{some, Option·none-ne-some, Option·some-injective}
 use lib.ListN.{length, take, drop, getElem?}
 use lib.Seq.{drop-drop, drop-append-le}
-use Rattle.format.specs.Lists.{flat, isFilled}
+use Rattle.format.proofs.Lists.{flat-append}
+use Rattle.format.proofs.Grouping.{fresh}
+use Rattle.format.proofs.Regrouping.{flat-blocks}
+use Rattle.format.proofs.Ordinals.{onRecord}
+use Rattle.format.specs.Lists.{flat, isFilled, turn}
 use Rattle.format.specs.Bytes.{Bytes}
 use Rattle.format.specs.Lines.{Line, bytes}
 use Rattle.format.specs.Pieces.{Piece, bytesOf}
 use Rattle.format.specs.Records.{Block, blocks, fieldsOf}
 use Rattle.format.specs.Written.{Pair, written, writtenAll, newPiece}
-use Rattle.format.specs.Edits.{Change, Edit, Turn, turn, changePiece, renamedLines, unfielded, newline, inBlock, blockTurn, atBlock, onPieces}
+use Rattle.format.specs.Edits.{Change, Act, changePiece, renamedLines, unfielded, newline, inBlock}
 use Rattle.format.specs.Calls.{lead}
 use Rattle.format.proofs.Elements.{Each, each-parts}
 use Rattle.format.proofs.Whole.{Sound}
-use Rattle.format.proofs.Blocks.{flat-blocks, flat-append}
 use Rattle.format.proofs.Splices.{spliced, splice, splice-from, splice-behind, piece-bytes, new-bytes, newline-bytes, rename-bytes}
 use Rattle.records.specs.Places.{Placed, sizeIn, placedAt, placeOn, placesIn, fieldIn, fieldPlace}
 use Rattle.records.specs.declared.FoundField.{FoundField}
@@ -35,10 +38,10 @@ record CutIn (bs : List Block) (at k : ℕ) (p : Placed) : Type 0 where
   filled : isFilled (fieldsOf block) ≡ true
   all : before ++ (block ++ behind) ≡ flat bs
   is : placedAt (at + sizeIn before) block ≡ p
-  edited : (f : Block → List Block) → flat (atBlock (blockTurn k bs) f bs) ≡ before ++ (flat (f block) ++ behind)
+  edited : (f : Block → List Block) → flat (onRecord k f bs) ≡ before ++ (flat (f block) ++ behind)
 
 module _ (b : Block) (bs : List Block) (at : ℕ) (p : Placed) where
-  cut-on : (k j : ℕ) → blockTurn k (b ∷ bs) ≡ Turn.later j → CutIn bs (at + sizeIn b) j p → CutIn (b ∷ bs) at k p
+  cut-on : (k j : ℕ) → ((f : Block → List Block) → onRecord k f (b ∷ bs) ≡ b ∷ onRecord j f bs) → CutIn bs (at + sizeIn b) j p → CutIn (b ∷ bs) at k p
   cut-on k j e c =
       record {
         before = b ++ c .before;
@@ -47,7 +50,7 @@ module _ (b : Block) (bs : List Block) (at : ℕ) (p : Placed) where
         filled = c .filled;
         all = append-assoc b (c .before) (c .block ++ c .behind) ∙ ap (λ (x : List Piece). b ++ x) (c .all);
         is = ap (λ (x : ℕ). placedAt x (c .block)) (omega (arith, size-append b (c .before))) ∙ c .is;
-        edited = λ f. ap (λ (t : Turn). flat (atBlock t f (b ∷ bs))) e ∙ ap (λ (x : List Piece). b ++ x) (c .edited f) ∙ sym (append-assoc b (c .before) (flat (f (c .block)) ++ c .behind));
+        edited = λ f. ap flat (e f) ∙ ap (λ (x : List Piece). b ++ x) (c .edited f) ∙ sym (append-assoc b (c .before) (flat (f (c .block)) ++ c .behind));
       }
 
   cut-here : isFilled (fieldsOf b) ≡ true → placedAt at b ≡ p → CutIn (b ∷ bs) at 0 p
@@ -59,14 +62,14 @@ module _ (b : Block) (bs : List Block) (at : ℕ) (p : Placed) where
         filled = e;
         all = refl;
         is = ap (λ (x : ℕ). placedAt x b) (omega (arith, size-none)) ∙ q;
-        edited = λ f. ap (λ (t : Bool). flat (atBlock (turn t 0) f (b ∷ bs))) e ∙ flat-append (f b) bs;
+        edited = λ f. ap (λ (t : Bool). flat (turn t 0 (f b ++ bs) (λ (j : ℕ). b ∷ onRecord j f bs))) e ∙ flat-append (f b) bs;
       }
 
   cut-by : (t : Bool) (k : ℕ) → isFilled (fieldsOf b) ≡ t → ((j : ℕ) → getElem? (placesIn (at + sizeIn b) bs) j ≡ some p → CutIn bs (at + sizeIn b) j p)
       → getElem? (placeOn t (placedAt at b) (placesIn (at + sizeIn b) bs)) k ≡ some p → CutIn (b ∷ bs) at k p
-  cut-by false k e ih h = cut-on k k (ap (λ (t : Bool). turn t k) e) (ih k h)
+  cut-by false k e ih h = cut-on k k (λ f. ap (λ (t : Bool). turn t k (f b ++ bs) (λ (j : ℕ). b ∷ onRecord j f bs)) e) (ih k h)
   cut-by true zero e ih h = cut-here e (Option·some-injective (placedAt at b) p h)
-  cut-by true (suc k) e ih h = cut-on (suc k) k (ap (λ (t : Bool). turn t (suc k)) e) (ih k h)
+  cut-by true (suc k) e ih h = cut-on (suc k) k (λ f. ap (λ (t : Bool). turn t (suc k) (f b ++ bs) (λ (j : ℕ). b ∷ onRecord j f bs)) e) (ih k h)
 
 cut-in : (bs : List Block) (at k : ℕ) (p : Placed) → getElem? (placesIn at bs) k ≡ some p → CutIn bs at k p
 cut-in [] at k p h = absurd (Option·none-ne-some p h)
@@ -80,7 +83,7 @@ pub record Cut (ps : List Piece) (k : ℕ) (p : Placed) : Type 0 where
   pub filled : isFilled (fieldsOf block) ≡ true
   pub all : before ++ (block ++ behind) ≡ ps
   pub is : placedAt (sizeIn before) block ≡ p
-  pub edited : (e : Edit) → onPieces k e ps ≡ before ++ (flat (inBlock e block) ++ behind)
+  pub edited : (f : Block → List Block) → flat (onRecord k f (blocks ps)) ≡ before ++ (flat (f block) ++ behind)
 
 pub cut : (ps : List Piece) (k : ℕ) (p : Placed) → getElem? (placesIn 0 (blocks ps)) k ≡ some p → Cut ps k p
 cut ps k p h =
@@ -92,8 +95,12 @@ cut ps k p h =
       filled = c .filled;
       all = c .all ∙ flat-blocks ps;
       is = ap (λ (x : ℕ). placedAt x (c .block)) (omega arith) ∙ c .is;
-      edited = λ e. c .edited (inBlock e);
+      edited = c .edited;
     }
+
+-- pieces with the k-th record's block acted on
+abbrev pub acted : ℕ → Act → List Piece → List Piece
+acted k a ps = flat (onRecord k (λ (b : Block). inBlock a b ∷ []) (blocks ps))
 
 regroup : (a l o n t z : List Piece) → a ++ (((l ++ (o ++ (n ++ t))) ++ []) ++ z) ≡ (a ++ (l ++ o)) ++ (n ++ (t ++ z))
 regroup a l o n t z = simp (append-assoc, append-nil)
@@ -120,9 +127,9 @@ module _ {s : Bytes} {ps : List Piece} {k : ℕ} {p : Placed} (r : Reads s ps) (
     front : sizeIn (c .before ++ (l ++ o)) ≡ a
     front = omega (arith, size-append (c .before) (l ++ o), size-append l o)
 
-    in-block : (edit : Edit) (new : List Piece) → flat (inBlock edit b) ≡ (l ++ (o ++ (new ++ t))) ++ [] → bytesOf (onPieces k edit ps) ≡ spliced s a e (bytesOf new)
-    in-block edit new f =
-        ap bytesOf (c .edited edit ∙ ap (λ (x : List Piece). c .before ++ (x ++ c .behind)) f ∙ regroup (c .before) l o new t (c .behind))
+    in-block : (f : Block → List Block) (new : List Piece) → flat (f b) ≡ (l ++ (o ++ (new ++ t))) ++ [] → bytesOf (flat (onRecord k f (blocks ps))) ≡ spliced s a e (bytesOf new)
+    in-block f new e′ =
+        ap bytesOf (c .edited f ∙ ap (λ (x : List Piece). c .before ++ (x ++ c .behind)) e′ ∙ regroup (c .before) l o new t (c .behind))
         ∙ splice s (c .before ++ (l ++ o)) m (t ++ c .behind) a e whole front closes new
 
     in-place : drop a s ≡ bytesOf m ++ drop e s
@@ -132,17 +139,17 @@ module _ {s : Bytes} {ps : List Piece} {k : ℕ} {p : Placed} (r : Reads s ps) (
         splice-from s x m y a e whole front closes ∙ ap (λ (z : Bytes). bytesOf m ++ z) (sym (splice-behind s x m y a e whole front closes))
 
   -- insert: behind the block
-  pub insert-bytes : (new : List Pair) → bytesOf (onPieces k (Edit.insert new) ps) ≡ spliced s (p .after) (p .after) (10 ∷ writtenAll new)
+  pub insert-bytes : (new : List Pair) → bytesOf (flat (onRecord k (λ (x : Block). x ∷ fresh new ∷ []) (blocks ps))) ≡ spliced s (p .after) (p .after) (10 ∷ writtenAll new)
   insert-bytes new =
       let n : List Piece = newline ∷ map newPiece new in
       let x : sizeIn (c .before) + sizeIn b ≡ p .after = ap (λ (x : Placed). x .after) (c .is) in
-      in-block b [] [] [] (p .after) (p .after) (append-nil b) (omega (arith, size-none)) (omega (arith, size-none)) (Edit.insert new) n (sym (append-nil (b ++ (n ++ []))))
+      in-block b [] [] [] (p .after) (p .after) (append-nil b) (omega (arith, size-none)) (omega (arith, size-none)) (λ (x : Block). x ∷ fresh new ∷ []) n (sym (append-nil (b ++ (n ++ []))))
       ∙ ap (spliced s (p .after) (p .after)) (newline-bytes new)
 
   -- add: behind the last field
-  pub add-bytes : (q : Pair) → bytesOf (onPieces k (Edit.add q) ps) ≡ spliced s (p .end) (p .end) (written (q .name) (q .value))
+  pub add-bytes : (q : Pair) → bytesOf (acted k (Act.add q) ps) ≡ spliced s (p .end) (p .end) (written (q .name) (q .value))
   add-bytes q =
-      in-block (lead b) (ownOf b) [] (h .last) (p .end) (p .end) (h .all) ends (omega (arith, size-none)) (Edit.add q) (newPiece q ∷ []) (ap (λ (x : Block). x ++ []) (h .added (newPiece q)))
+      in-block (lead b) (ownOf b) [] (h .last) (p .end) (p .end) (h .all) ends (omega (arith, size-none)) (λ (x : Block). inBlock (Act.add q) x ∷ []) (newPiece q ∷ []) (ap (λ (x : Block). x ++ []) (h .added (newPiece q)))
       ∙ ap (spliced s (p .end) (p .end)) (new-bytes q)
 
   -- the record's own part reads as the pieces from its first field to its last
@@ -158,9 +165,9 @@ module _ {s : Bytes} {ps : List Piece} {k : ℕ} {p : Placed} (r : Reads s ps) (
           ∙ ap (λ (x : List Piece). c .before ++ x) (ap (λ (x : List Piece). lead b ++ x) (sym (append-assoc (ownOf b) (h .last) (c .behind))) ∙ sym (append-assoc (lead b) (ownOf b ++ h .last) (c .behind)) ∙ ap (λ (x : Block). x ++ c .behind) (h .all))
 
   -- delete: the pieces from the first field to the last lose their fields
-  pub delete-bytes : bytesOf (onPieces k Edit.delete ps) ≡ spliced s (p .start) (p .end) (leftOf (take (p .end - p .start) (drop (p .start) s)))
+  pub delete-bytes : bytesOf (acted k Act.delete ps) ≡ spliced s (p .start) (p .end) (leftOf (take (p .end - p .start) (drop (p .start) s)))
   delete-bytes =
-      in-block (lead b) [] (ownOf b) (h .last) (p .start) (p .end) (h .all) (omega (arith, starts, size-none)) (omega (arith, starts, ends)) Edit.delete (unfielded (ownOf b)) (ap (λ (x : Block). x ++ []) (h .deleted))
+      in-block (lead b) [] (ownOf b) (h .last) (p .start) (p .end) (h .all) (omega (arith, starts, size-none)) (omega (arith, starts, ends)) (λ (x : Block). inBlock Act.delete x ∷ []) (unfielded (ownOf b)) (ap (λ (x : Block). x ++ []) (h .deleted))
       ∙ ap (λ (x : Block). spliced s (p .start) (p .end) (bytesOf (unfielded x))) (sym (reads-of own-reads))
 
   -- a change of the o-th field of a name, which stands from a to e in the record's own part
@@ -181,15 +188,15 @@ module _ {s : Bytes} {ps : List Piece} {k : ℕ} {p : Placed} (r : Reads s ps) (
     field-ends : p .start + a + sizeIn (field ∷ []) ≡ p .start + e
     field-ends = omega (arith, f .ends, size-piece field [], size-none)
 
-    change-bytes : (d : Change) → bytesOf (onPieces k (Edit.change n o d) ps) ≡ spliced s (p .start + a) (p .start + e) (bytesOf (changePiece d field))
+    change-bytes : (d : Change) → bytesOf (acted k (Act.change n o d) ps) ≡ spliced s (p .start + a) (p .start + e) (bytesOf (changePiece d field))
     change-bytes d =
-        in-block (lead b) (f .before) (field ∷ []) (f .behind ++ h .last) (p .start + a) (p .start + e) field-parts field-begins field-ends (Edit.change n o d) (changePiece d field)
+        in-block (lead b) (f .before) (field ∷ []) (f .behind ++ h .last) (p .start + a) (p .start + e) field-parts field-begins field-ends (λ (x : Block). inBlock (Act.change n o d) x ∷ []) (changePiece d field)
         (ap (λ (x : Block). x ++ []) (block-changed n o (changePiece d) b 0 a e h f))
 
-    pub value-bytes : (w : Bytes) → bytesOf (onPieces k (Edit.change n o (Change.value w)) ps) ≡ spliced s (p .start + a) (p .start + e) (written n w)
+    pub value-bytes : (w : Bytes) → bytesOf (acted k (Act.change n o (Change.value w)) ps) ≡ spliced s (p .start + a) (p .start + e) (written n w)
     value-bytes w = change-bytes (Change.value w) ∙ ap (spliced s (p .start + a) (p .start + e)) (new-bytes (record { name = n; value = w }))
 
-    pub dropped-bytes : bytesOf (onPieces k (Edit.change n o Change.dropped) ps) ≡ spliced s (p .start + a) (p .start + e) []
+    pub dropped-bytes : bytesOf (acted k (Act.change n o Change.dropped) ps) ≡ spliced s (p .start + a) (p .start + e) []
     unfolding bytesOf
     dropped-bytes = change-bytes Change.dropped
 
@@ -200,7 +207,7 @@ module _ {s : Bytes} {ps : List Piece} {k : ℕ} {p : Placed} (r : Reads s ps) (
     pub name-within : a + length n < e
     name-within = omega (arith, rename-bytes n (f .value) (f .own) [] field-sound .0, f .ends)
 
-    pub name-bytes : (m : Bytes) → bytesOf (onPieces k (Edit.change n o (Change.name m)) ps) ≡ spliced s (p .start + a) (p .start + a + length n) m
+    pub name-bytes : (m : Bytes) → bytesOf (acted k (Act.change n o (Change.name m)) ps) ≡ spliced s (p .start + a) (p .start + a + length n) m
     name-bytes m =
         let x : ℕ = p .start + a in
         let y : ℕ = p .start + e in

@@ -12,7 +12,7 @@ use Rattle.format.proofs.Whole.{Sound}
 use Rattle.format.proofs.Elements.{Each, each-append}
 use Rattle.format.specs.Bytes.{Bytes, text, same}
 use Rattle.format.specs.Lines.{Line, lines, Form, form}
-use Rattle.format.specs.Pieces.{Piece, linesOf, allLines, bytesOf, pieces}
+use Rattle.format.specs.Pieces.{Piece, linesOf, allLines, bytesOf, pieces, someOf, readOf}
 use Rattle.format.specs.Records.{Field, countOf, fieldsOf}
 use Rattle.format.specs.Calls.{lead}
 use Rattle.format.proofs.Lines.{lines-bytes, Clean}
@@ -29,7 +29,7 @@ use Rattle.lines.proofs.Firsts.{NameBy, next-name}
 use Rattle.lines.proofs.Pieces.{next-cut, no-pieces}
 use Rattle.lines.proofs.Inside.{Inside, next-inside}
 use Rattle.records.specs.Places.{isReadable, sizeIn, headLine}
-use Rattle.records.specs.Walk.{readIn, readOf, recordIn, leadSize, isRec, runFrom}
+use Rattle.records.specs.Walk.{recordIn, leadSize, isRec, runFrom}
 use Rattle.records.proofs.Walks.{size-piece, size-none, Loose}
 use Rattle.records.proofs.Readings.{Reads, reads-length, readable-ended, readable-pieces, readable-reads}
 
@@ -71,7 +71,7 @@ module _ (s : Bytes) (i : ℕ) (e : isReadable (drop i s) ≡ true) (p : Piece) 
       let d : drop k t ≡ u = drop-drop k i s in
       let readable : isReadable u ≡ true = rw (← d, ended-drop t k (readable-ended t e), q) in
       let a : readOf t ≡ p ∷ ps = Option·some-injective (readOf t) (p ∷ ps) h in
-      let b : readOf u ≡ ps = ap (λ (x : Bytes). readOf x) (sym d) ∙ ap readIn q in
+      let b : readOf u ≡ ps = ap (λ (x : Bytes). readOf x) (sym d) ∙ ap someOf q in
       record {
         reads = a ∙ ap {B = List Piece} (λ x. p ∷ x) (sym b);
         size = omega (arith, reads-length (readable-reads t e), reads-length (readable-reads u readable), length-drop i s, length-drop (i + k) s, ap sizeIn a, ap sizeIn b, size-piece p ps);
@@ -114,8 +114,7 @@ value-form : (F : Form) (l : Line) (ls : List Line) → ValueBy l (nextBy F l ls
 value-form Form.blank l ls = tt
 value-form Form.comment l ls = tt
 value-form (Form.field n v) l ls = value-extent (length n) l (extentOf true 0 (l ∷ ls))
-value-form (Form.plus v) l ls = tt
-value-form (Form.part v) l ls = tt
+value-form (Form.more v) l ls = tt
 value-form Form.fault l ls = tt
 
 value-next : (s : Bytes) → 0 < length s → ValueBy (firstLine s) (nextOf s)
@@ -163,7 +162,7 @@ module _ (s : Bytes) (i : ℕ) (e : isReadable (drop i s) ≡ true) (h : 0 < len
 
 step-at : (s : Bytes) (i : ℕ) (t : Bytes) → drop i s ≡ t → isReadable (drop i s) ≡ true → Steps s i (nextOf (drop i s))
 unfolding nextOf readOf
-step-at s i [] q e = subst (Steps s i) (ap nextOf (sym q)) (ap (λ (x : Bytes). readOf x) q ∙ ap readIn no-pieces)
+step-at s i [] q e = subst (Steps s i) (ap nextOf (sym q)) (ap (λ (x : Bytes). readOf x) q ∙ ap someOf no-pieces)
 step-at s i (c ∷ t) q e =
     let h : 0 < length (drop i s) = omega (arith, ap length q) in
     let d = readable-ended (drop i s) e in

@@ -8,11 +8,10 @@ use lib.ListN.{length, take, drop}
 use lib.Seq.{take-at}
 use Rattle.format.specs.Bytes.{Bytes}
 use Rattle.format.specs.Lines.{Line}
-use Rattle.format.specs.Pieces.{Piece, bytesOf}
+use Rattle.format.specs.Pieces.{Piece, bytesOf, readOf}
 use Rattle.format.specs.Edits.{unfielded}
 use Rattle.format.proofs.Whole.{bytesOf-append}
 use Rattle.records.specs.Places.{isReadable, sizeIn}
-use Rattle.records.specs.Walk.{readOf}
 use Rattle.records.proofs.Walks.{size-piece, size-none}
 use Rattle.records.proofs.Readings.{readable-reads, reads-length}
 use Rattle.records.proofs.Steps.{Passed, FieldAt}

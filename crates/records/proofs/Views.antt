@@ -1,73 +1,71 @@
 -- The part that view shows is the place that the searches find: the definitions count the records of the whole file, the searches those of the part behind a descriptor.
-use Prim.Native.Nat.{ℕ, zero, suc, _+_, _-_}
+use Prim.Native.Nat.{ℕ, zero, suc, _+_, _-_, _<_}
 use native.Mathlib.Omega.{arith}
 use mathlib.Core.Path.{_≡_, refl, sym, ap, _∙_, subst}
 use mathlib.Core.Bool.{Bool, true, false}
 use mathlib.Core.List.{List, [], _∷_, _++_, append-assoc, map}
-use mathlib.Core.Option.{Option, none, some, Option·none-ne-some, Option·some-injective}
-use lib.ListN.{take, drop, getElem?}
+use mathlib.Core.Option.{Option, some, Option·none-ne-some, Option·some-injective}
+use lib.ListN.{length, take, drop, getD, getElem?}
 use lib.Seq.{drop-drop, take-at, drop-at}
-use Rattle.format.specs.Lists.{isFilled, flat}
+use Rattle.format.proofs.Regrouping.{flat-blocks}
+use Rattle.format.proofs.Elements.{below-has}
+use Rattle.format.proofs.Lists.{flat-append}
+use Rattle.format.proofs.Ordinals.{past, ordinal, There, there-at, before-ordinal, block-ordinal}
+use Rattle.format.proofs.Records.{close, sets, GoodSets, good-sets}
+use Rattle.format.specs.Lists.{isFilled, filter, flat, turn, before}
 use Rattle.format.specs.Bytes.{Bytes, text, pick, same}
-use Rattle.format.specs.Pieces.{Piece, bytesOf, pieces}
-use Rattle.format.specs.Records.{Record, Block, blocks, fieldsOf, close}
-use Rattle.format.specs.Sets.{valuesOf, RecSet, sets, setsOf}
+use Rattle.format.specs.Pieces.{Piece, bytesOf, readOf}
+use Rattle.format.specs.Records.{Record, Block, blocks, isRecord}
+use Rattle.format.specs.Sets.{valuesOf, groups, RecSet, setsOf}
 use Rattle.format.specs.Words.{firstWord}
-use Rattle.format.specs.Edits.{past, ordinal}
-use Rattle.format.specs.Plain.{indexBy, indexOf, stepOn, membersAt}
-use Rattle.format.specs.Calls.{lead, fromFirst, toLast, Part, noPart, blockPart, partBy, partAt, partIn}
+use Rattle.format.specs.Plain.{indexOf, membersAt, membersIn}
+use Rattle.format.specs.Calls.{Answer, lead, fromFirst, toLast, viewedAt}
 use Rattle.format.proofs.Whole.{bytesOf-append}
-use Rattle.format.proofs.Blocks.{flat-blocks}
-use Rattle.format.proofs.Sets.{GoodSets, good-sets}
 use Rattle.records.specs.Places.{isReadable, Placed, sizeIn, placedAt, placeOn, placesIn, placesOf, isDescriptor, placeOf, namesSet, descriptorPlace, setPlace, recordBy, recordPlace}
-use Rattle.records.specs.Walk.{readOf}
 use Rattle.records.specs.declared.Place.{Place}
 use Rattle.records.specs.declared.FoundSet.{FoundSet}
 use Rattle.records.specs.declared.FoundRecord.{FoundRecord}
 use Rattle.records.proofs.Shifts.{raise, fieldsIn}
-use Rattle.records.proofs.Readings.{readable-pieces, readable-reads, places-read}
+use Rattle.records.proofs.Walks.{size-append, size-none}
+use Rattle.records.proofs.Readings.{readable-reads, places-read}
 use Rattle.records.proofs.Firsts.{lead-first, to-last}
 use Rattle.records.proofs.Searches.{placesAt, places-all, set-default, set-named}
-use Rattle.records.proofs.Members.{Stands, stands, others, othersBy, others-enter, members-on, firstMembers, other-index, sets-places}
+use Rattle.records.proofs.Members.{set-told, record-told, stepOn, indexBy, Stands, stands, others, othersBy, others-enter, members-on, firstMembers, other-index, sets-places}
 
 -- the bytes at a place
-abbrev pub partOf : Bytes → ℕ → ℕ → Part
-partOf s start end = record { start = start; bytes = take (end - start) (drop start s) }
+abbrev pub partOf : Bytes → ℕ → ℕ → Bytes
+partOf s start end = take (end - start) (drop start s)
 
-abbrev partFrom : Bytes → Option Placed → Part
-partFrom s none = noPart
-partFrom s (some p) = partOf s (p .start) (p .end)
+-- The k-th record of blocks: the blocks before it, its own, and its place.
+placed-kth : (bs : List Block) (at k : ℕ) (p : Placed) → getElem? (placesIn at bs) k ≡ some p
+    → (more : List Block) × (bs ≡ before isRecord k bs ++ (getD (filter isRecord bs) k [] ∷ more)) × (placedAt (at + sizeIn (flat (before isRecord k bs))) (getD (filter isRecord bs) k []) ≡ p)
+placed-kth [] at k p h = absurd (Option·none-ne-some p h)
+placed-kth (b ∷ bs) at k p h = go (isRecord b) k h (λ j. placed-kth bs (at + sizeIn b) j p)
+  where
+    go : (t : Bool) (k : ℕ) → getElem? (placeOn t (placedAt at b) (placesIn (at + sizeIn b) bs)) k ≡ some p
+        → ((j : ℕ) → getElem? (placesIn (at + sizeIn b) bs) j ≡ some p → (more : List Block) × (bs ≡ before isRecord j bs ++ (getD (filter isRecord bs) j [] ∷ more)) × (placedAt (at + sizeIn b + sizeIn (flat (before isRecord j bs))) (getD (filter isRecord bs) j []) ≡ p))
+        → (more : List Block) × (b ∷ bs ≡ turn t k [] (λ (j : ℕ). b ∷ before isRecord j bs) ++ (getD (pick t (b ∷ filter isRecord bs) (filter isRecord bs)) k [] ∷ more)) × (placedAt (at + sizeIn (flat (turn t k [] (λ (j : ℕ). b ∷ before isRecord j bs)))) (getD (pick t (b ∷ filter isRecord bs) (filter isRecord bs)) k []) ≡ p)
+    go true zero e ih = (bs, refl, ap (λ (x : ℕ). placedAt x b) (omega (arith, size-none)) ∙ Option·some-injective (placedAt at b) p e)
+    go true (suc k) e ih =
+        let m = ih k e in
+        let c : Block = getD (filter isRecord bs) k [] in
+        (m .0, ap {B = List Block} (λ x. b ∷ x) (m .1), ap (λ (x : ℕ). placedAt x c) (omega (arith, size-append b (flat (before isRecord k bs)))) ∙ m .2)
+    go false k e ih =
+        let m = ih k e in
+        let c : Block = getD (filter isRecord bs) k [] in
+        (m .0, ap {B = List Block} (λ x. b ∷ x) (m .1), ap (λ (x : ℕ). placedAt x c) (omega (arith, size-append b (flat (before isRecord k bs)))) ∙ m .2)
 
--- the definitions' part of a block, and the blocks behind it
-module _ (s : Bytes) (at : ℕ) (b : Block) (ps : List Piece) (e : drop at s ≡ bytesOf (b ++ ps)) where
-  behind-block : drop (at + sizeIn b) s ≡ bytesOf ps
-  behind-block = sym (drop-drop (sizeIn b) at s) ∙ ap (drop (sizeIn b)) (e ∙ bytesOf-append b ps) ∙ drop-at (bytesOf b) (bytesOf ps) (sizeIn b) refl
-
-  block-part : blockPart at b ≡ partOf s (placedAt at b .start) (placedAt at b .end)
-  block-part =
-      let f : Block = fromFirst b in
-      let c = to-last f in
-      let k : ℕ = at + sizeIn (lead b) in
-      let m : ℕ = (k + sizeIn (toLast f)) - k in
-      let x : drop at s ≡ bytesOf (lead b) ++ bytesOf (f ++ ps) = e ∙ ap (λ (z : Block). bytesOf (z ++ ps)) (sym (lead-first b)) ∙ ap bytesOf (append-assoc (lead b) f ps) ∙ bytesOf-append (lead b) (f ++ ps) in
-      let y : drop k s ≡ bytesOf (f ++ ps) = sym (drop-drop (sizeIn (lead b)) at s) ∙ ap (drop (sizeIn (lead b))) x ∙ drop-at (bytesOf (lead b)) (bytesOf (f ++ ps)) (sizeIn (lead b)) refl in
-      let z : drop k s ≡ bytesOf (toLast f) ++ bytesOf (c .0 ++ ps) = y ∙ ap (λ (w : Block). bytesOf (w ++ ps)) (sym (c .1)) ∙ ap bytesOf (append-assoc (toLast f) (c .0) ps) ∙ bytesOf-append (toLast f) (c .0 ++ ps) in
-      let n : sizeIn (toLast f) ≡ m = omega arith in
-      λ i. record { start = k; bytes = sym (ap (take m) z ∙ take-at (bytesOf (toLast f)) (bytesOf (c .0 ++ ps)) m n) i }
-
-part-by : (s : Bytes) (t : Bool) (k : ℕ) (p : Placed) (here : Part) (later : ℕ → Part) (ps : List Placed) → here ≡ partOf s (p .start) (p .end) → ((j : ℕ) → later j ≡ partFrom s (getElem? ps j)) → partBy t k here later ≡ partFrom s (getElem? (placeOn t p ps) k)
-part-by s false k p here later ps e h = h k
-part-by s true zero p here later ps e h = e
-part-by s true (suc k) p here later ps e h = h k
-
-part-in : (s : Bytes) (bs : List Block) (at k : ℕ) → drop at s ≡ bytesOf (flat bs) → partAt bs at k ≡ partFrom s (getElem? (placesIn at bs) k)
-part-in s [] at k e = refl
-part-in s (b ∷ bs) at k e =
-    part-by s (isFilled (fieldsOf b)) k (placedAt at b) (blockPart at b) (λ (j : ℕ). partAt bs (at + sizeIn b) j) (placesIn (at + sizeIn b) bs) (block-part s at b (flat bs) e) (λ j. part-in s bs (at + sizeIn b) j (behind-block s at b (flat bs) e))
-
-part-read : (s : Bytes) (k : ℕ) → isReadable s ≡ true → partAt (blocks (readOf s)) 0 k ≡ partFrom s (getElem? (placesOf s) k)
-part-read s k e =
-    part-in s (blocks (readOf s)) 0 k (sym (readable-reads s e .all) ∙ ap bytesOf (sym (flat-blocks (readOf s)))) ∙ ap (λ (ps : List Placed). partFrom s (getElem? ps k)) (sym (places-read s))
+-- the bytes of a block from its first field to its last, where its bytes begin at a place of a text
+block-part : (s : Bytes) (at : ℕ) (b : Block) (ps : List Piece) → drop at s ≡ bytesOf (b ++ ps) → bytesOf (toLast (fromFirst b)) ≡ partOf s (placedAt at b .start) (placedAt at b .end)
+block-part s at b ps e =
+    let f : Block = fromFirst b in
+    let c = to-last f in
+    let k : ℕ = at + sizeIn (lead b) in
+    let m : ℕ = (k + sizeIn (toLast f)) - k in
+    let x : drop at s ≡ bytesOf (lead b) ++ bytesOf (f ++ ps) = e ∙ ap (λ (z : Block). bytesOf (z ++ ps)) (sym (lead-first b)) ∙ ap bytesOf (append-assoc (lead b) f ps) ∙ bytesOf-append (lead b) (f ++ ps) in
+    let y : drop k s ≡ bytesOf (f ++ ps) = sym (drop-drop (sizeIn (lead b)) at s) ∙ ap (drop (sizeIn (lead b))) x ∙ drop-at (bytesOf (lead b)) (bytesOf (f ++ ps)) (sizeIn (lead b)) refl in
+    let z : drop k s ≡ bytesOf (toLast f) ++ bytesOf (c .0 ++ ps) = y ∙ ap (λ (w : Block). bytesOf (w ++ ps)) (sym (c .1)) ∙ ap bytesOf (append-assoc (toLast f) (c .0) ps) ∙ bytesOf-append (toLast f) (c .0 ++ ps) in
+    sym (ap (take m) z ∙ take-at (bytesOf (toLast f)) (bytesOf (c .0 ++ ps)) m (omega arith))
 
 -- A record's number in the whole file, by its number in the part where its set begins: ms are the records before the sets ds.
 abbrev Ranked : Bytes → Bytes → List Placed → List Record → List RecSet → FoundSet → Type 0
@@ -156,13 +154,57 @@ nth-raised a [] k p e = absurd (Option·none-ne-some p e)
 nth-raised a (q ∷ ps) zero p e = ap {B = Option Placed} (λ x. some (raise a x)) (Option·some-injective q p e)
 nth-raised a (q ∷ ps) (suc k) p e = nth-raised a ps k p e
 
-pub view-part : (s n : Bytes) (a k : ℕ) (q : Place) → isReadable s ≡ true → setPlace n (placesOf s) ≡ FoundSet.At a → recordPlace (placesOf (drop a s)) k ≡ FoundRecord.At q → partIn (setsOf (readOf s)) (pieces s) k (indexOf n (setsOf (readOf s))) ≡ partOf s (a + q .start) (a + q .end)
-view-part s n a k q e f g =
-    let ss : List RecSet = setsOf (readOf s) in
-    let r : Ranked s n (placesOf s) [] ss (FoundSet.At a) = subst (Ranked s n (placesOf s) [] ss) f (subst (λ (ds : List RecSet). Ranked s n (placesOf s) [] ds (setPlace n (placesOf s))) (sym (sets-places s)) (set-ranked s n e)) in
-    let m : Nth (placesOf (drop a s)) k (FoundRecord.At q) = subst (Nth (placesOf (drop a s)) k) g (nth (placesOf (drop a s)) k) in
-    ap (λ (x : Option (List Piece)). partIn ss x k (indexOf n ss)) (readable-pieces s e)
-    ∙ ap (partIn ss (some (readOf s)) k) (r .1)
-    ∙ part-read s (ordinal ss (r .0) k) e
-    ∙ ap (partFrom s) (r .2 k ∙ nth-raised a (placesOf (drop a s)) k (m .0) (m .2))
-    ∙ ap (λ (x : Place). partOf s (a + x .start) (a + x .end)) (m .1)
+-- Record k of a set that is found at a, found itself at q from there on: its number in the whole file, and its place.
+pub record Located (s n : Bytes) (k start end : ℕ) : Type 0 where
+  pub index : ℕ
+  pub set : indexOf n (setsOf (readOf s)) ≡ some index
+  pub place : Placed
+  pub there : getElem? (placesIn 0 (blocks (readOf s))) (ordinal (setsOf (readOf s)) index k) ≡ some place
+  pub starts : place .start ≡ start
+  pub ends : place .end ≡ end
+
+module _ (s n : Bytes) (a k : ℕ) (q : Place) (e : isReadable s ≡ true) (f : setPlace n (placesOf s) ≡ FoundSet.At a) (g : recordPlace (placesOf (drop a s)) k ≡ FoundRecord.At q) where
+  pub located : Located s n k (a + q .start) (a + q .end)
+  located =
+      let ss : List RecSet = setsOf (readOf s) in
+      let r : Ranked s n (placesOf s) [] ss (FoundSet.At a) = subst (Ranked s n (placesOf s) [] ss) f (subst (λ (ds : List RecSet). Ranked s n (placesOf s) [] ds (setPlace n (placesOf s))) (sym (sets-places s)) (set-ranked s n e)) in
+      let m : Nth (placesOf (drop a s)) k (FoundRecord.At q) = subst (Nth (placesOf (drop a s)) k) g (nth (placesOf (drop a s)) k) in
+      record {
+        index = r .0;
+        set = r .1;
+        place = raise a (m .0);
+        there = ap (λ (ps : List Placed). getElem? ps (ordinal ss (r .0) k)) (sym (places-read s)) ∙ r .2 k ∙ nth-raised a (placesOf (drop a s)) k (m .0) (m .2);
+        starts = ap (λ (x : Place). a + x .start) (m .1);
+        ends = ap (λ (x : Place). a + x .end) (m .1);
+      }
+
+  -- the record is there
+  pub row-there : (i : ℕ) → indexOf n (setsOf (readOf s)) ≡ some i → There (setsOf (readOf s)) i k
+  row-there i d =
+      let ss : List RecSet = setsOf (readOf s) in
+      let m = set-told s n (FoundSet.At a) e (sym f) refl in
+      let r = record-told (drop a s) k (FoundRecord.At q) (m .readable) (sym g) refl in
+      let here : membersAt i ss ≡ membersAt 0 (setsOf (readOf (drop a s))) = ap (membersIn ss) (sym d) ∙ m .members in
+      there-at ss i k (below-has (membersAt i ss) k (subst (λ (rs : List Record). k < length rs) (sym here) (r .there)))
+
+  pub view-part : viewedAt 0 (groups (readOf s)) (indexOf n (setsOf (readOf s))) k ≡ record { result = Answer.value (a + q .start); part = partOf s (a + q .start) (a + q .end) }
+  view-part =
+      let ps : List Piece = readOf s in
+      let l = located in
+      let i : ℕ = l .index in
+      let t = row-there i (l .set) in
+      let o : ℕ = ordinal (setsOf ps) i k in
+      let c = placed-kth (blocks ps) 0 o (l .place) (l .there) in
+      let before′ : List Piece = flat (before isRecord o (blocks ps)) in
+      let b : Block = getD (filter isRecord (blocks ps)) o [] in
+      let all : s ≡ bytesOf before′ ++ bytesOf (b ++ flat (c .0)) =
+      sym (readable-reads s e .all) ∙ ap bytesOf (sym (flat-blocks ps) ∙ ap flat (c .1) ∙ flat-append (before isRecord o (blocks ps)) (b ∷ c .0)) ∙ bytesOf-append before′ (b ++ flat (c .0)) in
+      let at : ℕ = 0 + sizeIn before′ in
+      let d : drop at s ≡ bytesOf (b ++ flat (c .0)) = ap (drop at) all ∙ drop-at (bytesOf before′) (bytesOf (b ++ flat (c .0))) at (omega arith) in
+      let w = block-part s at b (flat (c .0)) d in
+      let start : sizeIn (before′ ++ lead b) ≡ a + q .start = omega (arith, size-append before′ (lead b), ap (λ (x : Placed). x .start) (c .2), l .starts) in
+      let end : placedAt at b .end ≡ a + q .end = ap (λ (x : Placed). x .end) (c .2) ∙ l .ends in
+      let first : placedAt at b .start ≡ a + q .start = ap (λ (x : Placed). x .start) (c .2) ∙ l .starts in
+      ap (λ (x : Option ℕ). viewedAt 0 (groups ps) x k) (l .set)
+      ∙ (λ j. record { result = Answer.value (sizeIn (before-ordinal i k ps t j ++ lead (block-ordinal i k ps t j))); part = bytesOf (toLast (fromFirst (block-ordinal i k ps t j))) })
+      ∙ (λ j. record { result = Answer.value (start j); part = (w ∙ (λ y. partOf s (first y) (end y))) j })

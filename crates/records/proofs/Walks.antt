@@ -5,12 +5,13 @@ use mathlib.Core.Path.{_≡_, refl, sym, ap, _∙_}
 use mathlib.Core.Bool.{Bool, true, false, _||_, or-assoc, or-false}
 use mathlib.Core.List.{List, [], _∷_, _++_, append-nil, map}
 use lib.ListN.{length, length-append}
-use Rattle.format.specs.Lists.{isFilled}
+use Rattle.format.proofs.Records.{close, recordsIn, records}
+use Rattle.format.specs.Lists.{isFilled, onto}
 use Rattle.format.specs.Bytes.{Bytes, text, pick, same}
 use Rattle.format.specs.Lines.{Line}
 use Rattle.format.specs.Pieces.{Piece, linesOf, bytesOf}
-use Rattle.format.specs.Records.{Record, Block, onto, blocks, countOf, fieldsOf, close, recordsIn, records}
-use Rattle.format.specs.Sets.{keepIf, valuesOf}
+use Rattle.format.specs.Records.{Record, Block, blocks, countOf, fieldsOf}
+use Rattle.format.specs.Sets.{valuesOf}
 use Rattle.format.specs.Calls.{lead, fromFirst, toLast}
 use Rattle.format.proofs.Whole.{bytesOf-append}
 use Rattle.format.proofs.Walking.{isHead}
@@ -121,7 +122,7 @@ places-records at ps = fields-in at (blocks ps)
 abbrev pub endFrom : ℕ → ℕ → Block → ℕ
 endFrom at end b = pick (isFilled (fieldsOf b)) (at + sizeIn (toLast b)) end
 
-there-on : (t : Bool) (v : Bytes) (vs : List Bytes) → isFilled (keepIf t v vs) ≡ (t || isFilled vs)
+there-on : (t : Bool) (v : Bytes) (vs : List Bytes) → isFilled (pick t (v ∷ vs) vs) ≡ (t || isFilled vs)
 there-on true v vs = refl
 there-on false v vs = refl
 

@@ -7,8 +7,9 @@ use mathlib.Core.List.{[], _∷_}
 use lib.Dec.{eqb}
 use lib.ListN.{length, drop, getD, drop-of-length-le}
 use borrow.Author.Tests.{eqb-true, eqb-false, eq-eqb, ne-eqb}
+use Rattle.format.specs.Lists.{front, behind}
 use Rattle.format.specs.Bytes.{Bytes, pick, same}
-use Rattle.format.specs.Words.{isGap, notGap, frontIf, front, behind}
+use Rattle.format.specs.Words.{isGap, notGap}
 use Rattle.lines.proofs.Cuts.{at-cons}
 use Rattle.records.specs.Gaps.{gapIs}
 
@@ -36,10 +37,10 @@ module _ (p : ℕ → Bool) (v w : Bytes) (b : ℕ) (e : v ≡ b ∷ w) where
 -- a text that begins with a gap, and one that begins with another byte
 module _ (v w : Bytes) (b : ℕ) (e : v ≡ b ∷ w) where
   pub word-ended : isGap b ≡ true → front notGap v ≡ []
-  word-ended g = ap (front notGap) e ∙ ap (λ (t : Bool). frontIf (not t) b (front notGap w)) g
+  word-ended g = ap (front notGap) e ∙ ap (λ (t : Bool). pick (not t) (b ∷ front notGap w) []) g
 
   pub word-on : isGap b ≡ false → front notGap v ≡ b ∷ front notGap w
-  word-on g = ap (front notGap) e ∙ ap (λ (t : Bool). frontIf (not t) b (front notGap w)) g
+  word-on g = ap (front notGap) e ∙ ap (λ (t : Bool). pick (not t) (b ∷ front notGap w) []) g
 
 -- is a text, from its byte n on, the same as another
 drop-none : (w : Bytes) (n : ℕ) → n ≡ length w → drop n w ≡ []

@@ -2,24 +2,15 @@
 use Prim.Native.Nat.{ℕ, _+_}
 use mathlib.Core.Bool.{Bool, _||_}
 use mathlib.Core.List.{List, [], _∷_}
-use mathlib.Core.Option.{Option, none, some}
 use lib.ListN.{take}
 use Rattle.format.specs.Bytes.{Bytes, text, same}
-use Rattle.format.specs.Pieces.{Piece, pieces}
+use Rattle.format.specs.Pieces.{Piece, readOf}
 use Rattle.format.specs.Records.{Record, Block, countOf, fieldsOf}
 use Rattle.format.specs.Sets.{valuesOf}
 use Rattle.format.specs.Calls.{lead}
 use Rattle.lines.specs.Line.{nameLen}
 use Rattle.records.specs.Places.{sizeIn, namesSet}
 use Rattle.records.specs.declared.Run.{Run}
-
--- the pieces of a part, none where it does not read
-abbrev pub readIn : Option (List Piece) → List Piece
-readIn none = []
-readIn (some ps) = ps
-
-unfoldable pub readOf : Bytes → List Piece
-readOf s = readIn (pieces s)
 
 -- the fields of a part, in order
 abbrev pub recordIn : Bytes → Record

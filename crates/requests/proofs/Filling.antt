@@ -11,18 +11,18 @@ use lib.Seq.{take-append-seam}
 use borrow.Author.Tests.{leb-true, leb-false}
 use types.Run.{OneOf, miss}
 use denote.Enum.Declared.{tagOf}
+use Rattle.format.proofs.Splices.{set-reads-back}
 use Rattle.format.specs.Lists.{onward}
 use Rattle.format.specs.Bytes.{Bytes, all}
 use Rattle.format.specs.Limits.{fileBytes}
 use Rattle.format.specs.Pieces.{Piece, pieces}
-use Rattle.format.specs.Sets.{default, setsOf}
-use Rattle.format.specs.Questions.{firstNo}
+use Rattle.format.specs.Sets.{setsOf}
 use Rattle.format.specs.Requests.{Request as Asked, requestOf}
 use Rattle.format.specs.Written.{Pair, writtenAll, newField, isLegalPair}
 use Rattle.format.specs.Edits.{Edit}
-use Rattle.format.specs.Calls.{Answer, over, Filled, filled, writeRows, insertOf, writeBy, writeAnswer}
-use Rattle.format.proofs.Inserting.{set-reads-back}
-use Rattle.format.proofs.Requested.{HasPairs, request-pairs}
+use Rattle.format.specs.Calls.{Answer, answer, Filled, leaves, over, filled, insertOf, writtenBy, writeAnswer}
+use Rattle.format.proofs.Grouping.{HasPairs, setBy}
+use Rattle.format.proofs.Requested.{request-pairs}
 use Rattle.requests.proofs.kinds.Action.{the-type}
 use Rattle.requests.specs.declared.kinds.Action.{Action}
 use Rattle.requests.specs.declared.kinds.Request.{Request}
@@ -32,31 +32,37 @@ use Rattle.requests.specs.Pairs.{pairsAt}
 use Rattle.requests.specs.Kinds.{editOf, requestAnswer, InAction, Inside}
 use Rattle.requests.proofs.Kinding.{request-long}
 use Rattle.requests.proofs.Weighing.{asked-illegal}
-use Rattle.requests.specs.Writes.{filledBy, writing}
+use Rattle.requests.specs.Writes.{filledBy, writeNo}
 
 -- a number or a refusal
-pub filled-refused : (n : ℕ) (text out : Bytes) → (n ≡ 0 → ⊥) → filledBy (Written.Refused n) out ≡ filled n text out
+abbrev pub filledAs : ℕ → Bytes → Bytes → Filled
+filledAs n text out = record { result = answer n (length text); out = leaves (answer n (length text)) (over text out) out }
+
+pub filled-refused : (n : ℕ) (text out : Bytes) → (n ≡ 0 → ⊥) → filledBy (Written.Refused n) out ≡ filledAs n text out
 filled-refused zero text out h = absurd (h refl)
 filled-refused (suc n) text out h = refl
 
-pub filled-written : (n k : ℕ) (text out after : Bytes) → k ≡ length text → after ≡ over text out → n ≡ 0 → filledBy (Written.Len k) after ≡ filled n text out
+pub filled-written : (n k : ℕ) (text out after : Bytes) → k ≡ length text → after ≡ over text out → n ≡ 0 → filledBy (Written.Len k) after ≡ filledAs n text out
 filled-written n k text out after l a e = rw (l, a, e)
 
 module _ (s out : Bytes) where
   -- no request, and a request of another kind
+  abbrev answered : Option Asked → Filled
+  answered x = writtenBy (onward (λ (q : Asked). insertOf (q .edit)) x) out
+
   pub write-fault : requestAnswer s RequestOf.Fault ≡ requestOf s → filledBy (Written.Refused 20) out ≡ writeAnswer s out
   unfolding writeAnswer
-  write-fault e = ap (λ (x : Option Asked). writeBy (onward (λ (q : Asked). insertOf (q .edit)) x) out) e
+  write-fault e = ap answered e
 
   module _ (q : Request) (e : requestAnswer s (RequestOf.Is q) ≡ requestOf s) where
-    by-action : writeBy (insertOf (editOf s (q .action))) out ≡ writeAnswer s out
+    by-action : writtenBy (insertOf (editOf s (q .row) (q .action))) out ≡ writeAnswer s out
     unfolding writeAnswer
-    by-action = ap (λ (x : Option Asked). writeBy (onward (λ (y : Asked). insertOf (y .edit)) x) out) e
+    by-action = ap answered e
 
     pub write-other : OneOf (1 ∷ 2 ∷ 3 ∷ 4 ∷ 5 ∷ []) (tagOf the-type (q .action)) → filledBy (Written.Refused 20) out ≡ writeAnswer s out
     write-other h = go (q .action) h ∙ by-action
       where
-        go : (a : Action) → OneOf (1 ∷ 2 ∷ 3 ∷ 4 ∷ 5 ∷ []) (tagOf the-type a) → filledBy (Written.Refused 20) out ≡ writeBy (insertOf (editOf s a)) out
+        go : (a : Action) → OneOf (1 ∷ 2 ∷ 3 ∷ 4 ∷ 5 ∷ []) (tagOf the-type a) → filledBy (Written.Refused 20) out ≡ writtenBy (insertOf (editOf s (q .row) a)) out
         go (Action.Insert i) k = absurd (miss (1 ∷ 2 ∷ 3 ∷ 4 ∷ 5 ∷ []) 0 tt k)
         go Action.Delete k = refl
         go (Action.Add n v) k = refl
@@ -64,8 +70,8 @@ module _ (s out : Bytes) where
         go (Action.Drop n o) k = refl
         go (Action.Rename n o m) k = refl
 
-    pub write-insert : (i : ℕ) → q .action ≡ Action.Insert i → filled (firstNo writeRows (writing (pairsAt s i) (length out))) (writtenAll (pairsAt s i)) out ≡ writeAnswer s out
-    write-insert i a = ap (λ (x : Action). writeBy (insertOf (editOf s x)) out) (sym a) ∙ by-action
+    pub write-insert : (i : ℕ) → q .action ≡ Action.Insert i → filledAs (writeNo (pairsAt s i) (length out)) (writtenAll (pairsAt s i)) out ≡ writeAnswer s out
+    write-insert i a = ap (λ (x : Action). writtenBy (insertOf (editOf s (q .row) x)) out) (sym a) ∙ by-action
 
 -- a request that was read, and the pairs of an insert
 pub request-found : (s : Bytes) (r : RequestOf) (q : Request) → requestAnswer s r ≡ requestOf s → r ≡ RequestOf.Is q → requestAnswer s (RequestOf.Is q) ≡ requestOf s
@@ -94,16 +100,17 @@ pub record ReadsBack (s text : Bytes) : Type 0 where
   pub pairs : asked .edit ≡ Edit.insert (first ∷ others)
   pub lines : List Piece
   pub reads : pieces text ≡ some lines
-  pub sets : setsOf lines ≡ default (map newField (first ∷ others) ∷ []) ∷ []
+  pub sets : setsOf lines ≡ setBy [] (map newField (first ∷ others) ∷ []) ∷ []
 
 -- an answer that is a length has no refusal, and the text stands at the front
-filled-value : (k : ℕ) (text out after : Bytes) (n : ℕ) → Answer.value n ≡ filled k text out .result → after ≡ filled k text out .out → (k ≡ 0) × (take n after ≡ text)
-filled-value zero text out after n v o =
-    let l : n ≡ length text = cc in
-    (refl, rw (l, o) (take-append-seam text (drop (length text) out)))
-filled-value (suc k) text out after n v o = let z : _≡_ {A = ℕ} 0 1 = cc in absurd (omega arith)
+filled-value : (k : ℕ) (text out after : Bytes) (n : ℕ) → record { result = Answer.value n; out = after } ≡ filledAs k text out → (k ≡ 0) × (take n after ≡ text)
+filled-value k text out after n e = go k (ap (λ (f : Filled). f .result) e) (ap (λ (f : Filled). f .out) e)
+  where
+    go : (k : ℕ) → Answer.value n ≡ answer k (length text) → after ≡ leaves (answer k (length text)) (over text out) out → (k ≡ 0) × (take n after ≡ text)
+    go zero v o = let l : n ≡ length text = cc in (refl, rw (l, o) (take-append-seam text (drop (length text) out)))
+    go (suc k) v o = let z : _≡_ {A = ℕ} 0 1 = cc in absurd (omega arith)
 
-asked-legal : (ps : List Pair) (room : ℕ) → firstNo writeRows (writing ps room) ≡ 0 → all isLegalPair ps ≡ true
+asked-legal : (ps : List Pair) (room : ℕ) → writeNo ps room ≡ 0 → all isLegalPair ps ≡ true
 asked-legal ps room e = go (all isLegalPair ps) refl
   where
     go : (t : Bool) → all isLegalPair ps ≡ t → all isLegalPair ps ≡ true
@@ -111,22 +118,20 @@ asked-legal ps room e = go (all isLegalPair ps) refl
     go false h = absurd (omega (arith, asked-illegal ps room h))
 
 module _ (s out after : Bytes) (n : ℕ) (e : record { result = Answer.value n; out = after } ≡ writeAnswer s out) where
-  asked-value : (x : Option Asked) → requestOf s ≡ x → record { result = Answer.value n; out = after } ≡ writeBy (onward (λ (q : Asked). insertOf (q .edit)) x) out
+  asked-value : (x : Option Asked) → requestOf s ≡ x → record { result = Answer.value n; out = after } ≡ answered s out x
   unfolding writeAnswer
-  asked-value x h = e ∙ ap (λ (y : Option Asked). writeBy (onward (λ (q : Asked). insertOf (q .edit)) y) out) h
+  asked-value x h = e ∙ ap (answered s out) h
 
   refused : record { result = Answer.value n; out = after } ≡ filled 20 [] out → ⊥
-  refused h = omega (arith, filled-value 20 [] out after n (ap (λ (f : Filled). f .result) h) (ap (λ (f : Filled). f .out) h) .0)
+  refused h = omega (arith, filled-value 20 [] out after n h .0)
 
-  by-edit : (q : Asked) (d : Edit) → requestOf s ≡ some q → q .edit ≡ d → HasPairs d → record { result = Answer.value n; out = after } ≡ writeBy (insertOf d) out → ReadsBack s (take n after)
+  by-edit : (q : Asked) (d : Edit) → requestOf s ≡ some q → q .edit ≡ d → HasPairs d → record { result = Answer.value n; out = after } ≡ writtenBy (insertOf d) out → ReadsBack s (take n after)
   by-edit q (Edit.insert []) h k m v = absurd m
   by-edit q (Edit.insert (p ∷ ps)) h k m v =
-      let w = filled-value (firstNo writeRows (writing (p ∷ ps) (length out))) (writtenAll (p ∷ ps)) out after n (ap (λ (f : Filled). f .result) v) (ap (λ (f : Filled). f .out) v) in
+      let w = filled-value (writeNo (p ∷ ps) (length out)) (writtenAll (p ∷ ps)) out after n v in
       let b = set-reads-back p ps (asked-legal (p ∷ ps) (length out) (w .0)) in
       record { asked = q; first = p; others = ps; request = h; pairs = k; lines = b .0; reads = ap pieces (w .1) ∙ b .1; sets = b .2 }
-  by-edit q Edit.delete h k m v = absurd (refused v)
-  by-edit q (Edit.add p) h k m v = absurd (refused v)
-  by-edit q (Edit.change name o c) h k m v = absurd (refused v)
+  by-edit q (Edit.on j a) h k m v = absurd (refused v)
 
   by-request : (x : Option Asked) → requestOf s ≡ x → ReadsBack s (take n after)
   by-request none h = absurd (refused (asked-value none h))

@@ -9,8 +9,9 @@ use lib.Dec.{eqb, leb}
 use lib.ListN.{length}
 use borrow.Author.Tests.{leb-true, leb-false, lt-leb}
 use Rattle.format.specs.Lists.{onlyIf, onward}
-use Rattle.format.specs.Bytes.{Bytes, isSome}
-use Rattle.format.specs.Requests.{Tagged, Request, withText, pairOn, pairsOf}
+use Rattle.format.specs.Bytes.{Bytes, pick, isSome}
+use Rattle.format.specs.Requests.{Tagged, withText, pairsOf}
+use Rattle.format.specs.Edits.{Edit}
 use Rattle.format.specs.Written.{Pair as Written}
 use Rattle.requests.specs.declared.fields.Span.{Span}
 use Rattle.requests.specs.declared.fields.Text.{Text}
@@ -23,22 +24,18 @@ use Rattle.requests.proofs.Reading.{text-then, text-none}
 -- fields of a name and a value in front of fields
 pairs-then : (n v : Bytes) (x : Option (List Tagged)) → onward pairsOf (inFront 4 n (inFront 6 v x)) ≡ onto (record { name = n; value = v }) (onward pairsOf x)
 pairs-then n v none = refl
-pairs-then n v (some fs) = go (pairsOf fs)
-  where
-    go : (y : Option (List Written)) → pairOn true n v y ≡ onto (record { name = n; value = v }) y
-    go none = refl
-    go (some ps) = refl
+pairs-then n v (some fs) = refl
 
 unnamed : (x : Option (List Tagged)) → Ample x → NoText 4 x → onward pairsOf x ≡ none
 unnamed none a h = refl
 unnamed (some []) a h = absurd a
 unnamed (some (f ∷ [])) a h = refl
-unnamed (some (f ∷ g ∷ fs)) a h = ap (λ (b : Bool). pairOn (b && eqb 6 (g .tag)) (f .contents) (g .contents) (pairsOf fs)) h
+unnamed (some (f ∷ g ∷ fs)) a h = ap (λ (b : Bool). pick (b && eqb 6 (g .tag)) (onto (record { name = f .contents; value = g .contents }) (pairsOf fs)) none) h
 
 half : (n : Bytes) (x : Option (List Tagged)) → NoText 6 x → onward pairsOf (inFront 4 n x) ≡ none
 half n none h = refl
 half n (some []) h = refl
-half n (some (g ∷ fs)) h = ap (λ (b : Bool). pairOn b n (g .contents) (pairsOf fs)) h
+half n (some (g ∷ fs)) h = ap (λ (b : Bool). pick b (onto (record { name = n; value = g .contents }) (pairsOf fs)) none) h
 
 -- from a place on
 module _ (s : Bytes) (i : ℕ) where
@@ -61,7 +58,7 @@ module _ (s : Bytes) (i : ℕ) where
   no-name h = (pairs-stop s i h, λ f. text-none 4 (λ (n : Bytes). withText 6 (λ (v : Bytes). f n v)) (fieldsFrom s i) h)
 
   module _ (n : Span) (h : TextAt s i 4 (Text.At n)) where
-    to-value : (f : Bytes → Bytes → List Tagged → Option Request) → onward (withPair f) (fieldsFrom s i) ≡ onward (withText 6 (f (bytesOf s n))) (fieldsFrom s (n .end))
+    to-value : (f : Bytes → Bytes → List Tagged → Option Edit) → onward (withPair f) (fieldsFrom s i) ≡ onward (withText 6 (f (bytesOf s n))) (fieldsFrom s (n .end))
     to-value f = ap (onward (withPair f)) (h .0) ∙ text-then 4 (λ (m : Bytes). withText 6 (λ (v : Bytes). f m v)) (bytesOf s n) (fieldsFrom s (n .end))
 
     pub no-value : NoText 6 (fieldsFrom s (n .end)) → PairAt s i Pair.End

@@ -6,6 +6,7 @@ use mathlib.Core.Path.{_≡_, refl, sym, ap, _∙_, subst}
 use mathlib.Core.Bool.{Bool}
 use mathlib.Core.List.{List, [], _∷_}
 use mathlib.Core.Option.{Option, none, some}
+use lib.Dec.{eqb}
 use lib.ListN.{length, drop, getD, length-take, length-drop}
 use lib.Seq.{getD-take, getD-drop}
 use borrow.Author.Tests.{eq-eqb, ne-eqb}
@@ -13,14 +14,15 @@ use types.Run.{OneOf, miss}
 use denote.Enum.Declared.{tagOf}
 use Rattle.format.specs.Lists.{onward}
 use Rattle.format.specs.Bytes.{Bytes, pick}
-use Rattle.format.specs.Requests.{Tagged, Request, withText, twoBytes, withNumber, ends}
+use Rattle.format.specs.Requests.{Tagged, shortAt, withText, withNumber, ends}
+use Rattle.format.specs.Edits.{Change, Act, Edit}
 use Rattle.requests.specs.declared.fields.Span.{Span}
 use Rattle.requests.proofs.fields.Tagged.{the-type}
 use Rattle.requests.specs.declared.fields.Tagged.{Tagged as Read}
 use Rattle.requests.specs.declared.fields.Text.{Text}
 use Rattle.requests.specs.declared.fields.Number.{Number}
 use Rattle.requests.specs.declared.fields.Place.{Place}
-use Rattle.requests.specs.Fields.{part, bytesOf, InSpan, fieldsFrom, inFront, FieldAt, NoText, TextAt, NumberAt, PlaceAt}
+use Rattle.requests.specs.Fields.{part, bytesOf, InSpan, fieldsFrom, inFront, FieldAt, NoText, TextAt, NumberAt, inField, PlaceAt}
 use Rattle.requests.proofs.Tagging.{Ample, fields-ample, fields-end}
 
 -- the bytes of a part
@@ -38,7 +40,7 @@ pub onward-none : {A B : Type 0} (x : Option A) → onward {A = A} {B = B} (λ (
 onward-none none = refl
 onward-none (some a) = refl
 
-module _ (t : ℕ) (f : Bytes → List Tagged → Option Request) where
+module _ {A : Type 0} (t : ℕ) (f : Bytes → List Tagged → Option A) where
   pub text-then : (c : Bytes) (x : Option (List Tagged)) → onward (withText t f) (inFront t c x) ≡ onward (f c) x
   text-then c none = refl
   text-then c (some fs) = ap (λ (b : Bool). pick b (f c fs) none) (eq-eqb t t refl)
@@ -49,36 +51,25 @@ module _ (t : ℕ) (f : Bytes → List Tagged → Option Request) where
   text-none (some (g ∷ fs)) h = ap (λ (b : Bool). pick b (f (g .contents) fs) none) h
 
 -- a number of two bytes
-two-bytes : (c : Bytes) → length c ≡ 2 → twoBytes c ≡ some (getD c 0 0 * 256 + getD c 1 0)
-two-bytes [] h = absurd (omega arith)
-two-bytes (a ∷ []) h = absurd (omega arith)
-two-bytes (a ∷ b ∷ []) h = refl
-two-bytes (a ∷ b ∷ d ∷ s) h = absurd (omega arith)
+module _ (t : ℕ) (f : ℕ → List Tagged → Option Edit) where
+  abbrev read : Bytes → List Tagged → Option Edit
+  read c gs = pick (eqb (length c) 2) (f (shortAt c) gs) none
 
-not-two : (c : Bytes) → (length c ≡ 2 → ⊥) → twoBytes c ≡ none
-not-two [] h = refl
-not-two (a ∷ []) h = refl
-not-two (a ∷ b ∷ []) h = absurd (h refl)
-not-two (a ∷ b ∷ d ∷ s) h = refl
+  abbrev numbered : Bytes → Option (List Tagged) → Bool → Option Edit
+  numbered c x b = onward (λ (gs : List Tagged). pick b (f (shortAt c) gs) none) x
 
-module _ (t : ℕ) (f : ℕ → List Tagged → Option Request) (c : Bytes) (x : Option (List Tagged)) where
-  abbrev numbered : Option ℕ → Option Request
-  numbered m = onward (λ (gs : List Tagged). onward (λ (n : ℕ). f n gs) m) x
+  module _ (c : Bytes) (x : Option (List Tagged)) where
+    number-then : length c ≡ 2 → onward (withNumber t f) (inFront t c x) ≡ onward (f (shortAt c)) x
+    number-then e = text-then t read c x ∙ ap (numbered c x) (eq-eqb (length c) 2 e)
 
-  numbers : onward (withNumber t f) (inFront t c x) ≡ numbered (twoBytes c)
-  numbers = text-then t (λ (d : Bytes) (gs : List Tagged). onward (λ (n : ℕ). f n gs) (twoBytes d)) c x
-
-  number-then : (n : ℕ) → twoBytes c ≡ some n → onward (withNumber t f) (inFront t c x) ≡ onward (f n) x
-  number-then n e = numbers ∙ ap numbered e
-
-  number-none : twoBytes c ≡ none → onward (withNumber t f) (inFront t c x) ≡ none
-  number-none e = numbers ∙ ap numbered e ∙ onward-none x
+    number-none : (length c ≡ 2 → ⊥) → onward (withNumber t f) (inFront t c x) ≡ none
+    number-none e = text-then t read c x ∙ ap (numbered c x) (ne-eqb (length c) 2 e) ∙ onward-none x
 
 -- nothing stands behind the last field
-pub ends-here : (q : Request) (s : Bytes) (i : ℕ) → length s ≤ i → onward (ends q) (fieldsFrom s i) ≡ some q
+pub ends-here : {A : Type 0} (q : A) (s : Bytes) (i : ℕ) → length s ≤ i → onward (ends q) (fieldsFrom s i) ≡ some q
 ends-here q s i h = ap (onward (ends q)) (fields-end s i h)
 
-pub ends-more : (q : Request) (s : Bytes) (i : ℕ) → i < length s → onward (ends q) (fieldsFrom s i) ≡ none
+pub ends-more : {A : Type 0} (q : A) (s : Bytes) (i : ℕ) → i < length s → onward (ends q) (fieldsFrom s i) ≡ none
 ends-more q s i h = go (fieldsFrom s i) (fields-ample s i h)
   where
     go : (x : Option (List Tagged)) → Ample x → onward (ends q) x ≡ none
@@ -112,19 +103,19 @@ module _ (s : Bytes) (i tag : ℕ) where
 
   -- and the number that it is
   pub no-number : NoText tag (fieldsFrom s i) → NumberAt s i tag Number.Fault
-  no-number h f = text-none tag (λ (c : Bytes) (gs : List Tagged). onward (λ (n : ℕ). f n gs) (twoBytes c)) (fieldsFrom s i) h
+  no-number h f = text-none tag (read tag f) (fieldsFrom s i) h
 
   module _ (p : Span) (h : TextAt s i tag (Text.At p)) where
     pub wrong-number : (p .end - p .start ≡ 2 → ⊥) → NumberAt s i tag Number.Fault
-    wrong-number e f = ap (onward (withNumber tag f)) (h .0) ∙ number-none tag f (bytesOf s p) (fieldsFrom s (p .end)) (not-two (bytesOf s p) (λ q. e (sym (span-length s p (h .2)) ∙ q)))
+    wrong-number e f = ap (onward (withNumber tag f)) (h .0) ∙ number-none tag f (bytesOf s p) (fieldsFrom s (p .end)) (λ q. e (sym (span-length s p (h .2)) ∙ q))
 
     pub right-number : p .end - p .start ≡ 2 → NumberAt s i tag (Number.Is (getD s (p .start) 0 * 256 + getD s (p .start + 1) 0) (p .end))
     right-number e =
         let c : Bytes = bytesOf s p in
         let high : getD c 0 0 ≡ getD s (p .start) 0 = span-first s p (omega arith) in
         let low : getD c 1 0 ≡ getD s (p .start + 1) 0 = span-byte s p 1 (omega arith) in
-        let q : twoBytes c ≡ some (getD s (p .start) 0 * 256 + getD s (p .start + 1) 0) = two-bytes c (span-length s p (h .2) ∙ e) ∙ cc in
-        (λ f. ap (onward (withNumber tag f)) (h .0) ∙ number-then tag f c (fieldsFrom s (p .end)) (getD s (p .start) 0 * 256 + getD s (p .start + 1) 0) q, h .2 .1)
+        let q : shortAt c ≡ getD s (p .start) 0 * 256 + getD s (p .start + 1) 0 = cc in
+        (λ f. ap (onward (withNumber tag f)) (h .0) ∙ number-then tag f c (fieldsFrom s (p .end)) (span-length s p (h .2) ∙ e) ∙ ap (λ (n : ℕ). onward (f n) (fieldsFrom s (p .end))) q, h .2 .1)
 
   pub number-found : (r : Number) (n k : ℕ) → NumberAt s i tag r → r ≡ Number.Is n k → NumberAt s i tag (Number.Is n k)
   number-found r n k h e = subst (NumberAt s i tag) e h
@@ -132,33 +123,48 @@ module _ (s : Bytes) (i tag : ℕ) where
   pub number-missed : (r : Number) → NumberAt s i tag r → r ≡ Number.Fault → NumberAt s i tag Number.Fault
   number-missed r h e = subst (NumberAt s i tag) e h
 
+-- what follows from what follows
+pub onward-onward : {A B C : Type 0} (g : B → Option C) (f : A → Option B) (x : Option A) → onward (λ (a : A). onward g (f a)) x ≡ onward g (onward f x)
+onward-onward g f none = refl
+onward-onward g f (some a) = refl
+
 -- The place of a field: a record, a name, an occurrence.
 module _ (s : Bytes) (i : ℕ) where
   abbrev Then : Type 0
-  Then = Bytes → ℕ → ℕ → List Tagged → Option Request
+  Then = List Tagged → Option Change
 
-  abbrev afterName : Then → ℕ → Bytes → List Tagged → Option Request
-  afterName f r n = withNumber 5 (λ (o : ℕ). f n r o)
+  abbrev made : ℕ → Bytes → ℕ → Change → Option Edit
+  made r n o c = some (Edit.on r (Act.change n o c))
 
-  abbrev afterRow : Then → ℕ → List Tagged → Option Request
+  abbrev afterPlace : Then → ℕ → Bytes → ℕ → List Tagged → Option Edit
+  afterPlace f r n o gs = inField r n o (f gs)
+
+  abbrev afterName : Then → ℕ → Bytes → List Tagged → Option Edit
+  afterName f r n = withNumber 5 (afterPlace f r n)
+
+  abbrev afterRow : Then → ℕ → List Tagged → Option Edit
   afterRow f r = withText 4 (afterName f r)
 
   pub no-row : NumberAt s i 3 Number.Fault → PlaceAt s i Place.Fault
-  no-row h b f = h (afterRow f)
+  no-row h f = h (afterRow f)
 
   module _ (r j : ℕ) (h : NumberAt s i 3 (Number.Is r j)) where
     pub no-place-name : NoText 4 (fieldsFrom s j) → PlaceAt s i Place.Fault
-    no-place-name k b f = h .0 (afterRow f) ∙ text-none 4 (afterName f r) (fieldsFrom s j) k
+    no-place-name k f = h .0 (afterRow f) ∙ text-none 4 (afterName f r) (fieldsFrom s j) k
 
     module _ (p : Span) (k : TextAt s j 4 (Text.At p)) where
       to-name : (f : Then) → onward (afterRow f r) (fieldsFrom s j) ≡ onward (afterName f r (bytesOf s p)) (fieldsFrom s (p .end))
       to-name f = ap (onward (afterRow f r)) (k .0) ∙ text-then 4 (afterName f r) (bytesOf s p) (fieldsFrom s (p .end))
 
       pub no-occurrence : NumberAt s (p .end) 5 Number.Fault → PlaceAt s i Place.Fault
-      no-occurrence m b f = h .0 (afterRow f) ∙ to-name f ∙ m (λ (o : ℕ). f (bytesOf s p) r o)
+      no-occurrence m f = h .0 (afterRow f) ∙ to-name f ∙ m (afterPlace f r (bytesOf s p))
 
       pub whole-place : (o e : ℕ) → NumberAt s (p .end) 5 (Number.Is o e) → PlaceAt s i (Place.At r p o e)
-      whole-place o e m = (λ b f. h .0 (afterRow f) ∙ to-name f ∙ m .0 (λ (x : ℕ). f (bytesOf s p) r x), k .2, m .1)
+      whole-place o e m = (
+        λ f. h .0 (afterRow f) ∙ to-name f ∙ m .0 (afterPlace f r (bytesOf s p)) ∙ onward-onward (made r (bytesOf s p) o) f (fieldsFrom s e),
+        k .2,
+        m .1,
+      )
 
   pub place-found : (x : Place) (r : ℕ) (n : Span) (o k : ℕ) → PlaceAt s i x → x ≡ Place.At r n o k → PlaceAt s i (Place.At r n o k)
   place-found x r n o k h e = subst (PlaceAt s i) e h

@@ -8,7 +8,8 @@ use lib.Dec.{eqb}
 use lib.ListN.{length, take, drop}
 use Rattle.format.specs.Lists.{onward}
 use Rattle.format.specs.Bytes.{Bytes}
-use Rattle.format.specs.Requests.{Tagged as Field, tagged, Request, withNumber, changes}
+use Rattle.format.specs.Requests.{Tagged as Field, tagged, withNumber, changes}
+use Rattle.format.specs.Edits.{Change, Act, Edit}
 use Rattle.requests.specs.declared.fields.Span.{Span}
 use Rattle.requests.specs.declared.fields.Tagged.{Tagged}
 use Rattle.requests.specs.declared.fields.Text.{Text}
@@ -30,8 +31,7 @@ abbrev pub fieldsFrom : Bytes → ℕ → Option (List Field)
 fieldsFrom s i = tagged (drop i s)
 
 abbrev pub inFront : ℕ → Bytes → Option (List Field) → Option (List Field)
-inFront t c none = none
-inFront t c (some fs) = some (record { tag = t; contents = c } ∷ fs)
+inFront t c x = onward (λ (fs : List Field). some (record { tag = t; contents = c } ∷ fs)) x
 
 -- what the field at i says of the fields from i on
 abbrev pub FieldAt : Bytes → ℕ → Tagged → Type 0
@@ -51,9 +51,12 @@ TextAt s i t Text.Fault = NoText t (fieldsFrom s i)
 
 -- whatever follows from a number, and from the place of a field, follows from what is read
 abbrev pub NumberAt : Bytes → ℕ → ℕ → Number → Type 0
-NumberAt s i t (Number.Is n k) = ((f : ℕ → List Field → Option Request) → onward (withNumber t f) (fieldsFrom s i) ≡ onward (f n) (fieldsFrom s k)) × (k ≤ length s)
-NumberAt s i t Number.Fault = (f : ℕ → List Field → Option Request) → onward (withNumber t f) (fieldsFrom s i) ≡ none
+NumberAt s i t (Number.Is n k) = ((f : ℕ → List Field → Option Edit) → onward (withNumber t f) (fieldsFrom s i) ≡ onward (f n) (fieldsFrom s k)) × (k ≤ length s)
+NumberAt s i t Number.Fault = (f : ℕ → List Field → Option Edit) → onward (withNumber t f) (fieldsFrom s i) ≡ none
+
+abbrev pub inField : ℕ → Bytes → ℕ → Option Change → Option Edit
+inField r n o x = onward (λ (c : Change). some (Edit.on r (Act.change n o c))) x
 
 abbrev pub PlaceAt : Bytes → ℕ → Place → Type 0
-PlaceAt s i (Place.At r n o k) = ((b : Bytes) (f : Bytes → ℕ → ℕ → List Field → Option Request) → onward (changes b f) (fieldsFrom s i) ≡ onward (f (bytesOf s n) r o) (fieldsFrom s k)) × InSpan s n × (k ≤ length s)
-PlaceAt s i Place.Fault = (b : Bytes) (f : Bytes → ℕ → ℕ → List Field → Option Request) → onward (changes b f) (fieldsFrom s i) ≡ none
+PlaceAt s i (Place.At r n o k) = ((f : List Field → Option Change) → onward (changes f) (fieldsFrom s i) ≡ inField r (bytesOf s n) o (onward f (fieldsFrom s k))) × InSpan s n × (k ≤ length s)
+PlaceAt s i Place.Fault = (f : List Field → Option Change) → onward (changes f) (fieldsFrom s i) ≡ none

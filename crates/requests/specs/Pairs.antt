@@ -8,7 +8,8 @@ use lib.Dec.{leb}
 use lib.ListN.{length}
 use Rattle.format.specs.Lists.{onlyIf, onward}
 use Rattle.format.specs.Bytes.{Bytes, all}
-use Rattle.format.specs.Requests.{Tagged, Request, withText, pairsOf}
+use Rattle.format.specs.Requests.{Tagged, withText, pairsOf}
+use Rattle.format.specs.Edits.{Edit}
 use Rattle.format.specs.Written.{Pair as Written, writtenAll, isLegalPair}
 use Rattle.requests.specs.declared.fields.Span.{Span}
 use Rattle.requests.specs.declared.pairs.Pair.{Pair}
@@ -31,18 +32,17 @@ abbrev pub pairOf : Bytes → Span → Span → Written
 pairOf s n v = record { name = bytesOf s n; value = bytesOf s v }
 
 abbrev pub onto : Written → Option (List Written) → Option (List Written)
-onto p none = none
-onto p (some ps) = some (p ∷ ps)
+onto p x = onward (λ (ps : List Written). some (p ∷ ps)) x
 
 -- what follows from the fields of one pair
-abbrev pub withPair : (Bytes → Bytes → List Tagged → Option Request) → List Tagged → Option Request
+abbrev pub withPair : (Bytes → Bytes → List Tagged → Option Edit) → List Tagged → Option Edit
 withPair f fs = withText 4 (λ (n : Bytes). withText 6 (λ (v : Bytes). f n v)) fs
 
 -- what the pair at i says of the pairs from i on, and of one pair there
 abbrev pub PairAt : Bytes → ℕ → Pair → Type 0
 PairAt s i (Pair.At n v k) =
     (pairsFrom s i ≡ onto (pairOf s n v) (pairsFrom s k))
-    × ((f : Bytes → Bytes → List Tagged → Option Request) → onward (withPair f) (fieldsFrom s i) ≡ onward (f (bytesOf s n) (bytesOf s v)) (fieldsFrom s k))
+    × ((f : Bytes → Bytes → List Tagged → Option Edit) → onward (withPair f) (fieldsFrom s i) ≡ onward (f (bytesOf s n) (bytesOf s v)) (fieldsFrom s k))
     × (i < n .start)
     × InSpan s n
     × (n .end < v .start)
@@ -50,7 +50,7 @@ PairAt s i (Pair.At n v k) =
     × (k ≡ v .end)
 PairAt s i Pair.End =
     (pairsFrom s i ≡ onlyIf (leb (length s) i) [])
-    × ((f : Bytes → Bytes → List Tagged → Option Request) → onward (withPair f) (fieldsFrom s i) ≡ none)
+    × ((f : Bytes → Bytes → List Tagged → Option Edit) → onward (withPair f) (fieldsFrom s i) ≡ none)
 
 -- the sums over pairs
 abbrev pub Weighs : List Written → Weighed → Type 0

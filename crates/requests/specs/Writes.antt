@@ -1,9 +1,12 @@
 -- The answer of writing a record.
 use Prim.Native.Nat.{ℕ}
 use mathlib.Core.List.{List}
-use Rattle.format.specs.Bytes.{Bytes}
-use Rattle.format.specs.Written.{Pair}
-use Rattle.format.specs.Calls.{Answer, Filled, Writing}
+use lib.Dec.{leb}
+use lib.ListN.{length}
+use Rattle.format.specs.Bytes.{Bytes, pick}
+use Rattle.format.specs.Questions.{firstNo}
+use Rattle.format.specs.Written.{Pair, writtenAll}
+use Rattle.format.specs.Calls.{Answer, thenNo, Filled, writeRows}
 use Rattle.requests.specs.declared.Written.{Written}
 
 abbrev pub writtenAnswer : Written → Answer
@@ -13,6 +16,6 @@ writtenAnswer (Written.Refused k) = Answer.refusal k
 abbrev pub filledBy : Written → Bytes → Filled
 filledBy r out = record { result = writtenAnswer r; out = out }
 
--- what is asked before it
-abbrev pub writing : List Pair → ℕ → Writing
-writing ps room = record { pairs = ps; room = room }
+-- what is asked before it: of the pairs, and then whether their text fits
+abbrev pub writeNo : List Pair → ℕ → ℕ
+writeNo ps room = thenNo (firstNo writeRows ps) (pick (leb (length (writtenAll ps)) room) 0 27)

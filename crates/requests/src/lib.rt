@@ -5,10 +5,9 @@ ghost use Prim.Native.Nat.{_≤_};
 ghost use lib.ListN.{length};
 ghost use Rattle.format.specs.Bytes.{classTable, isSome};
 ghost use Rattle.format.specs.Limits.{fileBytes};
-ghost use Rattle.format.specs.Questions.{firstNo};
-ghost use Rattle.format.specs.Calls.{writeRows, writeAnswer};
+ghost use Rattle.format.specs.Calls.{writeAnswer};
 ghost use Rattle.requests.specs.Pairs.{pairsFrom, pairsAt};
-ghost use Rattle.requests.specs.Writes.{filledBy, writing};
+ghost use Rattle.requests.specs.Writes.{filledBy, writeNo};
 
 mod fields;
 mod kinds;
@@ -34,7 +33,7 @@ fn refusal(table: &[u8; 256], req: &[u8], from: usize, room: usize) -> u32
     requires { ⌜ now table ≡ classTable ⌝ }
     requires { ⌜ (length (now req) ≤ fileBytes) × (from ≤ length (now req)) ⌝ }
     requires { ⌜ isSome (pairsFrom (now req) from) ≡ true ⌝ }
-    ensures { λ r. ⌜ r ≡ firstNo writeRows (writing (pairsAt (now (req .entry)) from) room) ⌝ }
+    ensures { λ r. ⌜ r ≡ writeNo (pairsAt (now (req .entry)) from) room ⌝ }
 {
     let w = weigh(table, req, from);
     let Weighed::Sums { len, count } = w else {

@@ -7,9 +7,9 @@ use mathlib.Core.List.{List, [], _∷_}
 use lib.Dec.{leb}
 use lib.ListN.{length}
 use borrow.Author.Tests.{leb-true, le-leb}
-use Rattle.format.specs.Bytes.{Bytes, text, all, same}
+use Rattle.format.specs.Bytes.{Bytes, text, all, same, pick}
 use Rattle.format.specs.Records.{Field, Record}
-use Rattle.format.specs.Sets.{keepIf, valuesOf}
+use Rattle.format.specs.Sets.{valuesOf}
 use Rattle.format.specs.Limits.{valueBytes, typedefs, typeFields, listWords}
 use Rattle.format.specs.Rules.{mandatory, prohibited, allowed, unique}
 use Rattle.format.specs.Questions.{fitsField, fitsRecord, fitsRules}
@@ -27,7 +27,7 @@ module _ (m : ℕ) (room : valueBytes ≤ m) where
   fields-fit r e =
       each-all (fieldFits m) r (each-imp (λ (f : Field). fitsField f ≡ true) (λ (f : Field). fieldFits m f ≡ true) (λ f h. value-short f h) r (all-each fitsField r (fits-fields r e)))
 
-  keep-fit : (b : Bool) (v : Bytes) (vs : List Bytes) → fits m v ≡ true → all (fits m) vs ≡ true → all (fits m) (keepIf b v vs) ≡ true
+  keep-fit : (b : Bool) (v : Bytes) (vs : List Bytes) → fits m v ≡ true → all (fits m) vs ≡ true → all (fits m) (pick b (v ∷ vs) vs) ≡ true
   keep-fit true v vs h k = and-eq-true-iff (fits m v) (all (fits m) vs) .1 (h, k)
   keep-fit false v vs h k = k
 

@@ -6,22 +6,25 @@ use mathlib.Core.Bool.{Bool, true, false, _&&_}
 use mathlib.Core.List.{List, [], _∷_, _++_, append-nil, append-assoc, map}
 use lib.Dec.{eqb}
 use lib.ListN.{length, take, drop}
+use Rattle.format.specs.Pieces.{readOf}
+use Rattle.format.proofs.Records.{records, sets-records}
+use Rattle.format.specs.Plain.{membersAt}
 use Rattle.format.specs.Lists.{flat}
 use Rattle.format.specs.Bytes.{Bytes, text, pick, all}
-use Rattle.format.specs.Records.{Record, records}
+use Rattle.format.specs.Records.{Record}
 use Rattle.format.specs.Limits.{valueBytes}
 use Rattle.format.specs.Numbers.{intBounds}
 use Rattle.format.specs.Words.{words}
 use Rattle.format.specs.Rules.{typeRules, isTyped, isWellFormed, distinct, sizeRule, meetsSize}
 use Rattle.format.specs.Questions.{Row, firstNo, fitsRecord, allTyped, keysOf, sizeMet}
-use Rattle.format.specs.Sets.{RecSet, valuesOf, setsOf}
+use Rattle.format.specs.Sets.{RecSet, valuesOf}
 use Rattle.format.proofs.Elements.{Each, all-each, each-all, each-imp}
 use Rattle.format.proofs.Lines.{all-append}
 use Rattle.format.proofs.Least.{least, leasts, eachOf, first-leasts, first-append}
 use Rattle.format.proofs.Judging.{recordRows, recordNo, wholeRows, setNo}
 use Rattle.format.proofs.Walking.{ruled, before-members}
 use Rattle.records.specs.Places.{isReadable, placesOf, countBefore}
-use Rattle.records.specs.Walk.{readOf, recordIn}
+use Rattle.records.specs.Walk.{recordIn}
 use Rattle.records.specs.declared.Place.{Place}
 use Rattle.records.proofs.Searches.{placesAt, Met}
 use Rattle.records.proofs.Members.{count-sets}
@@ -102,8 +105,7 @@ module _ (rules : Record) (w : isWellFormed intBounds rules ≡ true) (ms : List
     set-whole h k g = g ∙ sym (set-by 0 (typed-by ∙ ap (λ (b : Bool). pick b 0 12) h))
 
 pub count-members : (s : Bytes) → countBefore (placesOf s) ≡ length (membersIn s)
-unfolding setsOf
-count-members s = count-sets s ∙ ap (λ (ms : List Record). length ms) (before-members (records (readOf s)))
+count-members s = count-sets s ∙ ap (λ (ss : List RecSet). length (membersAt 0 ss)) (sets-records (readOf s)) ∙ ap (λ (ms : List Record). length ms) (before-members (records (readOf s)))
 
 -- The walk over the members of a part: worst is the least number of those before byte i, and the front up to there holds their fields.
 pub record Walked (f : Record → ℕ) (s : Bytes) (worst i : ℕ) : Type 0 where

@@ -10,9 +10,9 @@ use lib.Seq.{drop-drop}
 use borrow.Author.Tests.{eqb-false}
 use Rattle.format.specs.Bytes.{Bytes, pick, same}
 use Rattle.format.specs.Lines.{Line, bytes}
-use Rattle.format.specs.Pieces.{Piece}
+use Rattle.format.specs.Pieces.{Piece, readOf}
 use Rattle.format.specs.Records.{countOf}
-use Rattle.format.specs.Sets.{keepIf, valuesOf}
+use Rattle.format.specs.Sets.{valuesOf}
 use Rattle.format.proofs.Whole.{Sound}
 use Rattle.format.proofs.Listing.{same-swap}
 use Rattle.format.proofs.Renaming.{sound-starts}
@@ -20,7 +20,7 @@ use Rattle.lines.specs.Piece.{valueAt}
 use Rattle.lines.specs.Value.{valueFrom}
 use Rattle.lines.proofs.Values.{field-value-among}
 use Rattle.records.specs.Places.{isReadable, headLine}
-use Rattle.records.specs.Walk.{readOf, recordIn}
+use Rattle.records.specs.Walk.{recordIn}
 use Rattle.records.proofs.Readings.{Reads, readable-reads}
 use Rattle.records.proofs.Steps.{FieldAt, record-field}
 use Rattle.setkeys.specs.Keyed.{firstOf}
@@ -45,14 +45,14 @@ value-here t n v (l ∷ own) ps r =
     (field-value-among n v l own ps (r .sound) ∙ ap (λ (x : Bytes). valueFrom (drop (valueAt (length n) l) x)) (r .all), value-inside n v l own (r .sound .0))
 
 module _ (w s : Bytes) (i n v k : ℕ) (f : FieldAt s i n v k) (hit : Bool) (h : hit ≡ same (take ((i + n) - i) (drop i s)) w) where
-  values-by : valuesOf w (recordIn (drop i s)) ≡ keepIf hit (f .value) (valuesOf w (recordIn (drop (i + k) s)))
+  values-by : valuesOf w (recordIn (drop i s)) ≡ pick hit (f .value ∷ (valuesOf w (recordIn (drop (i + k) s)))) (valuesOf w (recordIn (drop (i + k) s)))
   values-by =
       ap (valuesOf w) (record-field s i n v k f)
-      ∙ (λ j. keepIf (sym (h ∙ same-swap (take ((i + n) - i) (drop i s)) w) j) (f .decodes j) (valuesOf w (recordIn (drop (i + k) s))))
+      ∙ (λ j. pick (sym (h ∙ same-swap (take ((i + n) - i) (drop i s)) w) j) (f .decodes j ∷ (valuesOf w (recordIn (drop (i + k) s)))) (valuesOf w (recordIn (drop (i + k) s))))
 
   -- a field of another name is passed
   pub values-other : hit ≡ false → valuesOf w (recordIn (drop i s)) ≡ valuesOf w (recordIn (drop (i + k) s))
-  values-other e = values-by ∙ ap (λ (b : Bool). keepIf b (f .value) (valuesOf w (recordIn (drop (i + k) s)))) e
+  values-other e = values-by ∙ ap (λ (b : Bool). pick b (f .value ∷ (valuesOf w (recordIn (drop (i + k) s)))) (valuesOf w (recordIn (drop (i + k) s)))) e
 
   -- the value of a field of that name is the first, and begins inside the part
   pub first-here : isReadable (drop i s) ≡ true → hit ≡ true → (i + v < length s) × (firstOf (valuesOf w (recordIn (drop i s))) ≡ valueFrom (drop (i + v) s))
@@ -60,5 +60,5 @@ module _ (w s : Bytes) (i n v k : ℕ) (f : FieldAt s i n v k) (hit : Bool) (h :
       let t : Bytes = drop i s in
       let p = value-here t (f .name) (f .value) (f .own) (readOf (drop (i + k) s)) (subst (Reads t) (f .passed .reads) (readable-reads t r)) in
       let first : firstOf (valuesOf w (recordIn t)) ≡ f .value =
-      ap firstOf (values-by ∙ ap (λ (b : Bool). keepIf b (f .value) (valuesOf w (recordIn (drop (i + k) s)))) e) in
+      ap firstOf (values-by ∙ ap (λ (b : Bool). pick b (f .value ∷ (valuesOf w (recordIn (drop (i + k) s)))) (valuesOf w (recordIn (drop (i + k) s)))) e) in
       (omega (arith, p .1, f .begins, f .passed .size, f .passed .inside), first ∙ p .0 ∙ ap (λ (j : ℕ). valueFrom (drop j t)) (sym (f .begins)) ∙ ap valueFrom (drop-drop v i s))

@@ -5,9 +5,9 @@ use mathlib.Core.Path.{_≡_, refl, sym, ap, _∙_, subst}
 use mathlib.Core.Bool.{Bool, true, false}
 use mathlib.Core.List.{List, [], _∷_, _++_}
 use lib.ListN.{length, drop}
-use Rattle.format.specs.Bytes.{Bytes, same}
+use Rattle.format.specs.Bytes.{Bytes, same, pick}
 use Rattle.format.specs.Records.{Record}
-use Rattle.format.specs.Sets.{keepIf, valuesOf}
+use Rattle.format.specs.Sets.{valuesOf}
 use Rattle.format.specs.Questions.{occurrences}
 use Rattle.records.specs.Walk.{recordIn}
 use Rattle.records.specs.declared.Place.{Place}
@@ -15,7 +15,7 @@ use Rattle.records.proofs.Searches.{Met}
 use Rattle.records.proofs.Cuts.{members-more, fields-met}
 use Rattle.setkeys.specs.Keyed.{firstOf, membersIn, HasOnce, valuesAt}
 
-values-if : (b : Bool) (x : Bytes) (xs ys zs : List Bytes) → zs ≡ xs ++ ys → keepIf b x zs ≡ keepIf b x xs ++ ys
+values-if : (b : Bool) (x : Bytes) (xs ys zs : List Bytes) → zs ≡ xs ++ ys → pick b (x ∷ zs) zs ≡ pick b (x ∷ xs) xs ++ ys
 values-if true x xs ys zs e = ap {B = List Bytes} (λ y. x ∷ y) e
 values-if false x xs ys zs e = e
 

@@ -12,7 +12,7 @@ use Rattle.format.specs.Words.{words}
 use Rattle.format.specs.Lines.{isName}
 use Rattle.format.specs.Numbers.{Bounds}
 use Rattle.format.specs.Records.{Field, Record}
-use Rattle.format.specs.Sets.{keepIf, valuesOf}
+use Rattle.format.specs.Sets.{valuesOf}
 use Rattle.format.specs.Rules.{listed, key, one, isShaped, isWellFormed}
 use Rattle.format.specs.Questions.{occurrences, keysOf}
 use Rattle.format.proofs.Elements.{Each, all-each}
@@ -27,7 +27,7 @@ use Rattle.setkeys.specs.Keyed.{wordIn, HasOnce, HaveKeys, FirstKey, val
 words-none : (es : List Entry) → ((j : ℕ) → j < length es → entryAt es j .list ≡ 5 → ⊥) → wordsOf 5 es ≡ []
 words-none [] h = refl
 words-none (e ∷ es) h =
-    ap (λ (b : Bool). keepIf b (e .word) (wordsOf 5 es)) (ne-eqb (e .list) 5 (h 0 (omega arith))) ∙ words-none es (λ j l. h (suc j) (omega arith))
+    ap (λ (b : Bool). pick b (e .word ∷ wordsOf 5 es) (wordsOf 5 es)) (ne-eqb (e .list) 5 (h 0 (omega arith))) ∙ words-none es (λ j l. h (suc j) (omega arith))
 
 words-one : (ws vs : List Bytes) (w : Bytes) → ws ≡ w ∷ vs → length ws ≤ 1 → ws ≡ w ∷ []
 words-one ws [] w e h = e
@@ -35,9 +35,9 @@ words-one ws (v ∷ vs) w e h = absurd (let z : _≤_ (suc (suc (length vs))) 1 
 
 words-first : (es : List Entry) (k : ℕ) → k < length es → ((j : ℕ) → j < k → entryAt es j .list ≡ 5 → ⊥) → entryAt es k .list ≡ 5 → length (wordsOf 5 es) ≤ 1 → wordsOf 5 es ≡ entryAt es k .word ∷ []
 words-first [] k l h e o = absurd (omega arith)
-words-first (x ∷ es) zero l h e o = words-one (wordsOf 5 (x ∷ es)) (wordsOf 5 es) (x .word) (ap (λ (b : Bool). keepIf b (x .word) (wordsOf 5 es)) (eq-eqb (x .list) 5 e)) o
+words-first (x ∷ es) zero l h e o = words-one (wordsOf 5 (x ∷ es)) (wordsOf 5 es) (x .word) (ap (λ (b : Bool). pick b (x .word ∷ wordsOf 5 es) (wordsOf 5 es)) (eq-eqb (x .list) 5 e)) o
 words-first (x ∷ es) (suc k) l h e o =
-    let q : wordsOf 5 (x ∷ es) ≡ wordsOf 5 es = ap (λ (b : Bool). keepIf b (x .word) (wordsOf 5 es)) (ne-eqb (x .list) 5 (h 0 (omega arith))) in
+    let q : wordsOf 5 (x ∷ es) ≡ wordsOf 5 es = ap (λ (b : Bool). pick b (x .word ∷ wordsOf 5 es) (wordsOf 5 es)) (ne-eqb (x .list) 5 (h 0 (omega arith))) in
     q ∙ words-first es k (omega arith) (λ j m. h (suc j) (omega arith)) e (subst (λ (ws : List Bytes). length ws ≤ 1) q o)
 
 -- what the tables say of the key
@@ -83,7 +83,7 @@ one-word p [] e = omega arith
 one-word p (w ∷ []) e = omega arith
 one-word p (w ∷ v ∷ ws) e = absurd (false≢true e)
 
-key-by : (t : Bool) (v : Bytes) (vs ws : List Bytes) → (t ≡ true → length (words v) ≤ 1) → length ws ≤ length vs → length (pick t (words v) [] ++ ws) ≤ length (keepIf t v vs)
+key-by : (t : Bool) (v : Bytes) (vs ws : List Bytes) → (t ≡ true → length (words v) ≤ 1) → length ws ≤ length vs → length (pick t (words v) [] ++ ws) ≤ length (pick t (v ∷ vs) vs)
 key-by true v vs ws h l = omega (arith, length-append (words v) ws, h refl)
 key-by false v vs ws h l = l
 

@@ -5,16 +5,17 @@ use mathlib.Core.Path.{_≡_, refl, ap, _∙_}
 use mathlib.Core.Bool.{Bool, true, false, false≢true}
 use mathlib.Core.List.{List, [], _∷_}
 use lib.ListN.{length, length-append}
+use Rattle.format.proofs.Records.{recordsIn, records}
+use Rattle.format.specs.Lists.{onto}
 use Rattle.format.specs.Bytes.{Bytes, pick}
 use Rattle.format.specs.Lines.{Line, bytes, isName}
-use Rattle.format.specs.Pieces.{Piece}
-use Rattle.format.specs.Records.{Record, Block, onto, blocks, countOf, recordsIn, records}
+use Rattle.format.specs.Pieces.{Piece, readOf}
+use Rattle.format.specs.Records.{Record, Block, blocks, countOf}
 use Rattle.format.proofs.Elements.{Each}
 use Rattle.format.proofs.Whole.{Sound}
 use Rattle.format.proofs.Renaming.{sound-name, sound-starts}
 use Rattle.format.proofs.Walking.{isHead, before}
 use Rattle.records.specs.Places.{isReadable, sizeIn}
-use Rattle.records.specs.Walk.{readOf}
 use Rattle.records.proofs.Readings.{readable-reads, reads-length}
 use Rattle.records.proofs.Walks.{size-piece}
 use Rattle.setkeys.specs.Keyed.{membersIn}

@@ -3,17 +3,18 @@ use Prim.Native.Nat.{ℕ, _≤_, _<_}
 use mathlib.Core.Path.{_≡_}
 use mathlib.Core.List.{List, [], _∷_, map}
 use lib.ListN.{length, take, getD}
-use Rattle.format.specs.Lists.{flat}
+use Rattle.format.specs.Pieces.{readOf}
+use Rattle.format.proofs.Records.{records}
+use Rattle.format.specs.Lists.{flat, front}
 use Rattle.format.specs.Bytes.{Bytes}
-use Rattle.format.specs.Words.{notGap, front}
-use Rattle.format.specs.Records.{Record, records}
+use Rattle.format.specs.Words.{notGap}
+use Rattle.format.specs.Records.{Record}
 use Rattle.format.specs.Sets.{valuesOf}
 use Rattle.format.specs.Rules.{key}
 use Rattle.format.specs.Questions.{occurrences}
 use Rattle.format.proofs.Elements.{Each}
 use Rattle.format.proofs.Walking.{before}
 use Rattle.lines.specs.Value.{valueFrom}
-use Rattle.records.specs.Walk.{readOf}
 use Rattle.keys.specs.Keys.{Entries, keysOf}
 
 -- the word that a value begins with

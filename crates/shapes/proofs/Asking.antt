@@ -5,9 +5,10 @@ use mathlib.Core.Bool.{Bool, true, false, _&&_, _||_, not, or-false}
 use mathlib.Core.List.{List, [], _∷_}
 use lib.ListN.{getD}
 use borrow.Author.Tests.{eq-eqb, ne-eqb}
+use Rattle.format.specs.Lines.{isSpecial}
 use Rattle.format.specs.Bytes.{Bytes, text, any, same}
 use Rattle.format.specs.Numbers.{intBounds}
-use Rattle.format.specs.Rules.{Shape, shapes, isSpecial}
+use Rattle.format.specs.Rules.{Shape, shapes}
 use Rattle.format.proofs.Elements.{Each}
 use Rattle.format.proofs.Listing.{same-true}
 use Rattle.shapes.specs.Contents.{holds, Asks}

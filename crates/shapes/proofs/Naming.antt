@@ -7,17 +7,17 @@ use mathlib.Core.Bool.{true}
 use mathlib.Core.List.{List, [], _∷_, _++_}
 use lib.ListN.{length, take, drop, getD, set, length-drop, length-take, take-append-drop}
 use lib.Seq.{drop-cons, drop-drop, take-suc-set, take-append-le, drop-append-le, length-take-le}
+use Rattle.format.specs.Pieces.{readOf}
+use Rattle.format.specs.Lists.{front}
 use Rattle.format.specs.Bytes.{Bytes, text}
-use Rattle.format.specs.Calls.{valueAt as valueNumber}
 use Rattle.format.specs.Limits.{valueBytes}
 use Rattle.format.specs.Questions.{fitsRecord}
 use Rattle.format.specs.Records.{fieldsOf}
 use Rattle.format.specs.Sets.{valuesOf}
-use Rattle.format.specs.Words.{isGap, notGap, front, firstWord}
+use Rattle.format.specs.Words.{isGap, notGap, firstWord}
 use Rattle.format.proofs.Walking.{nameIn, headName}
 use Rattle.lines.specs.Value.{valueFrom}
 use Rattle.lines.proofs.Decoding.{nothing-at}
-use Rattle.records.specs.Walk.{readOf}
 use Rattle.records.proofs.Fields.{FieldFound}
 use Rattle.words.specs.Spans.{span, runEnd}
 use Rattle.words.proofs.Finding.{front-at, behind-at}
@@ -103,7 +103,7 @@ module _ (s : Bytes) (bs es : List ℕ) (n b e : ℕ) (fits : n < length bs) (ro
 
 -- The name of a descriptor is the first word of the first `%rec` value.
 
-name-first : (w : Bytes) (vs : List Bytes) → 0 < length vs → w ≡ valueNumber 0 vs → firstWord w ≡ nameIn vs
+name-first : (w : Bytes) (vs : List Bytes) → 0 < length vs → w ≡ getD vs 0 [] → firstWord w ≡ nameIn vs
 name-first w [] h e = absurd (omega arith)
 name-first w (v ∷ vs) h e = ap firstWord e
 

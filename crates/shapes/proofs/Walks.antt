@@ -5,14 +5,15 @@ use mathlib.Core.Path.{_≡_, sym, ap, _∙_, subst}
 use mathlib.Core.Bool.{Bool, true, false}
 use mathlib.Core.List.{List, []}
 use lib.ListN.{length, take, drop, set, length-set}
+use Rattle.format.specs.Pieces.{readOf}
+use Rattle.format.proofs.Records.{records}
 use Rattle.format.specs.Bytes.{Bytes, pick, all}
 use Rattle.format.specs.Limits.{descriptors}
 use Rattle.format.specs.Numbers.{intBounds}
 use Rattle.format.specs.Questions.{fitsRecord}
-use Rattle.format.specs.Records.{records, fieldsOf}
+use Rattle.format.specs.Records.{fieldsOf}
 use Rattle.format.proofs.Walking.{isHead, heads, walkFits, walkWell}
 use Rattle.records.specs.Places.{isReadable}
-use Rattle.records.specs.Walk.{readOf}
 use Rattle.records.specs.declared.Place.{Place}
 use Rattle.records.proofs.Readings.{reads-readable}
 use Rattle.records.proofs.Searches.{placesAt, Met}

@@ -4,6 +4,7 @@ use mathlib.Core.Path.{_≡_}
 use mathlib.Core.Bool.{Bool, true, false, _&&_, not}
 use mathlib.Core.List.{List, [], _∷_}
 use lib.ListN.{length}
+use Rattle.format.specs.Pieces.{readOf}
 use Rattle.format.specs.Bytes.{Bytes, among}
 use Rattle.format.specs.Numbers.{intBounds}
 use Rattle.format.specs.Records.{Record, fieldsOf}
@@ -13,7 +14,6 @@ use Rattle.format.specs.Rules.{isWellFormed}
 use Rattle.format.specs.Words.{firstWord}
 use Rattle.format.proofs.Walking.{headName}
 use Rattle.lines.specs.Value.{valueFrom}
-use Rattle.records.specs.Walk.{readOf}
 use Rattle.words.specs.Spans.{span}
 use Rattle.words.specs.declared.Span.{Span}
 use Rattle.shapes.specs.declared.Head.{Head}

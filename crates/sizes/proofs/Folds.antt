@@ -2,9 +2,9 @@
 use mathlib.Core.Path.{_≡_, refl, sym, ap, _∙_}
 use mathlib.Core.Bool.{Bool, true, false, _&&_, _||_, not, and-eq-true-iff}
 use mathlib.Core.List.{List, [], _∷_}
-use Rattle.format.specs.Bytes.{Bytes, all, same}
+use Rattle.format.specs.Bytes.{Bytes, all, same, pick}
 use Rattle.format.specs.Records.{Field, Record}
-use Rattle.format.specs.Sets.{keepIf, valuesOf}
+use Rattle.format.specs.Sets.{valuesOf}
 
 module _ {A : Type 0} (p : A → Bool) (xs : List A) (x : A) (ys : List A) (e : xs ≡ x ∷ ys) where
   pub all-more : p x ≡ true → all p xs ≡ all p ys
@@ -17,7 +17,7 @@ module _ {A : Type 0} (p : A → Bool) (xs : List A) (x : A) (ys : List A) (e : 
   all-both h = and-eq-true-iff (p x) (all p ys) .0 (sym (ap (all p) e) ∙ h)
 
 -- the values of one name
-values-by : (q : Bytes → Bool) (t : Bool) (v : Bytes) (vs : List Bytes) → all q (keepIf t v vs) ≡ ((not t || q v) && all q vs)
+values-by : (q : Bytes → Bool) (t : Bool) (v : Bytes) (vs : List Bytes) → all q (pick t (v ∷ vs) vs) ≡ ((not t || q v) && all q vs)
 values-by q true v vs = refl
 values-by q false v vs = refl
 

@@ -6,18 +6,18 @@ use lib.Dec.{leb, ltb, eqb}
 use Rattle.format.specs.Bytes.{Bytes, text, same}
 use Rattle.format.specs.Numbers.{intBounds}
 use Rattle.format.specs.Records.{Field}
-use Rattle.format.specs.Rules.{Size, sizeRule, meetsSize}
+use Rattle.format.specs.Rules.{sizeRule, meetsSize}
 use Rattle.format.specs.Words.{words}
 use Rattle.sizes.specs.declared.SizeRule.{SizeRule}
 
--- the definitions' size for each case
-abbrev pub sizeAnswer : SizeRule → Option Size
+-- the definitions' test of a record count for each case
+abbrev pub sizeAnswer : SizeRule → Option (ℕ → Bool)
 sizeAnswer SizeRule.None = none
-sizeAnswer (SizeRule.Exactly k) = some (record { order = λ m n. eqb m n; number = k })
-sizeAnswer (SizeRule.Below k) = some (record { order = λ m n. ltb m n; number = k })
-sizeAnswer (SizeRule.AtMost k) = some (record { order = λ m n. leb m n; number = k })
-sizeAnswer (SizeRule.Above k) = some (record { order = λ m n. ltb n m; number = k })
-sizeAnswer (SizeRule.AtLeast k) = some (record { order = λ m n. leb n m; number = k })
+sizeAnswer (SizeRule.Exactly k) = some (λ m. eqb m k)
+sizeAnswer (SizeRule.Below k) = some (λ m. ltb m k)
+sizeAnswer (SizeRule.AtMost k) = some (λ m. leb m k)
+sizeAnswer (SizeRule.Above k) = some (λ m. ltb k m)
+sizeAnswer (SizeRule.AtLeast k) = some (λ m. leb k m)
 
 abbrev pub fieldOf : Bytes → Bytes → ℕ → Field
 fieldOf n v k = record { name = n; value = v; count = k }

@@ -6,7 +6,7 @@ use mathlib.Core.Bool.{Bool, true, false}
 use mathlib.Core.List.{List, [], _∷_, map}
 use mathlib.Core.Option.{Option, none, some}
 use denote.Enum.Declared.{tagOf}
-use lib.ListN.{length}
+use lib.ListN.{length, getD}
 use types.Run.{OneOf, miss}
 use Rattle.format.specs.Lists.{onward}
 use Rattle.format.specs.Bytes.{Bytes, text, all, isSome}
@@ -14,7 +14,6 @@ use Rattle.format.specs.Words.{firstWord, afterWord}
 use Rattle.format.specs.Numbers.{intBounds}
 use Rattle.format.specs.Types.{Kind, Typed, Typedef, typeOf, kindOf}
 use Rattle.format.specs.Rules.{endKind}
-use Rattle.format.specs.Calls.{valueAt}
 use Rattle.lines.specs.Value.{valueFrom}
 use Rattle.words.specs.Spans.{span}
 use Rattle.types.specs.Meaning.{typedIn, Sound, Told, meetsTyped, meetsIn}
@@ -36,7 +35,7 @@ use Rattle.typed.specs.Rules.{typeText, ShapeOf, ReadAt, KindOf}
 use Rattle.typed.specs.declared.Typedef.{Typedef as Row}
 
 -- the type of a number, by its value
-pub number-value : (vs : List Bytes) (j : ℕ) (w : Bytes) → j < length vs → w ≡ valueAt j vs → typeNumber vs j ≡ typeOf intBounds (afterWord w)
+pub number-value : (vs : List Bytes) (j : ℕ) (w : Bytes) → j < length vs → w ≡ getD vs j [] → typeNumber vs j ≡ typeOf intBounds (afterWord w)
 number-value [] j w h e = absurd (omega arith)
 number-value (v ∷ vs) zero w h e = ap (λ (x : Bytes). typeOf intBounds (afterWord x)) (sym e)
 number-value (v ∷ vs) (suc j) w h e = number-value vs j w (omega arith) e
@@ -46,7 +45,7 @@ number-none [] j h = refl
 number-none (v ∷ vs) zero h = absurd (omega arith)
 number-none (v ∷ vs) (suc j) h = number-none vs j (omega arith)
 
-pub fit-number : (m : ℕ) (vs : List Bytes) (j : ℕ) (w : Bytes) → all (fits m) vs ≡ true → j < length vs → w ≡ valueAt j vs → length w ≤ m
+pub fit-number : (m : ℕ) (vs : List Bytes) (j : ℕ) (w : Bytes) → all (fits m) vs ≡ true → j < length vs → w ≡ getD vs j [] → length w ≤ m
 fit-number m [] j w h l e = absurd (omega arith)
 fit-number m (v ∷ vs) zero w h l e = let f = fit-here m (v ∷ vs) v vs h refl in omega (arith, f .0, ap length e)
 fit-number m (v ∷ vs) (suc j) w h l e = fit-number m vs j w (fit-here m (v ∷ vs) v vs h refl .1) (omega arith) e

@@ -4,15 +4,15 @@ use native.Mathlib.Omega.{arith}
 use mathlib.Core.Path.{_≡_, refl, sym, ap, _∙_}
 use mathlib.Core.Bool.{Bool, true, false, _&&_, _||_, not}
 use mathlib.Core.List.{List, [], _∷_, _++_, map}
-use mathlib.Core.Option.{Option, none, some}
+use mathlib.Core.Option.{Option, none, some, Option·map}
 use lib.ListN.{length, drop, getD, drop-of-length-le}
 use lib.Seq.{drop-cons}
-use Rattle.format.specs.Lists.{flat}
+use Rattle.format.specs.Lists.{keep, kept}
 use Rattle.format.specs.Bytes.{Bytes, all, among, same}
 use Rattle.format.specs.Numbers.{intBounds}
 use Rattle.format.specs.Types.{Kind, Typedef}
 use Rattle.format.specs.Records.{Field, Record}
-use Rattle.format.specs.Rules.{TypeRule, typedNames, typeRuleBy, endKind, isTyped, typeRules}
+use Rattle.format.specs.Rules.{TypeRule, typedNames, typeRuleOf, endKind, isTyped, typeRules}
 use Rattle.format.proofs.Elements.{all-alike, all-yes}
 use Rattle.lines.specs.Value.{valueFrom}
 use Rattle.records.proofs.Steps.{drop-take}
@@ -28,14 +28,14 @@ or-true false = refl
 
 module _ (ds : List Typedef) (f : Field) where
   rules-met : (ws : List Bytes)
-      → isTyped intBounds (flat (map (λ (w : Bytes). typeRuleBy (typedNames w) (endKind intBounds ds w)) ws)) f ≡ all (ruleMet ds (f .name) (f .value)) ws
+      → isTyped intBounds (kept (typeRuleOf intBounds ds) ws) f ≡ all (ruleMet ds (f .name) (f .value)) ws
   rules-met [] = refl
   rules-met (w ∷ ws) = go (endKind intBounds ds w) (rules-met ws)
     where
       rest : List TypeRule
-      rest = flat (map (λ (u : Bytes). typeRuleBy (typedNames u) (endKind intBounds ds u)) ws)
+      rest = kept (typeRuleOf intBounds ds) ws
 
-      go : (x : Option Kind) → isTyped intBounds rest f ≡ all (ruleMet ds (f .name) (f .value)) ws → isTyped intBounds (typeRuleBy (typedNames w) x ++ rest) f ≡ ((not (among (f .name) (typedNames w)) || meetsKind x (f .value)) && all (ruleMet ds (f .name) (f .value)) ws)
+      go : (x : Option Kind) → isTyped intBounds rest f ≡ all (ruleMet ds (f .name) (f .value)) ws → isTyped intBounds (keep (Option·map (λ (k : Kind). record { names = typedNames w; kind = k }) x) rest) f ≡ ((not (among (f .name) (typedNames w)) || meetsKind x (f .value)) && all (ruleMet ds (f .name) (f .value)) ws)
       go none ih = ih ∙ sym (ap (λ (b : Bool). b && all (ruleMet ds (f .name) (f .value)) ws) (or-true (not (among (f .name) (typedNames w)))))
       go (some k) ih = ap (λ (b : Bool). (not (among (f .name) (typedNames w)) || meetsKind (some k) (f .value)) && b) ih
 

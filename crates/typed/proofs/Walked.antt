@@ -9,7 +9,7 @@ use lib.Dec.{leb}
 use lib.ListN.{length, drop}
 use Rattle.format.specs.Bytes.{Bytes, all, same}
 use Rattle.format.specs.Lines.{isName}
-use Rattle.format.specs.Pieces.{Piece}
+use Rattle.format.specs.Pieces.{Piece, readOf}
 use Rattle.format.specs.Records.{Field, Record, fieldsOf}
 use Rattle.format.proofs.Elements.{Each, all-alike, all-both, all-yes}
 use Rattle.format.proofs.Renaming.{sound-name}
@@ -17,7 +17,6 @@ use Rattle.format.proofs.Whole.{Sound}
 use Rattle.lines.specs.Value.{valueFrom}
 use Rattle.words.specs.Spans.{span}
 use Rattle.records.specs.Places.{isReadable}
-use Rattle.records.specs.Walk.{readOf}
 use Rattle.records.proofs.Readings.{readable-reads}
 use Rattle.names.specs.Names.{nameFrom}
 use Rattle.names.specs.Entries.{Entry, entriesIn}

@@ -6,7 +6,7 @@ use mathlib.Core.List.{List, [], _∷_, map}
 use mathlib.Core.Option.{Option, none, some}
 use lib.Dec.{leb}
 use lib.ListN.{length}
-use Rattle.format.specs.Lists.{flat}
+use Rattle.format.specs.Lists.{kept}
 use Rattle.format.specs.Bytes.{Bytes, text, all, among, isSome}
 use Rattle.format.specs.Records.{Field}
 use Rattle.format.specs.Words.{firstWord, afterWord}
@@ -28,7 +28,7 @@ typeNumber (v ∷ vs) zero = typeOf intBounds (afterWord v)
 typeNumber (v ∷ vs) (suc j) = typeNumber vs j
 
 abbrev pub defsFrom : Bytes → List Typedef
-defsFrom d = flat (map (typedefOf intBounds) (valuesFrom d (text "%typedef") 0))
+defsFrom d = kept (typedefOf intBounds) (valuesFrom d (text "%typedef") 0)
 
 -- the values of the `%type` fields
 abbrev pub typesFrom : Bytes → List Bytes

@@ -1,21 +1,21 @@
 -- The question of the typedefs, by the code's numbers: the names are good, and every chain ends. Where some typedef has no type, neither side holds;
 -- where all have one, the definitions' typedefs are those of the values, one by one.
-use Prim.Native.Nat.{ℕ, zero, suc, _+_, _-_, _≤_, _<_}
+use Prim.Native.Nat.{ℕ, zero, suc, _-_, _≤_, _<_}
 use native.Mathlib.Omega.{arith}
 use mathlib.Core.Path.{_≡_, refl, sym, ap, _∙_}
 use mathlib.Core.Bool.{Bool, true, false, _&&_, not, and-false}
-use mathlib.Core.List.{List, [], _∷_, _++_, map}
-use mathlib.Core.Option.{Option, none, some}
+use mathlib.Core.List.{List, [], _∷_, map}
+use mathlib.Core.Option.{Option, none, some, Option·map}
 use borrow.Author.Tests.{leb-true, le-leb, ne-eqb}
 use lib.Dec.{leb}
 use lib.ListN.{length, drop, getD}
 use lib.Seq.{drop-nil}
-use Rattle.format.specs.Lists.{onward, flat}
+use Rattle.format.specs.Lists.{onward, keep, kept}
 use Rattle.format.specs.Bytes.{Bytes, pick, all, among, upFrom, isSome}
 use Rattle.format.specs.Words.{firstWord, afterWord}
 use Rattle.format.specs.Numbers.{intBounds}
 use Rattle.format.specs.Types.{Kind, Typed, Typedef, typeOf, follow, kindOf}
-use Rattle.format.specs.Rules.{typedefOf, endKind, isTypedefName, distinct, defines}
+use Rattle.format.specs.Rules.{typedefOf, endKind, isTypedefName, distinct}
 use Rattle.typedefs.specs.Targets.{indexFrom, targetBy, targetIn, followOf, isEnd, endsIn, leads, goodNames, areDefined}
 use Rattle.typedefs.proofs.Chains.{chain-missing, chain-loop, chain-on}
 use Rattle.typedefs.proofs.Following.{typeAt, namesIn, targetsBy, index-most, lookup-index, follow-of, follows-end}
@@ -40,7 +40,7 @@ abbrev pub isTyped : Bytes → Bool
 isTyped v = isSome (typeOf intBounds (afterWord v))
 
 abbrev pub defsOf : List Bytes → List Typedef
-defsOf vs = flat (map (typedefOf intBounds) vs)
+defsOf vs = kept (typedefOf intBounds) vs
 
 -- values that all have a type, cut at the first
 pub record Cut (v : Bytes) (vs : List Bytes) : Type 0 where
@@ -59,7 +59,7 @@ cut-typed v vs h = go (typeOf intBounds (afterWord v)) refl
           type = t;
           is = e;
           others = sym (ap (λ (x : Option Typed). isSome x && all isTyped vs) e) ∙ h;
-          defs = ap (λ (x : Option Typed). defines (firstWord v) x ++ defsOf vs) e;
+          defs = ap (λ (x : Option Typed). keep (Option·map (λ (u : Typed). record { name = firstWord v; type = u }) x) (defsOf vs)) e;
         }
 
 pub names-defs : (vs : List Bytes) → all isTyped vs ≡ true → namesIn (defsOf vs) ≡ map firstWord vs

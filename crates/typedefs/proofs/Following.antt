@@ -8,7 +8,7 @@ use mathlib.Core.Option.{Option, none, some, Option·none-ne-some}
 use lib.ListN.{length, getD}
 use Rattle.format.specs.Lists.{onward}
 use Rattle.format.specs.Bytes.{Bytes, pick, same, isSome}
-use Rattle.format.specs.Types.{Kind, Typed, Typedef, found, lookup, follow}
+use Rattle.format.specs.Types.{Kind, Typed, Typedef, lookup, follow}
 use Rattle.typedefs.specs.Targets.{indexFrom, targetBy, followOf, isEnd}
 use Rattle.typedefs.specs.declared.Followed.{Followed}
 use Rattle.typedefs.proofs.Chains.{chain-missing, chain-end, chain-loop, chain-on}
@@ -71,7 +71,7 @@ lookup-from at n [] h = refl
 lookup-from at n (d ∷ ds) h = go (same n (d .name)) (lookup-from (at + 1) n ds (omega arith)) (index-least (at + 1) n (namesIn ds) (omega (arith, length-names ds)))
   where
     go : (t : Bool) → lookup n ds ≡ typeAt ds (indexFrom (at + 1) n (namesIn ds) - (at + 1)) → at + 1 ≤ indexFrom (at + 1) n (namesIn ds)
-        → found t (d .type) (lookup n ds) ≡ typeAt (d ∷ ds) (pick t at (indexFrom (at + 1) n (namesIn ds)) - at)
+        → pick t (some (d .type)) (lookup n ds) ≡ typeAt (d ∷ ds) (pick t at (indexFrom (at + 1) n (namesIn ds)) - at)
     go true e l = let z : 0 ≡ at - at = omega arith in ap (typeAt (d ∷ ds)) z
     go false e l =
         let j : ℕ = indexFrom (at + 1) n (namesIn ds) in

@@ -3,9 +3,9 @@ use Prim.Native.Nat.{ℕ, _≤_}
 use native.Mathlib.Omega.{arith}
 use mathlib.Core.Path.{_≡_, ap, _∙_, subst}
 use mathlib.Core.Bool.{Bool, true, false}
-use mathlib.Core.List.{[]}
-use Rattle.format.specs.Bytes.{Bytes, same}
-use Rattle.format.specs.Sets.{keepIf, valuesOf}
+use mathlib.Core.List.{[], _∷_}
+use Rattle.format.specs.Bytes.{Bytes, same, pick}
+use Rattle.format.specs.Sets.{valuesOf}
 use Rattle.lines.specs.Value.{valueFrom}
 use Rattle.words.specs.Spans.{span}
 use Rattle.records.specs.Fields.{fieldsFrom, FieldHere}
@@ -21,8 +21,8 @@ module _ (s name : Bytes) (i : ℕ) where
   values-none e = ap (valuesOf name) e
 
   module _ (a n v e : ℕ) (f : FieldHere s i a n v e) where
-    values-by : (t : Bool) → same name (span a n s) ≡ t → valuesFrom s name i ≡ keepIf t (valueFrom (span v e s)) (valuesFrom s name e)
-    values-by t q = ap (valuesOf name) (f .fields) ∙ ap (λ (b : Bool). keepIf b (valueFrom (span v e s)) (valuesFrom s name e)) q
+    values-by : (t : Bool) → same name (span a n s) ≡ t → valuesFrom s name i ≡ pick t (valueFrom (span v e s) ∷ valuesFrom s name e) (valuesFrom s name e)
+    values-by t q = ap (valuesOf name) (f .fields) ∙ ap (λ (b : Bool). pick b (valueFrom (span v e s) ∷ valuesFrom s name e) (valuesFrom s name e)) q
 
     pub values-other : same name (span a n s) ≡ false → valuesFrom s name i ≡ valuesFrom s name e
     values-other q = values-by false q

@@ -5,7 +5,7 @@ use mathlib.Core.List.{List, [], _∷_, map}
 use mathlib.Core.Option.{Option, none, some}
 use lib.Dec.{leb, eqb}
 use lib.ListN.{length, getD}
-use Rattle.format.specs.Lists.{flat}
+use Rattle.format.specs.Lists.{kept}
 use Rattle.format.specs.Bytes.{Bytes, pick, same, among, all, isSome}
 use Rattle.format.specs.Words.{firstWord, afterWord}
 use Rattle.format.specs.Numbers.{intBounds}
@@ -59,4 +59,4 @@ goodNames (n ∷ ns) = (isTypedefName n && not (among n ns)) && goodNames ns
 abbrev pub areDefined : List Bytes → Bool
 areDefined vs =
     (all (λ (v : Bytes). isTypedefName (firstWord v)) vs && distinct (map firstWord vs))
-    && all (λ (v : Bytes). isSome (endKind intBounds (flat (map (typedefOf intBounds) vs)) v)) vs
+    && all (λ (v : Bytes). isSome (endKind intBounds (kept (typedefOf intBounds) vs) v)) vs

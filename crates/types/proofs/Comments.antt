@@ -10,10 +10,11 @@ use borrow.Author.Tests.{eqb-true, eq-eqb, ne-eqb, not-true}
 use lib.Dec.{eqb}
 use lib.ListN.{length, take, drop, getD, drop-of-length-le}
 use lib.Seq.{drop-drop, length-take-le}
-use Rattle.format.specs.Lists.{onlyIf}
+use Rattle.format.specs.Lists.{onlyIf, onward, isFilled, front, behind}
 use Rattle.format.specs.Bytes.{Bytes, pick, all, same, among}
-use Rattle.format.specs.Words.{isGap, notGap, extend, words}
-use Rattle.format.specs.Types.{Kind, Typed, consTo, blanked, inComment, uncomment, isSymbol, symbols, enumOf}
+use Rattle.format.specs.Words.{isGap, notGap, words}
+use Rattle.format.specs.Types.{Kind, Typed, consTo, uncomment, isSymbol, enumIn}
+use Rattle.format.proofs.Parts.{words-cut}
 use Rattle.lines.specs.Line.{run}
 use Rattle.lines.proofs.Cuts.{at-cons}
 use Rattle.lines.proofs.Heads.{run-more}
@@ -161,7 +162,7 @@ led-cons c (some s) e = e
 led-byte : (c : ℕ) (s : Bytes) → isPlain c ≡ false → GapLed (uncomment false (c ∷ s))
 led-byte c s e = go (eqb c 40) (eqb c 41) (isGap c) refl e
   where
-    go : (a b g : Bool) → isGap c ≡ g → (not g && not (a || b)) ≡ false → GapLed (blanked false a b c (uncomment (inComment false a b) s))
+    go : (a b g : Bool) → isGap c ≡ g → (not g && not (a || b)) ≡ false → GapLed (pick a (consTo 32 (uncomment true s)) (pick b none (consTo c (uncomment false s))))
     go true b g q e = led-cons 32 (uncomment true s) refl
     go false true g q e = tt
     go false false true q e = led-cons c (uncomment false s) q
@@ -179,14 +180,17 @@ no-gap c w e = not-true (isGap c) (plain-gap c (and-eq-true-iff (isPlain c) (all
 all-behind : (c : ℕ) (w : Bytes) → all isPlain (c ∷ w) ≡ true → all isPlain w ≡ true
 all-behind c w e = and-eq-true-iff (isPlain c) (all isPlain w) .0 e .1
 
+front-led : (w s : Bytes) → all isPlain w ≡ true → GapLed (some s) → (front notGap (w ++ s) ≡ w) × (behind notGap (w ++ s) ≡ s)
+front-led [] [] e l = (refl, refl)
+front-led [] (d ∷ s) e l = (rw l, rw l)
+front-led (c ∷ w) s e l =
+    let h = front-led w s (all-behind c w e) l in
+    (rw (no-gap c w e) (ap (λ (x : Bytes). c ∷ x) (h .0)), rw (no-gap c w e) (h .1))
+
 words-led : (w s : Bytes) (c : ℕ) → all isPlain (c ∷ w) ≡ true → GapLed (some s) → words ((c ∷ w) ++ s) ≡ (c ∷ w) ∷ words s
-words-led [] [] c e l = rw (no-gap c [] e)
-words-led [] (d ∷ s) c e l = rw (no-gap c [] e, l)
-words-led (d ∷ w) s c e l =
-    let f = all-behind c (d ∷ w) e in
-    let q : isGap d ≡ false = no-gap d w f in
-    let ih : words ((d ∷ w) ++ s) ≡ (d ∷ w) ∷ words s = words-led w s d f l in
-    rw (no-gap c (d ∷ w) e, q) (ap (extend c) (rw q at ih))
+words-led w s c e l =
+    let h = front-led w s (all-behind c w e) l in
+    words-cut c (w ++ s) (no-gap c w e) ∙ (λ i. (c ∷ h .0 i) ∷ words (h .1 i))
 
 words-onto : (w : Bytes) (o : Option Bytes) → 0 < length w → all isPlain w ≡ true → GapLed o → wordsIn (onto w o) ≡ withWord w (wordsIn o)
 words-onto [] o h e l = absurd (omega arith)
@@ -318,11 +322,11 @@ module _ (s : Bytes) (i a e : ℕ) (t : NextSymbol s i (Symbol.At a e)) where
   among-here v h r = ap (amongIn v) (t .3) ∙ among-found v (span a e s) (symbolsAt s e) h (ap areRead (sym (t .3)) ∙ r)
 
 -- an enum's symbols
-pub enum-by : (o : Option Bytes) → enumOf o ≡ onlyIf (isEnum (wordsIn o)) (Typed.kind (Kind.enum (symbolsIn o)))
+pub enum-by : (o : Option Bytes) → onward enumIn o ≡ onlyIf (isEnum (wordsIn o)) (Typed.kind (Kind.enum (symbolsIn o)))
 enum-by none = refl
 enum-by (some s) = go (words s)
   where
-    go : (ws : List Bytes) → symbols ws ≡ onlyIf (isEnum (some ws)) (Typed.kind (Kind.enum ws))
+    go : (ws : List Bytes) → onlyIf (isFilled ws && all isSymbol ws) (Typed.kind (Kind.enum ws)) ≡ onlyIf (isEnum (some ws)) (Typed.kind (Kind.enum ws))
     go [] = refl
     go (w ∷ ws) = refl
 

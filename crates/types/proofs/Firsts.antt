@@ -6,10 +6,11 @@ use mathlib.Core.List.{List, [], _∷_}
 use mathlib.Core.Option.{Option, none, some}
 use native.Mathlib.Omega.{arith}
 use lib.ListN.{length, drop}
+use Rattle.format.specs.Lists.{onward, front, behind}
 use Rattle.format.specs.Bytes.{Bytes, text, pick, same}
-use Rattle.format.specs.Words.{isGap, front, behind, words}
+use Rattle.format.specs.Words.{isGap, words}
 use Rattle.format.specs.Numbers.{intBounds}
-use Rattle.format.specs.Types.{Kind, Typed, bare, ranged, rangeOf, sizeOf, aliasOf, plainKind, uncomment, beforeComment, enumOf, typeOf}
+use Rattle.format.specs.Types.{Kind, Typed, bare, ranged, rangeOf, sizeOf, aliasOf, plainKind, uncomment, beforeComment, enumIn, typeOf}
 use Rattle.lines.proofs.Cuts.{rest}
 use Rattle.words.specs.Spans.{span, runEnd}
 use Rattle.words.proofs.Finding.{front-at, behind-at}
@@ -102,14 +103,14 @@ told-range s x y e q = rw e (record { answers = range-answers s x y ∙ sym q; s
 
 -- an enum, whose text stands behind `at`
 module _ (s : Bytes) (at : ℕ) (h : at ≤ length s) where
-  pub told-enum : isEnum (symbolsAt (span at (length s) s) 0) ≡ true → Told s (enumOf (uncomment false (drop at s))) (TypeOf.Is (Shape.Enum at (length s)))
+  pub told-enum : isEnum (symbolsAt (span at (length s) s) 0) ≡ true → Told s (onward enumIn (uncomment false (drop at s))) (TypeOf.Is (Shape.Enum at (length s)))
   told-enum e =
       let u = uncomment false (span at (length s) s) in
-      told-same s (ap (λ (t : Bytes). enumOf (uncomment false t)) (sym (rest s at)))
+      told-same s (ap (λ (t : Bytes). onward enumIn (uncomment false t)) (sym (rest s at)))
       (record { answers = sym (enum-by u ∙ rw e); sound = (h, omega arith, enum-read u e) })
 
-  pub told-no-enum : isEnum (symbolsAt (span at (length s) s) 0) ≡ false → Told s (enumOf (uncomment false (drop at s))) TypeOf.Fault
-  told-no-enum e = told-fault s (ap (λ (t : Bytes). enumOf (uncomment false t)) (sym (rest s at)) ∙ (enum-by (uncomment false (span at (length s) s)) ∙ rw e))
+  pub told-no-enum : isEnum (symbolsAt (span at (length s) s) 0) ≡ false → Told s (onward enumIn (uncomment false (drop at s))) TypeOf.Fault
+  told-no-enum e = told-fault s (ap (λ (t : Bytes). onward enumIn (uncomment false t)) (sym (rest s at)) ∙ (enum-by (uncomment false (span at (length s) s)) ∙ rw e))
 
 -- a shape that stands alone
 pub told-bare : (s w : Bytes) (ws : List Bytes) {k : Shape} → headOf w ≡ Head.Bare k → ws ≡ [] → Told s (plainKind intBounds (w ∷ ws)) (TypeOf.Is k)
@@ -125,14 +126,14 @@ told-by-head s w ws e t = told-same s (plain-by-head s w ws ∙ ap (byHead s w w
 
 -- the head of a type, from a to e: the word `enum`, or the first word of another type
 module _ (s : Bytes) (a e : ℕ) (p : a ≡ runEnd isGap s 0) (q : e ≡ runEnd beforeComment s a) where
-  type-by : typeOf intBounds s ≡ pick (same (span a e s) (text "enum")) (enumOf (uncomment false (drop e s))) (plainKind intBounds (words s))
+  type-by : typeOf intBounds s ≡ pick (same (span a e s) (text "enum")) (onward enumIn (uncomment false (drop e s))) (plainKind intBounds (words s))
   type-by =
       let u : behind isGap s ≡ drop a s = behind-at isGap s 0 ∙ rw p in
       let v : front beforeComment (drop a s) ≡ span a e s = front-at beforeComment s a ∙ rw q in
       let w : behind beforeComment (drop a s) ≡ drop e s = behind-at beforeComment s a ∙ rw q in
       rw (u, v, w)
 
-  pub told-enum-type : {r : TypeOf} → same (span a e s) (text "enum") ≡ true → Told s (enumOf (uncomment false (drop e s))) r → Told s (typeOf intBounds s) r
+  pub told-enum-type : {r : TypeOf} → same (span a e s) (text "enum") ≡ true → Told s (onward enumIn (uncomment false (drop e s))) r → Told s (typeOf intBounds s) r
   told-enum-type h t = told-same s (type-by ∙ rw h) t
 
   pub told-plain-type : {r : TypeOf} → same (span a e s) (text "enum") ≡ false → Told s (plainKind intBounds (words s)) r → Told s (typeOf intBounds s) r

@@ -2,25 +2,58 @@
 use Prim.Native.Nat.{ℕ, zero, suc, _+_, _≤_, _<_}
 use native.Mathlib.Omega.{arith}
 use mathlib.Core.Path.{_≡_, refl, sym, ap, _∙_}
-use mathlib.Core.Bool.{Bool, true, false, _&&_, and-true, and-false}
-use mathlib.Core.List.{List, [], _∷_}
+use mathlib.Core.Bool.{Bool, true, false, _&&_, not, and-true, and-false}
+use mathlib.Core.List.{List, [], _∷_, map}
 use borrow.Author.Tests.{eqb-true, eq-eqb, ne-eqb}
 use lib.Dec.{eqb, eqb·zero-suc, eqb·suc-zero, eqb·suc-suc}
 use lib.ListN.{length, take, drop, getD, length-drop}
 use lib.Seq.{drop-drop, getD-drop, length-take-le, take-all}
-use Rattle.format.specs.Bytes.{Bytes, all}
-use Rattle.format.specs.Words.{partBy, partsBy, split}
+use Rattle.format.specs.Bytes.{Bytes, pick, all, same}
+use Rattle.format.specs.Lists.{front, behind, onto}
+use Rattle.format.specs.Words.{split}
 use Rattle.format.specs.Numbers.{isDigitOf, areDigits}
-use Rattle.format.specs.Types.{hexGroups, isUuid}
+use Rattle.format.specs.Types.{isUuid}
+use Rattle.format.proofs.Parts.{partsBehind, split-cut}
 use Rattle.words.specs.Spans.{span}
 use Rattle.numbers.proofs.Reading.{digits-some}
 
 abbrev isHex : ℕ → Bool
 isHex c = isDigitOf 16 c
 
+-- groups of hex digits, of these lengths
+abbrev hexGroups : List ℕ → List Bytes → Bool
+hexGroups [] [] = true
+hexGroups [] (g ∷ gs) = false
+hexGroups (n ∷ ns) [] = false
+hexGroups (n ∷ ns) (g ∷ gs) = eqb (length g) n && all isHex g && hexGroups ns gs
+
+both : (a b x y t : Bool) → (x && y) ≡ t → ((a && x) && (b && y)) ≡ ((a && b) && t)
+both true true x y t e = e
+both true false x y t e = and-false x
+both false b x y t e = refl
+
+groups-by : (ns : List ℕ) (gs : List Bytes) → (same (map length gs) ns && all (all isHex) gs) ≡ hexGroups ns gs
+groups-by [] [] = refl
+groups-by [] (g ∷ gs) = refl
+groups-by (n ∷ ns) [] = refl
+groups-by (n ∷ ns) (g ∷ gs) = both (eqb (length g) n) (all isHex g) (same (map length gs) ns) (all (all isHex) gs) (hexGroups ns gs) (groups-by ns gs)
+
 -- n hex digits and a dash
 abbrev group : ℕ → Bytes → Bool
 group n s = all isHex (take n s) && eqb (getD s n 0) 45
+
+-- the first group of a text and the others, and a byte in front of them
+abbrev isDash : ℕ → Bool
+isDash c = eqb c 45
+
+abbrev first : Bytes → Bytes
+first s = front (λ (c : ℕ). not (isDash c)) s
+
+abbrev others : Bytes → List Bytes
+others s = partsBehind isDash (behind (λ (c : ℕ). not (isDash c)) s)
+
+split-on : (c : ℕ) (s : Bytes) → split 45 (c ∷ s) ≡ pick (eqb c 45) ([] ∷ split 45 s) ((c ∷ first s) ∷ others s)
+split-on c s = ap (λ (gs : List Bytes). pick (eqb c 45) ([] ∷ split 45 s) (onto c gs)) (split-cut isDash s)
 
 -- a byte that is no dash goes on the first group
 one-more : (h x y z a b c : Bool) → ((x && y) && z) ≡ ((a && b) && c) → ((x && (h && y)) && z) ≡ (((h && a) && b) && c)
@@ -31,20 +64,21 @@ one-more false false y z a b c e = refl
 group-first : (n m : ℕ) (ns : List ℕ) (s : Bytes) → hexGroups (n ∷ m ∷ ns) (split 45 s) ≡ group n s && hexGroups (m ∷ ns) (split 45 (drop (suc n) s))
 group-first zero m ns [] = refl
 group-first (suc n) m ns [] = rw eqb·zero-suc
-group-first zero m ns (c ∷ s) = go (eqb c 45)
+group-first zero m ns (c ∷ s) = ap (hexGroups (0 ∷ m ∷ ns)) (split-on c s) ∙ go (eqb c 45)
   where
-    go : (t : Bool) → hexGroups (0 ∷ m ∷ ns) (partBy t c (partsBy 45 s) .first ∷ partBy t c (partsBy 45 s) .others) ≡ (true && t) && hexGroups (m ∷ ns) (split 45 s)
+    go : (t : Bool) → hexGroups (0 ∷ m ∷ ns) (pick t ([] ∷ split 45 s) ((c ∷ first s) ∷ others s)) ≡ (true && t) && hexGroups (m ∷ ns) (split 45 s)
     go true = refl
     go false = rw eqb·suc-zero
-group-first (suc n) m ns (c ∷ s) = go (eqb c 45) refl (group-first n m ns s)
+group-first (suc n) m ns (c ∷ s) =
+    ap (hexGroups (suc n ∷ m ∷ ns)) (split-on c s) ∙ go (eqb c 45) refl (sym (ap (hexGroups (n ∷ m ∷ ns)) (split-cut isDash s)) ∙ group-first n m ns s)
   where
-    go : (t : Bool) → eqb c 45 ≡ t → hexGroups (n ∷ m ∷ ns) (split 45 s) ≡ group n s && hexGroups (m ∷ ns) (split 45 (drop (suc n) s))
-        → hexGroups (suc n ∷ m ∷ ns) (partBy t c (partsBy 45 s) .first ∷ partBy t c (partsBy 45 s) .others)
+    go : (t : Bool) → eqb c 45 ≡ t → hexGroups (n ∷ m ∷ ns) (first s ∷ others s) ≡ group n s && hexGroups (m ∷ ns) (split 45 (drop (suc n) s))
+        → hexGroups (suc n ∷ m ∷ ns) (pick t ([] ∷ split 45 s) ((c ∷ first s) ∷ others s))
         ≡ ((isHex c && all isHex (take n s)) && eqb (getD s n 0) 45) && hexGroups (m ∷ ns) (split 45 (drop (suc n) s))
     go true q e = rw (eqb·zero-suc, eqb-true c 45 q)
     go false q e =
         rw eqb·suc-suc
-        (one-more (isHex c) (eqb (length (partsBy 45 s .first)) n) (all isHex (partsBy 45 s .first)) (hexGroups (m ∷ ns) (partsBy 45 s .others))
+        (one-more (isHex c) (eqb (length (first s)) n) (all isHex (first s)) (hexGroups (m ∷ ns) (others s))
         (all isHex (take n s)) (eqb (getD s n 0) 45) (hexGroups (m ∷ ns) (split 45 (drop (suc n) s))) e)
 
 -- the last group is all that is left
@@ -55,20 +89,20 @@ last-more false false y z a b e = sym (and-false a)
 
 group-last : (n : ℕ) (s : Bytes) → hexGroups (n ∷ []) (split 45 s) ≡ eqb (length s) n && all isHex s
 group-last n [] = and-true (eqb 0 n && true)
-group-last zero (c ∷ s) = go (eqb c 45) refl
+group-last zero (c ∷ s) = ap (hexGroups (0 ∷ [])) (split-on c s) ∙ go (eqb c 45) refl
   where
     go : (t : Bool) → eqb c 45 ≡ t
-        → hexGroups (0 ∷ []) (partBy t c (partsBy 45 s) .first ∷ partBy t c (partsBy 45 s) .others) ≡ eqb (suc (length s)) 0 && (isHex c && all isHex s)
-    go true q = rw eqb·suc-zero
-    go false q = rw (eqb·suc-zero (length s), eqb·suc-zero (length (partsBy 45 s .first)))
-group-last (suc n) (c ∷ s) = go (eqb c 45) refl (group-last n s)
+        → hexGroups (0 ∷ []) (pick t ([] ∷ split 45 s) ((c ∷ first s) ∷ others s)) ≡ eqb (suc (length s)) 0 && (isHex c && all isHex s)
+    go true q = rw eqb·suc-zero (ap (hexGroups []) (split-cut isDash s))
+    go false q = rw (eqb·suc-zero (length s), eqb·suc-zero (length (first s)))
+group-last (suc n) (c ∷ s) = ap (hexGroups (suc n ∷ [])) (split-on c s) ∙ go (eqb c 45) refl (sym (ap (hexGroups (n ∷ [])) (split-cut isDash s)) ∙ group-last n s)
   where
-    go : (t : Bool) → eqb c 45 ≡ t → hexGroups (n ∷ []) (split 45 s) ≡ eqb (length s) n && all isHex s
-        → hexGroups (suc n ∷ []) (partBy t c (partsBy 45 s) .first ∷ partBy t c (partsBy 45 s) .others) ≡ eqb (suc (length s)) (suc n) && (isHex c && all isHex s)
+    go : (t : Bool) → eqb c 45 ≡ t → hexGroups (n ∷ []) (first s ∷ others s) ≡ eqb (length s) n && all isHex s
+        → hexGroups (suc n ∷ []) (pick t ([] ∷ split 45 s) ((c ∷ first s) ∷ others s)) ≡ eqb (suc (length s)) (suc n) && (isHex c && all isHex s)
     go true q e = rw (eqb·zero-suc, eqb-true c 45 q) (sym (and-false (eqb (suc (length s)) (suc n))))
     go false q e =
-        rw (eqb·suc-suc (length s) n, eqb·suc-suc (length (partsBy 45 s .first)) n)
-        (last-more (isHex c) (eqb (length (partsBy 45 s .first)) n) (all isHex (partsBy 45 s .first)) (hexGroups [] (partsBy 45 s .others)) (eqb (length s) n) (all isHex s) e)
+        rw (eqb·suc-suc (length s) n, eqb·suc-suc (length (first s)) n)
+        (last-more (isHex c) (eqb (length (first s)) n) (all isHex (first s)) (hexGroups [] (others s)) (eqb (length s) n) (all isHex s) e)
 
 -- all five, by index
 module _ (s : Bytes) where
@@ -77,7 +111,8 @@ module _ (s : Bytes) where
 
   groups : isUuid s ≡ group 8 s && (group 4 (drop 9 s) && (group 4 (drop 14 s) && (group 4 (drop 19 s) && (eqb (length (drop 24 s)) 12 && all isHex (drop 24 s)))))
   groups =
-      next 0 8 4 (4 ∷ 4 ∷ 12 ∷ []) ∙ ap (λ (b : Bool). group 8 s && b)
+      groups-by (8 ∷ 4 ∷ 4 ∷ 4 ∷ 12 ∷ []) (split 45 s)
+      ∙ next 0 8 4 (4 ∷ 4 ∷ 12 ∷ []) ∙ ap (λ (b : Bool). group 8 s && b)
       (next 9 4 4 (4 ∷ 12 ∷ []) ∙ ap (λ (b : Bool). group 4 (drop 9 s) && b)
       (next 14 4 4 (12 ∷ []) ∙ ap (λ (b : Bool). group 4 (drop 14 s) && b)
       (next 19 4 12 [] ∙ ap (λ (b : Bool). group 4 (drop 19 s) && b) (group-last 12 (drop 24 s)))))

@@ -6,7 +6,8 @@ ghost use lib.ListN.{length, drop};
 ghost use Rattle.format.specs.Bytes.{classTable};
 ghost use Rattle.format.specs.Words.{words};
 ghost use Rattle.format.specs.Numbers.{intBounds};
-ghost use Rattle.format.specs.Types.{uncomment, beforeComment, enumOf, endOf, rangeOf, sizeOf, aliasOf, plainKind, typeOf};
+ghost use Rattle.format.specs.Lists.{onward};
+ghost use Rattle.format.specs.Types.{uncomment, beforeComment, enumIn, endOf, rangeOf, sizeOf, aliasOf, plainKind, typeOf};
 ghost use Rattle.words.specs.Spans.{span, runEnd};
 ghost use Rattle.numbers.specs.Meaning.{intAnswer};
 ghost use Rattle.types.specs.Meaning.{headOf, rangeIn, Told};
@@ -79,7 +80,7 @@ fn head_end(s: &[u8], i: usize) -> usize
 fn enum_type(table: &[u8; 256], s: &[u8], at: usize) -> TypeOf
     requires { ⌜ now table ≡ classTable ⌝ }
     requires { ⌜ at ≤ length (now s) ⌝ }
-    ensures { λ r. ⌜ Told (now (s .entry)) (enumOf (uncomment false (drop at (now (s .entry))))) r ⌝ }
+    ensures { λ r. ⌜ Told (now (s .entry)) (onward enumIn (uncomment false (drop at (now (s .entry))))) r ⌝ }
 {
     if is_enum(table, &s[at..]) {
         TypeOf::Is(Shape::Enum {

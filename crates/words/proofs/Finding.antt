@@ -3,14 +3,16 @@ use Prim.Native.Nat.{ℕ, zero, suc, _+_, _≤_, _<_}
 use native.Mathlib.Nat.{add-sub-cancel-left}
 use native.Mathlib.Omega.{arith}
 use mathlib.Core.Path.{_≡_, refl, sym, ap, _∙_, subst}
-use mathlib.Core.Bool.{Bool, true, false, not}
+use mathlib.Core.Bool.{Bool, true, false, and-eq-true-iff}
 use mathlib.Core.List.{List, [], _∷_}
 use borrow.Author.Tests.{ltb-true, ltb-false}
 use lib.Dec.{ltb}
 use lib.ListN.{length, take, drop, getD, drop-of-length-le, length-drop}
 use lib.Seq.{drop-drop}
 use Rattle.format.specs.Bytes.{Bytes, pick, all}
-use Rattle.format.specs.Words.{isGap, notGap, frontIf, front, behind, firstWord, afterWord, extend, wordOn, words}
+use Rattle.format.specs.Lists.{isFilled, filter, front, behind, onto, splitBy}
+use Rattle.format.specs.Words.{isGap, notGap, firstWord, afterWord, words}
+use Rattle.format.proofs.Parts.{words-skip, words-cut}
 use Rattle.lines.specs.Line.{run}
 use Rattle.lines.proofs.Cuts.{at-cons}
 use Rattle.lines.proofs.Heads.{run-more}
@@ -36,7 +38,7 @@ unfolding run
 front-run p [] = refl
 front-run p (c ∷ s) = go (p c) (front-run p s)
   where
-    go : (t : Bool) → front p s ≡ take (run p s) s → frontIf t c (front p s) ≡ take (pick t (suc (run p s)) 0) (c ∷ s)
+    go : (t : Bool) → front p s ≡ take (run p s) s → pick t (c ∷ front p s) [] ≡ take (pick t (suc (run p s)) 0) (c ∷ s)
     go true e = ap (λ (l : Bytes). c ∷ l) e
     go false e = refl
 
@@ -79,55 +81,37 @@ behind-fails p (d ∷ s) c r e = go (p d) refl e (λ q. behind-fails p s c r q)
 pub run-ends : (p : ℕ → Bool) (s : Bytes) (i : ℕ) → runEnd p s i < length s → p (getD s (runEnd p s i) 0) ≡ false
 run-ends p s i h = behind-fails p (drop i s) (getD s (runEnd p s i) 0) (drop (runEnd p s i + 1) s) (rw drop-drop (at-cons s (runEnd p s i) h))
 
--- gaps at the front do not matter
-words-behind : (s : Bytes) → words s ≡ words (drop (run isGap s) s)
-unfolding run
-words-behind [] = refl
-words-behind (c ∷ s) = go (isGap c) refl (words-behind s)
-  where
-    go : (t : Bool) → isGap c ≡ t → words s ≡ words (drop (run isGap s) s)
-        → pick t (words s) (wordOn c s (words s)) ≡ words (drop (pick t (suc (run isGap s)) 0) (c ∷ s))
-    go true q e = e
-    go false q e = rw q
+-- gaps at the front do not matter, and a word at the front
+words-from-run : (s : Bytes) → words s ≡ words (drop (run isGap s) s)
+words-from-run s = words-skip s ∙ ap words (behind-run isGap s)
 
--- a word at the front
-words-cut : (c : ℕ) (s : Bytes) → isGap c ≡ false → words (c ∷ s) ≡ take (run notGap (c ∷ s)) (c ∷ s) ∷ words (drop (run notGap (c ∷ s)) (c ∷ s))
+words-run : (c : ℕ) (s : Bytes) → isGap c ≡ false → words (c ∷ s) ≡ take (run notGap (c ∷ s)) (c ∷ s) ∷ words (drop (run notGap (c ∷ s)) (c ∷ s))
 unfolding run
-words-cut c [] e = rw e
-words-cut c (d ∷ s) e = rw e (go (isGap d) refl (λ q. words-cut d s q))
-  where
-    go : (t : Bool) → isGap d ≡ t
-        → (isGap d ≡ false → words (d ∷ s) ≡ take (run notGap (d ∷ s)) (d ∷ s) ∷ words (drop (run notGap (d ∷ s)) (d ∷ s)))
-        → pick t ((c ∷ []) ∷ words (d ∷ s)) (extend c (words (d ∷ s)))
-        ≡ take (suc (pick (not t) (suc (run notGap s)) 0)) (c ∷ d ∷ s) ∷ words (drop (suc (pick (not t) (suc (run notGap s)) 0)) (c ∷ d ∷ s))
-    go true q ih = refl
-    go false q ih =
-        let r : words (d ∷ s) ≡ take (suc (run notGap s)) (d ∷ s) ∷ words (drop (suc (run notGap s)) (d ∷ s)) = ih q ∙ rw q in
-        ap (extend c) r
+words-run c s e = words-cut c s e ∙ rw (e, front-run, behind-run)
 
 pub words-end : (s : Bytes) (i : ℕ) → length s ≤ i → words (drop i s) ≡ []
 words-end s i h = rw (drop-of-length-le s)
 
 -- every word holds no gap
-extend-plain : (c : ℕ) (ws : List Bytes) → notGap c ≡ true → all (all notGap) ws ≡ true → all (all notGap) (extend c ws) ≡ true
-extend-plain c [] q e = rw q
-extend-plain c (w ∷ ws) q e = rw q e
+onto-plain : (c : ℕ) (ws : List Bytes) → notGap c ≡ true → all (all notGap) ws ≡ true → all (all notGap) (onto c ws) ≡ true
+onto-plain c [] q e = rw q
+onto-plain c (w ∷ ws) q e = rw q e
 
-word-on-plain : (c : ℕ) (s : Bytes) (ws : List Bytes) → notGap c ≡ true → all (all notGap) ws ≡ true → all (all notGap) (wordOn c s ws) ≡ true
-word-on-plain c [] ws q e = rw (q, e)
-word-on-plain c (d ∷ s) ws q e = go (isGap d)
+parts-plain : (s : Bytes) → all (all notGap) (splitBy isGap s) ≡ true
+parts-plain [] = refl
+parts-plain (c ∷ s) = go (isGap c) refl (parts-plain s)
   where
-    go : (t : Bool) → all (all notGap) (pick t ((c ∷ []) ∷ ws) (extend c ws)) ≡ true
-    go true = rw (q, e)
-    go false = extend-plain c ws q e
+    go : (t : Bool) → isGap c ≡ t → all (all notGap) (splitBy isGap s) ≡ true → all (all notGap) (pick t ([] ∷ splitBy isGap s) (onto c (splitBy isGap s))) ≡ true
+    go true q e = e
+    go false q e = onto-plain c (splitBy isGap s) (rw q) e
+
+filled-plain : (ws : List Bytes) → all (all notGap) ws ≡ true → all (all notGap) (filter isFilled ws) ≡ true
+filled-plain [] e = refl
+filled-plain ([] ∷ ws) e = filled-plain ws e
+filled-plain ((c ∷ w) ∷ ws) e = let h = and-eq-true-iff (all notGap (c ∷ w)) (all (all notGap) ws) .0 e in rw (h .0, filled-plain ws (h .1))
 
 pub words-plain : (s : Bytes) → all (all notGap) (words s) ≡ true
-words-plain [] = refl
-words-plain (c ∷ s) = go (isGap c) refl (words-plain s)
-  where
-    go : (t : Bool) → isGap c ≡ t → all (all notGap) (words s) ≡ true → all (all notGap) (pick t (words s) (wordOn c s (words s))) ≡ true
-    go true q e = e
-    go false q e = word-on-plain c s (words s) (rw q) e
+words-plain s = filled-plain (splitBy isGap s) (parts-plain s)
 
 -- what the word that is found tells: the words, the first word, the text behind it, and where it stands
 abbrev pub wordsBy : Bytes → Word → List Bytes
@@ -167,11 +151,11 @@ module _ (s : Bytes) (i : ℕ) where
       go false e = g (ltb-false first (length s) e)
 
   words-from : words (drop i s) ≡ words (drop first s)
-  words-from = words-behind (drop i s) ∙ rw drop-drop
+  words-from = words-from-run (drop i s) ∙ rw drop-drop
 
   cut-at : first < length s → isGap (getD s first 0) ≡ false
       → words (drop first s) ≡ take (run notGap (drop first s)) (drop first s) ∷ words (drop (run notGap (drop first s)) (drop first s))
-  cut-at h q = rw (at-cons s first h) (words-cut (getD s first 0) (drop (first + 1) s) q)
+  cut-at h q = rw (at-cons s first h) (words-run (getD s first 0) (drop (first + 1) s) q)
 
   pub words-at : words (drop i s) ≡ wordsBy s (wordAt s i)
   words-at =

@@ -6,8 +6,9 @@ use mathlib.Core.Bool.{true, false}
 use mathlib.Core.List.{_∷_, reverse, reverse-append, reverse-reverse}
 use lib.ListN.{length, take, drop, getD, length-drop}
 use lib.Seq.{take-suc, getD-drop}
+use Rattle.format.specs.Lists.{behind}
 use Rattle.format.specs.Bytes.{Bytes}
-use Rattle.format.specs.Words.{isGap, behind, trim}
+use Rattle.format.specs.Words.{isGap, trim}
 use Rattle.words.specs.Spans.{span, runEnd}
 use Rattle.words.proofs.Finding.{behind-at}
 use Rattle.lines.proofs.Cuts.{rest}

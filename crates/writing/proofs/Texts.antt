@@ -10,8 +10,8 @@ use lib.ListN.{length, take, drop, getD, set, length-append, length-drop, length
 use lib.Seq.{sets, sets-eq, length-sets, take-all, drop-drop}
 use borrow.Author.Tests.{eq-eqb, ne-eqb}
 use borrow.Rule.Slice.PartMut.{putMid, midOf, postOf}
-use Rattle.format.specs.Bytes.{Bytes, isNewline}
-use Rattle.format.specs.Written.{indentBy, indent, written}
+use Rattle.format.specs.Bytes.{Bytes, isNewline, pick}
+use Rattle.format.specs.Written.{indent, written}
 use Rattle.format.specs.Calls.{over}
 use Rattle.lines.proofs.Cuts.{at-cons}
 use Rattle.lines.proofs.Over.{over-sets}
@@ -25,11 +25,7 @@ module _ (v : Bytes) (i : ℕ) where
   indent-newline h e = rw (at-cons v i h, eq-eqb _ _ e)
 
   pub indent-some : i < length v → 0 < length (indent (drop i v))
-  indent-some h = rw (at-cons v i h) (go (isNewline (getD v i 0)))
-    where
-      go : (t : Bool) → 0 < length (indentBy t (getD v i 0) (indent (drop (i + 1) v)))
-      go true = omega arith
-      go false = omega arith
+  indent-some h = rw (at-cons v i h) (omega arith)
 
   pub indent-end : length v ≤ i → indent (drop i v) ≡ []
   indent-end h = rw (drop-of-length-le v)
@@ -39,7 +35,7 @@ pub indent-length : (v : Bytes) → length (indent v) ≤ 3 * length v
 indent-length [] = omega arith
 indent-length (c ∷ v) = go (isNewline c) (indent-length v)
   where
-    go : (t : Bool) → length (indent v) ≤ 3 * length v → length (indentBy t c (indent v)) ≤ 3 * suc (length v)
+    go : (t : Bool) → length (indent v) ≤ 3 * length v → length (c ∷ pick t (43 ∷ 32 ∷ indent v) (indent v)) ≤ 3 * suc (length v)
     go true h = omega arith
     go false h = omega arith
 

@@ -5,9 +5,9 @@ use Prim.Native.Nat.{ℕ, _+_, _-_, _≤_}
 use native.Mathlib.Omega.{arith}
 use mathlib.Core.Path.{_≡_, ap, _∙_}
 use lib.ListN.{length, take, drop, length-set}
-use Rattle.format.specs.Calls.{Edited, editAnswer}
+use Rattle.format.specs.Calls.{Filled}
 use Rattle.editor.specs.Lists.{fewest}
-use Rattle.editor.proofs.Running.{Reached, reached-start, reached-more, reached-end}
+use Rattle.editor.proofs.Running.{Edited, editedOf, editOf, Reached, reached-start, reached-more, reached-end}
 use Rattle.editor.proofs.edit_all.Statement.{statement}
 use Rattle.editor.proofs.edit_all.Tie as tie
 use Rattle.editor.proofs.edit_all.Reads as reads
@@ -102,7 +102,7 @@ loop-again c =
     let e : Edited = record { number = at-number-of .result; length = at-length-of .result; buffer = at-edit .last .0 } in
     let size : ℕ = at-least3 .result in
     let z : (at-loop .at + size) - at-loop .at ≡ size = omega arith in
-    let a : e ≡ editAnswer (at-loop .buf) (at-loop .n) (take size (drop (at-loop .at) (at-args .requests .now))) = (λ j. record { number = at-number-of .ensures j; length = at-length-of .ensures j; buffer = at-edit .last .0 }) ∙ at-edit .ensures ∙ ap (λ (k : ℕ). editAnswer (at-loop .buf) (at-loop .n) (take k (drop (at-loop .at) (at-args .requests .now)))) z in
+    let a : e ≡ editOf (at-loop .buf) (at-loop .n) (take size (drop (at-loop .at) (at-args .requests .now))) = (λ j. record { number = at-number-of .ensures j; length = at-length-of .ensures j; buffer = at-edit .last .0 }) ∙ ap (λ (x : Filled). editedOf (at-loop .n) x) (at-edit .ensures) ∙ ap (λ (k : ℕ). editOf (at-loop .buf) (at-loop .n) (take k (drop (at-loop .at) (at-args .requests .now)))) z in
     (omega arith, omega arith, omega arith, simp length-set (omega arith), simp length-set (omega arith), reached-more (at-args .buf .now) (at-args .used) (at-args .requests .now) (at-args .sizes .now) (at-args .numbers .now) (at-args .lengths .now) (at-loop .i) (at-loop .buf) (at-loop .n) (at-loop .at) (at-loop .numbers) (at-loop .lengths) (at-loop .inv .5) (omega arith) size (at-least3 .ensures) e a (omega arith) (omega arith))
 
 same-length : tie.Need-same-length Inv-loop μ-loop

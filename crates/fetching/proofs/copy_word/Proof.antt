@@ -8,7 +8,8 @@ use native.Mathlib.Omega.{arith}
 use mathlib.Core.Path.{_≡_, refl, sym, ap, _∙_}
 use lib.ListN.{length, drop, length-set}
 use lib.Seq.{sets}
-use Rattle.format.specs.Words.{notGap, front}
+use Rattle.format.specs.Lists.{front}
+use Rattle.format.specs.Words.{notGap}
 use Rattle.lines.specs.Value.{valueFrom}
 use Rattle.lines.proofs.Over.{over-sets}
 use Rattle.lines.proofs.Decoding.{ended, goes-on}

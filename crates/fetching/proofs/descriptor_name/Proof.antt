@@ -3,10 +3,11 @@ use native.Mathlib.Omega.{arith}
 use Prim.Native.Nat.{_-_}
 use mathlib.Core.Path.{sym, ap, _∙_}
 use lib.ListN.{take, drop}
+use Rattle.format.specs.Lists.{front}
 use Rattle.format.specs.Bytes.{Bytes, text}
 use Rattle.format.specs.Calls.{Answer}
 use Rattle.format.specs.Sets.{valuesOf}
-use Rattle.format.specs.Words.{notGap, front}
+use Rattle.format.specs.Words.{notGap}
 use Rattle.lines.specs.Value.{valueFrom}
 use Rattle.records.specs.Walk.{recordIn}
 use Rattle.records.proofs.Fields.{field-told}

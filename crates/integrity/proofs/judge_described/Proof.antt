@@ -1,8 +1,8 @@
 -- `integrity::judge_described` meets its contract, question by question.
 use native.Mathlib.Omega.{arith}
 use mathlib.Core.Path.{sym, _∙_}
-use Rattle.format.specs.Records.{records}
-use Rattle.records.specs.Walk.{readOf}
+use Rattle.format.specs.Pieces.{readOf}
+use Rattle.format.proofs.Records.{records}
 use Rattle.integrity.proofs.Staging.{well-no, types-no, sets-no}
 use borrow.Author.Needs.{needs}
 use Rattle.integrity.proofs.judge_described.Statement.{statement}

@@ -1,7 +1,7 @@
 -- `integrity::judge_records` meets its contract, by what the first walk has found.
 use mathlib.Core.Path.{subst}
-use Rattle.format.specs.Records.{records}
-use Rattle.records.specs.Walk.{readOf}
+use Rattle.format.specs.Pieces.{readOf}
+use Rattle.format.proofs.Records.{records}
 use Rattle.limits.specs.Bounds.{BoundedAs}
 use Rattle.integrity.proofs.Staging.{limits-no, once-no}
 use borrow.Author.Needs.{needs}

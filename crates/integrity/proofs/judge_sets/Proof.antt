@@ -6,14 +6,14 @@ use native.Mathlib.Omega.{arith}
 use mathlib.Core.Path.{_≡_, refl, sym, ap, _∙_}
 use mathlib.Core.Bool.{true}
 use lib.ListN.{length, drop, length-drop}
+use Rattle.format.specs.Pieces.{readOf}
+use Rattle.format.proofs.Records.{records}
 use Rattle.format.specs.Numbers.{intBounds}
-use Rattle.format.specs.Records.{records}
 use Rattle.format.proofs.Elements.{Each}
 use Rattle.format.proofs.Least.{least}
 use Rattle.format.proofs.Walking.{heads, walkNo}
 use Rattle.lines.proofs.Cuts.{rest}
 use Rattle.records.specs.Places.{isReadable}
-use Rattle.records.specs.Walk.{readOf}
 use Rattle.records.proofs.Readings.{part-readable}
 use Rattle.records.proofs.Searches.{meets}
 use Rattle.records.proofs.Cuts.{recordsFrom, heads-met}

@@ -1,6 +1,6 @@
 -- `limits::part_answers` meets its contract: a record is asked its own limits, a descriptor those of descriptors too.
+use Rattle.format.specs.Pieces.{readOf}
 use Rattle.format.specs.Records.{fieldsOf}
-use Rattle.records.specs.Walk.{readOf}
 use Rattle.limits.proofs.Questions.{member-answered, head-answered}
 use borrow.Author.Needs.{needs}
 use Rattle.limits.proofs.part_answers.Statement.{statement}

@@ -7,12 +7,12 @@ use mathlib.Core.Path.{_≡_, sym, ap, _∙_}
 use mathlib.Core.Bool.{Bool, true, false, _||_, false≢true}
 use lib.Dec.{eqb}
 use lib.ListN.{length, drop}
+use Rattle.format.specs.Pieces.{readOf}
 use Rattle.format.specs.Bytes.{pick}
 use Rattle.format.specs.Limits.{recordFields}
 use Rattle.format.specs.Records.{fieldsOf}
 use Rattle.format.specs.Questions.{fitsRecord, hasRecOnce}
 use Rattle.records.specs.Places.{isReadable}
-use Rattle.records.specs.Walk.{readOf}
 use Rattle.records.specs.Fields.{fieldsFrom, fieldBetween}
 use Rattle.records.proofs.NextFields.{next-told}
 use Rattle.limits.proofs.Fits.{fitsFrom, fits-start, fits-end, fits-on, fits-stop, fits-asked}

@@ -6,10 +6,10 @@ use native.Mathlib.Omega.{arith}
 use mathlib.Core.Path.{_≡_, sym, ap, _∙_}
 use mathlib.Core.Bool.{true}
 use lib.ListN.{length, drop}
+use Rattle.format.specs.Pieces.{readOf}
 use Rattle.format.specs.Records.{fieldsOf}
 use Rattle.format.specs.declared.Descriptor.{Descriptor}
 use Rattle.records.specs.Places.{isReadable}
-use Rattle.records.specs.Walk.{readOf}
 use Rattle.records.specs.Fields.{fieldsFrom, fieldBetween}
 use Rattle.limits.specs.Counts.{total}
 use Rattle.records.proofs.NextFields.{next-told}

@@ -6,7 +6,7 @@ use mathlib.Core.Bool.{true}
 use lib.ListN.{take}
 use Rattle.format.specs.Bytes.{Bytes}
 use Rattle.records.specs.Places.{isReadable}
-use Rattle.fetching.specs.Names.{nameIn}
+use Rattle.fetching.specs.Answers.{nameIn}
 use Rattle.lookup.proofs.Buffers.{name-refused, used-fits, used-readable, name-text}
 use borrow.Author.Needs.{needs}
 use Rattle.lookup.proofs.set_name.Statement.{statement}

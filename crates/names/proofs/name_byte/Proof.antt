@@ -1,7 +1,8 @@
 -- `names::name_byte` meets its contract.
 use mathlib.Core.Path.{sym, ap, _∙_}
 use lib.ListN.{drop}
-use Rattle.format.specs.Words.{notGap, front}
+use Rattle.format.specs.Lists.{front}
+use Rattle.format.specs.Words.{notGap}
 use Rattle.lines.specs.Value.{valueFrom}
 use Rattle.lines.proofs.Decoding.{ended, goes-on}
 use Rattle.records.proofs.Words.{word-ended, word-on}

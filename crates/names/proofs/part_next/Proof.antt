@@ -6,11 +6,12 @@ use native.Mathlib.Omega.{arith}
 use mathlib.Core.Path.{_≡_, refl, sym, ap, _∙_}
 use borrow.Author.Tests.{eq-eqb, ne-eqb}
 use lib.ListN.{length, drop}
-use Rattle.format.specs.Words.{notGap, front}
+use Rattle.format.specs.Lists.{front}
+use Rattle.format.specs.Words.{notGap}
 use Rattle.lines.specs.Value.{valueFrom}
 use Rattle.lines.proofs.Decoding.{ended, goes-on}
 use Rattle.records.proofs.Words.{word-ended, word-on}
-use Rattle.names.specs.Names.{wordFrom, partsFrom}
+use Rattle.names.specs.Names.{wordFrom, othersFrom}
 use Rattle.names.proofs.Naming.{parts-none, parts-comma, parts-on}
 use Rattle.names.proofs.part_next.Statement.{statement}
 use Rattle.names.proofs.part_next.Tie as tie
@@ -20,7 +21,7 @@ use Rattle.lines.proofs.value_byte.Reads as value-byte-reads
 use Rattle.words.proofs.is_gap.Reads as is-gap-reads
 
 abbrev Inv-loop : tie.InvT-loop
-Inv-loop s i at₀ at = (i ≤ at) × (partsFrom s i .others ≡ partsFrom s at .others)
+Inv-loop s i at₀ at = (i ≤ at) × (othersFrom s i ≡ othersFrom s at)
 
 abbrev μ-loop : tie.MeasureT-loop
 μ-loop s i at₀ at = length s - at

@@ -1,9 +1,9 @@
 -- `numbers::is_real` meets its contract.
 use mathlib.Core.Path.{sym, ap, _∙_}
+use mathlib.Core.Bool.{false}
 use native.Mathlib.Omega.{arith}
-use Rattle.format.specs.Bytes.{Bytes}
-use Rattle.format.specs.Words.{split}
-use Rattle.format.specs.Numbers.{isDecimal}
+use Rattle.format.specs.Bytes.{Bytes, isSome}
+use Rattle.format.specs.Numbers.{decimalIn}
 use Rattle.lines.proofs.Cuts.{rest}
 use Rattle.words.proofs.Finding.{byte-inside}
 use Rattle.numbers.proofs.Decimals.{real-minus, real-plain}
@@ -48,7 +48,7 @@ returns c =
     let at-byte = c .before .before .before .byte in
     let at-if1 = c .before .before .if1 in
     let s = at-args .s .now in
-    at-is-decimal .ensures ∙ (ap (λ (t : Bytes). isDecimal (split 46 t)) (rest s 1) ∙ sym (real-minus s (sym (at-byte .ensures) ∙ at-if1 .taken)))
+    at-is-decimal .ensures ∙ (ap (λ (t : Bytes). isSome (decimalIn false t)) (rest s 1) ∙ sym (real-minus s (sym (at-byte .ensures) ∙ at-if1 .taken)))
 
 returns-2 : tie.Need-returns-2
 returns-2 c =

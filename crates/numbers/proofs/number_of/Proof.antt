@@ -1,7 +1,7 @@
 -- `numbers::number_of` meets its contract.
 use mathlib.Core.Path.{sym, ap, _∙_}
-use mathlib.Core.Option.{some}
 use borrow.Author.Tests.{eq-eqb, ne-eqb}
+use Rattle.format.specs.Lists.{onward}
 use Rattle.format.specs.Numbers.{notBelow0}
 use Rattle.numbers.specs.Meaning.{intIn, intAnswer}
 use Rattle.numbers.specs.declared.Whole.{Whole}
@@ -25,7 +25,7 @@ returns : tie.Need-returns
 returns c =
     let at-int-of = c .before .before .int-of in
     let at-enum-told = c .enum-told in
-    sym (ap notBelow0 (sym (at-int-of .ensures) ∙ ap intAnswer (at-enum-told .given .1)))
+    sym (ap (onward notBelow0) (sym (at-int-of .ensures) ∙ ap intAnswer (at-enum-told .given .1)))
 
 enum-known-w : tie.Need-enum-known-w
 enum-known-w c = search needs
@@ -38,7 +38,7 @@ returns-2 c =
     let at-int-of = c .before .before .before .before .before .before .int-of in
     let at-x = c .before .before .before .before .x in
     let at-w = c .before .w in
-    sym (ap notBelow0 (sym (at-int-of .ensures) ∙ ap intAnswer (at-x .given .1)) ∙ ap (λ (u : Whole). notBelow0 (some (intIn u))) (at-w .given .1))
+    sym (ap (onward notBelow0) (sym (at-int-of .ensures) ∙ ap intAnswer (at-x .given .1)) ∙ ap (λ (u : Whole). notBelow0 (intIn u)) (at-w .given .1))
 
 returns-3 : tie.Need-returns-3
 returns-3 c =
@@ -46,7 +46,7 @@ returns-3 c =
     let at-x = c .before .before .before .before .before .x in
     let at-w2 = c .before .before .w2 in
     let at-if1 = c .if1 in
-    sym (ap notBelow0 (sym (at-int-of .ensures) ∙ ap intAnswer (at-x .given .1)) ∙ (ap (λ (u : Whole). notBelow0 (some (intIn u))) (at-w2 .given .1) ∙ rw (eq-eqb _ _ (at-if1 .taken))))
+    sym (ap (onward notBelow0) (sym (at-int-of .ensures) ∙ ap intAnswer (at-x .given .1)) ∙ (ap (λ (u : Whole). notBelow0 (intIn u)) (at-w2 .given .1) ∙ rw (eq-eqb _ _ (at-if1 .taken))))
 
 returns-4 : tie.Need-returns-4
 returns-4 c =
@@ -54,7 +54,7 @@ returns-4 c =
     let at-x = c .before .before .before .before .before .x in
     let at-w2 = c .before .before .w2 in
     let at-if1 = c .if1 in
-    sym (ap notBelow0 (sym (at-int-of .ensures) ∙ ap intAnswer (at-x .given .1)) ∙ (ap (λ (u : Whole). notBelow0 (some (intIn u))) (at-w2 .given .1) ∙ rw (ne-eqb _ _ (at-if1 .left))))
+    sym (ap (onward notBelow0) (sym (at-int-of .ensures) ∙ ap intAnswer (at-x .given .1)) ∙ (ap (λ (u : Whole). notBelow0 (intIn u)) (at-w2 .given .1) ∙ rw (ne-eqb _ _ (at-if1 .left))))
 
 pub number-of-spec : {M : Type 1} → statement M
 number-of-spec =

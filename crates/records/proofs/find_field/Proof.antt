@@ -7,9 +7,8 @@ use mathlib.Core.Path.{_≡_, refl, sym, _∙_}
 use mathlib.Core.Logic.{⊎-elim}
 use mathlib.Core.Bool.{true}
 use lib.ListN.{length, drop}
-use Rattle.format.specs.Pieces.{Piece}
+use Rattle.format.specs.Pieces.{Piece, readOf}
 use Rattle.records.specs.Places.{isReadable, fieldIn, fieldPlace}
-use Rattle.records.specs.Walk.{readOf}
 use Rattle.records.proofs.Readings.{part-ended}
 use Rattle.records.proofs.Steps.{steps}
 use Rattle.records.proofs.Fields.{field-read, field-none, field-loose, field-other, field-here, field-later}

@@ -6,7 +6,7 @@ use native.Mathlib.Omega.{arith}
 use mathlib.Core.Path.{_≡_, refl, sym, ap, _∙_}
 use mathlib.Core.Bool.{Bool·beq}
 use lib.ListN.{length, drop}
-use Rattle.format.specs.Words.{behind}
+use Rattle.format.specs.Lists.{behind}
 use Rattle.lines.specs.Value.{valueFrom}
 use Rattle.lines.proofs.Decoding.{ended, goes-on}
 use Rattle.records.specs.Gaps.{gapIs}

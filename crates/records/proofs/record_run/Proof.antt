@@ -6,8 +6,9 @@ use native.Mathlib.Omega.{arith}
 use mathlib.Core.Path.{_≡_, refl, sym, _∙_}
 use mathlib.Core.Bool.{true}
 use lib.ListN.{length, drop}
+use Rattle.format.specs.Pieces.{readOf}
 use Rattle.records.specs.Places.{isReadable}
-use Rattle.records.specs.Walk.{readOf, runFrom}
+use Rattle.records.specs.Walk.{runFrom}
 use Rattle.records.proofs.Readings.{part-ended}
 use Rattle.records.proofs.Steps.{part-formed, walks, run-none, run-blank, run-comment, run-field}
 use Rattle.records.proofs.record_run.Statement.{statement}

@@ -5,8 +5,9 @@ use Prim.Native.Nat.{_-_, _≤_}
 use native.Mathlib.Omega.{arith}
 use mathlib.Core.Path.{_≡_, refl, sym, ap, _∙_}
 use lib.ListN.{length, drop}
+use Rattle.format.specs.Lists.{front}
 use Rattle.format.specs.Bytes.{same}
-use Rattle.format.specs.Words.{notGap, front}
+use Rattle.format.specs.Words.{notGap}
 use Rattle.lines.specs.Value.{valueFrom}
 use Rattle.lines.proofs.Decoding.{ended, goes-on}
 use Rattle.records.proofs.Words.{word-ended, word-on, same-ended, same-over, same-other, same-byte}

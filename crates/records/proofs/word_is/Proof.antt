@@ -1,7 +1,8 @@
 -- `records::word_is` meets its contract: behind the gaps the first word is compared.
 use mathlib.Core.Path.{ap, _∙_}
+use Rattle.format.specs.Lists.{front}
 use Rattle.format.specs.Bytes.{same}
-use Rattle.format.specs.Words.{notGap, front}
+use Rattle.format.specs.Words.{notGap}
 use borrow.Author.Needs.{needs}
 use Rattle.records.proofs.word_is.Statement.{statement}
 use Rattle.records.proofs.word_is.Tie as tie

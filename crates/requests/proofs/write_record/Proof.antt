@@ -4,10 +4,9 @@ use native.Mathlib.Omega.{arith}
 use mathlib.Core.Path.{sym, ap, _∙_}
 use lib.ListN.{length}
 use Rattle.format.specs.Written.{writtenAll}
-use Rattle.format.specs.Calls.{filled}
 use Rattle.requests.specs.Pairs.{pairsAt}
 use Rattle.requests.proofs.Weighing.{asked-fits}
-use Rattle.requests.proofs.Filling.{filled-refused, filled-written, write-fault, write-other, write-insert, request-found, request-missed, insert-inside, request-bytes}
+use Rattle.requests.proofs.Filling.{filledAs, filled-refused, filled-written, write-fault, write-other, write-insert, request-found, request-missed, insert-inside, request-bytes}
 use borrow.Author.Needs.{needs}
 use Rattle.requests.proofs.write_record.Statement.{statement}
 use Rattle.requests.proofs.write_record.Tie as tie
@@ -65,7 +64,7 @@ returns-3 c =
     let at-if1 = c .if1 in
     let at-q = c .before .before .before .before .before .before .before .before .q in
     let at-request-of = c .before .before .before .before .before .before .before .before .before .before .request-of in
-    filled-refused (at-refusal .result) (writtenAll (pairsAt (at-args .req .now) (at-action .given .0 .0))) (at-args .out .now) (at-if1 .taken) ∙ ap (λ (n : ℕ). filled n (writtenAll (pairsAt (at-args .req .now) (at-action .given .0 .0))) (at-args .out .now)) (at-refusal .ensures) ∙ write-insert (at-args .req .now) (at-args .out .now) (at-q .given .0 .0) (request-found (at-args .req .now) (at-request-of .result) (at-q .given .0 .0) (at-request-of .ensures .0) (at-q .given .1)) (at-action .given .0 .0) (at-action .given .1)
+    filled-refused (at-refusal .result) (writtenAll (pairsAt (at-args .req .now) (at-action .given .0 .0))) (at-args .out .now) (at-if1 .taken) ∙ ap (λ (n : ℕ). filledAs n (writtenAll (pairsAt (at-args .req .now) (at-action .given .0 .0))) (at-args .out .now)) (at-refusal .ensures) ∙ write-insert (at-args .req .now) (at-args .out .now) (at-q .given .0 .0) (request-found (at-args .req .now) (at-request-of .result) (at-q .given .0 .0) (at-request-of .ensures .0) (at-q .given .1)) (at-action .given .0 .0) (at-action .given .1)
 
 put-pairs-requires : tie.Need-put-pairs-requires
 put-pairs-requires c κs =
@@ -89,7 +88,7 @@ returns-4 c =
     let at-if1 = c .before .before .before .before .if1 in
     let at-q = c .before .before .before .before .before .before .before .before .before .before .before .before .q in
     let at-request-of = c .before .before .before .before .before .before .before .before .before .before .before .before .before .before .request-of in
-    filled-written (at-refusal .result) (at-put-pairs .result) (writtenAll (pairsAt (at-args .req .now) (at-action .given .0 .0))) (at-args .out .now) (at-put-pairs .last .1 .1 .0) (at-put-pairs .ensures .0) (at-put-pairs .ensures .1) (at-if1 .left) ∙ ap (λ (n : ℕ). filled n (writtenAll (pairsAt (at-args .req .now) (at-action .given .0 .0))) (at-args .out .now)) (at-refusal .ensures) ∙ write-insert (at-args .req .now) (at-args .out .now) (at-q .given .0 .0) (request-found (at-args .req .now) (at-request-of .result) (at-q .given .0 .0) (at-request-of .ensures .0) (at-q .given .1)) (at-action .given .0 .0) (at-action .given .1)
+    filled-written (at-refusal .result) (at-put-pairs .result) (writtenAll (pairsAt (at-args .req .now) (at-action .given .0 .0))) (at-args .out .now) (at-put-pairs .last .1 .1 .0) (at-put-pairs .ensures .0) (at-put-pairs .ensures .1) (at-if1 .left) ∙ ap (λ (n : ℕ). filledAs n (writtenAll (pairsAt (at-args .req .now) (at-action .given .0 .0))) (at-args .out .now)) (at-refusal .ensures) ∙ write-insert (at-args .req .now) (at-args .out .now) (at-q .given .0 .0) (request-found (at-args .req .now) (at-request-of .result) (at-q .given .0 .0) (at-request-of .ensures .0) (at-q .given .1)) (at-action .given .0 .0) (at-action .given .1)
 
 pub write-record-spec : {M : Type 1} → statement M
 write-record-spec =

@@ -2,9 +2,9 @@
 use mathlib.Core.Path.{sym}
 use borrow.Author.Tests.{le-leb, lt-leb}
 use lib.ListN.{length}
+use Rattle.format.specs.Pieces.{readOf}
 use Rattle.format.specs.Records.{fieldsOf}
 use Rattle.format.specs.Sets.{valuesOf}
-use Rattle.records.specs.Walk.{readOf}
 use Rattle.records.proofs.Fields.{field-told}
 use borrow.Author.Needs.{needs}
 use Rattle.shapes.proofs.at_most_once.Statement.{statement}

@@ -3,10 +3,10 @@ use Prim.Native.Nat.{_+_}
 use native.Mathlib.Omega.{arith}
 use mathlib.Core.Path.{ap, _∙_}
 use lib.ListN.{take}
+use Rattle.format.specs.Pieces.{readOf}
 use Rattle.format.specs.Records.{fieldsOf}
 use Rattle.format.specs.Words.{firstWord}
 use Rattle.lines.specs.Value.{valueFrom}
-use Rattle.records.specs.Walk.{readOf}
 use Rattle.words.specs.Spans.{span}
 use Rattle.shapes.specs.Names.{namesAt}
 use Rattle.words.proofs.Decoded.{decoded-all, decoded-length, decoded-inside, scratch-length}

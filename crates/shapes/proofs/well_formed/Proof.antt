@@ -1,7 +1,7 @@
 -- `shapes::well_formed` meets its contract: all fields are shaped, and `%key` and `%size` occur at most once.
 use mathlib.Core.Path.{sym, _∙_}
+use Rattle.format.specs.Pieces.{readOf}
 use Rattle.format.specs.Records.{fieldsOf}
-use Rattle.records.specs.Walk.{readOf}
 use Rattle.shapes.proofs.Judging.{formed, keys-twice, not-shaped}
 use borrow.Author.Needs.{needs}
 use Rattle.shapes.proofs.well_formed.Statement.{statement}

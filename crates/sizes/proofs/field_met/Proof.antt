@@ -1,9 +1,11 @@
 -- `sizes::field_met` meets its contract: a `%size` value is read in the scratch, and another field asks nothing.
 use mathlib.Core.Path.{refl, sym, ap, _∙_}
+use Prim.Native.Nat.{ℕ}
+use mathlib.Core.Bool.{Bool}
 use mathlib.Core.Option.{Option}
 use Rattle.format.specs.Bytes.{Bytes}
 use Rattle.format.specs.Numbers.{intBounds}
-use Rattle.format.specs.Rules.{Size, sizeRule, meetsSize}
+use Rattle.format.specs.Rules.{sizeRule, meetsSize}
 use Rattle.format.specs.Words.{words}
 use Rattle.lines.specs.Value.{valueFrom}
 use Rattle.words.proofs.Decoded.{decoded-all, decoded-length, scratch-length}
@@ -55,7 +57,7 @@ returns c =
     let at-if1 = c .before .before .before .before .before .before .before .if1 in
     let at-pre = c .before .before .before .before .before .before .before .before .before .before .before .before .before .pre in
     let v = valueFrom (at-args .value .now) in
-    ((λ k. at-size-holds .ensures ∙ ap (λ (z : Option Size). meetsSize z (at-args .n)) (at-size-rule .ensures ∙ ap (λ (x : Bytes). sizeRule intBounds (words x)) (decoded-all (valueFrom (at-args .value .now)) (at-args .scratch .now) (at-copy-value .last .1 .0) (at-copy-value .result) (at-copy-value .ensures .0) (at-copy-value .ensures .1))) ∙ sym (size-asked (at-args .name .now) v (at-args .n) k (at-same-bytes .result) (at-same-bytes .ensures) (at-if1 .taken))), scratch-length (valueFrom (at-args .value .now)) (at-args .scratch .now) (at-copy-value .last .1 .0) (at-copy-value .result) (at-copy-value .ensures .0) (at-copy-value .ensures .1) (at-pre))
+    ((λ k. at-size-holds .ensures ∙ ap (λ (z : Option (ℕ → Bool)). meetsSize z (at-args .n)) (at-size-rule .ensures ∙ ap (λ (x : Bytes). sizeRule intBounds (words x)) (decoded-all (valueFrom (at-args .value .now)) (at-args .scratch .now) (at-copy-value .last .1 .0) (at-copy-value .result) (at-copy-value .ensures .0) (at-copy-value .ensures .1))) ∙ sym (size-asked (at-args .name .now) v (at-args .n) k (at-same-bytes .result) (at-same-bytes .ensures) (at-if1 .taken))), scratch-length (valueFrom (at-args .value .now)) (at-args .scratch .now) (at-copy-value .last .1 .0) (at-copy-value .result) (at-copy-value .ensures .0) (at-copy-value .ensures .1) (at-pre))
 
 returns-2 : tie.Need-returns-2
 returns-2 c =

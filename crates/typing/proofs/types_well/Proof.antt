@@ -5,9 +5,9 @@ use mathlib.Core.Path.{_≡_, sym, ap, _∙_}
 use mathlib.Core.List.{List, map}
 use lib.ListN.{length, take}
 use lib.Seq.{length-take-le}
+use Rattle.format.specs.Pieces.{readOf}
 use Rattle.format.specs.Bytes.{text, all}
 use Rattle.format.specs.Records.{fieldsOf}
-use Rattle.records.specs.Walk.{readOf}
 use Rattle.typedefs.specs.Walks.{valuesFrom, namesFrom, fitFrom}
 use Rattle.typing.specs.Ends.{wellBy}
 use Rattle.typing.proofs.Deciding.{not-defined, well-types}

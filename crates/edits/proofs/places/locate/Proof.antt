@@ -70,7 +70,7 @@ returns-2 c =
     let at-f = c .before .before .before .before .before .f in
     let req = a .req .now in
     let set = bytesOf req (a .q .set) in
-    located-as (a .s .now) req set (a .q .row) (at-locate-insert .result) (at-action .given .1) (at-locate-insert .ensures (a .q .row) set (sym (at-find-set .ensures) ∙ at-f .given .1))
+    located-as (a .s .now) req set (a .q .row) (at-locate-insert .result) (at-action .given .1) (at-locate-insert .ensures set (sym (at-find-set .ensures) ∙ at-f .given .1))
 
 enum-told-2 : tie.Need-enum-told-2
 enum-told-2 c = search needs

@@ -1,7 +1,7 @@
 -- `edits::places::locate_add` meets its contract: the field goes in behind the record's last, if its name and value are legal.
 use native.Mathlib.Omega.{arith}
 use mathlib.Core.Path.{refl, sym, _∙_}
-use Rattle.format.specs.Edits.{Edit}
+use Rattle.format.specs.Edits.{Edit, Act}
 use Rattle.records.proofs.Readings.{part-readable}
 use Rattle.requests.specs.Fields.{bytesOf}
 use Rattle.requests.specs.Pairs.{pairOf}
@@ -45,7 +45,7 @@ returns c =
     let at-enum-told = c .enum-told in
     let p = at-pre .1 .0 in
     let g = record-placed (a .s .now) (a .begin) (a .row) (at-find-record .result) (at-find-record .ensures) (at-enum-told .given .1) in
-    record-missing (a .s .now) (a .begin) (a .row) (p .0) (p .1) (p .2) (a .req .now) (Edit.add (pairOf (a .req .now) (a .name) (a .value))) (λ x. refl) g
+    record-missing (a .s .now) (a .begin) (a .row) (p .0) (p .1) (p .2) (a .req .now) (Act.add (pairOf (a .req .now) (a .name) (a .value))) g
 
 sub-is-legal-name : tie.Need-sub-is-legal-name
 sub-is-legal-name c = search needs

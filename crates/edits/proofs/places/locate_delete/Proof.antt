@@ -1,7 +1,7 @@
 -- `edits::places::locate_delete` meets its contract: the record's fields go from its place.
 use native.Mathlib.Omega.{arith}
 use mathlib.Core.Path.{refl}
-use Rattle.format.specs.Edits.{Edit}
+use Rattle.format.specs.Edits.{Edit, Act}
 use Rattle.records.proofs.Readings.{part-readable}
 use Rattle.edits.proofs.Acting.{record-placed, record-missing, record-inside, delete-located}
 use borrow.Author.Needs.{needs}
@@ -40,7 +40,7 @@ returns c =
     let at-enum-told = c .enum-told in
     let p = at-pre .1 in
     let g = record-placed (a .s .now) (a .begin) (a .row) (at-find-record .result) (at-find-record .ensures) (at-enum-told .given .1) in
-    λ req. record-missing (a .s .now) (a .begin) (a .row) (p .0) (p .1) (p .2) req Edit.delete (λ x. refl) g
+    λ req. record-missing (a .s .now) (a .begin) (a .row) (p .0) (p .1) (p .2) req Act.delete g
 
 add-t8 : tie.Need-add-t8
 add-t8 c =

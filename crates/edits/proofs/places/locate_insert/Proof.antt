@@ -37,7 +37,7 @@ returns c =
     let at-weigh = c .before .before .weigh in
     let p = at-pre .1 .0 in
     let w = subst (Weighs (pairsAt (a .req .now) (a .from))) (at-enum-told .given .1) (at-weigh .ensures) in
-    λ row. insert-illegal (a .s .now) (a .begin) row (p .0) (p .1) (p .2) (a .req .now) (pairsAt (a .req .now) (a .from)) w
+    insert-illegal (a .s .now) (a .begin) 0 (p .0) (p .1) (p .2) (a .req .now) (pairsAt (a .req .now) (a .from)) w
 
 sub-set-end : tie.Need-sub-set-end
 sub-set-end c = search needs
@@ -74,7 +74,7 @@ returns-2 c =
     let p = at-pre .1 .0 in
     let e = at-set-end .ensures ∙ ap (λ (y : Bytes). setEnd 0 (placesOf y)) (rest (a .s .now) (a .begin)) in
     let w = subst (Weighs (pairsAt (a .req .now) (a .from))) (g .1) (at-weigh .ensures) in
-    λ row. insert-located (a .s .now) (a .begin) row (p .0) (p .1) (p .2) (a .req .now) (at-set-end .result) (a .from) (g .0 .0) (g .0 .1 .0) e (at-pre .1 .1 .1 .1) w
+    insert-located (a .s .now) (a .begin) 0 (p .0) (p .1) (p .2) (a .req .now) (at-set-end .result) (a .from) (g .0 .0) (g .0 .1 .0) e (at-pre .1 .1 .1 .1) w
 
 pub locate-insert-spec : {M : Type 1} → statement M
 locate-insert-spec =

@@ -22,7 +22,7 @@ returns c =
     let at-args = c .before .before .before .args in
     let at-insert-at = c .insert-at in
     let at-if1 = c .before .if1 in
-    kind-reads (at-args .req .now) (at-args .kind) (at-args .set) (at-args .i) 1 insertKind (at-insert-at .result) (at-if1 .taken) (λ b fs. refl) (at-insert-at .ensures)
+    kind-reads (at-args .req .now) (at-args .kind) (at-args .set) (at-args .i) 1 insertKind (at-insert-at .result) (at-if1 .taken) (λ fs. refl) (at-insert-at .ensures)
 
 delete-at-requires : tie.Need-delete-at-requires
 delete-at-requires c κs = search needs
@@ -32,7 +32,7 @@ returns-2 c =
     let at-args = c .before .before .before .before .args in
     let at-delete-at = c .delete-at in
     let at-if2 = c .before .if2 in
-    kind-reads (at-args .req .now) (at-args .kind) (at-args .set) (at-args .i) 2 deleteKind (at-delete-at .result) (at-if2 .taken) (λ b fs. refl) (at-delete-at .ensures)
+    kind-reads (at-args .req .now) (at-args .kind) (at-args .set) (at-args .i) 2 deleteKind (at-delete-at .result) (at-if2 .taken) (λ fs. refl) (at-delete-at .ensures)
 
 add-at-requires : tie.Need-add-at-requires
 add-at-requires c κs = search needs
@@ -42,7 +42,7 @@ returns-3 c =
     let at-args = c .before .before .before .before .before .args in
     let at-add-at = c .add-at in
     let at-if3 = c .before .if3 in
-    kind-reads (at-args .req .now) (at-args .kind) (at-args .set) (at-args .i) 3 addKind (at-add-at .result) (at-if3 .taken) (λ b fs. refl) (at-add-at .ensures)
+    kind-reads (at-args .req .now) (at-args .kind) (at-args .set) (at-args .i) 3 addKind (at-add-at .result) (at-if3 .taken) (λ fs. refl) (at-add-at .ensures)
 
 set-at-requires : tie.Need-set-at-requires
 set-at-requires c κs = search needs
@@ -52,7 +52,7 @@ returns-4 c =
     let at-args = c .before .before .before .before .before .before .args in
     let at-set-at = c .set-at in
     let at-if4 = c .before .if4 in
-    kind-reads (at-args .req .now) (at-args .kind) (at-args .set) (at-args .i) 4 setKind (at-set-at .result) (at-if4 .taken) (λ b fs. refl) (at-set-at .ensures)
+    kind-reads (at-args .req .now) (at-args .kind) (at-args .set) (at-args .i) 4 setKind (at-set-at .result) (at-if4 .taken) (λ fs. refl) (at-set-at .ensures)
 
 drop-at-requires : tie.Need-drop-at-requires
 drop-at-requires c κs = search needs
@@ -62,7 +62,7 @@ returns-5 c =
     let at-args = c .before .before .before .before .before .before .before .args in
     let at-drop-at = c .drop-at in
     let at-if5 = c .before .if5 in
-    kind-reads (at-args .req .now) (at-args .kind) (at-args .set) (at-args .i) 5 dropKind (at-drop-at .result) (at-if5 .taken) (λ b fs. refl) (at-drop-at .ensures)
+    kind-reads (at-args .req .now) (at-args .kind) (at-args .set) (at-args .i) 5 dropKind (at-drop-at .result) (at-if5 .taken) (λ fs. refl) (at-drop-at .ensures)
 
 rename-at-requires : tie.Need-rename-at-requires
 rename-at-requires c κs = search needs
@@ -72,7 +72,7 @@ returns-6 c =
     let at-args = c .before .before .before .before .before .before .before .before .args in
     let at-rename-at = c .rename-at in
     let at-if6 = c .before .if6 in
-    kind-reads (at-args .req .now) (at-args .kind) (at-args .set) (at-args .i) 6 renameKind (at-rename-at .result) (at-if6 .taken) (λ b fs. refl) (at-rename-at .ensures)
+    kind-reads (at-args .req .now) (at-args .kind) (at-args .set) (at-args .i) 6 renameKind (at-rename-at .result) (at-if6 .taken) (λ fs. refl) (at-rename-at .ensures)
 
 returns-7 : tie.Need-returns-7
 returns-7 c =

@@ -1,12 +1,14 @@
 -- `types::kinds::size_of` meets its contract.
 use mathlib.Core.Path.{sym, ap, _∙_}
 use native.Mathlib.Omega.{arith}
+use Prim.Native.Nat.{ℕ}
+use mathlib.Core.Option.{Option·map}
 use mathlib.Core.List.{List, _∷_}
 use Rattle.format.specs.Bytes.{Bytes}
 use Rattle.words.specs.Spans.{span}
 use Rattle.words.proofs.Finding.{found, not-found}
 use Rattle.format.specs.Numbers.{intBounds}
-use Rattle.format.specs.Types.{sizeOf, sized}
+use Rattle.format.specs.Types.{Kind, Typed, sizeOf}
 use Rattle.numbers.specs.Meaning.{naturalAnswer}
 use Rattle.types.proofs.Firsts.{told-fault}
 use borrow.Author.Needs.{needs}
@@ -108,7 +110,7 @@ returns-3 c =
     let at-x = c .before .x in
     let f = found (at-args .s .now) (at-args .at) (at-next-word .ensures) (at-w .given .1) at-pre in
     let n = not-found (at-args .s .now) (at-w .given .0 .1 .0) (at-next-word2 .ensures) (at-enum-told2 .given .1) in
-    record { answers = sym (ap (sizeOf intBounds) (f .3 ∙ ap (λ (l : List Bytes). span (at-w .given .0 .0) (at-w .given .0 .1 .0) (at-args .s .now) ∷ l) n) ∙ ap sized (sym (at-number-of .ensures) ∙ ap naturalAnswer (at-x .given .1))); sound = tt }
+    record { answers = sym (ap (sizeOf intBounds) (f .3 ∙ ap (λ (l : List Bytes). span (at-w .given .0 .0) (at-w .given .0 .1 .0) (at-args .s .now) ∷ l) n) ∙ ap (Option·map (λ (n : ℕ). Typed.kind (Kind.size n))) (sym (at-number-of .ensures) ∙ ap naturalAnswer (at-x .given .1))); sound = tt }
 
 returns-4 : tie.Need-returns-4
 returns-4 c =
@@ -122,7 +124,7 @@ returns-4 c =
     let at-enum-told4 = c .enum-told4 in
     let f = found (at-args .s .now) (at-args .at) (at-next-word .ensures) (at-w .given .1) at-pre in
     let n = not-found (at-args .s .now) (at-w .given .0 .1 .0) (at-next-word2 .ensures) (at-enum-told2 .given .1) in
-    told-fault (at-args .s .now) (ap (sizeOf intBounds) (f .3 ∙ ap (λ (l : List Bytes). span (at-w .given .0 .0) (at-w .given .0 .1 .0) (at-args .s .now) ∷ l) n) ∙ ap sized (sym (at-number-of .ensures) ∙ ap naturalAnswer (at-enum-told4 .given .1)))
+    told-fault (at-args .s .now) (ap (sizeOf intBounds) (f .3 ∙ ap (λ (l : List Bytes). span (at-w .given .0 .0) (at-w .given .0 .1 .0) (at-args .s .now) ∷ l) n) ∙ ap (Option·map (λ (n : ℕ). Typed.kind (Kind.size n))) (sym (at-number-of .ensures) ∙ ap naturalAnswer (at-enum-told4 .given .1)))
 
 pub size-of-spec : {M : Type 1} → statement M
 size-of-spec =
