@@ -17,8 +17,8 @@ use Rattle.format.specs.Plain.{recordCount, looseCount, rulesCount, othe
 use Rattle.format.proofs.Elements.{Has}
 use Rattle.format.proofs.Lists.{None, sum-append, sum-at, sum-behind, sum-flat, sum-nth, Starts, Parted}
 use Rattle.format.proofs.Lines.{bytes-append}
-use Rattle.format.proofs.Grouping.{fresh}
-use Rattle.format.proofs.Regrouping.{groups-parted, groups-pieces}
+use Rattle.format.proofs.Fates.{fresh, groups-pieces}
+use Rattle.format.proofs.Regrouping.{groups-parted}
 
 -- the bytes of pieces: those of comments and blank lines, and those of fields
 

@@ -97,6 +97,17 @@ owns-flat (g ∷ gs) = ap (λ (x : List Piece). flat g ++ x) (owns-flat gs) ∙ 
 along : (fs : List Fate) {xs ys xs′ ys′ : List Piece} → xs ≡ xs′ → ys ≡ ys′ → Goes fs xs ys → Goes fs xs′ ys′
 along fs {xs} {ys} {xs′} {ys′} p q h = subst (λ (x : List Piece). Goes fs x ys′) p (subst (Goes fs xs) q h)
 
+-- the groups of pieces, and their blocks: their pieces are those
+
+pub groups-blocks : (ps : List Piece) → flat (groups ps) ≡ blocks ps
+groups-blocks ps = flat-cut isDescriptor (blocks ps)
+
+pub flat-blocks : (ps : List Piece) → flat (blocks ps) ≡ ps
+flat-blocks ps = flat-cut isBlankLine ps
+
+pub groups-pieces : (ps : List Piece) → flat (flat (groups ps)) ≡ ps
+groups-pieces ps = ap flat (groups-blocks ps) ∙ flat-blocks ps
+
 -- an act on a block
 
 goes-unfielded : (b : Block) → Goes (blockFates Act.delete b) b (unfielded b)
@@ -116,11 +127,15 @@ goes-block (Act.change n o c) b =
 
 -- an edit of a group
 
+-- the block that an insert writes
+abbrev pub fresh : List Pair → Block
+fresh new = newline ∷ map newPiece new
+
 goes-act : (a : Act) (b : Block) → Goes (blockFates a b) b (owns whole (inBlock a b ∷ []))
 goes-act a b = subst (Goes (blockFates a b) b) (sym (append-nil (inBlock a b))) (goes-block a b)
 
 goes-group : (e : Edit) (g : Group) → Goes (groupFates e g) (flat g) (flat (inGroup e g))
-goes-group (Edit.insert new) g = along (groupFates (Edit.insert new) g) (owns-whole g) (owns-whole (inGroup (Edit.insert new) g)) (goes-behind whole isRecord (newline ∷ map newPiece new) g)
+goes-group (Edit.insert new) g = along (groupFates (Edit.insert new) g) (owns-whole g) (owns-whole (inGroup (Edit.insert new) g)) (goes-behind whole isRecord (fresh new) g)
 goes-group (Edit.on j a) g = along (groupFates (Edit.on j a) g) (owns-whole g) (owns-whole (inGroup (Edit.on j a) g)) (goes-at whole isMember (λ (b : Block). inBlock a b ∷ []) (blockFates a) (goes-act a) g j)
 
 goes-one : (e : Edit) (g : Group) → Goes (groupFates e g) (flat g) (owns flat (inGroup e g ∷ []))
@@ -130,8 +145,7 @@ goes-one e g = subst (Goes (groupFates e g) (flat g)) (sym (append-nil (flat (in
 
 goes-groups : (i : ℕ) (e : Edit) (ps : List Piece) → Goes (inGroupFates i e ps) ps (inGroups i e ps)
 goes-groups i e ps =
-    let all : flat (flat (groups ps)) ≡ ps = ap flat (flat-cut isDescriptor (blocks ps)) ∙ flat-cut isBlankLine ps in
-    along (inGroupFates i e ps) (owns-flat (groups ps) ∙ all) (owns-flat (nth i (inGroup e) (groups ps))) (goes-at flat always (λ (g : Group). inGroup e g ∷ []) (groupFates e) (goes-one e) (groups ps) i)
+    along (inGroupFates i e ps) (owns-flat (groups ps) ∙ groups-pieces ps) (owns-flat (nth i (inGroup e) (groups ps))) (goes-at flat always (λ (g : Group). inGroup e g ∷ []) (groupFates e) (goes-one e) (groups ps) i)
 
 goes-front : (new : List Pair) (ps : List Piece) → Goes (addedAll (map newPiece new ++ newlineIf ps)) ps (inFront new ps)
 goes-front new ps = subst (Goes (addedAll (map newPiece new ++ newlineIf ps)) ps) (append-assoc (map newPiece new) (newlineIf ps) ps) (goes-added (map newPiece new ++ newlineIf ps) ps)

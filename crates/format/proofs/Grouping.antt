@@ -14,9 +14,10 @@ use Rattle.format.specs.Pieces.{Piece}
 use Rattle.format.specs.Records.{Field, Record, Block, countOf, fieldOf, isField, fieldsOf, isRecord}
 use Rattle.format.specs.Sets.{recValues, isDescriptor, Group, isMember, memberOf, RecSet, rulesOf, setOf}
 use Rattle.format.specs.Written.{Pair, newField, newPiece}
-use Rattle.format.specs.Edits.{Change, Act, Edit, isNamed, isOf, changePiece, changeField, unfielded, inBlock, inRecord, newline, inGroup, inMembers, inSet}
+use Rattle.format.specs.Edits.{Change, Act, Edit, isNamed, isOf, changePiece, changeField, unfielded, inBlock, inRecord, inGroup, inMembers, inSet}
 use Rattle.format.proofs.Elements.{Each, each-imp, Filled}
 use Rattle.format.proofs.Lists.{None, kept-append, Mirrors, kept-at, kept-behind, each-at, each-pick, each-behind, Starts}
+use Rattle.format.proofs.Fates.{fresh}
 use Rattle.format.proofs.Whole.{Sound}
 use Rattle.format.proofs.Writing.{written-count, fields-new}
 use Rattle.format.proofs.Renaming.{count-rename}
@@ -129,8 +130,6 @@ module _ (a : Act) (names : NewName NotRec a) (b : Block) (sound : Each Sound b)
   act-plain = ap (λ (r : Record). isFilled (recValues r)) act-fields ∙ ap isFilled act-is
 
 -- the block that an insert writes
-abbrev pub fresh : List Pair → Block
-fresh new = newline ∷ map newPiece new
 
 pub fresh-plain : (new : List Pair) → Each (λ (p : Pair). NotRec (p .name)) new → isDescriptor (map newPiece new) ≡ false
 fresh-plain new h = ap (λ (r : Record). isFilled (recValues r)) (fields-new new) ∙ ap isFilled (member-new new h)

@@ -22,7 +22,7 @@ use Rattle.format.proofs.Writing.{written-bytes, written-sound, allowed
 use Rattle.format.proofs.Renaming.{sound-name, sound-rename, allowed-rename}
 use Rattle.format.proofs.Legal.{legal-name, legal-is-name, legal-joins, legal-allowed, legal-sound, written-allowed}
 use Rattle.format.proofs.Named.{NewNames}
-use Rattle.format.proofs.Grouping.{fresh}
+use Rattle.format.proofs.Fates.{fresh}
 use Rattle.format.proofs.Regrouping.{groups-each}
 
 -- the pieces that an edit writes have it

@@ -15,8 +15,9 @@ use Rattle.format.specs.Plain.{membersAt}
 use Rattle.format.specs.Calls.{blockAt, piecesBefore}
 use Rattle.format.proofs.Elements.{Each, Filled, Has}
 use Rattle.format.proofs.Lists.{None, flat-append, Starts, Parted}
-use Rattle.format.proofs.Grouping.{fresh, described-record, described-member, record-member, rules-none}
-use Rattle.format.proofs.Regrouping.{groups-parted, groups-blocks}
+use Rattle.format.proofs.Fates.{fresh, groups-blocks}
+use Rattle.format.proofs.Grouping.{described-record, described-member, record-member, rules-none}
+use Rattle.format.proofs.Regrouping.{groups-parted}
 use Rattle.format.proofs.Records.{close, Names, Described, GoodSets}
 
 -- where record j of set i stands among all, and a set's last record, else its descriptor

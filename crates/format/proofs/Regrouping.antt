@@ -13,10 +13,11 @@ use Rattle.format.specs.Sets.{isDescriptor, Group, groups, isMember, mem
 use Rattle.format.specs.Written.{Pair, newField, newPiece}
 use Rattle.format.specs.Edits.{Change, Act, Edit, isOf, changePiece, unfielded, inBlock, newline, inGroup, inSet, inGroups, inFront, editPieces}
 use Rattle.format.proofs.Elements.{Each, each-imp, any-none, Filled, Has}
-use Rattle.format.proofs.Lists.{None, kept-none, each-on, each-pick, each-behind, flat-each, map-nth, Starts, Parted, cut-parted, parted-filled, flat-cut, cut-front, cut-flat, parted-nth, parted-behind}
+use Rattle.format.proofs.Lists.{None, kept-none, each-on, each-pick, each-behind, flat-each, map-nth, Starts, Parted, cut-parted, parted-filled, cut-front, cut-flat, parted-nth, parted-behind}
 use Rattle.format.proofs.Whole.{Sound}
 use Rattle.format.proofs.Named.{NewNames, NotRec}
-use Rattle.format.proofs.Grouping.{HasPairs, SoundIn, fresh, fresh-member, fresh-plain, described-record, bare-member, bare-descriptor, rules-none, starts-in, setBy, set-in}
+use Rattle.format.proofs.Fates.{fresh, groups-blocks, groups-pieces}
+use Rattle.format.proofs.Grouping.{HasPairs, SoundIn, fresh-member, fresh-plain, described-record, bare-member, bare-descriptor, rules-none, starts-in, setBy, set-in}
 
 -- an edited block has a blank line where it had one: at its head, or nowhere
 
@@ -88,19 +89,10 @@ nth-parted e i first [] p c = c
 nth-parted e zero first (g ∷ gs) p c = group-parted (flat gs) e first g p c
 nth-parted e (suc i) first (g ∷ gs) p c = parted-behind isBlankLine (flat gs) (flat (nth i (inGroup e) gs)) (λ t k. nth-parted e i t gs p k) first g c
 
--- the groups of pieces: their pieces are those, and a group has a descriptor at its head or none
+-- the groups of pieces: a group has a descriptor at its head or none
 
 pub groups-parted : (ps : List Piece) → Parted isDescriptor true (groups ps)
 groups-parted ps = cut-parted isDescriptor (blocks ps)
-
-pub groups-blocks : (ps : List Piece) → flat (groups ps) ≡ blocks ps
-groups-blocks ps = flat-cut isDescriptor (blocks ps)
-
-pub flat-blocks : (ps : List Piece) → flat (blocks ps) ≡ ps
-flat-blocks ps = flat-cut isBlankLine ps
-
-pub groups-pieces : (ps : List Piece) → flat (flat (groups ps)) ≡ ps
-groups-pieces ps = ap flat (groups-blocks ps) ∙ flat-blocks ps
 
 pub groups-each : (P : Piece → Type 0) (ps : List Piece) → Each P ps → Each (Each (Each P)) (groups ps)
 groups-each P ps h = flat-each (Each P) (groups ps) (flat-each P (flat (groups ps)) (subst (Each P) (sym (groups-pieces ps)) h))

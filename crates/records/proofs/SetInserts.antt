@@ -6,7 +6,7 @@ use mathlib.Core.Bool.{Bool, true, false}
 use mathlib.Core.List.{List, [], _∷_, _++_}
 use mathlib.Core.Option.{some, Option·none-ne-some, Option·some-injective}
 use lib.ListN.{drop, getElem?}
-use Rattle.format.proofs.Grouping.{fresh}
+use Rattle.format.proofs.Fates.{fresh}
 use Rattle.format.proofs.Applying.{index-has}
 use Rattle.format.proofs.Ordinals.{past, lastAt, lastOf, onRecord, HasLast, has-last, first-has-last, insert-last, insert-front}
 use Rattle.format.proofs.Records.{close, sets, GoodSets, good-sets}

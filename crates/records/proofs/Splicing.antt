@@ -8,8 +8,7 @@ use mathlib.Core.Option.{some, Option·none-ne-some, Option·some-injective}
 use lib.ListN.{length, take, drop, getElem?}
 use lib.Seq.{drop-drop, drop-append-le}
 use Rattle.format.proofs.Lists.{flat-append}
-use Rattle.format.proofs.Grouping.{fresh}
-use Rattle.format.proofs.Regrouping.{flat-blocks}
+use Rattle.format.proofs.Fates.{fresh, flat-blocks}
 use Rattle.format.proofs.Ordinals.{onRecord}
 use Rattle.format.specs.Lists.{flat, isFilled, turn}
 use Rattle.format.specs.Bytes.{Bytes}

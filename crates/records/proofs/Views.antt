@@ -7,7 +7,7 @@ use mathlib.Core.List.{List, [], _∷_, _++_, append-assoc, map}
 use mathlib.Core.Option.{Option, some, Option·none-ne-some, Option·some-injective}
 use lib.ListN.{length, take, drop, getD, getElem?}
 use lib.Seq.{drop-drop, take-at, drop-at}
-use Rattle.format.proofs.Regrouping.{flat-blocks}
+use Rattle.format.proofs.Fates.{flat-blocks}
 use Rattle.format.proofs.Elements.{below-has}
 use Rattle.format.proofs.Lists.{flat-append}
 use Rattle.format.proofs.Ordinals.{past, ordinal, There, there-at, before-ordinal, block-ordinal}
