@@ -1,32 +1,25 @@
 -- Keys are distinct exactly if no two places of the list have the same one; so where each is before the next they are, where two neighbours are
 -- the same they are not, and places may be exchanged.
-use Prim.Native.Nat.{ℕ, zero, suc, _-_, _<_, _≤_, suc-le-suc}
+use Prim.Native.Nat.{ℕ, zero, suc, _-_, _<_, suc-le-suc}
 use native.Mathlib.Nat.{le-of-suc-le-suc, zero-lt-suc}
 use native.Mathlib.Omega.{arith}
 use mathlib.Core.Path.{_≡_, refl, sym, ap, _∙_, subst}
 use mathlib.Core.Bool.{Bool, true, false, false≢true, and-eq-true-iff}
 use mathlib.Core.List.{List, [], _∷_, map}
-use borrow.Author.Tests.{eqb-true, ltb-true, ltb-false, eq-eqb}
-use lib.Dec.{eqb, ltb}
+use borrow.Author.Tests.{eqb-true, eq-eqb}
+use lib.Dec.{eqb}
 use lib.ListN.{length, getD}
 use Rattle.format.specs.Bytes.{Bytes, same, among}
 use Rattle.format.specs.Rules.{distinct}
 use Rattle.keys.specs.Order.{ranked}
-use Rattle.keys.specs.declared.Compared.{Compared}
+use Rattle.sorting.specs.declared.Compared.{Compared}
+use Rattle.sorting.proofs.Tests.{by-bool, dec-lt}
 use Rattle.keys.proofs.Order.{ranked-trans, ranked-apart}
-
--- a test, with what it says
-pub by-bool : {P : Type 0} (t : Bool) → (t ≡ true → P) → (t ≡ false → P) → P
-by-bool true f g = f refl
-by-bool false f g = g refl
 
 pub bool-same : (a b : Bool) → (a ≡ true → b ≡ true) → (b ≡ true → a ≡ true) → a ≡ b
 bool-same true b f g = sym (f refl)
 bool-same false true f g = g refl
 bool-same false false f g = refl
-
-pub dec-lt : {P : Type 0} (a b : ℕ) → (a < b → P) → (b ≤ a → P) → P
-dec-lt a b f g = by-bool (ltb a b) (λ e. f (ltb-true a b e)) (λ e. g (ltb-false a b e))
 
 same-eq : (x y : Bytes) → same x y ≡ true → x ≡ y
 same-eq [] [] e = refl

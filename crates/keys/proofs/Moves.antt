@@ -1,4 +1,4 @@
--- Work that only moves entries: nothing, two exchanged, and one move after the other. Exchanging renames places, so distinct keys stay distinct.
+-- Entries that were moved. Exchanging two renames places, so distinct keys stay distinct.
 use Prim.Native.Nat.{ℕ, _<_}
 use mathlib.Core.Path.{_≡_, refl, sym, ap, _∙_, subst}
 use mathlib.Core.List.{List, map}
@@ -8,8 +8,11 @@ use lib.ListN.{length, getD, set, length-set}
 use lib.Seq.{getD-set-same, getD-set-other}
 use Rattle.format.specs.Bytes.{Bytes, pick}
 use Rattle.format.specs.Rules.{distinct}
-use Rattle.keys.specs.Keys.{keyAt, IsEntry, Entries, swapped, Moved}
-use Rattle.keys.proofs.Apart.{by-bool, bool-same, apart-distinct, distinct-apart, apart-renamed}
+use Rattle.sorting.specs.Moves.{swapped, Moved}
+use Rattle.sorting.proofs.Tests.{by-bool}
+use Rattle.sorting.proofs.Moves.{moved-keeps, moved-each}
+use Rattle.keys.specs.Keys.{IsEntry, Entries}
+use Rattle.keys.proofs.Apart.{bool-same, apart-distinct, distinct-apart, apart-renamed}
 
 -- i and j change their places
 turn : ℕ → ℕ → ℕ → ℕ
@@ -71,13 +74,13 @@ module _ (l : List ℕ) (i j : ℕ) (h : i < length l) (g : j < length l) where
   turned-back : (p : ℕ) → getD l p 0 ≡ getD (swapped l i j) (turn i j p) 0
   turned-back p = sym (turned (turn i j p) ∙ ap (λ (k : ℕ). getD l k 0) (turn-turn i j p))
 
-  pub swapped-length : length (swapped l i j) ≡ length l
+  swapped-length : length (swapped l i j) ≡ length l
   swapped-length = simp length-set
 
   swapped-below : (p : ℕ) → p < length (swapped l i j) → turn i j p < length l
   swapped-below p k = turn-below p (rw swapped-length at k)
 
-  pub swapped-distinct : (f : ℕ → Bytes) → distinct (map f (swapped l i j)) ≡ distinct (map f l)
+  swapped-distinct : (f : ℕ → Bytes) → distinct (map f (swapped l i j)) ≡ distinct (map f l)
   swapped-distinct f =
       let m = swapped l i j in
       bool-same (distinct (map f m)) (distinct (map f l))
@@ -86,17 +89,8 @@ module _ (l : List ℕ) (i j : ℕ) (h : i < length l) (g : j < length l) where
       (apart-renamed f m l (turn i j) (sym swapped-length) (λ p k. rw swapped-length (turn-below p k)) (turn-same i j) turned-back (distinct-apart f m e)))
       (λ e. apart-distinct f m (apart-renamed f l m (turn i j) swapped-length swapped-below (turn-same i j) turned (distinct-apart f l e)))
 
-  pub moved-swapped : (s : Bytes) (m : List ℕ) → m ≡ swapped l i j → Entries s (length l) l → Moved s l m
-  moved-swapped s m q e =
-      subst (Moved s l) (sym q)
-      (record {
-        long = swapped-length;
-        entries = λ p k. subst (IsEntry s) (sym (turned p)) (e (turn i j p) (swapped-below p k));
-        apart = swapped-distinct (keyAt s);
-      })
+pub moved-distinct : (f : ℕ → Bytes) {l m : List ℕ} → Moved l m → distinct (map f m) ≡ distinct (map f l)
+moved-distinct f {l} v = moved-keeps (λ (k : List ℕ). distinct (map f k) ≡ distinct (map f l)) (λ k i j h g e. swapped-distinct k i j h g f ∙ e) v refl
 
-pub moved-none : (s : Bytes) (l : List ℕ) → Entries s (length l) l → Moved s l l
-moved-none s l e = record { long = refl; entries = e; apart = refl }
-
-pub moved-on : (s : Bytes) (l m k : List ℕ) → Moved s l m → Moved s m k → Moved s l k
-moved-on s l m k a b = record { long = b .long ∙ a .long; entries = b .entries; apart = b .apart ∙ a .apart }
+pub moved-entries : (s : Bytes) {l m : List ℕ} → Moved l m → Entries s (length l) l → Entries s (length m) m
+moved-entries s v e = moved-each (IsEntry s) v e

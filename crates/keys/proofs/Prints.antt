@@ -1,6 +1,6 @@
 -- A fingerprint is below 65536, so an entry can be taken apart into its place and its fingerprint; the entries of a part of a list, and of a list
 -- with one more.
-use Prim.Native.Nat.{ℕ, _+_, _-_, _*_, _/_, _%_, _<_, _≤_}
+use Prim.Native.Nat.{ℕ, _+_, _-_, _/_, _%_, _<_, _≤_}
 use native.Mathlib.Numerals.{add-one}
 use native.Mathlib.Omega.{arith}
 use mathlib.Core.Path.{_≡_, sym, ap, _∙_, subst}
@@ -11,12 +11,8 @@ use lib.Seq.{getD-set-same, getD-set-other, take-suc-set, getD-take, getD-drop, 
 use Rattle.format.specs.Bytes.{Bytes}
 use Rattle.lines.specs.Value.{valueFrom}
 use Rattle.lines.proofs.Cuts.{rest}
-use Rattle.keys.specs.Keys.{mixed, printOf, entryOf, keyAt, keysOf, IsEntry, Entries}
-
-mixed-below : (v : Bytes) (h : ℕ) → h < 4294967296 → mixed h v < 4294967296
-unfolding mixed
-mixed-below [] h l = l
-mixed-below (b ∷ v) h l = mixed-below v ((h + b) * 2654435761 % 4294967296) (omega arith)
+use Rattle.sorting.proofs.Texts.{mixed-below}
+use Rattle.keys.specs.Keys.{printOf, entryOf, keyAt, keysOf, IsEntry, Entries}
 
 pub print-below : (v : Bytes) → printOf v < 65536
 unfolding printOf

@@ -83,7 +83,7 @@ pub enum Part {
     Nothing,
 }
 
-fn part_next(s: &[u8], i: usize) -> Part
+pub fn part_next(s: &[u8], i: usize) -> Part
     ensures { λ r. ⌜ Behind (now (s .entry)) i r ⌝ }
 {
     let mut at = i;

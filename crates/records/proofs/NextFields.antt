@@ -1,19 +1,65 @@
 -- The next field of a readable part: pieces that are no field are passed over, and a field's value is decoded from the bytes where it begins.
-use Prim.Native.Nat.{ℕ, _+_, _-_, _≤_}
+use Prim.Native.Nat.{ℕ, _+_, _-_, _≤_, _<_}
 use native.Mathlib.Omega.{arith}
-use mathlib.Core.Path.{_≡_, ap, _∙_, subst}
-use mathlib.Core.List.{_∷_}
-use lib.ListN.{take, drop}
-use Rattle.format.specs.Bytes.{Bytes}
-use Rattle.format.specs.Records.{Record}
+use mathlib.Core.Path.{_≡_, refl, sym, ap, _∙_, subst}
+use mathlib.Core.Bool.{Bool, true, false}
+use mathlib.Core.List.{List, [], _∷_, _++_}
+use lib.Dec.{eqb}
+use lib.ListN.{length, take, drop, length-append}
+use lib.Seq.{drop-drop}
+use borrow.Author.Tests.{eqb-false}
+use Rattle.format.specs.Bytes.{Bytes, pick}
+use Rattle.format.specs.Lines.{Line, bytes}
+use Rattle.format.specs.Pieces.{Piece, readOf}
+use Rattle.format.specs.Records.{Record, countOf}
+use Rattle.format.proofs.Whole.{Sound}
+use Rattle.format.proofs.Renaming.{sound-starts}
+use Rattle.lines.specs.Piece.{valueAt}
 use Rattle.lines.specs.Value.{valueFrom}
+use Rattle.lines.proofs.Values.{field-value-among}
+use Rattle.records.specs.Places.{isReadable, headLine}
 use Rattle.records.specs.Fields.{fieldsFrom, FieldHere, FieldNext}
 use Rattle.records.specs.declared.NextField.{NextField}
+use Rattle.records.proofs.Readings.{Reads, readable-reads}
 use Rattle.records.proofs.Steps.{FieldAt, record-field}
 
+-- a value begins before its line's newline
+begins-by : (b : Bool) (n m : ℕ) → eqb m (n + 1) ≡ b → n + 1 ≤ m → pick b (n + 1) (n + 2) ≤ m
+begins-by true n m e h = h
+begins-by false n m e h = omega (arith, eqb-false m (n + 1) e)
+
+begins-inside : (n v : Bytes) (l : Line) (own : List Line) → Sound (Piece.field n v (l ∷ own)) → valueAt (length n) l < countOf (l ∷ own)
+begins-inside n v l own h =
+    let f = sound-starts n v (l ∷ own) h in
+    let u : Bytes = f .2 in
+    let e : l ≡ n ++ (58 ∷ u) = cc in
+    let m : length l ≡ length n + length (58 ∷ u) = ap length e ∙ length-append n (58 ∷ u) in
+    let q : valueAt (length n) l ≤ length l = begins-by (eqb (length l) (length n + 1)) (length n) (length l) refl (omega arith) in
+    omega (arith, length-append l (10 ∷ bytes own))
+
+-- it is read from there on, whatever stands behind the field
+value-reads : (t n v : Bytes) (own : List Line) (ps : List Piece) → Reads t (Piece.field n v own ∷ ps) → (v ≡ valueFrom (drop (valueAt (length n) (headLine own)) t)) × (valueAt (length n) (headLine own) < countOf own)
+value-reads t n v [] ps r = let f = sound-starts n v [] (r .sound .0) in let e = f .3 in absurd (let z : _≡_ {A = ℕ} 0 1 = cc in omega arith)
+value-reads t n v (l ∷ own) ps r =
+    (field-value-among n v l own ps (r .sound) ∙ ap (λ (x : Bytes). valueFrom (drop (valueAt (length n) l) x)) (r .all), begins-inside n v l own (r .sound .0))
+
+module _ (s : Bytes) (i n v k : ℕ) (f : FieldAt s i n v k) (r : isReadable (drop i s) ≡ true) where
+  reading : (f .value ≡ valueFrom (drop (valueAt (length (f .name)) (headLine (f .own))) (drop i s))) × (valueAt (length (f .name)) (headLine (f .own)) < countOf (f .own))
+  reading = value-reads (drop i s) (f .name) (f .value) (f .own) (readOf (drop (i + k) s)) (subst (Reads (drop i s)) (f .passed .reads) (readable-reads (drop i s) r))
+
+  value-there : i + v < length s
+  value-there = omega (arith, reading .1, f .begins, f .passed .size, f .passed .inside)
+
+  ends-itself : valueFrom (drop (i + v) s) ≡ valueFrom (take ((i + k) - (i + v)) (drop (i + v) s))
+  ends-itself =
+      ap valueFrom (sym (drop-drop v i s))
+      ∙ ap (λ (j : ℕ). valueFrom (drop j (drop i s))) (f .begins)
+      ∙ sym (reading .0)
+      ∙ sym (f .decodes)
+
 -- a field at byte i is the next one from byte j on, where the fields from both are the same
-pub field-here : (s : Bytes) (j i n v k : ℕ) → FieldAt s i n v k → j ≤ i → fieldsFrom s j ≡ fieldsFrom s i → FieldHere s j i (i + n) (i + v) (i + k)
-field-here s j i n v k f h e =
+pub field-here : (s : Bytes) (j i n v k : ℕ) → FieldAt s i n v k → isReadable (drop i s) ≡ true → j ≤ i → fieldsFrom s j ≡ fieldsFrom s i → FieldHere s j i (i + n) (i + v) (i + k)
+field-here s j i n v k f r h e =
     let p = f .passed in
     let size : k ≡ (i + k) - i = omega arith in
     record {
@@ -25,6 +71,8 @@ field-here s j i n v k f h e =
       moves = omega (arith, p .moves);
       inside = p .inside;
       readable = p .readable;
+      value-there = value-there s i n v k f r;
+      ends-itself = ends-itself s i n v k f r;
       fields =
           e ∙ record-field s i n v k f
           ∙ ap {B = Record} (λ (m : ℕ). record { name = take ((i + n) - i) (drop i s); value = valueFrom (take ((i + k) - (i + v)) (drop (i + v) s)); count = m } ∷ fieldsFrom s (i + k)) size;

@@ -20,7 +20,7 @@ fieldsFrom s i = recordIn (drop i s)
 abbrev pub fieldBetween : Bytes → ℕ → ℕ → ℕ → ℕ → Field
 fieldBetween s a n v e = record { name = span a n s; value = valueFrom (span v e s); count = e - a }
 
--- it is the next one from byte i on
+-- it is the next one from byte i on; its value ends by itself, whatever stands behind
 pub record FieldHere (s : Bytes) (i a n v e : ℕ) : Type 0 where
   pub begins : i ≤ a
   pub named : a ≤ n
@@ -30,6 +30,8 @@ pub record FieldHere (s : Bytes) (i a n v e : ℕ) : Type 0 where
   pub moves : a < e
   pub inside : e ≤ length s
   pub readable : isReadable (drop e s) ≡ true
+  pub value-there : v < length s
+  pub ends-itself : valueFrom (drop v s) ≡ valueFrom (span v e s)
   pub fields : fieldsFrom s i ≡ fieldBetween s a n v e ∷ fieldsFrom s e
 
 abbrev pub FieldNext : Bytes → ℕ → NextField → Type 0

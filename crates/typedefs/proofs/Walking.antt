@@ -34,5 +34,7 @@ module _ (s name : Bytes) (i : ℕ) where
           within = f .value-inside;
           inside = f .inside;
           readable = f .readable;
+          value-there = f .value-there;
+          ends-itself = f .ends-itself;
           values = l ∙ values-by true q;
         }

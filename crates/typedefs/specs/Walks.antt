@@ -34,6 +34,8 @@ pub record ValueHere (s name : Bytes) (i v e : ℕ) : Type 0 where
   pub within : v ≤ e
   pub inside : e ≤ length s
   pub readable : isReadable (drop e s) ≡ true
+  pub value-there : v < length s
+  pub ends-itself : valueFrom (drop v s) ≡ valueFrom (span v e s)
   pub values : valuesFrom s name i ≡ valueFrom (span v e s) ∷ valuesFrom s name e
 
 abbrev pub ValueNext : Bytes → Bytes → ℕ → NextValue → Type 0

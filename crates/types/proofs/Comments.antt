@@ -25,14 +25,14 @@ use Rattle.types.specs.Symbols.{notParen, isPlain, wordsIn, symbolsAt, w
 use Rattle.types.specs.declared.symbols.Symbol.{Symbol}
 
 -- what a byte that is a gap, or plain, or neither, is not
-gap-open : (c : ℕ) → isGap c ≡ true → eqb c 40 ≡ false
+pub gap-open : (c : ℕ) → isGap c ≡ true → eqb c 40 ≡ false
 gap-open c e = go (eqb c 40) refl
   where
     go : (t : Bool) → eqb c 40 ≡ t → t ≡ false
     go true q = sym (ap isGap (sym (eqb-true c 40 q)) ∙ e)
     go false q = refl
 
-gap-close : (c : ℕ) → isGap c ≡ true → eqb c 41 ≡ false
+pub gap-close : (c : ℕ) → isGap c ≡ true → eqb c 41 ≡ false
 gap-close c e = go (eqb c 41) refl
   where
     go : (t : Bool) → eqb c 41 ≡ t → t ≡ false
@@ -40,7 +40,7 @@ gap-close c e = go (eqb c 41) refl
     go false q = refl
 
 -- a gap in front does not matter
-words-gap : (c : ℕ) (o : Option Bytes) → isGap c ≡ true → wordsIn (consTo c o) ≡ wordsIn o
+pub words-gap : (c : ℕ) (o : Option Bytes) → isGap c ≡ true → wordsIn (consTo c o) ≡ wordsIn o
 words-gap c none e = refl
 words-gap c (some s) e = rw e
 
@@ -73,7 +73,7 @@ not-close c e = go (eqb c 40) (eqb c 41) e
     go false true e = sym e
     go false false e = refl
 
-comment-on : (s : Bytes) → uncomment true s ≡ uncomment true (drop (run notParen s) s)
+pub comment-on : (s : Bytes) → uncomment true s ≡ uncomment true (drop (run notParen s) s)
 unfolding run
 comment-on [] = refl
 comment-on (c ∷ s) = go (notParen c) refl (comment-on s)
@@ -197,7 +197,7 @@ words-onto [] o h e l = absurd (omega arith)
 words-onto (c ∷ w) none h e l = refl
 words-onto (c ∷ w) (some s) h e l = ap some (words-led w s c e l)
 
-symbols-word : (s : Bytes) (i : ℕ) → i < runEnd isPlain s i → symbolsAt s i ≡ withWord (span i (runEnd isPlain s i) s) (symbolsAt s (runEnd isPlain s i))
+pub symbols-word : (s : Bytes) (i : ℕ) → i < runEnd isPlain s i → symbolsAt s i ≡ withWord (span i (runEnd isPlain s i) s) (symbolsAt s (runEnd isPlain s i))
 symbols-word s i h =
     let e = runEnd isPlain s i in
     let n = run isPlain (drop i s) in

@@ -1,64 +1,47 @@
--- `keys::entry` meets its contract: a fingerprint is below 65536.
+-- `keys::entry` meets its contract: the number has the place and the fingerprint side by side.
+use Prim.Native.Nat.{ℕ, _/_}
 use native.Mathlib.Omega.{arith}
+use mathlib.Core.Path.{_≡_, ap, _∙_}
 use lib.ListN.{drop}
 use Rattle.lines.specs.Value.{valueFrom}
-use Rattle.lines.proofs.Cuts.{rest}
-use Rattle.keys.proofs.Prints.{print-below}
+use Rattle.sorting.specs.Texts.{mixed}
+use Rattle.sorting.proofs.Texts.{text-whole}
+use Rattle.keys.specs.Keys.{printOf}
 use borrow.Author.Needs.{needs}
 use Rattle.keys.proofs.entry.Statement.{statement}
 use Rattle.keys.proofs.entry.Tie as tie
 use Rattle.keys.proofs.entry.Reads as reads
 use Rattle.keys.proofs.entry.Lts as lts
-use Rattle.keys.proofs.key_print.Reads as key-print-reads
 use Rattle.keys.proofs.narrow.Reads as narrow-reads
+use Rattle.sorting.proofs.mix.Reads as mix-reads
 
-sub-key-print : tie.Need-sub-key-print
-sub-key-print c = search needs
-
-part-key-print-start : tie.Need-part-key-print-start
-part-key-print-start c = search needs
-
-part-key-print-end : tie.Need-part-key-print-end
-part-key-print-end c = search needs
-
-key-print-requires : tie.Need-key-print-requires
-key-print-requires c κs = search needs
+mix-requires : tie.Need-mix-requires
+mix-requires c κs = search needs
 
 narrow-requires : tie.Need-narrow-requires
 narrow-requires c κs = search needs
 
+narrow-requires-2 : tie.Need-narrow-requires-2
+narrow-requires-2 c κs = search needs
+
 mul-result : tie.Need-mul-result
-mul-result c =
-    let at-args = c .before .before .before .before .args in
-    let at-key-print = c .before .key-print in
-    let e = rw (rest (at-args .s .now) (at-args .at)) at (at-key-print .ensures) in
-    omega (arith, print-below (valueFrom (drop (at-args .at) (at-args .s .now))))
+mul-result c = search needs
 
 add-result : tie.Need-add-result
-add-result c =
-    let at-args = c .before .before .before .before .args in
-    let at-key-print = c .before .key-print in
-    let at-narrow = c .narrow in
-    let e = rw (rest (at-args .s .now) (at-args .at)) at (at-key-print .ensures) in
-    omega (arith, at-narrow .ensures, print-below (valueFrom (drop (at-args .at) (at-args .s .now))))
+add-result c = search needs
 
 returns : tie.Need-returns
+unfolding printOf
 returns c =
+    let at-narrow2 = c .narrow2 in
     let at-args = c .before .before .before .before .args in
-    let at-key-print = c .before .key-print in
-    let at-narrow = c .narrow in
-    let e = rw (rest (at-args .s .now) (at-args .at)) at (at-key-print .ensures) in
-    rw (at-narrow .ensures, e)
+    let at-mix = c .before .before .mix in
+    let at-narrow = c .before .narrow in
+    let p : at-narrow2 .result ≡ printOf (valueFrom (drop (at-args .at) (at-args .s .now))) = at-narrow2 .ensures ∙ ap (λ (z : ℕ). z / 65536) (at-mix .ensures .0 ∙ ap (mixed 2166136261) (text-whole (at-args .s .now) (at-args .at))) in
+    let q = at-narrow .ensures in
+    omega arith
 
 pub entry-spec : {M : Type 1} → statement M
 entry-spec =
     tie.close
-    (tie.spec
-    sub-key-print
-    part-key-print-start
-    part-key-print-end
-    key-print-requires
-    narrow-requires
-    mul-result
-    add-result
-    returns)
+    (tie.spec mix-requires narrow-requires narrow-requires-2 mul-result add-result returns)

@@ -12,7 +12,7 @@ use Rattle.keys.proofs.key_among.Statement.{statement}
 use Rattle.keys.proofs.key_among.Tie as tie
 use Rattle.keys.proofs.key_among.Reads as reads
 use Rattle.keys.proofs.key_among.Lts as lts
-use Rattle.keys.proofs.place.Reads as place-reads
+use Rattle.sorting.proofs.place.Reads as place-reads
 use Rattle.lines.proofs.same_value.Reads as same-value-reads
 
 abbrev Inv-loop : tie.InvT-loop

@@ -141,7 +141,7 @@ returns c =
     let at-loop = c .before .before .before .before .before .loop in
     let at-next-piece = c .before .before .before .next-piece in
     let g = at-n3 .given in
-    field-here (at-args .s .now) (at-args .i) (at-loop .at) (g .0 .0) (g .0 .1 .0) (g .0 .1 .1 .0) (steps (at-args .s .now) (at-loop .at) (at-next-piece .result) (at-loop .inv .2) (at-next-piece .ensures) (g .1)) (at-loop .inv .0) (at-loop .inv .3)
+    field-here (at-args .s .now) (at-args .i) (at-loop .at) (g .0 .0) (g .0 .1 .0) (g .0 .1 .1 .0) (steps (at-args .s .now) (at-loop .at) (at-next-piece .result) (at-loop .inv .2) (at-next-piece .ensures) (g .1)) (at-loop .inv .2) (at-loop .inv .0) (at-loop .inv .3)
 
 enum-told : tie.Need-enum-told Inv-loop μ-loop
 enum-told c = search needs

@@ -1,0 +1,9 @@
+-- Laws of a descriptor's terms.
+pub mod Names
+pub mod Rows
+pub mod Listing
+pub mod Reading
+pub mod Typing
+pub mod Counting
+pub mod Making
+pub mod Knowing

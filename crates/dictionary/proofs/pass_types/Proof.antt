@@ -1,0 +1,94 @@
+-- `dictionary::pass_types` meets its contract. The invariant: as many fields are passed as counted. The measure is what is left to count.
+use borrow.Author.Needs.{needs}
+use Prim.Native.Nat.{ℕ, _-_, _≤_}
+use native.Mathlib.Omega.{arith}
+use mathlib.Core.Path.{_≡_, ap, _∙_}
+use lib.ListN.{drop}
+use Rattle.format.specs.Bytes.{text}
+use Rattle.typedefs.specs.Walks.{valuesFrom}
+use Rattle.typedefs.proofs.Walking.{value-told}
+use Rattle.dictionary.proofs.Typing.{Behind, behind-start, behind-more, row-none}
+use Rattle.dictionary.proofs.pass_types.Statement.{statement}
+use Rattle.dictionary.proofs.pass_types.Tie as tie
+use Rattle.dictionary.proofs.pass_types.Reads as reads
+use Rattle.dictionary.proofs.pass_types.Lts as lts
+use Rattle.typedefs.proofs.next_value.Reads as next-value-reads
+
+abbrev Inv-loop : tie.InvT-loop
+Inv-loop table d count i₀ row₀ t8 i row = (row ≤ count) × Behind d row i
+
+abbrev μ-loop : tie.MeasureT-loop
+μ-loop table d count i₀ row₀ t8 i row = count - row
+
+loop-holds : tie.Need-loop-holds Inv-loop μ-loop
+loop-holds c =
+    let at-args = c .before .args in
+    let at-pre = c .before .pre in
+    (omega arith, behind-start (at-args .d .now) (at-pre .1 .0))
+
+slice-aggregate-next-value : tie.Need-slice-aggregate-next-value Inv-loop μ-loop
+slice-aggregate-next-value c = search needs
+
+next-value-requires : tie.Need-next-value-requires Inv-loop μ-loop
+next-value-requires c κs =
+    let at-pre = c .before .before .before .before .pre in
+    let at-loop = c .before .before .loop in
+    (at-pre .0, (at-loop .inv .1 .inside, at-loop .inv .1 .readable))
+
+enum-known-v : tie.Need-enum-known-v Inv-loop μ-loop
+enum-known-v c = search needs
+
+enum-told : tie.Need-enum-told Inv-loop μ-loop
+enum-told c = search needs
+
+returns : tie.Need-returns Inv-loop μ-loop
+returns c =
+    let at-args = c .before .before .before .before .before .before .before .args in
+    let at-loop = c .before .before .before .before .before .loop in
+    let at-next-value = c .before .before .next-value in
+    let at-enum-told = c .enum-told in
+    let at-loop-test = c .before .before .before .before .loop-test in
+    let at-pre = c .before .before .before .before .before .before .before .pre in
+    let e = value-told (at-args .d .now) (text "%type") (at-loop .i) (at-next-value .result) (at-next-value .ensures) (at-enum-told .given .1) in
+    let h = row-none (at-args .d .now) (at-loop .row) (at-loop .i) (at-loop .inv .1) e in
+    absurd (omega (arith, at-loop-test .taken, at-pre .1 .1))
+
+add-row : tie.Need-add-row Inv-loop μ-loop
+add-row c = search needs
+
+loop-less : tie.Need-loop-less Inv-loop μ-loop
+loop-less c = search needs
+
+loop-again : tie.Need-loop-again Inv-loop μ-loop
+loop-again c =
+    let at-args = c .before .before .before .before .before .before .before .before .args in
+    let at-loop = c .before .before .before .before .before .before .loop in
+    let at-next-value = c .before .before .before .next-value in
+    let at-v = c .before .v in
+    let h = value-told (at-args .d .now) (text "%type") (at-loop .i) (at-next-value .result) (at-next-value .ensures) (at-v .given .1) in
+    (omega arith, behind-more (at-args .d .now) (at-loop .row) (at-loop .i) _ _ (at-loop .inv .1) h)
+
+returns-2 : tie.Need-returns-2 Inv-loop μ-loop
+returns-2 c =
+    let at-loop = c .before .loop in
+    let at-args = c .before .before .before .args in
+    let at-loop-test = c .loop-test in
+    let e : at-loop .row ≡ at-args .count = omega (arith, at-loop .inv .0, at-loop-test .left) in
+    (at-loop .inv .1 .inside, at-loop .inv .1 .readable, at-loop .inv .1 .values ∙ ap (λ (j : ℕ). drop j (valuesFrom (at-args .d .now) (text "%type") 0)) e)
+
+pub pass-types-spec : {M : Type 1} → statement M
+pass-types-spec =
+    tie.close
+    (tie.spec
+    Inv-loop
+    μ-loop
+    loop-holds
+    slice-aggregate-next-value
+    next-value-requires
+    enum-known-v
+    enum-told
+    returns
+    add-row
+    loop-less
+    loop-again
+    returns-2)

@@ -1,0 +1,50 @@
+-- What a dictionary says of a name.
+use Prim.Native.Nat.{ℕ, _≤_, _<_}
+use mathlib.Core.Path.{_≡_}
+use mathlib.Core.Bool.{true}
+use mathlib.Core.List.{List, [], _++_}
+use lib.ListN.{length, getD, take, drop}
+use Rattle.format.specs.Bytes.{Bytes, text, among}
+use Rattle.format.specs.Records.{Record}
+use Rattle.format.specs.Sets.{valuesOf}
+use Rattle.format.specs.Numbers.{intBounds}
+use Rattle.format.specs.Rules.{mandatory, prohibited, allowed, unique, key, typedNames, isWellFormed, isTypedWell}
+use Rattle.format.specs.Questions.{fitsRecord, fitsRules}
+use Rattle.records.specs.Places.{isReadable}
+use Rattle.records.specs.Walk.{recordIn}
+use Rattle.typedefs.specs.Walks.{valuesFrom}
+use Rattle.terms.specs.Sets.{inSet, tagged}
+use Rattle.terms.specs.Entries.{termsOf}
+use Rattle.terms.specs.Order.{IsTable}
+use Rattle.dictionary.specs.Terms.{listTerms, rowTerms}
+use Rattle.dictionary.specs.declared.Dictionary.{Dictionary}
+
+-- a part whose fields are rules that pass questions 4, 6 and 7
+pub record Described (d : Bytes) : Type 0 where
+  pub reads : isReadable d ≡ true
+  pub short : length d ≤ 65536
+  pub fits : fitsRecord (recordIn d) ≡ true
+  pub few : fitsRules (recordIn d) ≡ true
+  pub well : isWellFormed intBounds (recordIn d) ≡ true
+  pub typed : isTypedWell intBounds (recordIn d) ≡ true
+
+-- the value of `%type` field k
+abbrev pub typeValue : Record → ℕ → Bytes
+typeValue rules k = getD (valuesOf (text "%type") rules) k []
+
+-- x tells of the name w which lists have it, and which `%type` fields from one on up to another name it
+pub record Known (rules : Record) (from to : ℕ) (w : Bytes) (x : ℕ) : Type 0 where
+  pub mandatory-is : inSet 32 x ≡ among w (mandatory rules)
+  pub prohibited-is : inSet 33 x ≡ among w (prohibited rules)
+  pub allowed-is : inSet 34 x ≡ among w (allowed rules)
+  pub unique-is : inSet 35 x ≡ among w (unique rules)
+  pub key-is : inSet 36 x ≡ among w (key rules)
+  pub typed-is : (k : ℕ) → from ≤ k → k < to → inSet k x ≡ among w (typedNames (typeValue rules k))
+
+-- a table of a descriptor's terms; those of the `%type` fields from the next on are left
+pub record IsDictionary (d : Bytes) (from : ℕ) (l : List ℕ) (r : Dictionary) : Type 0 where
+  pub table : IsTable d l (r .table)
+  pub begins : from ≤ r .next
+  pub within : r .next ≤ length (valuesFrom d (text "%type") 0)
+  pub some : from < length (valuesFrom d (text "%type") 0) → from < r .next
+  pub terms : (w : Bytes) (k : ℕ) → tagged w k (termsOf d (take (r .table .count) l) ++ rowTerms (r .next) (drop (r .next) (valuesFrom d (text "%type") 0))) ≡ tagged w k (listTerms (recordIn d) ++ rowTerms from (drop from (valuesFrom d (text "%type") 0)))

@@ -1,0 +1,4 @@
+-- What a descriptor lists, with tags, and what a dictionary of it answers.
+pub mod Tags
+pub mod Terms
+pub mod Known

@@ -1,0 +1,206 @@
+// The dictionary of a descriptor: what a name is to its set. The words of its lists and the names of its `%type` fields stand in one table, so that a name is
+// looked up once: the answer is a set of tags, one for each list, and one for each `%type` field, its number.
+ghost use mathlib.Core.Path.{_≡_};
+ghost use mathlib.Core.Bool.{true};
+ghost use mathlib.Core.List.{[], map};
+ghost use Prim.Native.Nat.{_+_, _<_, _≤_};
+ghost use lib.ListN.{length, drop};
+ghost use Rattle.format.specs.Bytes.{classTable, text, all};
+ghost use Rattle.format.specs.Lines.{isName};
+ghost use Rattle.format.specs.Words.{words};
+ghost use Rattle.format.specs.Rules.{typedNames};
+ghost use Rattle.lines.specs.Value.{valueFrom};
+ghost use Rattle.records.specs.Places.{isReadable};
+ghost use Rattle.records.specs.Walk.{recordIn};
+ghost use Rattle.typedefs.specs.Walks.{valuesFrom};
+ghost use Rattle.terms.specs.Sets.{termOf};
+ghost use Rattle.dictionary.specs.Tags.{listTag};
+ghost use Rattle.terms.specs.Adding.{Adding};
+ghost use Rattle.dictionary.specs.Terms.{listTerms, areNames, RowsAdded};
+ghost use Rattle.dictionary.specs.Known.{Described, IsDictionary, Known};
+use lists::NextWord;
+use names::Part;
+use records::NextField;
+use terms::Table;
+use typedefs::NextValue;
+
+// The tag of the words that a field of this name lists, 64 where it lists none.
+fn list_tag(name: &[u8]) -> u32
+    ensures { λ r. ⌜ r ≡ listTag (now (name .entry)) ⌝ }
+{
+    if lines::same_bytes(b"%mandatory", name) {
+        return 32;
+    }
+    if lines::same_bytes(b"%prohibit", name) {
+        return 33;
+    }
+    if lines::same_bytes(b"%allowed", name) {
+        return 34;
+    }
+    if lines::same_bytes(b"%unique", name) {
+        return 35;
+    }
+    if lines::same_bytes(b"%key", name) {
+        return 36;
+    }
+    64
+}
+
+// The words of the value at i, which are names, put behind the first n entries; how many entries there are then.
+fn add_words(d: &[u8], i: usize, tag: u32, entries: &mut [u32], n: usize) -> usize
+    requires { ⌜ (i ≤ length (now d)) × (length (now d) ≤ 65536) × (tag < 64) ⌝ }
+    requires { ⌜ n + length (words (valueFrom (drop i (now d)))) ≤ length (now entries) ⌝ }
+    requires { ⌜ all isName (words (valueFrom (drop i (now d)))) ≡ true ⌝ }
+    ensures { λ r. ⌜ Adding (now (d .entry)) (now (entries .entry)) n (map (termOf tag) (words (valueFrom (drop i (now (d .entry)))))) [] (now (entries .exit)) r ⌝ }
+{
+    let mut k = n;
+    let mut from = i;
+    loop {
+        let w = lists::next_word(d, from);
+        let NextWord::At { start, rest } = w else {
+            return k;
+        };
+        entries[k] = terms::entry(d, start, tag);
+        k += 1;
+        from = rest;
+    }
+}
+
+// The same of the names, between commas, of the value's first word.
+fn add_names(d: &[u8], i: usize, tag: u32, entries: &mut [u32], n: usize) -> usize
+    requires { ⌜ (i ≤ length (now d)) × (length (now d) ≤ 65536) × (tag < 64) ⌝ }
+    requires { ⌜ n + length (typedNames (valueFrom (drop i (now d)))) ≤ length (now entries) ⌝ }
+    requires { ⌜ all isName (typedNames (valueFrom (drop i (now d)))) ≡ true ⌝ }
+    ensures { λ r. ⌜ Adding (now (d .entry)) (now (entries .entry)) n (map (termOf tag) (typedNames (valueFrom (drop i (now (d .entry)))))) [] (now (entries .exit)) r ⌝ }
+{
+    let mut k = n;
+    let mut at = records::pass(d, i, true);
+    loop {
+        entries[k] = terms::entry(d, at, tag);
+        k += 1;
+        let p = names::part_next(d, at);
+        let Part::At(next) = p else {
+            return k;
+        };
+        at = next;
+    }
+}
+
+// The words of all lists of a descriptor, put into entries; how many.
+fn add_lists(table: &[u8; 256], d: &[u8], entries: &mut [u32]) -> usize
+    requires { ⌜ now table ≡ classTable ⌝ }
+    requires { ⌜ (isReadable (now d) ≡ true) × (length (now d) ≤ 65536) ⌝ }
+    requires { ⌜ (length (listTerms (recordIn (now d))) ≤ length (now entries)) × (all areNames (recordIn (now d)) ≡ true) ⌝ }
+    ensures { λ r. ⌜ Adding (now (d .entry)) (now (entries .entry)) 0 (listTerms (recordIn (now (d .entry)))) [] (now (entries .exit)) r ⌝ }
+{
+    let mut n = 0;
+    let mut i = 0;
+    loop {
+        let f = records::next_field(table, d, i);
+        let NextField::At {
+            start,
+            named,
+            value,
+            end,
+        } = f
+        else {
+            return n;
+        };
+        let tag = list_tag(&d[start..named]);
+        if tag < 64 {
+            n = add_words(d, value, tag, &mut *entries, n);
+            i = end;
+        } else {
+            i = end;
+        }
+    }
+}
+
+// The byte behind the first `%type` fields, as many as there are to be passed.
+fn pass_types(table: &[u8; 256], d: &[u8], count: usize) -> usize
+    requires { ⌜ now table ≡ classTable ⌝ }
+    requires { ⌜ isReadable (now d) ≡ true ⌝ }
+    requires { ⌜ count ≤ length (valuesFrom (now d) (text "%type") 0) ⌝ }
+    ensures { λ r. ⌜ (r ≤ length (now (d .entry))) × (isReadable (drop r (now (d .entry))) ≡ true) × (valuesFrom (now (d .entry)) (text "%type") r ≡ drop count (valuesFrom (now (d .entry)) (text "%type") 0)) ⌝ }
+{
+    let mut i = 0;
+    let mut row = 0;
+    while row < count {
+        let v = typedefs::next_value(table, d, b"%type", i);
+        let NextValue::At { value: _, end } = v else {
+            return i;
+        };
+        row += 1;
+        i = end;
+    }
+    i
+}
+
+// How many entries there are, and the first `%type` field whose names are not among them.
+pub struct Added {
+    pub count: usize,
+    pub next: usize,
+}
+
+// The names of the `%type` fields from one on, put behind the first n entries: of as many fields as there is certainly room for.
+fn add_types(table: &[u8; 256], d: &[u8], from: usize, entries: &mut [u32], n: usize) -> Added
+    requires { ⌜ now table ≡ classTable ⌝ }
+    requires { ⌜ Described (now d) ⌝ }
+    requires { ⌜ (from ≤ length (valuesFrom (now d) (text "%type") 0)) × (n ≤ length (now entries)) ⌝ }
+    ensures { λ r. ⌜ RowsAdded (now (d .entry)) from (now (entries .entry)) n (now (entries .exit)) r ⌝ }
+{
+    let mut k = n;
+    let mut row = from;
+    let mut i = pass_types(table, d, from);
+    loop {
+        let v = typedefs::next_value(table, d, b"%type", i);
+        let NextValue::At { value, end } = v else {
+            return Added {
+                count: k,
+                next: row,
+            };
+        };
+        if entries.len() - k < 4097 {
+            return Added {
+                count: k,
+                next: row,
+            };
+        }
+        k = add_names(d, value, row as u32, &mut *entries, k);
+        row += 1;
+        i = end;
+    }
+}
+
+// The table of a dictionary, and the first `%type` field behind those that it has.
+pub struct Dictionary {
+    pub table: Table,
+    pub next: usize,
+}
+
+// The dictionary of a descriptor, from one of its `%type` fields on, in a lent array.
+pub fn read(table: &[u8; 256], d: &[u8], from: usize, entries: &mut [u32]) -> Dictionary
+    requires { ⌜ now table ≡ classTable ⌝ }
+    requires { ⌜ Described (now d) ⌝ }
+    requires { ⌜ (from ≤ length (valuesFrom (now d) (text "%type") 0)) × (4354 ≤ length (now entries)) ⌝ }
+    ensures { λ r. ⌜ IsDictionary (now (d .entry)) from (now (entries .exit)) r ⌝ }
+{
+    let n = add_lists(table, d, &mut *entries);
+    let a = add_types(table, d, from, &mut *entries, n);
+    let count = a.count;
+    let t = terms::build(d, &mut entries[..count]);
+    Dictionary {
+        table: t,
+        next: a.next,
+    }
+}
+
+// What a name is to the set: the tags of the lists and of the `%type` fields that name it.
+pub fn look_up(d: &[u8], from: usize, entries: &[u32], r: Dictionary, name: &[u8]) -> u64
+    requires { ⌜ Described (now d) ⌝ }
+    requires { ⌜ IsDictionary (now d) from (now entries) r ⌝ }
+    ensures { λ x. ⌜ Known (recordIn (now (d .entry))) from (r .next) (now (name .entry)) x ⌝ }
+{
+    let t = r.table;
+    terms::find(d, entries, t, name)
+}

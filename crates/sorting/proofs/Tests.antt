@@ -1,0 +1,28 @@
+-- Tests with what they say.
+use Prim.Native.Nat.{ℕ, _<_, _≤_}
+use mathlib.Core.Path.{_≡_, refl, sym}
+use mathlib.Core.Bool.{Bool, true, false, _||_}
+use borrow.Author.Tests.{ltb-true, ltb-false}
+use lib.Dec.{ltb}
+
+pub by-bool : {P : Type 0} (t : Bool) → (t ≡ true → P) → (t ≡ false → P) → P
+by-bool true f g = f refl
+by-bool false f g = g refl
+
+pub dec-lt : {P : Type 0} (a b : ℕ) → (a < b → P) → (b ≤ a → P) → P
+dec-lt a b f g = by-bool (ltb a b) (λ e. f (ltb-true a b e)) (λ e. g (ltb-false a b e))
+
+-- two tests of which each says no where the other does
+pub same-false : (a b : Bool) → (a ≡ false → b ≡ false) → (b ≡ false → a ≡ false) → a ≡ b
+same-false true true f g = refl
+same-false true false f g = g refl
+same-false false b f g = sym (f refl)
+
+pub or-first : (a b : Bool) → a || b ≡ false → a ≡ false
+or-first true b e = e
+or-first false b e = refl
+
+pub or-second : (a b : Bool) → a || b ≡ false → b ≡ false
+or-second true true e = e
+or-second true false e = refl
+or-second false b e = e

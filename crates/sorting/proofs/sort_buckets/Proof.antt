@@ -1,0 +1,106 @@
+-- `sorting::sort_buckets` meets its contract. The invariant: the entries were only moved. The measure is the number of buckets left.
+use borrow.Author.Needs.{needs}
+use Prim.Native.Nat.{_-_, _≤_}
+use native.Mathlib.Omega.{arith}
+use Rattle.sorting.specs.Moves.{Moved, none}
+use Rattle.sorting.proofs.Moves.{moved-length, moved-on}
+use Rattle.sorting.proofs.sort_buckets.Statement.{statement}
+use Rattle.sorting.proofs.sort_buckets.Tie as tie
+use Rattle.sorting.proofs.sort_buckets.Reads as reads
+use Rattle.sorting.proofs.sort_buckets.Lts as lts
+use Rattle.sorting.proofs.sort_part.Reads as sort-part-reads
+use Rattle.sorting.proofs.wide.Reads as wide-reads
+
+abbrev Inv-loop : tie.InvT-loop
+Inv-loop s entries₀ words starts b₀ entries b = (Moved entries₀ entries) × (b ≤ 256)
+
+abbrev μ-loop : tie.MeasureT-loop
+μ-loop s entries₀ words starts b₀ entries b = 256 - b
+
+loop-holds : tie.Need-loop-holds Inv-loop μ-loop
+loop-holds c = (none, omega arith)
+
+mul-wide : tie.Need-mul-wide Inv-loop μ-loop
+mul-wide c = search needs
+
+shared-slice-read-wide : tie.Need-shared-slice-read-wide Inv-loop μ-loop
+shared-slice-read-wide c = search needs
+
+wide-requires : tie.Need-wide-requires Inv-loop μ-loop
+wide-requires c κs = search needs
+
+add-b : tie.Need-add-b Inv-loop μ-loop
+add-b c = search needs
+
+mul-wide-2 : tie.Need-mul-wide-2 Inv-loop μ-loop
+mul-wide-2 c = search needs
+
+shared-slice-read-wide-2 : tie.Need-shared-slice-read-wide-2 Inv-loop μ-loop
+shared-slice-read-wide-2 c = search needs
+
+wide-requires-2 : tie.Need-wide-requires-2 Inv-loop μ-loop
+wide-requires-2 c κs = search needs
+
+sort-part-requires : tie.Need-sort-part-requires Inv-loop μ-loop
+sort-part-requires c κs = (omega arith, omega arith)
+
+loop-less : tie.Need-loop-less Inv-loop μ-loop
+loop-less c = search needs
+
+loop-again : tie.Need-loop-again Inv-loop μ-loop
+loop-again c =
+    let at-args = c .before .before .before .before .before .before .before .before .before .before .before .before .before .before .before .args in
+    let at-loop = c .before .before .before .before .before .before .before .before .before .before .before .loop in
+    let at-sort-part = c .before .before .sort-part in
+    (moved-on (at-args .entries .now) (at-loop .entries) _ (at-loop .inv .0) (at-sort-part .ensures), omega arith)
+
+loop-less-2 : tie.Need-loop-less-2 Inv-loop μ-loop
+loop-less-2 c = search needs
+
+loop-again-2 : tie.Need-loop-again-2 Inv-loop μ-loop
+loop-again-2 c =
+    let at-loop = c .before .before .before .before .before .before .before .loop in
+    (at-loop .inv .0, omega arith)
+
+loop-less-3 : tie.Need-loop-less-3 Inv-loop μ-loop
+loop-less-3 c = search needs
+
+loop-again-3 : tie.Need-loop-again-3 Inv-loop μ-loop
+loop-again-3 c =
+    let at-loop = c .before .before .before .before .before .before .loop in
+    (at-loop .inv .0, omega arith)
+
+same-length : tie.Need-same-length Inv-loop μ-loop
+same-length c =
+    let at-args = c .before .before .before .before .before .args in
+    let at-loop = c .before .loop in
+    moved-length (at-args .entries .now) (at-loop .entries) (at-loop .inv .0)
+
+returns : tie.Need-returns Inv-loop μ-loop
+returns c =
+    let at-loop = c .before .loop in
+    at-loop .inv .0
+
+pub sort-buckets-spec : {M : Type 1} → statement M
+sort-buckets-spec =
+    tie.close
+    (tie.spec
+    Inv-loop
+    μ-loop
+    loop-holds
+    mul-wide
+    shared-slice-read-wide
+    wide-requires
+    add-b
+    mul-wide-2
+    shared-slice-read-wide-2
+    wide-requires-2
+    sort-part-requires
+    loop-less
+    loop-again
+    loop-less-2
+    loop-again-2
+    loop-less-3
+    loop-again-3
+    same-length
+    returns)

@@ -1,0 +1,324 @@
+// Entries of texts, sorted in place. A text stands at a place of a file: a value from there to its end, or the word that it begins with. An entry is a
+// number whose lower 16 bits are the place of its text. Nothing is promised of the order that the sort makes: whoever needs it looks whether the entries rise.
+ghost use mathlib.Core.Path.{_≡_};
+ghost use mathlib.Core.Bool.{not};
+ghost use Prim.Native.Nat.{_<_, _≤_, _%_};
+ghost use lib.ListN.{length};
+ghost use Rattle.sorting.specs.Texts.{isWordByte, keeps, textAt, TextByte, mixed};
+ghost use Rattle.sorting.specs.Order.{comparedOf};
+ghost use Rattle.sorting.specs.Moves.{swapped, Moved};
+use lines::Decoded;
+
+fn wide(x: u32) -> usize
+    ensures { λ r. ⌜ r ≡ x ⌝ }
+{
+    x as usize
+}
+
+fn wide_byte(x: u8) -> usize
+    ensures { λ r. ⌜ (r ≡ x) × (r < 256) ⌝ }
+{
+    x as usize
+}
+
+// Can a byte stand in a name or a symbol? Gaps, commas and parentheses cannot.
+pub fn is_word_byte(b: u8) -> bool
+    ensures { λ r. ⌜ r ≡ isWordByte b ⌝ }
+{
+    if 44 < b {
+        return true;
+    }
+    b == 37
+}
+
+// Does a text end before this byte?
+fn ends_at(b: u8, words: bool) -> bool
+    ensures { λ r. ⌜ r ≡ not (keeps words b) ⌝ }
+{
+    if words {
+        if is_word_byte(b) {
+            return false;
+        }
+        return true;
+    }
+    false
+}
+
+// The byte of a text that is looked for at i.
+pub fn text_byte(s: &[u8], i: usize, words: bool) -> Decoded
+    ensures { λ r. ⌜ TextByte words (now (s .entry)) i r ⌝ }
+{
+    let d = lines::value_byte(s, i);
+    let Decoded::Byte { byte, next } = d else {
+        return Decoded::End;
+    };
+    if ends_at(byte, words) {
+        return Decoded::End;
+    }
+    Decoded::Byte { byte, next }
+}
+
+// The bytes of a text mixed into one number: its upper bits tell most texts apart.
+pub fn mix(s: &[u8], i: usize, words: bool) -> usize
+    ensures { λ r. ⌜ (r ≡ mixed 2166136261 (textAt words (now (s .entry)) i)) × (r < 4294967296) ⌝ }
+{
+    let mut h: usize = 2166136261;
+    let mut at = i;
+    loop {
+        let d = text_byte(s, at, words);
+        let Decoded::Byte { byte, next } = d else {
+            return h;
+        };
+        h = (h + wide_byte(byte)) * 2654435761 % 4294967296;
+        at = next;
+    }
+}
+
+// The first of two against the second.
+pub enum Compared {
+    Equal,
+    Before,
+    Behind,
+}
+
+// Two texts compared, without decoding them to anywhere.
+pub fn compare(s: &[u8], i: usize, j: usize, words: bool) -> Compared
+    ensures { λ r. ⌜ r ≡ comparedOf (textAt words (now (s .entry)) i) (textAt words (now (s .entry)) j) ⌝ }
+{
+    let mut a = i;
+    let mut b = j;
+    loop {
+        let x = text_byte(s, a, words);
+        let y = text_byte(s, b, words);
+        let Decoded::Byte { byte: c, next: k } = x else {
+            let Decoded::Byte { byte: _, next: _ } = y else {
+                return Compared::Equal;
+            };
+            return Compared::Before;
+        };
+        let Decoded::Byte { byte: d, next: l } = y else {
+            return Compared::Behind;
+        };
+        if c < d {
+            return Compared::Before;
+        }
+        if d < c {
+            return Compared::Behind;
+        }
+        a = k;
+        b = l;
+    }
+}
+
+// Where the text of an entry stands.
+pub fn place(x: u32) -> usize
+    ensures { λ r. ⌜ r ≡ x % 65536 ⌝ }
+{
+    wide(x % 65536)
+}
+
+// What the order looks at first: above the place, for words above 6 more bits.
+fn rank(x: u32, words: bool) -> u32 {
+    if words {
+        return x / 4194304;
+    }
+    x / 65536
+}
+
+// For the sort alone: by rank, then by text, then by all that stands above the place. Nothing is said of the answer.
+fn is_before(s: &[u8], x: u32, y: u32, words: bool) -> bool {
+    let p = rank(x, words);
+    let q = rank(y, words);
+    if p < q {
+        return true;
+    }
+    if q < p {
+        return false;
+    }
+    let c = compare(s, place(x), place(y), words);
+    match c {
+        Compared::Equal => x / 65536 < y / 65536,
+        Compared::Before => true,
+        Compared::Behind => false,
+    }
+}
+
+fn swap(entries: &mut [u32], i: usize, j: usize)
+    requires { ⌜ (i < length (now entries)) × (j < length (now entries)) ⌝ }
+    ensures { λ _. ⌜ now (entries .exit) ≡ swapped (now (entries .entry)) i j ⌝ }
+{
+    let x = entries[i];
+    let y = entries[j];
+    entries[i] = y;
+    entries[j] = x;
+}
+
+// The one of two children in a heap that comes last, or the only one.
+fn last_child(s: &[u8], entries: &[u32], words: bool, left: usize, end: usize) -> usize
+    requires { ⌜ (left < end) × (end ≤ length (now entries)) ⌝ }
+    ensures { λ r. ⌜ (left ≤ r) × (r < end) ⌝ }
+{
+    let right = left + 1;
+    if right < end {
+        if is_before(s, entries[left], entries[right], words) {
+            return right;
+        }
+    }
+    left
+}
+
+// The entry at a root sinks to its place in the heap from lo to end.
+fn sift(s: &[u8], entries: &mut [u32], words: bool, lo: usize, from: usize, end: usize)
+    requires { ⌜ (lo ≤ from) × (end ≤ length (now entries)) ⌝ }
+    ensures { λ _. ⌜ Moved (now (entries .entry)) (now (entries .exit)) ⌝ }
+{
+    let mut root = from;
+    while root < end {
+        let left = root + (root - lo) + 1;
+        if end <= left {
+            return;
+        }
+        let child = last_child(s, &*entries, words, left, end);
+        if is_before(s, entries[root], entries[child], words) {
+            swap(&mut *entries, root, child);
+            root = child;
+        } else {
+            return;
+        }
+    }
+}
+
+fn make_heap(s: &[u8], entries: &mut [u32], words: bool, lo: usize, end: usize)
+    requires { ⌜ (lo ≤ end) × (end ≤ length (now entries)) ⌝ }
+    ensures { λ _. ⌜ Moved (now (entries .entry)) (now (entries .exit)) ⌝ }
+{
+    let mut top = lo + (end - lo) / 2;
+    while lo < top {
+        top -= 1;
+        sift(s, &mut *entries, words, lo, top, end);
+    }
+}
+
+// Heap sort of the entries from lo to hi: never quadratic, and in place.
+fn sort_part(s: &[u8], entries: &mut [u32], words: bool, lo: usize, hi: usize)
+    requires { ⌜ (lo ≤ hi) × (hi ≤ length (now entries)) ⌝ }
+    ensures { λ _. ⌜ Moved (now (entries .entry)) (now (entries .exit)) ⌝ }
+{
+    make_heap(s, &mut *entries, words, lo, hi);
+    let mut end = hi;
+    while 1 < end - lo {
+        end -= 1;
+        swap(&mut *entries, lo, end);
+        sift(s, &mut *entries, words, lo, lo, end);
+    }
+}
+
+// The bucket that an entry goes to, by its uppermost byte.
+fn bucket(x: u32) -> usize
+    ensures { λ r. ⌜ r < 256 ⌝ }
+{
+    wide(x / 16777216)
+}
+
+// The entries of each bucket are counted.
+fn count_buckets(entries: &[u32], counts: &mut [u32])
+    requires { ⌜ 256 ≤ length (now counts) ⌝ }
+{
+    let mut i = 0;
+    while i < entries.len() {
+        let b = bucket(entries[i]);
+        counts[b] = counts[b] % 65536 + 1;
+        i += 1;
+    }
+}
+
+// The counts become the places where the buckets begin.
+fn sum_counts(counts: &mut [u32]) {
+    let mut total = 0;
+    let mut b = 0;
+    while b < counts.len() {
+        let count = counts[b];
+        counts[b] = total;
+        total = (total + count % 65536) % 65536;
+        b += 1;
+    }
+}
+
+// The entry at i changes places with the one where its bucket goes on; false where there is no such place.
+fn settle(entries: &mut [u32], next: &mut [u32], i: usize) -> bool
+    requires { ⌜ 256 ≤ length (now next) ⌝ }
+    ensures { λ _. ⌜ Moved (now (entries .entry)) (now (entries .exit)) ⌝ }
+{
+    if entries.len() <= i {
+        return false;
+    }
+    let b = bucket(entries[i]);
+    let j = wide(next[b]);
+    if entries.len() <= j {
+        return false;
+    }
+    next[b] = next[b] % 65536 + 1;
+    swap(&mut *entries, i, j);
+    true
+}
+
+// Entries are settled until bucket b goes on at e.
+fn fill_bucket(entries: &mut [u32], next: &mut [u32], b: usize, e: usize)
+    requires { ⌜ (256 ≤ length (now next)) × (b < 256) ⌝ }
+    ensures { λ _. ⌜ Moved (now (entries .entry)) (now (entries .exit)) ⌝ }
+{
+    let mut left = entries.len();
+    while 0 < left {
+        left -= 1;
+        let i = wide(next[b]);
+        if e <= i {
+            return;
+        }
+        if settle(&mut *entries, &mut *next, i) {} else {
+            return;
+        }
+    }
+}
+
+// Every entry is moved into its bucket.
+fn fill_buckets(entries: &mut [u32], starts: &[u32], next: &mut [u32])
+    requires { ⌜ (257 ≤ length (now starts)) × (256 ≤ length (now next)) ⌝ }
+    ensures { λ _. ⌜ Moved (now (entries .entry)) (now (entries .exit)) ⌝ }
+{
+    let mut b = 0;
+    while b < 256 {
+        let e = wide(starts[b + 1]);
+        fill_bucket(&mut *entries, &mut *next, b, e);
+        b += 1;
+    }
+}
+
+// Each bucket is sorted.
+fn sort_buckets(s: &[u8], entries: &mut [u32], words: bool, starts: &[u32])
+    requires { ⌜ 257 ≤ length (now starts) ⌝ }
+    ensures { λ _. ⌜ Moved (now (entries .entry)) (now (entries .exit)) ⌝ }
+{
+    let mut b = 0;
+    while b < 256 {
+        let lo = wide(starts[b]);
+        b += 1;
+        let hi = wide(starts[b]);
+        if hi <= entries.len() {
+            if lo < hi {
+                sort_part(s, &mut *entries, words, lo, hi);
+            }
+        }
+    }
+}
+
+// Entries go into buckets by their uppermost byte, and each bucket is sorted: about linear time where those are spread, and no file makes it quadratic.
+pub fn sort(s: &[u8], entries: &mut [u32], words: bool)
+    ensures { λ _. ⌜ Moved (now (entries .entry)) (now (entries .exit)) ⌝ }
+{
+    let mut starts = [0u32; 257];
+    count_buckets(&*entries, &mut starts);
+    sum_counts(&mut starts);
+    let mut next = starts;
+    fill_buckets(&mut *entries, &starts, &mut next);
+    sort_buckets(s, &mut *entries, words, &starts);
+}

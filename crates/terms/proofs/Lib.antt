@@ -1,0 +1,10 @@
+-- Laws of sets of tags, of entries and of tables.
+pub mod Tests
+pub mod Sets
+pub mod Prints
+pub mod Order
+pub mod Moves
+pub mod Merging
+pub mod Search
+pub mod Adding
+pub mod Tables

@@ -1,0 +1,69 @@
+-- `terms::find` meets its contract: the table's entries are its first ones.
+use mathlib.Core.Path.{sym}
+use lib.Seq.{length-take-le}
+use Rattle.terms.proofs.Prints.{entries-front}
+use Rattle.terms.proofs.Search.{rising-front}
+use borrow.Author.Needs.{needs}
+use Rattle.terms.proofs.find.Statement.{statement}
+use Rattle.terms.proofs.find.Tie as tie
+use Rattle.terms.proofs.find.Reads as reads
+use Rattle.terms.proofs.find.Lts as lts
+use Rattle.terms.proofs.find_all.Reads as find-all-reads
+use Rattle.terms.proofs.find_sorted.Reads as find-sorted-reads
+use Rattle.terms.proofs.word_print.Reads as word-print-reads
+
+word-print-requires : tie.Need-word-print-requires
+word-print-requires c κs = search needs
+
+slice-aggregate-find-sorted : tie.Need-slice-aggregate-find-sorted
+slice-aggregate-find-sorted c =
+    let at-args = c .before .before .before .before .before .before .args in
+    let at-pre = c .before .before .before .before .before .before .pre in
+    sym (length-take-le (at-args .t .count) (at-args .entries .now) (at-pre .room))
+
+find-sorted-requires : tie.Need-find-sorted-requires
+find-sorted-requires c κs =
+    let at-args = c .before .before .before .before .before .before .args in
+    let at-pre = c .before .before .before .before .before .before .pre in
+    let at-word-print = c .before .before .word-print in
+    let at-if1 = c .before .if1 in
+    let l = at-args .entries .now in
+    let t = at-pre in
+    (entries-front (at-args .s .now) l (at-args .t .count) (t .room) (t .entries), (at-word-print .ensures, rising-front (at-args .s .now) l (at-args .t .count) (t .room) (t .rising (at-if1 .taken))))
+
+returns : tie.Need-returns
+returns c =
+    let at-find-sorted = c .find-sorted in
+    at-find-sorted .ensures
+
+slice-aggregate-find-all : tie.Need-slice-aggregate-find-all
+slice-aggregate-find-all c =
+    let at-args = c .before .before .before .before .before .before .args in
+    let at-pre = c .before .before .before .before .before .before .pre in
+    sym (length-take-le (at-args .t .count) (at-args .entries .now) (at-pre .room))
+
+find-all-requires : tie.Need-find-all-requires
+find-all-requires c κs =
+    let at-args = c .before .before .before .before .before .before .args in
+    let at-pre = c .before .before .before .before .before .before .pre in
+    let at-word-print = c .before .before .word-print in
+    let l = at-args .entries .now in
+    let t = at-pre in
+    (entries-front (at-args .s .now) l (at-args .t .count) (t .room) (t .entries), at-word-print .ensures)
+
+returns-2 : tie.Need-returns-2
+returns-2 c =
+    let at-find-all = c .find-all in
+    at-find-all .ensures
+
+pub find-spec : {M : Type 1} → statement M
+find-spec =
+    tie.close
+    (tie.spec
+    word-print-requires
+    slice-aggregate-find-sorted
+    find-sorted-requires
+    returns
+    slice-aggregate-find-all
+    find-all-requires
+    returns-2)

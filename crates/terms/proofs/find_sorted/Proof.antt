@@ -1,0 +1,135 @@
+-- `terms::find_sorted` meets its contract. The invariant: the tags of the word are those in the set and those that entries from i on have.
+use borrow.Author.Needs.{needs}
+use Prim.Native.Nat.{ℕ, _-_, _^_, _≤_}
+use native.Mathlib.Omega.{arith}
+use mathlib.Core.Path.{sym, ap, _∙_}
+use lib.ListN.{length}
+use Rattle.terms.proofs.Search.{Left, left-hit, left-miss, left-low, left-none, left-stop, not-before}
+use Rattle.terms.proofs.find_sorted.Statement.{statement}
+use Rattle.terms.proofs.find_sorted.Tie as tie
+use Rattle.terms.proofs.find_sorted.Reads as reads
+use Rattle.terms.proofs.find_sorted.Lts as lts
+use Rattle.terms.proofs.compare.Reads as compare-reads
+use Rattle.terms.proofs.first_of.Reads as first-of-reads
+use Rattle.terms.proofs.single.Reads as single-reads
+use Rattle.terms.proofs.tag.Reads as tag-reads
+
+abbrev Inv-loop : tie.InvT-loop
+Inv-loop s entries w print set₀ i₀ set i = (i ≤ length entries) × Left s entries w set i
+
+abbrev μ-loop : tie.MeasureT-loop
+μ-loop s entries w print set₀ i₀ set i = length entries - i
+
+first-of-requires : tie.Need-first-of-requires Inv-loop μ-loop
+first-of-requires c κs =
+    let at-pre = c .before .before .before .pre in
+    (at-pre .0, at-pre .1)
+
+loop-holds : tie.Need-loop-holds Inv-loop μ-loop
+loop-holds c =
+    let at-first-of = c .first-of in
+    let at-args = c .before .before .before .before .args in
+    (at-first-of .ensures .0, left-low (at-args .s .now) (at-args .entries .now) (at-args .w .now) (at-first-of .result) (at-first-of .ensures .0) (at-first-of .ensures .1))
+
+mul-x : tie.Need-mul-x Inv-loop μ-loop
+mul-x c = search needs
+
+shared-slice-read-x : tie.Need-shared-slice-read-x Inv-loop μ-loop
+shared-slice-read-x c = search needs
+
+compare-requires : tie.Need-compare-requires Inv-loop μ-loop
+compare-requires c κs =
+    let at-pre = c .before .before .before .before .before .before .before .pre in
+    let at-loop = c .before .before .loop in
+    let at-loop-test = c .before .loop-test in
+    (at-pre .0 (at-loop .i) (at-loop-test .taken), at-pre .1 .0)
+
+enum-told : tie.Need-enum-told Inv-loop μ-loop
+enum-told c = search needs
+
+tag-requires : tie.Need-tag-requires Inv-loop μ-loop
+tag-requires c κs = search needs
+
+single-requires : tie.Need-single-requires Inv-loop μ-loop
+single-requires c κs =
+    let at-tag = c .tag in
+    at-tag .ensures .1
+
+add-i : tie.Need-add-i Inv-loop μ-loop
+add-i c = search needs
+
+loop-less : tie.Need-loop-less Inv-loop μ-loop
+loop-less c = search needs
+
+loop-again : tie.Need-loop-again Inv-loop μ-loop
+loop-again c =
+    let at-args = c .before .before .before .before .before .before .before .before .before .before .before .before .args in
+    let at-loop = c .before .before .before .before .before .before .before .loop in
+    let at-loop-test = c .before .before .before .before .before .before .loop-test in
+    let at-compare = c .before .before .before .before .compare in
+    let at-enum-told = c .before .before .enum-told in
+    let at-single = c .single in
+    let at-tag = c .before .tag in
+    (omega arith, left-hit (at-args .s .now) (at-args .entries .now) (at-args .w .now) (at-loop .set) (at-loop .i) (at-loop-test .taken) (at-loop .inv .1) (sym (at-compare .ensures) ∙ at-enum-told .given .1) (at-single .result) (at-single .ensures ∙ ap (λ (z : ℕ). 2 ^ z) (at-tag .ensures .0)))
+
+enum-told-2 : tie.Need-enum-told-2 Inv-loop μ-loop
+enum-told-2 c = search needs
+
+add-i-2 : tie.Need-add-i-2 Inv-loop μ-loop
+add-i-2 c = search needs
+
+loop-less-2 : tie.Need-loop-less-2 Inv-loop μ-loop
+loop-less-2 c = search needs
+
+loop-again-2 : tie.Need-loop-again-2 Inv-loop μ-loop
+loop-again-2 c =
+    let at-args = c .before .before .before .before .before .before .before .before .before .before .args in
+    let at-loop = c .before .before .before .before .before .loop in
+    let at-loop-test = c .before .before .before .before .loop-test in
+    let at-compare = c .before .before .compare in
+    let at-enum-told2 = c .enum-told2 in
+    (omega arith, left-miss (at-args .s .now) (at-args .entries .now) (at-args .w .now) (at-loop .set) (at-loop .i) (at-loop-test .taken) (at-loop .inv .1) (not-before (at-args .s .now) (at-args .entries .now) (at-args .w .now) (at-loop .i) (sym (at-compare .ensures) ∙ at-enum-told2 .given .1)))
+
+enum-told-3 : tie.Need-enum-told-3 Inv-loop μ-loop
+enum-told-3 c = search needs
+
+returns : tie.Need-returns Inv-loop μ-loop
+returns c =
+    let at-args = c .before .before .before .before .before .before .before .before .before .before .args in
+    let at-pre = c .before .before .before .before .before .before .before .before .before .before .pre in
+    let at-loop = c .before .before .before .before .before .loop in
+    let at-compare = c .before .before .compare in
+    let at-enum-told3 = c .enum-told3 in
+    left-stop (at-args .s .now) (at-args .entries .now) (at-args .w .now) (at-pre .1 .1) (at-loop .set) (at-loop .i) (at-loop .inv .1) (sym (at-compare .ensures) ∙ at-enum-told3 .given .1)
+
+returns-2 : tie.Need-returns-2 Inv-loop μ-loop
+returns-2 c =
+    let at-args = c .before .before .before .before .before .before .args in
+    let at-loop = c .before .loop in
+    let at-loop-test = c .loop-test in
+    left-none (at-args .s .now) (at-args .entries .now) (at-args .w .now) (at-loop .set) (at-loop .i) (at-loop-test .left) (at-loop .inv .1)
+
+pub find-sorted-spec : {M : Type 1} → statement M
+find-sorted-spec =
+    tie.close
+    (tie.spec
+    Inv-loop
+    μ-loop
+    first-of-requires
+    loop-holds
+    mul-x
+    shared-slice-read-x
+    compare-requires
+    enum-told
+    tag-requires
+    single-requires
+    add-i
+    loop-less
+    loop-again
+    enum-told-2
+    add-i-2
+    loop-less-2
+    loop-again-2
+    enum-told-3
+    returns
+    returns-2)

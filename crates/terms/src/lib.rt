@@ -1,0 +1,316 @@
+// Words of a file, each with a tag that says what it is listed for, in a table: which tags has a given word? The entries are sorted, so that halving answers.
+// What is proved does not depend on the sort: a table that was not found to rise is searched from end to end.
+ghost use mathlib.Core.Path.{_≡_};
+ghost use mathlib.Core.Bool.{true};
+ghost use Prim.Native.Nat.{_<_, _≤_, _^_};
+ghost use lib.ListN.{length, take, drop};
+ghost use Rattle.sorting.specs.Texts.{textAt, mixed};
+ghost use Rattle.sorting.specs.Order.{comparedOf};
+ghost use Rattle.terms.specs.Sets.{inSet, Answers};
+ghost use Rattle.terms.specs.Entries.{printOf, entryOf, tagOf, wordAt, termAt, termsOf, IsEntry, Entries, Kept};
+ghost use Rattle.terms.specs.Order.{ranked, Rising, Low, IsTable, Holds};
+use lines::Decoded;
+use sorting::Compared;
+
+fn wide(x: u32) -> u64
+    ensures { λ r. ⌜ r ≡ x ⌝ }
+{
+    x as u64
+}
+
+fn wide_byte(x: u8) -> usize
+    ensures { λ r. ⌜ (r ≡ x) × (r < 256) ⌝ }
+{
+    x as usize
+}
+
+fn narrow(x: usize) -> u32
+    requires { ⌜ x < 4294967296 ⌝ }
+    ensures { λ r. ⌜ r ≡ x ⌝ }
+{
+    x as u32
+}
+
+// Is tag k in a set?
+pub fn has(set: u64, k: u64) -> bool
+    requires { ⌜ k < 64 ⌝ }
+    ensures { λ r. ⌜ r ≡ inSet k set ⌝ }
+{
+    (set >> k) % 2 == 1
+}
+
+// The set of one tag.
+fn single(k: u64) -> u64
+    requires { ⌜ k < 64 ⌝ }
+    ensures { λ r. ⌜ r ≡ 2 ^ k ⌝ }
+{
+    1 << k
+}
+
+// The bytes of a word mixed into one number.
+fn mix_word(w: &[u8]) -> usize
+    ensures { λ r. ⌜ (r ≡ mixed 2166136261 (now (w .entry))) × (r < 4294967296) ⌝ }
+{
+    let mut h: usize = 2166136261;
+    let mut i = 0;
+    while i < w.len() {
+        h = (h + wide_byte(w[i])) * 2654435761 % 4294967296;
+        i += 1;
+    }
+    h
+}
+
+// The fingerprint of a word.
+fn word_print(w: &[u8]) -> u32
+    ensures { λ r. ⌜ r ≡ printOf (now (w .entry)) ⌝ }
+{
+    narrow(mix_word(w) / 4194304)
+}
+
+// The entry of the word at a place, with a tag.
+pub fn entry(s: &[u8], at: usize, tag: u32) -> u32
+    requires { ⌜ (at < 65536) × (tag < 64) ⌝ }
+    ensures { λ r. ⌜ (r ≡ entryOf at tag (textAt true (now (s .entry)) at)) × IsEntry (now (s .entry)) r × (termAt (now (s .entry)) r ≡ record { word = textAt true (now (s .entry)) at; tag = tag }) ⌝ }
+{
+    let p = sorting::mix(s, at, true) / 4194304;
+    narrow(at) + 65536 * tag + 4194304 * narrow(p)
+}
+
+// The word at a place compared with another.
+fn compare_word(s: &[u8], at: usize, w: &[u8]) -> Compared
+    ensures { λ r. ⌜ r ≡ comparedOf (textAt true (now (s .entry)) at) (now (w .entry)) ⌝ }
+{
+    let mut i = at;
+    let mut n = 0;
+    loop {
+        let x = sorting::text_byte(s, i, true);
+        let Decoded::Byte { byte, next } = x else {
+            if n < w.len() {
+                return Compared::Before;
+            }
+            return Compared::Equal;
+        };
+        if w.len() <= n {
+            return Compared::Behind;
+        }
+        let b = w[n];
+        if byte < b {
+            return Compared::Before;
+        }
+        if b < byte {
+            return Compared::Behind;
+        }
+        i = next;
+        n += 1;
+    }
+}
+
+// The word of an entry compared with another, whose fingerprint is given; by their bytes only where the fingerprints are equal.
+fn compare(s: &[u8], x: u32, w: &[u8], print: u32) -> Compared
+    requires { ⌜ IsEntry (now s) x × (print ≡ printOf (now w)) ⌝ }
+    ensures { λ r. ⌜ r ≡ ranked (wordAt (now (s .entry)) x) (now (w .entry)) ⌝ }
+{
+    let p = x / 4194304;
+    if p < print {
+        return Compared::Before;
+    }
+    if print < p {
+        return Compared::Behind;
+    }
+    compare_word(s, sorting::place(x), w)
+}
+
+// The words of two entries compared.
+fn compare_entries(s: &[u8], x: u32, y: u32) -> Compared
+    requires { ⌜ IsEntry (now s) x × IsEntry (now s) y ⌝ }
+    ensures { λ r. ⌜ r ≡ ranked (wordAt (now (s .entry)) x) (wordAt (now (s .entry)) y) ⌝ }
+{
+    let p = x / 4194304;
+    let q = y / 4194304;
+    if p < q {
+        return Compared::Before;
+    }
+    if q < p {
+        return Compared::Behind;
+    }
+    sorting::compare(s, sorting::place(x), sorting::place(y), true)
+}
+
+// The tag of an entry.
+fn tag(x: u32) -> u64
+    ensures { λ r. ⌜ (r ≡ tagOf x) × (r < 64) ⌝ }
+{
+    wide(x / 65536 % 64)
+}
+
+// Have two entries the same word and the same tag?
+fn is_twin(s: &[u8], x: u32, y: u32) -> bool
+    requires { ⌜ IsEntry (now s) x × IsEntry (now s) y ⌝ }
+    ensures { λ r. ⌜ (r ≡ true → termAt (now (s .entry)) x ≡ termAt (now (s .entry)) y) ⌝ }
+{
+    if tag(x) != tag(y) {
+        return false;
+    }
+    let c = compare_entries(s, x, y);
+    match c {
+        Compared::Equal => true,
+        Compared::Before => false,
+        Compared::Behind => false,
+    }
+}
+
+// Of neighbours with the same word and tag one is left. How many are left.
+fn merge(s: &[u8], entries: &mut [u32]) -> usize
+    requires { ⌜ Entries (now s) (length (now entries)) (now entries) ⌝ }
+    ensures { λ r. ⌜ (r ≤ length (now (entries .exit))) × Entries (now (s .entry)) r (now (entries .exit)) × Kept (now (s .entry)) (now (entries .entry)) (take r (now (entries .exit))) ⌝ }
+{
+    if entries.len() == 0 {
+        return 0;
+    }
+    let mut last = 0;
+    let mut i = 1;
+    while i < entries.len() {
+        let y = entries[i];
+        if is_twin(s, entries[last], y) {
+            i += 1;
+        } else {
+            last += 1;
+            entries[last] = y;
+            i += 1;
+        }
+    }
+    last + 1
+}
+
+// Is no word behind the next?
+fn rising(s: &[u8], entries: &[u32]) -> bool
+    requires { ⌜ Entries (now s) (length (now entries)) (now entries) ⌝ }
+    ensures { λ r. ⌜ (r ≡ true → Rising (now (s .entry)) (length (now (entries .entry))) (now (entries .entry))) ⌝ }
+{
+    let mut i = 1;
+    while i < entries.len() {
+        let c = compare_entries(s, entries[i - 1], entries[i]);
+        match c {
+            Compared::Equal => {
+                i += 1;
+            }
+            Compared::Before => {
+                i += 1;
+            }
+            Compared::Behind => {
+                return false;
+            }
+        }
+    }
+    true
+}
+
+// How many entries a table has, and whether they are known to rise.
+pub struct Table {
+    pub count: usize,
+    pub sorted: bool,
+}
+
+// The table of some entries, in their place.
+pub fn build(s: &[u8], entries: &mut [u32]) -> Table
+    requires { ⌜ Entries (now s) (length (now entries)) (now entries) ⌝ }
+    ensures { λ r. ⌜ Holds (now (s .entry)) (now (entries .entry)) (now (entries .exit)) r ⌝ }
+{
+    sorting::sort(s, &mut *entries, true);
+    let count = merge(s, &mut *entries);
+    let sorted = rising(s, &entries[..count]);
+    Table { count, sorted }
+}
+
+// The tags of all entries whose word is w, in any order of the entries.
+fn find_all(s: &[u8], entries: &[u32], w: &[u8], print: u32) -> u64
+    requires { ⌜ Entries (now s) (length (now entries)) (now entries) ⌝ }
+    requires { ⌜ print ≡ printOf (now w) ⌝ }
+    ensures { λ r. ⌜ Answers (now (w .entry)) (termsOf (now (s .entry)) (now (entries .entry))) r ⌝ }
+{
+    let mut set = 0;
+    let mut i = 0;
+    while i < entries.len() {
+        let x = entries[i];
+        let c = compare(s, x, w, print);
+        match c {
+            Compared::Equal => {
+                set = set | single(tag(x));
+                i += 1;
+            }
+            Compared::Before => {
+                i += 1;
+            }
+            Compared::Behind => {
+                i += 1;
+            }
+        }
+    }
+    set
+}
+
+// Where no word is behind the next: the first entry whose word is not before w.
+fn first_of(s: &[u8], entries: &[u32], w: &[u8], print: u32) -> usize
+    requires { ⌜ Entries (now s) (length (now entries)) (now entries) ⌝ }
+    requires { ⌜ (print ≡ printOf (now w)) × Rising (now s) (length (now entries)) (now entries) ⌝ }
+    ensures { λ r. ⌜ (r ≤ length (now (entries .entry))) × Low (now (s .entry)) (now (entries .entry)) (now (w .entry)) r ⌝ }
+{
+    let mut lo = 0;
+    let mut hi = entries.len();
+    while lo < hi {
+        let mid = lo + (hi - lo) / 2;
+        let c = compare(s, entries[mid], w, print);
+        match c {
+            Compared::Equal => {
+                hi = mid;
+            }
+            Compared::Before => {
+                lo = mid + 1;
+            }
+            Compared::Behind => {
+                hi = mid;
+            }
+        }
+    }
+    lo
+}
+
+// The tags of the entries from there on whose word is w: at most 64 turns, since twins are merged.
+fn find_sorted(s: &[u8], entries: &[u32], w: &[u8], print: u32) -> u64
+    requires { ⌜ Entries (now s) (length (now entries)) (now entries) ⌝ }
+    requires { ⌜ (print ≡ printOf (now w)) × Rising (now s) (length (now entries)) (now entries) ⌝ }
+    ensures { λ r. ⌜ Answers (now (w .entry)) (termsOf (now (s .entry)) (now (entries .entry))) r ⌝ }
+{
+    let mut set = 0;
+    let mut i = first_of(s, entries, w, print);
+    while i < entries.len() {
+        let x = entries[i];
+        let c = compare(s, x, w, print);
+        match c {
+            Compared::Equal => {
+                set = set | single(tag(x));
+                i += 1;
+            }
+            Compared::Before => {
+                i += 1;
+            }
+            Compared::Behind => {
+                return set;
+            }
+        }
+    }
+    set
+}
+
+// The set of the tags that the word w has in a table.
+pub fn find(s: &[u8], entries: &[u32], t: Table, w: &[u8]) -> u64
+    requires { ⌜ IsTable (now s) (now entries) t ⌝ }
+    ensures { λ r. ⌜ Answers (now (w .entry)) (termsOf (now (s .entry)) (take (t .count) (now (entries .entry)))) r ⌝ }
+{
+    let print = word_print(w);
+    let n = t.count;
+    if t.sorted {
+        return find_sorted(s, &entries[..n], w, print);
+    }
+    find_all(s, &entries[..n], w, print)
+}
