@@ -1,0 +1,2 @@
+-- Words with their places in a list as tags.
+pub mod Numbered
