@@ -141,7 +141,7 @@ pub fn read_lists(
 }
 
 // One more or none, up to 2.
-fn bump(n: u8, hit: bool) -> u8
+pub fn bump(n: u8, hit: bool) -> u8
     ensures { λ r. ⌜ r ≡ min 2 (n + pick hit 1 0) ⌝ }
 {
     if 1 < n {

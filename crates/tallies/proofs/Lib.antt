@@ -1,0 +1,5 @@
+-- Laws of tallies.
+pub mod Sets
+pub mod Numbers
+pub mod Fields
+pub mod Asking

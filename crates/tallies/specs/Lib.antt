@@ -1,0 +1,2 @@
+-- What a record has of listed names, field by field.
+pub mod Tallies

@@ -1,0 +1,89 @@
+// What a record has of the names that a descriptor lists, field by field, as a few numbers: questions 8 to 11.
+ghost use mathlib.Core.Path.{_≡_};
+ghost use Prim.Native.Nat.{_≤_};
+ghost use Rattle.terms.specs.Sets.{inSet};
+ghost use Rattle.tallies.specs.Tallies.{hasAll, empty, counted, numbered};
+
+// Whether a prohibited name and one that is not allowed occur; the mandatory words that occur; the unique words that occur, and those that do
+// so twice, each as the set of their places in the list; and how often the key occurs, up to 2.
+pub struct Tally {
+    pub prohibited: bool,
+    pub other: bool,
+    pub present: u64,
+    pub once: u64,
+    pub twice: u64,
+    pub keys: u8,
+}
+
+// No field yet.
+pub fn start() -> Tally
+    ensures { λ r. ⌜ r ≡ empty ⌝ }
+{
+    Tally {
+        prohibited: false,
+        other: false,
+        present: 0,
+        once: 0,
+        twice: 0,
+        keys: 0,
+    }
+}
+
+// One field more, by what the dictionary knows of its name and the places of that among the mandatory and the unique words.
+pub fn count(t: Tally, known: u64, mandatory: u64, unique: u64) -> Tally
+    ensures { λ r. ⌜ r ≡ counted t (inSet 33 known) (inSet 34 known) (inSet 36 known) mandatory unique ⌝ }
+{
+    let prohibited = terms::has(known, 33);
+    let allowed = terms::has(known, 34);
+    let key = terms::has(known, 36);
+    Tally {
+        prohibited: t.prohibited | prohibited,
+        other: t.other | !allowed,
+        present: t.present | mandatory,
+        once: t.once | unique,
+        twice: t.twice | (t.once & unique),
+        keys: lists::bump(t.keys, key),
+    }
+}
+
+// Are the first n places all in a set?
+fn has_all(set: u64, n: usize) -> bool
+    requires { ⌜ n ≤ 64 ⌝ }
+    ensures { λ r. ⌜ r ≡ hasAll n set ⌝ }
+{
+    let mut k = n;
+    while 0 < k {
+        k -= 1;
+        if terms::has(set, k as u64) {} else {
+            return false;
+        }
+    }
+    true
+}
+
+// The number of the first of questions 8 to 11 that the record fails, else 0: `limited` tells whether there are `%allowed` fields, `keyed` whether there is a key,
+// and `mandatory` how many words are mandatory.
+pub fn number(t: Tally, limited: bool, keyed: bool, mandatory: usize) -> u32
+    requires { ⌜ mandatory ≤ 64 ⌝ }
+    ensures { λ r. ⌜ r ≡ numbered t limited keyed mandatory ⌝ }
+{
+    if t.prohibited {
+        return 8;
+    }
+    if limited & t.other {
+        return 9;
+    }
+    if has_all(t.present, mandatory) {} else {
+        return 10;
+    }
+    if keyed & (t.keys == 0) {
+        return 10;
+    }
+    if t.twice != 0 {
+        return 11;
+    }
+    if keyed & (1 < t.keys) {
+        return 11;
+    }
+    0
+}
