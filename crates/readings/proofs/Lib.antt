@@ -1,0 +1,2 @@
+-- Laws of values against shapes.
+pub mod Meeting

@@ -1,0 +1,2 @@
+-- A value, read once, against the shapes of types.
+pub mod Readings
