@@ -1,7 +1,7 @@
 -- The tally of no field, and of one field more.
 use Prim.Native.Nat.{ℕ, zero, suc, _+_}
 use native.Mathlib.Omega.{arith}
-use mathlib.Core.Path.{_≡_, refl, sym, ap, ap₂, _∙_}
+use mathlib.Core.Path.{_≡_, refl, sym, ap, ap₂, _∙_, subst}
 use mathlib.Core.Bool.{Bool, true, false, _&&_, _||_, not, or-true, or-false}
 use mathlib.Core.List.{List, [], _∷_, _++_}
 use borrow.Author.Tests.{le-leb, lt-leb, lt-ltb, le-ltb}
@@ -20,6 +20,7 @@ use Rattle.terms.proofs.Sets.{in-none, in-or}
 use Rattle.dictionary.specs.Known.{Known}
 use Rattle.wordsets.specs.Numbered.{Places}
 use Rattle.tallies.specs.Tallies.{empty, counted, Tallied}
+use Rattle.tallies.specs.Steps.{Steps}
 use Rattle.tallies.specs.declared.Tally.{Tally}
 use Rattle.tallies.proofs.Sets.{in-and}
 
@@ -132,3 +133,16 @@ among-place w (v ∷ ws) (suc k) e = ap (λ (t : Bool). t && same w (getD ws k [
 
 pub no-places : (w : Bytes) (ws : List Bytes) → among w ws ≡ false → Places ws w 0
 no-places w ws e k = in-none k ∙ sym (among-place w ws k e)
+
+-- the same by the field's name
+pub step-more : (rules : Record) (from next : ℕ) (name : Bytes) (t : Tally) (x m u : ℕ) (s : Tally) → Known rules from next name x → Places (mandatory rules) name m → Places (unique rules) name u
+    → s ≡ counted t (inSet 33 x) (inSet 34 x) (inSet 36 x) m u → Steps rules from next name t (record { tally = s; known = x })
+step-more rules from next name t x m u s k p q e =
+    record {
+      tags = k;
+      tallied =
+          λ fs f n h.
+          subst (Tallied rules (fs ++ (f ∷ []))) (sym e)
+          (tallied-more rules fs f t from next x m u h (subst (λ (w : Bytes). Known rules from next w x) (sym n) k) (subst (λ (w : Bytes). Places (mandatory rules) w m) (sym n) p)
+          (subst (λ (w : Bytes). Places (unique rules) w u) (sym n) q));
+    }

@@ -1,8 +1,18 @@
 // What a record has of the names that a descriptor lists, field by field, as a few numbers: questions 8 to 11.
 ghost use mathlib.Core.Path.{_≡_};
 ghost use Prim.Native.Nat.{_≤_};
+ghost use mathlib.Core.List.{List};
+ghost use Rattle.format.specs.Bytes.{Bytes, among};
+ghost use Rattle.format.specs.Rules.{mandatory, unique};
+ghost use Rattle.records.specs.Walk.{recordIn};
 ghost use Rattle.terms.specs.Sets.{inSet};
+ghost use Rattle.terms.specs.Order.{IsTable};
+ghost use Rattle.dictionary.specs.Known.{Described, IsDictionary};
+ghost use Rattle.wordsets.specs.Numbered.{IsWords, Places};
 ghost use Rattle.tallies.specs.Tallies.{hasAll, empty, counted, numbered};
+ghost use Rattle.tallies.specs.Steps.{Steps};
+use dictionary::Dictionary;
+use terms::Table;
 
 // Whether a prohibited name and one that is not allowed occur; the mandatory words that occur; the unique words that occur, and those that do
 // so twice, each as the set of their places in the list; and how often the key occurs, up to 2.
@@ -44,6 +54,49 @@ pub fn count(t: Tally, known: u64, mandatory: u64, unique: u64) -> Tally
         twice: t.twice | (t.once & unique),
         keys: lists::bump(t.keys, key),
     }
+}
+
+// The places of a name among the words of a table: it is searched only if the name is one of them.
+fn places(d: &[u8], entries: &[u32], t: Table, listed: bool, name: &[u8]) -> u64
+    requires { ⌜ IsTable (now d) (now entries) t ⌝ }
+    ensures { λ x. ⌜ ((ws : List Bytes) → IsWords (now (d .entry)) ws (now (entries .entry)) t → listed ≡ among (now (name .entry)) ws → Places ws (now (name .entry)) x) ⌝ }
+{
+    if listed {
+        return terms::find(d, entries, t, name);
+    }
+    0
+}
+
+// The tally with one field more, and the tags of its name.
+pub struct Step {
+    pub tally: Tally,
+    pub known: u64,
+}
+
+// One field more by its name, which is looked up in a dictionary of the descriptor and in the tables of its mandatory and its unique words.
+pub fn count_name(
+    d: &[u8],
+    from: usize,
+    entries: &[u32],
+    r: Dictionary,
+    needed: &[u32],
+    present: Table,
+    single: &[u32],
+    alone: Table,
+    name: &[u8],
+    t: Tally,
+) -> Step
+    requires { ⌜ Described (now d) ⌝ }
+    requires { ⌜ IsDictionary (now d) from (now entries) r ⌝ }
+    requires { ⌜ IsWords (now d) (mandatory (recordIn (now d))) (now needed) present ⌝ }
+    requires { ⌜ IsWords (now d) (unique (recordIn (now d))) (now single) alone ⌝ }
+    ensures { λ s. ⌜ Steps (recordIn (now (d .entry))) from (r .next) (now (name .entry)) t s ⌝ }
+{
+    let known = dictionary::look_up(d, from, entries, r, name);
+    let m = places(d, needed, present, terms::has(known, 32), name);
+    let u = places(d, single, alone, terms::has(known, 35), name);
+    let tally = count(t, known, m, u);
+    Step { tally, known }
 }
 
 // Are the first n places all in a set?
