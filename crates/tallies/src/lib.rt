@@ -1,17 +1,20 @@
 // What a record has of the names that a descriptor lists, field by field, as a few numbers: questions 8 to 11.
 ghost use mathlib.Core.Path.{_≡_};
 ghost use Prim.Native.Nat.{_≤_};
+ghost use mathlib.Core.Bool.{true};
 ghost use mathlib.Core.List.{List};
-ghost use Rattle.format.specs.Bytes.{Bytes, among};
+ghost use Rattle.format.specs.Bytes.{Bytes, classTable, among};
 ghost use Rattle.format.specs.Rules.{mandatory, unique};
+ghost use Rattle.records.specs.Places.{isReadable};
 ghost use Rattle.records.specs.Walk.{recordIn};
 ghost use Rattle.terms.specs.Sets.{inSet};
 ghost use Rattle.terms.specs.Order.{IsTable};
 ghost use Rattle.dictionary.specs.Known.{Described, IsDictionary};
 ghost use Rattle.wordsets.specs.Numbered.{IsWords, Places};
-ghost use Rattle.tallies.specs.Tallies.{hasAll, empty, counted, numbered};
+ghost use Rattle.tallies.specs.Tallies.{hasAll, empty, counted, numbered, Tallied};
 ghost use Rattle.tallies.specs.Steps.{Steps};
 use dictionary::Dictionary;
+use records::NextField;
 use terms::Table;
 
 // Whether a prohibited name and one that is not allowed occur; the mandatory words that occur; the unique words that occur, and those that do
@@ -97,6 +100,57 @@ pub fn count_name(
     let u = places(d, single, alone, terms::has(known, 35), name);
     let tally = count(t, known, m, u);
     Step { tally, known }
+}
+
+// The tally of all fields of a record.
+pub fn tally_record(
+    table: &[u8; 256],
+    d: &[u8],
+    from: usize,
+    entries: &[u32],
+    r: Dictionary,
+    needed: &[u32],
+    present: Table,
+    single: &[u32],
+    alone: Table,
+    s: &[u8],
+) -> Tally
+    requires { ⌜ now table ≡ classTable ⌝ }
+    requires { ⌜ Described (now d) ⌝ }
+    requires { ⌜ IsDictionary (now d) from (now entries) r ⌝ }
+    requires { ⌜ IsWords (now d) (mandatory (recordIn (now d))) (now needed) present ⌝ }
+    requires { ⌜ IsWords (now d) (unique (recordIn (now d))) (now single) alone ⌝ }
+    requires { ⌜ isReadable (now s) ≡ true ⌝ }
+    ensures { λ t. ⌜ Tallied (recordIn (now (d .entry))) (recordIn (now (s .entry))) t ⌝ }
+{
+    let mut t = start();
+    let mut i = 0;
+    loop {
+        let f = records::next_field(table, s, i);
+        let NextField::At {
+            start: a,
+            named,
+            value: _,
+            end,
+        } = f
+        else {
+            return t;
+        };
+        let x = count_name(
+            d,
+            from,
+            entries,
+            r,
+            needed,
+            present,
+            single,
+            alone,
+            &s[a..named],
+            t,
+        );
+        t = x.tally;
+        i = end;
+    }
 }
 
 // Are the first n places all in a set?
