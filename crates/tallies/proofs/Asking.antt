@@ -20,7 +20,7 @@ use Rattle.format.proofs.Judging.{recordRows}
 use Rattle.sorting.proofs.Tests.{by-bool, dec-lt}
 use Rattle.terms.specs.Sets.{inSet}
 use Rattle.terms.proofs.Sets.{in-none}
-use Rattle.tallies.specs.Tallies.{hasAll, numbered, Tallied}
+use Rattle.tallies.specs.Tallies.{hasAll, tallyNo, Tallied}
 use Rattle.tallies.specs.declared.Tally.{Tally}
 use Rattle.tallies.proofs.Sets.{no-place, all-tested}
 use Rattle.tallies.proofs.Numbers.{number-by}
@@ -124,7 +124,7 @@ module _ (rules r : Record) (t : Tally) (h : Tallied rules r t) where
   limited-by false o = refl
 
   pub tally-no : (b : Bounds) (limited keyed : Bool) (n : ℕ) → limited ≡ not (eqb (length (valuesOf (text "%allowed") rules)) 0) → keyed ≡ isFilled (key rules) → n ≡ length (mandatory rules) → length (key rules) ≤ 1
-      → numbered t limited keyed n ≡ firstNo (take 4 (recordRows b rules)) r
+      → tallyNo t limited keyed n ≡ firstNo (take 4 (recordRows b rules)) r
   tally-no b limited keyed n lim ky m few =
       let none : Bool = eqb (length (valuesOf (text "%allowed") rules)) 0 in
       let only : Bool = eachName (λ (x : Bytes). among x (allowed rules)) r in

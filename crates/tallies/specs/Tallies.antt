@@ -34,8 +34,8 @@ hasAll zero x = true
 hasAll (suc n) x = inSet n x && hasAll n x
 
 -- the first question that says no
-unfoldable pub numbered : Tally → Bool → Bool → ℕ → ℕ
-numbered t limited keyed n =
+unfoldable pub tallyNo : Tally → Bool → Bool → ℕ → ℕ
+tallyNo t limited keyed n =
     pick (t .prohibited) 8
     (pick (limited && t .other) 9
     (pick (hasAll n (t .present)) (pick (keyed && eqb (t .keys) 0) 10

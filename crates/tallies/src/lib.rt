@@ -11,7 +11,7 @@ ghost use Rattle.terms.specs.Sets.{inSet};
 ghost use Rattle.terms.specs.Order.{IsTable};
 ghost use Rattle.dictionary.specs.Known.{Described, IsDictionary};
 ghost use Rattle.wordsets.specs.Numbered.{IsWords, Places};
-ghost use Rattle.tallies.specs.Tallies.{hasAll, empty, counted, numbered, Tallied};
+ghost use Rattle.tallies.specs.Tallies.{hasAll, empty, counted, tallyNo, Tallied};
 ghost use Rattle.tallies.specs.Steps.{Steps};
 use dictionary::Dictionary;
 use records::NextField;
@@ -42,7 +42,8 @@ pub fn start() -> Tally
     }
 }
 
-// One field more, by what the dictionary knows of its name and the places of that among the mandatory and the unique words.
+// One field more, by what the dictionary knows of its name (tags 33, 34 and 36: prohibited, allowed, the key) and the places of that among the
+// mandatory and the unique words.
 pub fn count(t: Tally, known: u64, mandatory: u64, unique: u64) -> Tally
     ensures { λ r. ⌜ r ≡ counted t (inSet 33 known) (inSet 34 known) (inSet 36 known) mandatory unique ⌝ }
 {
@@ -172,7 +173,7 @@ fn has_all(set: u64, n: usize) -> bool
 // and `mandatory` how many words are mandatory.
 pub fn number(t: Tally, limited: bool, keyed: bool, mandatory: usize) -> u32
     requires { ⌜ mandatory ≤ 64 ⌝ }
-    ensures { λ r. ⌜ r ≡ numbered t limited keyed mandatory ⌝ }
+    ensures { λ r. ⌜ r ≡ tallyNo t limited keyed mandatory ⌝ }
 {
     if t.prohibited {
         return 8;
