@@ -10,6 +10,7 @@ pub mod Fields
 pub mod Words
 pub mod Searches
 pub mod Cuts
+pub mod Going
 pub mod Members
 pub mod Views
 pub mod Parting

@@ -70,7 +70,7 @@ pub places-comment : (at : ℕ) (l : Line) (ps : List Piece) → placesIn at (bl
 places-comment at l ps = onto-loose at (Piece.comment l) (blocks ps) (comment-loose l)
 
 -- the first block goes to the first blank line, and the others begin there
-run-blocks : (ps : List Piece) → (bs : List Block) × (blocks ps ≡ untilBlank ps ∷ bs) × (blocks (fromBlank ps) ≡ [] ∷ bs)
+pub run-blocks : (ps : List Piece) → (bs : List Block) × (blocks ps ≡ untilBlank ps ∷ bs) × (blocks (fromBlank ps) ≡ [] ∷ bs)
 run-blocks [] = ([], refl, refl)
 run-blocks (Piece.blank l ∷ ps) = (onto (Piece.blank l) (blocks ps), refl, refl)
 run-blocks (Piece.comment l ∷ ps) = let h = run-blocks ps in (h .0, ap (onto (Piece.comment l)) (h .1), h .2)
