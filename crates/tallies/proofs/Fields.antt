@@ -20,8 +20,9 @@ use Rattle.terms.proofs.Sets.{in-none, in-or}
 use Rattle.dictionary.specs.Known.{Known}
 use Rattle.wordsets.specs.Numbered.{Places}
 use Rattle.tallies.specs.Tallies.{empty, counted, Tallied}
-use Rattle.tallies.specs.Steps.{Steps}
+use Rattle.tallies.specs.Seen.{Stands}
 use Rattle.tallies.specs.declared.Tally.{Tally}
+use Rattle.tallies.specs.declared.Seen.{Seen}
 use Rattle.tallies.proofs.Sets.{in-and}
 
 -- a test that fails of no field
@@ -93,7 +94,7 @@ module _ (fs : Record) (f : Field) (ws : List Bytes) (m : ℕ) (p : Places ws (f
       ∙ twice-by (ltb k (length ws)) (same w (f .name)) (occurrences w fs)
       ∙ ap (λ (n : ℕ). ltb k (length ws) && leb 2 n) (sym (occurrences-more w fs f))
 
-pub tallied-more : (rules fs : Record) (f : Field) (t : Tally) (from next x m u : ℕ) → Tallied rules fs t → Known rules from next (f .name) x → Places (mandatory rules) (f .name) m → Places (unique rules) (f .name) u
+tallied-more : (rules fs : Record) (f : Field) (t : Tally) (from next x m u : ℕ) → Tallied rules fs t → Known rules from next (f .name) x → Places (mandatory rules) (f .name) m → Places (unique rules) (f .name) u
     → Tallied rules (fs ++ (f ∷ [])) (counted t (inSet 33 x) (inSet 34 x) (inSet 36 x) m u)
 tallied-more rules fs f t from next x m u h kn pm pu =
     record {
@@ -134,15 +135,8 @@ among-place w (v ∷ ws) (suc k) e = ap (λ (t : Bool). t && same w (getD ws k [
 pub no-places : (w : Bytes) (ws : List Bytes) → among w ws ≡ false → Places ws w 0
 no-places w ws e k = in-none k ∙ sym (among-place w ws k e)
 
--- the same by the field's name
-pub step-more : (rules : Record) (from next : ℕ) (name : Bytes) (t : Tally) (x m u : ℕ) (s : Tally) → Known rules from next name x → Places (mandatory rules) name m → Places (unique rules) name u
-    → s ≡ counted t (inSet 33 x) (inSet 34 x) (inSet 36 x) m u → Steps rules from next name t (record { tally = s; known = x })
-step-more rules from next name t x m u s k p q e =
-    record {
-      tags = k;
-      tallied =
-          λ fs f n h.
-          subst (Tallied rules (fs ++ (f ∷ []))) (sym e)
-          (tallied-more rules fs f t from next x m u h (subst (λ (w : Bytes). Known rules from next w x) (sym n) k) (subst (λ (w : Bytes). Places (mandatory rules) w m) (sym n) p)
-          (subst (λ (w : Bytes). Places (unique rules) w u) (sym n) q));
-    }
+-- by what was seen of the field's name
+pub stands-more : (rules fs : Record) (f : Field) (from next : ℕ) (t s : Tally) (x : Seen) → Stands rules from next (f .name) x → Tallied rules fs t
+    → s ≡ counted t (inSet 33 (x .known)) (inSet 34 (x .known)) (inSet 36 (x .known)) (x .mandatory) (x .unique) → Tallied rules (fs ++ (f ∷ [])) s
+stands-more rules fs f from next t s x h g e =
+    subst (Tallied rules (fs ++ (f ∷ []))) (sym e) (tallied-more rules fs f t from next (x .known) (x .mandatory) (x .unique) g (h .tags) (h .needed-at) (h .single-at))

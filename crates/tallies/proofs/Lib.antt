@@ -3,4 +3,3 @@ pub mod Sets
 pub mod Numbers
 pub mod Fields
 pub mod Asking
-pub mod Walking

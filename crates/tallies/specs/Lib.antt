@@ -1,3 +1,3 @@
 -- What a record has of listed names, field by field.
 pub mod Tallies
-pub mod Steps
+pub mod Seen

@@ -1,21 +1,18 @@
 // What a record has of the names that a descriptor lists, field by field, as a few numbers: questions 8 to 11.
 ghost use mathlib.Core.Path.{_≡_};
 ghost use Prim.Native.Nat.{_≤_};
-ghost use mathlib.Core.Bool.{true};
 ghost use mathlib.Core.List.{List};
-ghost use Rattle.format.specs.Bytes.{Bytes, classTable, among};
-ghost use Rattle.format.specs.Rules.{mandatory, unique};
-ghost use Rattle.records.specs.Places.{isReadable};
+ghost use lib.ListN.{length};
+ghost use Rattle.format.specs.Bytes.{Bytes, among};
+ghost use Rattle.words.specs.Spans.{span};
 ghost use Rattle.records.specs.Walk.{recordIn};
 ghost use Rattle.terms.specs.Sets.{inSet};
 ghost use Rattle.terms.specs.Order.{IsTable};
-ghost use Rattle.dictionary.specs.Known.{Described, IsDictionary};
 ghost use Rattle.wordsets.specs.Numbered.{IsWords, Places};
-ghost use Rattle.tallies.specs.Tallies.{hasAll, empty, counted, tallyNo, Tallied};
-ghost use Rattle.tallies.specs.Steps.{Steps};
+ghost use Rattle.tallies.specs.Tallies.{hasAll, empty, counted, tallyNo};
+ghost use Rattle.tallies.specs.Seen.{IsTables, SeenAt};
 use dictionary::Dictionary;
-use records::NextField;
-use terms::Table;
+use wordsets::Words;
 
 // Whether a prohibited name and one that is not allowed occur; the mandatory words that occur; the unique words that occur, and those that do
 // so twice, each as the set of their places in the list; and how often the key occurs, up to 2.
@@ -60,98 +57,86 @@ pub fn count(t: Tally, known: u64, mandatory: u64, unique: u64) -> Tally
     }
 }
 
-// The places of a name among the words of a table: it is searched only if the name is one of them.
-fn places(d: &[u8], entries: &[u32], t: Table, listed: bool, name: &[u8]) -> u64
-    requires { ⌜ IsTable (now d) (now entries) t ⌝ }
-    ensures { λ x. ⌜ ((ws : List Bytes) → IsWords (now (d .entry)) ws (now (entries .entry)) t → listed ≡ among (now (name .entry)) ws → Places ws (now (name .entry)) x) ⌝ }
+// The places of a name among the words of a list: they are searched only if the name is one of them.
+fn places(d: &[u8], entries: &[u32], r: Words, listed: bool, name: &[u8]) -> u64
+    requires { ⌜ IsTable (now d) (now entries) (r .table) ⌝ }
+    ensures { λ x. ⌜ ((ws : List Bytes) → IsWords (now (d .entry)) ws (now (entries .entry)) r → listed ≡ among (now (name .entry)) ws → Places ws (now (name .entry)) x) ⌝ }
 {
     if listed {
+        let t = r.table;
         return terms::find(d, entries, t, name);
     }
     0
 }
 
-// The tally with one field more, and the tags of its name.
-pub struct Step {
-    pub tally: Tally,
+// The tables of a descriptor: the dictionary from one of its `%type` fields on, its mandatory and its unique words.
+pub struct Tables {
+    pub from: usize,
+    pub names: Dictionary,
+    pub mandatory: Words,
+    pub unique: Words,
+}
+
+// What is known of the name that stands from one place to another: its tags, and its places among the mandatory and the unique words.
+pub struct Seen {
+    pub at: usize,
+    pub end: usize,
     pub known: u64,
+    pub mandatory: u64,
+    pub unique: u64,
 }
 
-// One field more by its name, which is looked up in a dictionary of the descriptor and in the tables of its mandatory and its unique words.
-pub fn count_name(
+// A name is looked up in the tables of a descriptor.
+pub fn look_up(
     d: &[u8],
-    from: usize,
-    entries: &[u32],
-    r: Dictionary,
+    names: &[u32],
     needed: &[u32],
-    present: Table,
     single: &[u32],
-    alone: Table,
-    name: &[u8],
-    t: Tally,
-) -> Step
-    requires { ⌜ Described (now d) ⌝ }
-    requires { ⌜ IsDictionary (now d) from (now entries) r ⌝ }
-    requires { ⌜ IsWords (now d) (mandatory (recordIn (now d))) (now needed) present ⌝ }
-    requires { ⌜ IsWords (now d) (unique (recordIn (now d))) (now single) alone ⌝ }
-    ensures { λ s. ⌜ Steps (recordIn (now (d .entry))) from (r .next) (now (name .entry)) t s ⌝ }
-{
-    let known = dictionary::look_up(d, from, entries, r, name);
-    let m = places(d, needed, present, terms::has(known, 32), name);
-    let u = places(d, single, alone, terms::has(known, 35), name);
-    let tally = count(t, known, m, u);
-    Step { tally, known }
-}
-
-// The tally of all fields of a record.
-pub fn tally_record(
-    table: &[u8; 256],
-    d: &[u8],
-    from: usize,
-    entries: &[u32],
-    r: Dictionary,
-    needed: &[u32],
-    present: Table,
-    single: &[u32],
-    alone: Table,
+    t: Tables,
     s: &[u8],
-) -> Tally
-    requires { ⌜ now table ≡ classTable ⌝ }
-    requires { ⌜ Described (now d) ⌝ }
-    requires { ⌜ IsDictionary (now d) from (now entries) r ⌝ }
-    requires { ⌜ IsWords (now d) (mandatory (recordIn (now d))) (now needed) present ⌝ }
-    requires { ⌜ IsWords (now d) (unique (recordIn (now d))) (now single) alone ⌝ }
-    requires { ⌜ isReadable (now s) ≡ true ⌝ }
-    ensures { λ t. ⌜ Tallied (recordIn (now (d .entry))) (recordIn (now (s .entry))) t ⌝ }
+    at: usize,
+    end: usize,
+) -> Seen
+    requires { ⌜ IsTables (now d) (now names) (now needed) (now single) t ⌝ }
+    requires { ⌜ (at ≤ end) × (end ≤ length (now s)) ⌝ }
+    ensures { λ r. ⌜ SeenAt (recordIn (now (d .entry))) (t .from) (t .names .next) (now (s .entry)) r × (r .at ≡ at) × (r .end ≡ end) ⌝ }
 {
-    let mut t = start();
-    let mut i = 0;
-    loop {
-        let f = records::next_field(table, s, i);
-        let NextField::At {
-            start: a,
-            named,
-            value: _,
-            end,
-        } = f
-        else {
-            return t;
-        };
-        let x = count_name(
-            d,
-            from,
-            entries,
-            r,
-            needed,
-            present,
-            single,
-            alone,
-            &s[a..named],
-            t,
-        );
-        t = x.tally;
-        i = end;
+    let r = t.names;
+    let known = dictionary::look_up(d, t.from, names, r, &s[at..end]);
+    let m = places(d, needed, t.mandatory, terms::has(known, 32), &s[at..end]);
+    let u = places(d, single, t.unique, terms::has(known, 35), &s[at..end]);
+    Seen {
+        at,
+        end,
+        known,
+        mandatory: m,
+        unique: u,
     }
+}
+
+// The same, where what was seen before may be of the same name: records often have their fields in one order.
+pub fn recall(
+    d: &[u8],
+    names: &[u32],
+    needed: &[u32],
+    single: &[u32],
+    t: Tables,
+    s: &[u8],
+    at: usize,
+    end: usize,
+    before: Seen,
+) -> Seen
+    requires { ⌜ IsTables (now d) (now names) (now needed) (now single) t ⌝ }
+    requires { ⌜ (at ≤ end) × (end ≤ length (now s)) ⌝ }
+    requires { ⌜ SeenAt (recordIn (now d)) (t .from) (t .names .next) (now s) before ⌝ }
+    ensures { λ r. ⌜ SeenAt (recordIn (now (d .entry))) (t .from) (t .names .next) (now (s .entry)) r × (span (r .at) (r .end) (now (s .entry)) ≡ span at end (now (s .entry))) ⌝ }
+{
+    let a = before.at;
+    let e = before.end;
+    if lines::same_bytes(&s[a..e], &s[at..end]) {
+        return before;
+    }
+    look_up(d, names, needed, single, t, s, at, end)
 }
 
 // Are the first n places all in a set?

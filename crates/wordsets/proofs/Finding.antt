@@ -11,7 +11,7 @@ use Rattle.format.specs.Bytes.{Bytes, same}
 use Rattle.sorting.proofs.Tests.{dec-lt}
 use Rattle.terms.specs.Sets.{tagged, Answers}
 use Rattle.terms.specs.Entries.{termsOf}
-use Rattle.terms.specs.declared.Table.{Table}
+use Rattle.wordsets.specs.declared.Words.{Words}
 use Rattle.terms.proofs.Tests.{or-none}
 use Rattle.wordsets.specs.Numbered.{numbered, IsWords, Places}
 
@@ -48,5 +48,5 @@ module _ (w : Bytes) where
       (λ h. above k 0 ws (omega arith) ∙ sym (ap (λ (t : Bool). t && same w (getD ws k [])) (le-ltb k (length ws) h)))
 
 -- the tags that are found are the places
-pub places-found : (d : Bytes) (ws : List Bytes) (l : List ℕ) (t : Table) → IsWords d ws l t → (w : Bytes) (x : ℕ) → Answers w (termsOf d (take (t .count) l)) x → Places ws w x
-places-found d ws l t h w x q k = q k ∙ h .terms w k ∙ tagged-place w ws k
+pub places-found : (d : Bytes) (ws : List Bytes) (l : List ℕ) (r : Words) → IsWords d ws l r → (w : Bytes) (x : ℕ) → Answers w (termsOf d (take (r .table .count) l)) x → Places ws w x
+places-found d ws l r h w x q k = q k ∙ h .terms w k ∙ tagged-place w ws k

@@ -158,9 +158,10 @@ module _ (d : Bytes) (ws : List Bytes) (l m : List ℕ) (n : ℕ) (few : length 
   pub read-entries : Entries d (length (take n m)) (take n m)
   read-entries = entries-front d m n read-room (a .entries (λ i h. absurd (omega arith)))
 
-  pub read-words : (p : List ℕ) (t : Table) → Holds d (take n m) p t → IsWords d ws (p ++ drop n m) t
+  pub read-words : (p : List ℕ) (t : Table) → Holds d (take n m) p t → IsWords d ws (p ++ drop n m) (record { table = t; count = n })
   read-words p t h = record {
     few = few;
+    count = omega (arith, a .count, numbered-length 0 ws);
     table = table-front d p (drop n m) t (h .table);
     terms = λ w k. front-terms d (take n m) p (drop n m) t h w k ∙ ap (λ (ts : List Term). tagged w k ts) (sym (append-nil (termsOf d (take n m))) ∙ a .terms);
   }

@@ -9,7 +9,7 @@ use Rattle.format.specs.Bytes.{Bytes, same}
 use Rattle.terms.specs.Sets.{Term, termOf, inSet, tagged}
 use Rattle.terms.specs.Entries.{termsOf}
 use Rattle.terms.specs.Order.{IsTable}
-use Rattle.terms.specs.declared.Table.{Table}
+use Rattle.wordsets.specs.declared.Words.{Words}
 
 -- numbered from k on
 abbrev pub numbered : ℕ → List Bytes → List Term
@@ -17,10 +17,11 @@ numbered k [] = []
 numbered k (w ∷ ws) = termOf k w ∷ numbered (suc k) ws
 
 -- a table of the words ws, at most 64
-pub record IsWords (d : Bytes) (ws : List Bytes) (l : List ℕ) (t : Table) : Type 0 where
+pub record IsWords (d : Bytes) (ws : List Bytes) (l : List ℕ) (r : Words) : Type 0 where
   pub few : length ws ≤ 64
-  pub table : IsTable d l t
-  pub terms : (w : Bytes) (k : ℕ) → tagged w k (termsOf d (take (t .count) l)) ≡ tagged w k (numbered 0 ws)
+  pub count : r .count ≡ length ws
+  pub table : IsTable d l (r .table)
+  pub terms : (w : Bytes) (k : ℕ) → tagged w k (termsOf d (take (r .table .count) l)) ≡ tagged w k (numbered 0 ws)
 
 -- x is the set of the places at which w stands in ws
 abbrev pub Places : List Bytes → Bytes → ℕ → Type 0

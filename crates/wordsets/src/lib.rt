@@ -57,14 +57,21 @@ fn add_list(table: &[u8; 256], d: &[u8], name: &[u8], entries: &mut [u32]) -> us
     }
 }
 
+// A table of words, and how many the list has.
+pub struct Words {
+    pub table: Table,
+    pub count: usize,
+}
+
 // The table of the words that the fields of a name list, in a lent array: `terms::find` tells the places at which a word stands in the list.
-pub fn read(table: &[u8; 256], d: &[u8], name: &[u8], entries: &mut [u32]) -> Table
+pub fn read(table: &[u8; 256], d: &[u8], name: &[u8], entries: &mut [u32]) -> Words
     requires { ⌜ now table ≡ classTable ⌝ }
     requires { ⌜ (isReadable (now d) ≡ true) × (length (now d) ≤ 65536) ⌝ }
     requires { ⌜ (length (listed (now name) (recordIn (now d))) ≤ 64) × (64 ≤ length (now entries)) ⌝ }
     requires { ⌜ all isName (listed (now name) (recordIn (now d))) ≡ true ⌝ }
-    ensures { λ t. ⌜ IsWords (now (d .entry)) (listed (now (name .entry)) (recordIn (now (d .entry)))) (now (entries .exit)) t ⌝ }
+    ensures { λ r. ⌜ IsWords (now (d .entry)) (listed (now (name .entry)) (recordIn (now (d .entry)))) (now (entries .exit)) r ⌝ }
 {
     let n = add_list(table, d, name, &mut *entries);
-    terms::build(d, &mut entries[..n])
+    let t = terms::build(d, &mut entries[..n]);
+    Words { table: t, count: n }
 }

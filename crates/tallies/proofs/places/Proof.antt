@@ -2,6 +2,7 @@
 use mathlib.Core.Path.{sym, _∙_}
 use Rattle.wordsets.proofs.Finding.{places-found}
 use Rattle.tallies.proofs.Fields.{no-places}
+use borrow.Author.Needs.{needs}
 use Rattle.tallies.proofs.places.Statement.{statement}
 use Rattle.tallies.proofs.places.Tie as tie
 use Rattle.tallies.proofs.places.Reads as reads
@@ -10,14 +11,14 @@ use Rattle.terms.proofs.find.Reads as find-reads
 
 find-requires : tie.Need-find-requires
 find-requires c κs =
-    let at-pre = c .before .before .before .before .pre in
+    let at-pre = c .before .before .before .before .before .pre in
     at-pre
 
 returns : tie.Need-returns
 returns c =
-    let at-args = c .before .before .before .before .before .args in
+    let at-args = c .before .before .before .before .before .before .args in
     let at-find = c .find in
-    (λ ws h e. places-found (at-args .d .now) ws (at-args .entries .now) (at-args .t) h (at-args .name .now) (at-find .result) (at-find .ensures))
+    (λ ws h e. places-found (at-args .d .now) ws (at-args .entries .now) (at-args .r) h (at-args .name .now) (at-find .result) (at-find .ensures))
 
 returns-2 : tie.Need-returns-2
 returns-2 c =
