@@ -1,99 +1,69 @@
 #!/usr/bin/env python3
 """Times the library against GNU recutils on the same files in one run: `python3 bench/run.py`.
 
-Makes its files in target/bench, builds bench/time.c over target/staticlib/librecfile.a (made by `rt staticlib recfile`), and prints
-times, ratios, growth, instructions a byte and the peak stack of each call. Times are the best of several runs on both sides.
+Makes its files in target/bench, builds bench/time.c over target/staticlib/librecfile.a (made by `rt staticlib recfile`) and bench/librec.c
+over librec, and prints times and ratios, in processes and in memory; growth and instructions of the check and of each edit; the peak stack
+of each call; and the check of every file of bench/shapes.py, the slowest last. Times are the best of several runs on both sides. Where a
+figure has a limit, it stands beside it.
 """
-import bisect
 import os
 import re
+import shutil
 import subprocess
 import sys
 import time
 
+import shapes
+
 ROOT = os.path.dirname(os.path.dirname(os.path.abspath(__file__)))
 OUT = os.path.join(ROOT, 'target', 'bench')
-TIMER = os.path.join(OUT, 'time')
+TIMER, LIBREC = os.path.join(OUT, 'time'), os.path.join(OUT, 'librec')
 
-
-def filled(head, record, limit):
-    """head, then records by number, as many as fit."""
-    text, count = head, 0
-    while len(text) + len(record(count + 1)) <= limit:
-        count += 1
-        text += record(count)
-    return text, count
-
-
-def book(limit):
-    head = b'%rec: Scan\n%key: Id\n%type: Id int\n%mandatory: Page\n\n'
-    return filled(head, lambda n: b'Id: %d\nPage: front\nTotal: %d.50\n\n' % (n, n % 90 + 10), limit)
-
-
-def only_keys(limit):
-    return filled(b'%rec: Scan\n%key: K\n\n', lambda n: b'K: %d\n\n' % n, limit)
-
-
-def crafted(limit):
-    """Keys of one fingerprint. A byte b turns h into (h + b) * M mod 2^32 and the upper half of the last h is the fingerprint, so what the
-    last three bytes of a key add does not depend on those before them: a table of what they add, and for each front the ones that fit."""
-    m, size = 2654435761, 1 << 32
-    letters = b'0123456789ABCDEFGHIJKLMNOPQRSTUVWXYZabcdefghijklmnopqrstuvwxyz'
-    triples = [bytes((a, b, c)) for a in letters for b in letters for c in letters]
-    ends = sorted(((t[0] * m ** 3 + t[1] * m ** 2 + t[2] * m) % size, t) for t in triples)
-    adds = [add for add, _ in ends]
-    keys = []
-    for front in triples:
-        h = 2166136261
-        for b in front:
-            h = (h + b) * m % size
-        low = -h * m ** 3 % size
-        at = bisect.bisect_left(adds, low)
-        while at < len(adds) and adds[at] < low + 65536:
-            keys.append(front + ends[at][1])
-            at += 1
-        if len(keys) * 11 > limit:
-            break
-    return filled(b'%rec: Scan\n%key: K\n\n', lambda n: b'K: ' + keys[n - 1] + b'\n\n', limit)
-
-
-LETTERS = b'ABCDEFGHIJKLMNOPQRSTUVWXYZabcdefghijklmnopqrstuvwxyz'
-
-
-def listing(rows, fields, limit):
-    """Records of 200 fields, none of them named in the rows of names that `%type` fields list."""
-    head = b'%rec: Scan\n' + b''.join(b'%type: ' + b','.join(names) + b' line\n' for names in rows) + b'\n'
-    return filled(head, lambda n: b''.join(fields[i % len(fields)] + b':\n' for i in range(200 * n, 200 * n + 200)) + b'\n', limit)
-
-
-def many_names(limit):
-    """8 `%type` fields of 1,340 names each."""
-    names = [bytes((a, b)) for a in LETTERS for b in LETTERS + b'0123456789' if a != b]
-    return listing([[names[(1340 * row + i) % len(names)] for i in range(1340)] for row in range(8)], [b'zz'], limit)
-
-
-def crafted_names(limit):
-    """Listed names and fields' names that all fall into one bucket of the index: the upper ten bits of what their bytes are mixed into."""
-    m, size, names = 2654435761, 1 << 32, []
-    for a, b, c in ((a, b, c) for a in LETTERS for b in LETTERS for c in LETTERS):
-        h = (((2166136261 + a) * m + b) * m + c) * m
-        names += [bytes((a, b, c, d)) for d in LETTERS if (h + d) * m % size >> 22 == 7]
-    return listing([names[i:i + 800] for i in range(0, 6400, 800)], names[6400:], limit)
+EDITS = ('insert', 'delete', 'add', 'set', 'drop', 'rename')
+GROWTH, EDIT, STACK = 8.5, 2.2, 163840
+FASTER = {'book 1 KB': 150, 'book 8 KB': 250, 'book 64 KB': 700}
 
 
 def run(*words):
     return subprocess.run(words, capture_output=True, text=True, check=False)
 
 
-def ours(path, call):
-    """The best of three runs of the timer, in nanoseconds: on a shared machine a whole run may fall into a slow moment."""
+def verdict(met):
+    return 'met' if met else 'NOT MET'
+
+
+def build():
+    """The two programs; librec's is not there where librec is not."""
+    library = os.path.join(ROOT, 'target', 'staticlib', 'librecfile.a')
+    if not os.path.exists(library):
+        sys.exit('make the library first: rt staticlib recfile')
+    subprocess.run(['cc', '-O2', '-I' + os.path.join(ROOT, 'include'), os.path.join(ROOT, 'bench', 'time.c'), library, '-o', TIMER], check=True)
+    if os.path.exists(LIBREC):
+        os.remove(LIBREC)
+    run('cc', '-O2', os.path.join(ROOT, 'bench', 'librec.c'), '-lrec', '-o', LIBREC)
+
+
+def kept(name, text):
+    """The path of a file with this text."""
+    path = os.path.join(OUT, re.sub(r'[^A-Za-z0-9]+', '-', name) + '.rec')
+    with open(path, 'wb') as f:
+        f.write(text)
+    return path
+
+
+def best_of(*words, runs=3):
+    """The best of some runs of a timer, in nanoseconds: on a shared machine a whole run may fall into a slow moment. The number behind the time must be 0."""
     best = float('inf')
-    for _ in range(3):
-        nanoseconds, number = run(TIMER, path, call).stdout.split()
+    for _ in range(runs):
+        nanoseconds, number = run(*words).stdout.split()
         if number != '0':
-            sys.exit('%s on %s was refused: %s' % (call, path, number))
+            sys.exit('%s: refused with %s' % (' '.join(words), number))
         best = min(best, float(nanoseconds))
     return best
+
+
+def ours(path, call, runs=3):
+    return best_of(TIMER, path, call, runs=runs)
 
 
 def theirs(path, *words):
@@ -109,64 +79,120 @@ def theirs(path, *words):
     return best * 1e9
 
 
-def instructions(path, size):
+def instructions(path, call):
+    """Those of one call, or None without valgrind: eleven calls less one, so that the start of the program is not counted."""
     def total(calls):
-        out = run('valgrind', '--tool=callgrind', '--callgrind-out-file=/dev/null', TIMER, path, 'check', str(calls)).stderr
-        found = re.search(r'Collected : (\d+)', out)
-        return int(found.group(1)) if found else None
+        out = run('valgrind', '--tool=callgrind', '--callgrind-out-file=/dev/null', TIMER, path, call, str(calls)).stderr
+        return int(re.search(r'Collected : (\d+)', out).group(1))
 
-    one, eleven = total(1), total(11)
-    return None if one is None or eleven is None else (eleven - one) / 10 / size
+    return (total(11) - total(1)) / 10 if shutil.which('valgrind') else None
+
+
+def against_recutils(files):
+    """Each call beside the command of recutils that does the like."""
+    commands = {
+        'check': ['recfix', '--check'],
+        'fetch': ['recsel', '-t', 'Scan', '-n', '3', '-P', 'Page'],
+        'insert': ['recins', '-t', 'Scan', '-f', 'Id', '-v', '999999', '-f', 'Page', '-v', 'front'],
+        'delete': ['recdel', '-t', 'Scan', '-n', '3'],
+        'set': ['recset', '-t', 'Scan', '-n', '3', '-f', 'Page', '-s', 'torn'],
+    }
+    if not shutil.which('recfix'):
+        print('beside recutils: it is not here\n')
+        return
+    print('%-10s %6s %7s  %-6s %12s %8s %13s %9s' % ('file', 'bytes', 'records', 'call', 'library', 'ns/byte', 'recutils', 'ratio'))
+    for name, (path, size, count) in files.items():
+        for call, command in commands.items():
+            if call == 'check' or name.startswith('book'):
+                mine, other = ours(path, call), theirs(path, *command)
+                print('%-10s %6d %7d  %-6s %9.1f us %8.2f %10.1f ms %8.0fx' % (
+                    name, size, count, call, mine / 1000, mine / size, other / 1e6, other / mine), flush=True)
+    print()
+
+
+def in_memory(files):
+    """The check beside librec's reading and check of the same bytes, both in one process without its start-up."""
+    if not os.path.exists(LIBREC):
+        print('in memory: librec is not here\n')
+        return
+    for name, wanted in FASTER.items():
+        mine, other = ours(files[name][0], 'check'), best_of(LIBREC, files[name][0])
+        print('in memory, %-10s: library %7.1f us, librec %9.1f us: %4.0f times as fast (wanted: %d): %s' % (
+            name, mine / 1000, other / 1000, other / mine, wanted, verdict(other >= wanted * mine)), flush=True)
+    print()
+
+
+def growth(files):
+    """How much longer the check and each edit take of the book at 64 KB than at 8 KB, by time and by instructions."""
+    for call in ('check', *EDITS):
+        ends = [files[name][0] for name in ('book 8 KB', 'book 64 KB')]
+        by_time = ours(ends[1], call) / ours(ends[0], call)
+        counts = [instructions(path, call) for path in ends]
+        print('growth, %-6s: from 8 KB to 64 KB %.2f times the time%s (at most %.1f): %s' % (
+            call, by_time, '' if None in counts else ', %.2f times the instructions' % (counts[1] / counts[0]), GROWTH, verdict(by_time <= GROWTH)), flush=True)
+    print()
+
+
+def counted(files):
+    """Instructions a byte of a check, and of an insert and a set as many times those of the check."""
+    if not shutil.which('valgrind'):
+        print('instructions: valgrind is not here\n')
+        return
+    for name in ('book 64 KB', 'keys 64 KB'):
+        path, size, _ = files[name]
+        print('instructions, check, %s: %.1f a byte' % (name, instructions(path, 'check') / size))
+    path = files['book 64 KB'][0]
+    check = instructions(path, 'check')
+    for call in ('insert', 'set'):
+        ratio = instructions(path, call) / check
+        print('instructions, %-6s: %.2f times those of the check (at most %.1f): %s' % (call, ratio, EDIT, verdict(ratio <= EDIT)), flush=True)
+    print()
+
+
+def stack(paths):
+    """The peak stack of each call on any of some files."""
+    deepest = {}
+    for path in paths:
+        for line in run(TIMER, path, 'stack').stdout.splitlines():
+            call, depth = line.split()
+            deepest[call] = max(deepest.get(call, 0), int(depth))
+    for call, depth in deepest.items():
+        print('stack, %-6s: %6d bytes (at most %d): %s' % (call, depth, STACK, verdict(depth <= STACK)))
+    print()
+
+
+def slow_shapes(book):
+    """The check of every shape as many times that of the book; the slowest are timed again, and its name and ratio come last."""
+    base, paths, ratios, deepest = ours(book, 'check'), {}, {}, 0
+    for name, text in shapes.shapes().items():
+        paths[name] = kept(name, text)
+        took = ours(paths[name], 'check', 1)
+        ratios[name] = took / base
+        deepest = max(deepest, int(run(TIMER, paths[name], 'depth').stdout))
+        print('shape, %-57s %5d bytes %11.1f us %9.2f times the book' % (name + ':', len(text), took / 1000, ratios[name]), flush=True)
+    base = min(base, ours(book, 'check'))
+    for name in sorted(ratios, key=ratios.get)[-5:]:
+        ratios[name] = ours(paths[name], 'check') / base
+        print('again, %-57s %s %9.2f times the book' % (name + ':', ' ' * 26, ratios[name]), flush=True)
+    print('\nstack, check of any shape: %d bytes (at most %d): %s' % (deepest, STACK, verdict(deepest <= STACK)))
+    worst = max(ratios, key=ratios.get)
+    print('worst: %.2f times the check of the 64 KB book (%s)' % (ratios[worst], worst))
 
 
 def main():
     os.makedirs(OUT, exist_ok=True)
-    library = os.path.join(ROOT, 'target', 'staticlib', 'librecfile.a')
-    if not os.path.exists(library):
-        sys.exit('make the library first: rt staticlib recfile')
-    subprocess.run(['cc', '-O2', '-I' + os.path.join(ROOT, 'include'), os.path.join(ROOT, 'bench', 'time.c'), library, '-o', TIMER], check=True)
-
+    build()
     files = {}
     for name, (text, count) in {
-        'book 1 KB': book(1024), 'book 8 KB': book(8192), 'book 64 KB': book(65000), 'keys 64 KB': only_keys(65536), 'crafted 64 KB': crafted(65536), 'names 64 KB': many_names(65536), 'crafted names': crafted_names(65536),
+        'book 1 KB': shapes.book(1024), 'book 8 KB': shapes.book(8192), 'book 64 KB': shapes.book(65000), 'keys 64 KB': shapes.only_keys(65536),
     }.items():
-        path = os.path.join(OUT, name.replace(' ', '-') + '.rec')
-        with open(path, 'wb') as f:
-            f.write(text)
-        files[name] = (path, len(text), count)
-
-    print('%-14s %7s %7s  %-7s %12s %9s %13s %9s' % ('file', 'bytes', 'records', 'call', 'library', 'ns/byte', 'recutils', 'ratio'))
-    took = {}
-    rows = [
-        ('check', ['recfix', '--check']),
-        ('fetch', ['recsel', '-t', 'Scan', '-n', '3', '-P', 'Page']),
-        ('insert', ['recins', '-t', 'Scan', '-f', 'Id', '-v', '999999', '-f', 'Page', '-v', 'front']),
-        ('set', ['recset', '-t', 'Scan', '-n', '3', '-f', 'Page', '-s', 'torn']),
-    ]
-    for name, (path, size, count) in files.items():
-        for call, command in rows:
-            if call != 'check' and not name.startswith('book'):
-                continue
-            mine = ours(path, call)
-            took[name, call] = mine
-            other = theirs(path, *command) if name.startswith(('book', 'keys')) else None
-            print('%-14s %7d %7d  %-7s %9.1f us %9.2f %s' % (
-                name, size, count, call, mine / 1000, mine / size,
-                '%10.1f ms %8.0fx' % (other / 1e6, other / mine) if other else '            -         -'))
-    # deleting is a set of the library's kind; recdel is timed for the record
-    path, size, count = files['book 64 KB']
-    print('%-14s %7d %7d  %-7s %12s %9s %10.1f ms' % ('book 64 KB', size, count, 'recdel', '-', '-', theirs(path, 'recdel', '-t', 'Scan', '-n', '3') / 1e6))
-    print()
-    for call, _ in rows:
-        print('%s: from 8 KB to 64 KB it takes %.1f times as long' % (call, took['book 64 KB', call] / took['book 8 KB', call]))
-    print()
-    for name in ('book 64 KB', 'keys 64 KB'):
-        path, size, _ = files[name]
-        per = instructions(path, size)
-        print('check, %s: %s' % (name, 'valgrind is not here' if per is None else '%.0f instructions a byte' % per))
-    print()
-    print('peak stack in bytes (at most 196608):')
-    print(run(TIMER, files['book 64 KB'][0], 'stack').stdout, end='')
+        files[name] = (kept(name, text), len(text), count)
+    against_recutils(files)
+    in_memory(files)
+    growth(files)
+    counted(files)
+    stack([files['book 64 KB'][0], kept('aliases', shapes.aliases())])
+    slow_shapes(files['book 64 KB'][0])
 
 
 main()

@@ -1,6 +1,7 @@
-/* Times one call of the library on a file: `time FILE check|insert|set|fetch`. Prints nanoseconds a call, the best of several
- * rounds. An edit is timed on a fresh copy of the file each time, the copy not counted. `time FILE stack` prints the peak stack
- * of each call in bytes. `time FILE check N` makes N calls and prints nothing, for a counter of instructions. */
+/* Times one call of the library on a file: `time FILE CALL`, where CALL is check, fetch or one of the six edits (insert, delete,
+ * add, set, drop, rename). Prints nanoseconds a call, the best of several rounds, and the number that the call gave. An edit is
+ * timed on a fresh copy of the file each time, the copy not counted. `time FILE CALL N` makes N calls and prints nothing, for a
+ * counter of instructions. `time FILE stack` prints the peak stack of each call in bytes, `time FILE depth` that of the check. */
 #include <recfile.h>
 #include <stdio.h>
 #include <stdlib.h>
@@ -46,13 +47,41 @@ static void insert_request(void)
     field(6, "front", 5);
 }
 
+/* An edit of record 3 by its kind, and the name of a field where it has one. */
+static void record_request(const char *kind, const char *name)
+{
+    begin(kind);
+    field(3, "\0\3", 2);
+    if (name != NULL)
+        field(4, name, strlen(name));
+}
+
+static void delete_request(void) { record_request("\2", NULL); }
+
+static void add_request(void)
+{
+    record_request("\3", "Note");
+    field(6, "x", 1);
+}
+
 static void set_request(void)
 {
-    begin("\4");
-    field(3, "\0\3", 2);
-    field(4, "Page", 4);
+    record_request("\4", "Page");
     field(5, "\0\0", 2);
     field(6, "torn", 4);
+}
+
+static void drop_request(void)
+{
+    record_request("\5", "Total");
+    field(5, "\0\0", 2);
+}
+
+static void rename_request(void)
+{
+    record_request("\6", "Total");
+    field(5, "\0\0", 2);
+    field(7, "Sum", 3);
 }
 
 static void check(void) { number = recfile_check(file, sizeof file, used); }
@@ -69,15 +98,36 @@ static void view(void)
 static void count(void) { recfile_count(file, sizeof file, used, (const uint8_t *)"Scan", 4, &number); }
 static void write_record(void) { recfile_write(request, request_len, out, sizeof out, &number); }
 
-static double best(void (*call)(void), int fresh)
+/* The calls by name; an edit has a maker of its request. */
+static const struct call {
+    const char *name;
+    void (*request)(void);
+    void (*call)(void);
+} calls[] = {
+    {"check", NULL, check}, {"count", NULL, count}, {"fetch", NULL, fetch}, {"view", NULL, view}, {"write", NULL, write_record},
+    {"insert", insert_request, edit}, {"delete", delete_request, edit}, {"add", add_request, edit}, {"set", set_request, edit},
+    {"drop", drop_request, edit}, {"rename", rename_request, edit},
+};
+
+#define CALLS (sizeof calls / sizeof *calls)
+
+/* What a call works on: its request, and for an edit a fresh copy of the file. */
+static void prepare(const struct call *c)
+{
+    if (c->request == NULL)
+        return;
+    c->request();
+    memcpy(work, file, sizeof work);
+}
+
+static double best(const struct call *c)
 {
     double least = 1e18, spent = 0;
     while (spent < 4e8) {
         double from, took;
-        if (fresh)
-            memcpy(work, file, sizeof work);
+        prepare(c);
         from = now();
-        call();
+        c->call();
         took = now() - from;
         spent += took;
         if (took < least)
@@ -102,11 +152,11 @@ static __attribute__((noinline)) size_t depth(void)
         i++;
     return DEEP - i;
 }
-static size_t stack_of(void (*call)(void))
+static size_t stack_of(const struct call *c)
 {
-    memcpy(work, file, sizeof work);
+    prepare(c);
     paint();
-    call();
+    c->call();
     return depth();
 }
 
@@ -117,27 +167,23 @@ int main(int argc, char **argv)
         return 2;
     used = fread(file, 1, sizeof file, f);
     insert_request();
-    if (argc > 3) {
-        for (long i = atol(argv[3]); i > 0; i--)
-            check();
-    } else if (strcmp(argv[2], "check") == 0) {
-        printf("%.0f", best(check, 0));
-    } else if (strcmp(argv[2], "fetch") == 0) {
-        printf("%.0f", best(fetch, 0));
-    } else if (strcmp(argv[2], "insert") == 0) {
-        printf("%.0f", best(edit, 1));
-    } else if (strcmp(argv[2], "set") == 0) {
-        set_request();
-        printf("%.0f", best(edit, 1));
-    } else if (strcmp(argv[2], "stack") == 0) {
-        printf("check %zu\n", stack_of(check));
-        printf("count %zu\n", stack_of(count));
-        printf("fetch %zu\n", stack_of(fetch));
-        printf("view %zu\n", stack_of(view));
-        printf("write %zu\n", stack_of(write_record));
-        printf("edit %zu\n", stack_of(edit));
+    if (strcmp(argv[2], "depth") == 0) {
+        printf("%zu\n", stack_of(&calls[0]));
         return 0;
     }
-    printf(" %u\n", (unsigned)number);
+    for (size_t k = 0; k < CALLS; k++) {
+        const struct call *c = &calls[k];
+        if (strcmp(argv[2], "stack") == 0) {
+            printf("%s %zu\n", c->name, stack_of(c));
+        } else if (strcmp(argv[2], c->name) == 0 && argc > 3) {
+            for (long i = atol(argv[3]); i > 0; i--) {
+                prepare(c);
+                c->call();
+            }
+        } else if (strcmp(argv[2], c->name) == 0) {
+            double took = best(c);
+            printf("%.0f %u\n", took, (unsigned)number);
+        }
+    }
     return 0;
 }

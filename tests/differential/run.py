@@ -3,8 +3,8 @@
 
 Usage: python3 tests/differential/run.py [SEED [ROUNDS]]     (after `rt staticlib recfile`; needs cc; recutils if it is installed)
 
-Random, damaged and limit-sized files; every call on each of them; lists of edits with other bytes behind the file. It prints how many
-answers were compared and stops at the first that differs, showing what was asked.
+Random, damaged and limit-sized files, and such with many types, names and symbols; every call on each of them; lists of edits with other
+bytes behind the file. It prints how many answers were compared and stops at the first that differs, showing what was asked.
 """
 import ctypes
 import os
@@ -16,6 +16,7 @@ import tempfile
 HERE = os.path.dirname(os.path.abspath(__file__))
 ROOT = os.path.dirname(os.path.dirname(HERE))
 sys.path.insert(0, os.path.join(ROOT, 'tests', 'model'))
+import crowds     # noqa: E402
 import recfile    # noqa: E402
 import samples    # noqa: E402
 
@@ -76,6 +77,7 @@ class Tests:
         self.library, self.seed, self.done, self.numbers = library, seed, 0, {}
         self.samples = samples.Samples(seed)
         self.random = self.samples.random
+        self.crowds = crowds.Crowds(self.random)
 
     def compare(self, call, *args):
         """Both answers, which must be one."""
@@ -121,9 +123,9 @@ class Tests:
         self.lookups(buf, len(text))
         self.edits(buf, len(text), rounds)
 
-    def damaged(self):
+    def damaged(self, text):
         """A file with a few bytes changed, taken out or put in."""
-        r, text = self.random, bytearray(self.samples.file())
+        r, text = self.random, bytearray(text)
         for _ in range(r.randint(1, 3)):
             at = r.randrange(len(text) + 1)
             turn = r.random()
@@ -141,6 +143,12 @@ class Tests:
             text = self.samples.file()
             if recfile.check(text, len(text)) == 0 and any(s.records and s.name for s in recfile.passed(text, len(text))[1]):
                 return text
+
+    def limit_crowds(self):
+        """The check of files with many types, names and symbols at the limits, and an edit of each."""
+        for text in crowds.at_limits():
+            self.compare('check', text, len(text))
+            self.edits(text + bytes(90), len(text), 1)
 
     def limits(self):
         """Files about the size of every limit, and large ones."""
@@ -181,7 +189,7 @@ def readings(library, tests, count):
     with tempfile.TemporaryDirectory() as folder:
         path = os.path.join(folder, 'file.rec')
         while compared < count:
-            text = tests.samples.file()
+            text = tests.random.choice([tests.samples.file, tests.crowds.file])()
             if recfile.check(text, len(text)) != 0 or b'\xff' in text:
                 continue
             pieces, sets = recfile.passed(text, len(text))
@@ -226,10 +234,13 @@ def main():
     library = Library(load())
     tests = Tests(library, seed)
     tests.limits()
+    tests.limit_crowds()
     for _ in range(rounds):
         tests.file(tests.samples.file())
-        tests.file(tests.damaged())
+        tests.file(tests.damaged(tests.samples.file()))
         tests.file(tests.passing())
+        tests.file(tests.crowds.file())
+        tests.file(tests.damaged(tests.crowds.file()), rounds=1)
     print('%d answers compared with tests/model/recfile.py, seed %d: all the same' % (tests.done, seed))
     print('by number: ' + ' '.join('%d:%d' % x for x in sorted(tests.numbers.items())))
     if shutil.which('recsel'):

@@ -69,7 +69,7 @@ key-by : (t : Bool) (v : Bytes) (vs ws : List Bytes) → (t ≡ true → length 
 key-by true v vs ws h e = omega (arith, length-append (words v) ws, h refl)
 key-by false v vs ws h e = e
 
-key-length : (r : Record) → all (isShaped intBounds) r ≡ true → length (key r) ≡ length (valuesOf (text "%key") r)
+pub key-length : (r : Record) → all (isShaped intBounds) r ≡ true → length (key r) ≡ length (valuesOf (text "%key") r)
 key-length [] e = refl
 key-length (f ∷ r) e =
     let n : Bytes = text "%key" in

@@ -18,10 +18,9 @@ use Rattle.words.specs.Spans.{span}
 use Rattle.records.specs.Places.{isReadable}
 use Rattle.records.specs.Walk.{recordIn}
 use Rattle.records.specs.Fields.{fieldsFrom, fieldBetween, FieldHere}
-use Rattle.lists.specs.Tables.{Cuts}
 use Rattle.lists.specs.declared.NextWord.{NextWord}
-use Rattle.names.specs.Names.{wordFrom, isComma, nameFrom, othersFrom, Behind}
-use Rattle.names.specs.declared.Part.{Part}
+use Rattle.lists.specs.Words.{wordFrom, Cuts, isComma, nameFrom, othersFrom, Behind}
+use Rattle.lists.specs.declared.Part.{Part}
 use Rattle.sorting.specs.Texts.{textAt}
 use Rattle.terms.specs.Sets.{Term, termOf}
 use Rattle.terms.specs.Entries.{termAt, IsEntry}
@@ -35,9 +34,6 @@ use Rattle.dictionary.proofs.Listing.{list-none, list-cons, tag-most}
 -- what an entry says of itself
 abbrev pub Stands : Bytes → ℕ → ℕ → ℕ → Type 0
 Stands d at tag e = IsEntry d e × (termAt d e ≡ termOf tag (textAt true d at))
-
-pub cuts-told : (d : Bytes) (i : ℕ) (x : NextWord) {y : NextWord} → Cuts d i x → x ≡ y → Cuts d i y
-cuts-told d i x h e = subst (Cuts d i) e h
 
 -- the words of the value at i, as far as `from`
 pub record WordsLeft (d : Bytes) (l : List ℕ) (n tag i : ℕ) (m : List ℕ) (k from : ℕ) : Type 0 where

@@ -19,7 +19,7 @@ ghost use Rattle.terms.specs.Adding.{Adding};
 ghost use Rattle.dictionary.specs.Terms.{listTerms, areNames, RowsAdded};
 ghost use Rattle.dictionary.specs.Known.{Described, IsDictionary, Known};
 use lists::NextWord;
-use names::Part;
+use lists::Part;
 use records::NextField;
 use terms::Table;
 use typedefs::NextValue;
@@ -78,7 +78,7 @@ fn add_names(d: &[u8], i: usize, tag: u32, entries: &mut [u32], n: usize) -> usi
     loop {
         entries[k] = terms::entry(d, at, tag);
         k += 1;
-        let p = names::part_next(d, at);
+        let p = lists::part_next(d, at);
         let Part::At(next) = p else {
             return k;
         };

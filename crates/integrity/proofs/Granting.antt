@@ -1,29 +1,31 @@
--- What questions 4, 6 and 7 grant of each record that a walk meets.
-use Prim.Native.Nat.{ℕ, _+_, _-_}
+-- What questions 4, 6 and 7 grant of each record, and questions 7 to 14 over the rows of descriptors.
+use Prim.Native.Nat.{ℕ, _+_, _≤_, _<_}
 use native.Mathlib.Omega.{arith}
 use mathlib.Core.Path.{_≡_, refl, sym, ap, _∙_, subst}
 use mathlib.Core.Bool.{Bool, true, false, _&&_, _||_, not, and-eq-true-iff, false≢true}
-use mathlib.Core.List.{List, [], _∷_}
-use lib.Dec.{leb}
-use lib.ListN.{length, take, drop}
+use mathlib.Core.List.{List, [], _∷_, _++_, append-nil}
+use borrow.Author.Tests.{ltb-true, ltb-false}
+use lib.Dec.{leb, ltb}
+use lib.ListN.{length, getD}
 use Rattle.format.specs.Bytes.{Bytes, pick, all}
 use Rattle.format.specs.Limits.{descriptors}
 use Rattle.format.specs.Numbers.{intBounds}
 use Rattle.format.specs.Records.{Record}
 use Rattle.format.specs.Rules.{isWellFormed, isTypedWell, distinct}
 use Rattle.format.specs.Questions.{fitsRecord, fitsRules}
-use Rattle.format.proofs.Elements.{Each, each-both, each-imp, all-each}
+use Rattle.format.proofs.Elements.{Each, each-both, each-imp, each-parts, all-each}
 use Rattle.format.proofs.Least.{least}
 use Rattle.format.proofs.Judging.{setNo}
 use Rattle.format.proofs.Walking.{isHead, heads, headNames, before, ruled, walkFits, walkTypes, walkNo}
-use Rattle.records.specs.declared.Place.{Place}
-use Rattle.records.proofs.Readings.{reads-readable}
-use Rattle.records.proofs.Searches.{placesAt, Met}
-use Rattle.lines.proofs.Cuts.{rest}
-use Rattle.records.proofs.Cuts.{recordsFrom, partAt, recordAt, records-none, records-met, head-met}
-use Rattle.shapes.proofs.Judging.{none-asked}
-use Rattle.lists.proofs.Leasts.{least-none, least-assoc}
-use Rattle.setkeys.specs.Keyed.{membersIn}
+use Rattle.format.specs.Pieces.{readOf}
+use Rattle.format.proofs.Records.{records}
+use Rattle.words.specs.Spans.{span}
+use Rattle.records.specs.Places.{isReadable}
+use Rattle.records.specs.Walk.{recordIn}
+use Rattle.records.specs.Heads.{HeadHere, HeadRows, HeadParts, rowFrom}
+use Rattle.records.proofs.Cuts.{recordsFrom}
+use Rattle.records.proofs.Rows.{plain-by, heads-asked, MembersAt, row-next, row-heads, row-members, row-rest}
+use Rattle.tallies.proofs.Leasts.{least-none, least-assoc}
 use Rattle.rules.specs.Described.{IsRules, AllFit}
 use Rattle.integrity.specs.Stages.{Granted}
 
@@ -67,68 +69,126 @@ before-fit : (rs : List Record) → Each Right rs → AllFit (before rs)
 before-fit [] h = refl
 before-fit (r ∷ rs) h = before-by (isHead r) r (before rs) (h .0 .holds .fits) (before-fit rs (h .1))
 
--- those behind a byte
-pub members-fit : (s : Bytes) (i : ℕ) → Each Right (recordsFrom s i) → AllFit (membersIn (take (length s - i) (drop i s)))
-members-fit s i h = subst (λ (t : Bytes). AllFit (membersIn t)) (sym (rest s i)) (before-fit (recordsFrom s i) h)
+-- a descriptor's part, and the members' part of its set
+rules-each : (d : Bytes) → isReadable d ≡ true → isHead (recordIn d) ≡ true → Right (recordIn d) → IsRules d
+rules-each d e h r = record { reads = e; fits = r .holds .fits; few = r .holds .few h; well = r .well h; typed = r .typed h }
 
--- the record met
-module _ (s : Bytes) (i : ℕ) (q : Place) (m : Met s i q) where
-  pub fits-met : Each Fits (recordsFrom s i) → Fits (recordAt s i q) × Each Fits (recordsFrom s (i + q .after))
-  fits-met h = subst (Each Fits) (records-met s i q m) h
+-- the number of the sets of records with no descriptor in front of others
+no-plain : (xs ys : List Record) → heads xs ≡ [] → walkNo intBounds (xs ++ ys) ≡ walkNo intBounds ys
+no-plain [] ys e = refl
+no-plain (x ∷ xs) ys e =
+    let h = plain-by (isHead x) x (heads xs) e in
+    let n : ℕ = walkNo intBounds (xs ++ ys) in
+    ap (λ (b : Bool). pick b (least (setNo intBounds (ruled x (before (xs ++ ys)))) n) n) (h .0) ∙ no-plain xs ys (h .1)
 
-  pub right-met : Each Right (recordsFrom s i) → Right (recordAt s i q) × Each Right (recordsFrom s (i + q .after))
-  right-met h = subst (Each Right) (records-met s i q m) h
+no-set : (rs : List Record) → heads rs ≡ [] → walkNo intBounds rs ≡ 0
+no-set rs e = ap (walkNo intBounds) (sym (append-nil rs)) ∙ no-plain rs [] e
 
-  pub few-met : Fits (recordAt s i q) → q .descriptor ≡ true → fitsRules (recordAt s i q) ≡ true
-  few-met f d = f .few (head-met s i q m ∙ d)
+-- question 7, row by row
+pub record TypesAt (s : Bytes) (starts ends : List ℕ) (count k : ℕ) : Type 0 where
+  pub afters : List ℕ
+  pub rows : HeadRows s starts ends afters count
+  pub met : k ≤ count
+  pub fit : Each Fits (recordsFrom s (rowFrom afters k))
+  pub asked : walkTypes intBounds (records (readOf s)) ≡ all (isTypedWell intBounds) (heads (recordsFrom s (rowFrom afters k)))
 
-  pub rules-met : Right (recordAt s i q) → q .descriptor ≡ true → IsRules (partAt s i q)
-  rules-met r d =
-      let h : isHead (recordAt s i q) ≡ true = head-met s i q m ∙ d in
-      record { reads = reads-readable (m .stand .own-reads); fits = r .holds .fits; few = r .holds .few h; well = r .well h; typed = r .typed h }
+pub types-start : (s : Bytes) (starts ends : List ℕ) (count : ℕ) → HeadParts s starts ends count → walkFits (records (readOf s)) ≡ true → TypesAt s starts ends count 0
+types-start s starts ends count r f =
+    record { afters = r .0; rows = r .1; met = omega arith; fit = fits-each (records (readOf s)) f; asked = heads-asked (isTypedWell intBounds) (records (readOf s)) }
 
-  -- question 7, one record on
-  types-cut : (b : Bool) → b ≡ (not (q .descriptor) || isTypedWell intBounds (recordAt s i q)) → walkTypes intBounds (recordsFrom s i) ≡ (b && walkTypes intBounds (recordsFrom s (i + q .after)))
-  types-cut b e =
-      ap (walkTypes intBounds) (records-met s i q m)
-      ∙ ap (λ (h : Bool). (not h || isTypedWell intBounds (recordAt s i q)) && walkTypes intBounds (recordsFrom s (i + q .after))) (head-met s i q m)
-      ∙ ap (λ (t : Bool). t && walkTypes intBounds (recordsFrom s (i + q .after))) (sym e)
+module _ {s : Bytes} {starts ends : List ℕ} {count k : ℕ} (t : TypesAt s starts ends count k) where
+  pub types-end : count ≤ k → true ≡ walkTypes intBounds (records (readOf s))
+  types-end h =
+      let e : k ≡ count = omega (arith, t .met) in
+      sym (t .asked ∙ ap (all (isTypedWell intBounds)) (ap (λ (j : ℕ). heads (recordsFrom s (rowFrom (t .afters) j))) e ∙ t .rows .last))
 
-  pub types-stop : (b : Bool) → b ≡ (not (q .descriptor) || isTypedWell intBounds (recordAt s i q)) → b ≡ false → false ≡ walkTypes intBounds (recordsFrom s i)
-  types-stop b e f = sym (types-cut b e ∙ ap (λ (t : Bool). t && walkTypes intBounds (recordsFrom s (i + q .after))) f)
+  module _ (h : k < count) where
+    pub types-row : HeadHere s (rowFrom (t .afters) k) (getD starts k 0) (getD ends k 0) (getD (t .afters) k 0)
+    types-row = t .rows .row k h
 
-  pub types-on : (b : Bool) → b ≡ (not (q .descriptor) || isTypedWell intBounds (recordAt s i q)) → b ≡ true → walkTypes intBounds (recordsFrom s i) ≡ walkTypes intBounds (recordsFrom s (i + q .after))
-  types-on b e f = types-cut b e ∙ ap (λ (t : Bool). t && walkTypes intBounds (recordsFrom s (i + q .after))) f
+    fits-cut : Each Fits (records (readOf (span (rowFrom (t .afters) k) (getD starts k 0) s))) × Each Fits (recordIn (span (getD starts k 0) (getD ends k 0) s) ∷ recordsFrom s (getD (t .afters) k 0))
+    fits-cut = each-parts Fits (records (readOf (span (rowFrom (t .afters) k) (getD starts k 0) s))) (recordIn (span (getD starts k 0) (getD ends k 0) s) ∷ recordsFrom s (getD (t .afters) k 0)) (subst (Each Fits) (types-row .cut) (t .fit))
 
-  -- questions 8 to 14, one set on
-  no-by : (b : Bool) (worst n others : ℕ) → least worst (pick b (least n others) others) ≡ least (least worst (pick b n 0)) others
-  no-by true worst n others = least-assoc worst n others
-  no-by false worst n others = ap (λ (k : ℕ). least k others) (least-none worst 0 refl)
+    pub types-fit : Fits (recordIn (span (getD starts k 0) (getD ends k 0) s))
+    types-fit = fits-cut .1 .0
 
-  pub sets-on : (worst k best : ℕ) → k ≡ pick (q .descriptor) (setNo intBounds (ruled (recordAt s i q) (membersIn (take (length s - (i + q .after)) (drop (i + q .after) s))))) 0 → best ≡ least worst k
-      → least worst (walkNo intBounds (recordsFrom s i)) ≡ least best (walkNo intBounds (recordsFrom s (i + q .after)))
-  sets-on worst k best e b =
-      let n : ℕ = setNo intBounds (ruled (recordAt s i q) (membersIn (drop (i + q .after) s))) in
-      ap (λ (rs : List Record). least worst (walkNo intBounds rs)) (records-met s i q m)
-      ∙ ap (λ (h : Bool). least worst (pick h (least n (walkNo intBounds (recordsFrom s (i + q .after)))) (walkNo intBounds (recordsFrom s (i + q .after))))) (head-met s i q m)
-      ∙ no-by (q .descriptor) worst n (walkNo intBounds (recordsFrom s (i + q .after)))
-      ∙ ap (λ (t : Bytes). least (least worst (pick (q .descriptor) (setNo intBounds (ruled (recordAt s i q) (membersIn t))) 0)) (walkNo intBounds (recordsFrom s (i + q .after)))) (sym (rest s (i + q .after)))
-      ∙ ap (λ (x : ℕ). least x (walkNo intBounds (recordsFrom s (i + q .after)))) (sym (b ∙ ap (least worst) e))
+    types-cut : (b : Bool) → b ≡ isTypedWell intBounds (recordIn (span (getD starts k 0) (getD ends k 0) s)) → walkTypes intBounds (records (readOf s)) ≡ (b && all (isTypedWell intBounds) (heads (recordsFrom s (rowFrom (t .afters) (k + 1)))))
+    types-cut b e =
+        t .asked ∙ ap (all (isTypedWell intBounds)) (row-heads (t .rows) k h)
+        ∙ ap (λ (x : Bool). x && all (isTypedWell intBounds) (heads (recordsFrom s (rowFrom (t .afters) (k + 1))))) (sym e)
 
--- no descriptor is left
-pub heads-none : (s : Bytes) (i : ℕ) → placesAt s i ≡ [] → length (heads (recordsFrom s i)) ≡ 0
-heads-none s i e = ap (λ (rs : List Record). length (heads rs)) (records-none s i e)
+    pub types-stop : (b : Bool) → b ≡ isTypedWell intBounds (recordIn (span (getD starts k 0) (getD ends k 0) s)) → b ≡ false → false ≡ walkTypes intBounds (records (readOf s))
+    types-stop b e f = sym (types-cut b e ∙ ap (λ (x : Bool). x && all (isTypedWell intBounds) (heads (recordsFrom s (rowFrom (t .afters) (k + 1))))) f)
 
-pub types-end : (s : Bytes) (i : ℕ) → length (heads (recordsFrom s i)) ≡ 0 → true ≡ walkTypes intBounds (recordsFrom s i)
-types-end s i e = sym (none-asked (isTypedWell intBounds) (recordsFrom s i) e)
+    pub types-on : (b : Bool) → b ≡ isTypedWell intBounds (recordIn (span (getD starts k 0) (getD ends k 0) s)) → b ≡ true → TypesAt s starts ends count (k + 1)
+    types-on b e f =
+        record {
+          afters = t .afters;
+          rows = t .rows;
+          met = omega (arith, h);
+          fit = subst (λ (j : ℕ). Each Fits (recordsFrom s j)) (sym (row-next (t .afters) k)) (fits-cut .1 .1);
+          asked = types-cut b e ∙ ap (λ (x : Bool). x && all (isTypedWell intBounds) (heads (recordsFrom s (rowFrom (t .afters) (k + 1))))) f;
+        }
 
-no-set-by : (b : Bool) (r : Record) (hs : List Record) (n others : ℕ) → length (pick b (r ∷ hs) hs) ≡ 0 → (length hs ≡ 0 → others ≡ 0) → pick b n others ≡ 0
-no-set-by true r hs n others e h = absurd (omega (arith, e))
-no-set-by false r hs n others e h = h e
+-- questions 8 to 14, set by set
+pub record SetsAt (s : Bytes) (starts ends afters : List ℕ) (count k worst : ℕ) : Type 0 where
+  pub rows : HeadRows s starts ends afters count
+  pub met : k ≤ count
+  pub right : Each Right (recordsFrom s (rowFrom afters k))
+  pub asked : walkNo intBounds (records (readOf s)) ≡ least worst (walkNo intBounds (recordsFrom s (rowFrom afters k)))
 
-no-set : (rs : List Record) → length (heads rs) ≡ 0 → walkNo intBounds rs ≡ 0
-no-set [] e = refl
-no-set (r ∷ rs) e = no-set-by (isHead r) r (heads rs) (least (setNo intBounds (ruled r (before rs))) (walkNo intBounds rs)) (walkNo intBounds rs) e (no-set rs)
+pub sets-start : (s : Bytes) (starts ends afters : List ℕ) (count : ℕ) → HeadRows s starts ends afters count → Granted (records (readOf s)) → SetsAt s starts ends afters count 0 0
+sets-start s starts ends afters count r g =
+    record { rows = r; met = omega arith; right = granted-each (records (readOf s)) g; asked = refl }
 
-pub sets-end : (s : Bytes) (i worst : ℕ) → length (heads (recordsFrom s i)) ≡ 0 → worst ≡ least worst (walkNo intBounds (recordsFrom s i))
-sets-end s i worst e = least-none worst (walkNo intBounds (recordsFrom s i)) (no-set (recordsFrom s i) e)
+module _ {s : Bytes} {starts ends afters : List ℕ} {count k worst : ℕ} (t : SetsAt s starts ends afters count k worst) where
+  pub sets-end : count ≤ k → worst ≡ walkNo intBounds (records (readOf s))
+  sets-end h =
+      let e : k ≡ count = omega (arith, t .met) in
+      let none : heads (recordsFrom s (rowFrom afters k)) ≡ [] = ap (λ (j : ℕ). heads (recordsFrom s (rowFrom afters j))) e ∙ t .rows .last in
+      least-none worst (walkNo intBounds (recordsFrom s (rowFrom afters k))) (no-set (recordsFrom s (rowFrom afters k)) none) ∙ sym (t .asked)
+
+  module _ (h : k < count) where
+    pub sets-row : HeadHere s (rowFrom afters k) (getD starts k 0) (getD ends k 0) (getD afters k 0)
+    sets-row = t .rows .row k h
+
+    rights : Right (recordIn (span (getD starts k 0) (getD ends k 0) s)) × Each Right (recordsFrom s (getD afters k 0))
+    rights = each-parts Right (records (readOf (span (rowFrom afters k) (getD starts k 0) s))) (recordIn (span (getD starts k 0) (getD ends k 0) s) ∷ recordsFrom s (getD afters k 0)) (subst (Each Right) (sets-row .cut) (t .right)) .1
+
+    pub sets-rules : IsRules (span (getD starts k 0) (getD ends k 0) s)
+    sets-rules = rules-each (span (getD starts k 0) (getD ends k 0) s) (sets-row .own) (sets-row .head) (rights .0)
+
+    -- the members stand in the part up to the next row, or to the end
+    members-by : (b : Bool) → ltb (k + 1) count ≡ b → MembersAt s (getD afters k 0) (pick b (getD starts (k + 1) 0) (length s))
+    members-by true e = row-members (t .rows) k (ltb-true (k + 1) count e)
+    members-by false e = row-rest (t .rows) k (omega (arith, h, ltb-false (k + 1) count e))
+
+    module _ (next : ℕ) (z : next ≡ pick (ltb (k + 1) count) (getD starts (k + 1) 0) (length s)) where
+      pub sets-members : MembersAt s (getD afters k 0) next
+      sets-members = subst (MembersAt s (getD afters k 0)) (sym z) (members-by (ltb (k + 1) count) refl)
+
+      pub members-fit : AllFit (records (readOf (span (getD afters k 0) next s)))
+      members-fit = subst AllFit (sym (sets-members .all)) (before-fit (recordsFrom s (getD afters k 0)) (rights .1))
+
+      pub sets-on : (n best : ℕ) → n ≡ setNo intBounds (ruled (recordIn (span (getD starts k 0) (getD ends k 0) s)) (records (readOf (span (getD afters k 0) next s)))) → best ≡ least worst n → SetsAt s starts ends afters count (k + 1) best
+      sets-on n best e b =
+          let r : Record = recordIn (span (getD starts k 0) (getD ends k 0) s) in
+          let rest : List Record = recordsFrom s (getD afters k 0) in
+          let others : ℕ = walkNo intBounds rest in
+          let number : n ≡ setNo intBounds (ruled r (before rest)) = e ∙ ap (λ (ms : List Record). setNo intBounds (ruled r ms)) (sets-members .all) in
+          let cut : walkNo intBounds (recordsFrom s (rowFrom afters k)) ≡ least n others =
+          ap (walkNo intBounds) (sets-row .cut)
+          ∙ no-plain (records (readOf (span (rowFrom afters k) (getD starts k 0) s))) (r ∷ rest) (sets-row .plain)
+          ∙ ap (λ (x : Bool). pick x (least (setNo intBounds (ruled r (before rest))) others) others) (sets-row .head)
+          ∙ ap (λ (x : ℕ). least x others) (sym number) in
+          record {
+            rows = t .rows;
+            met = omega (arith, h);
+            right = subst (λ (j : ℕ). Each Right (recordsFrom s j)) (sym (row-next afters k)) (rights .1);
+            asked =
+                t .asked
+                ∙ ap (least worst) cut
+                ∙ least-assoc worst n others
+                ∙ ap (λ (x : ℕ). least x others) (sym b)
+                ∙ ap (λ (j : ℕ). least best (walkNo intBounds (recordsFrom s j))) (sym (row-next afters k));
+          }

@@ -2,107 +2,81 @@
 use Prim.Native.Nat.{ℕ, _+_, _≤_, _<_}
 use native.Mathlib.Omega.{arith}
 use mathlib.Core.Path.{_≡_, refl, sym, ap, _∙_}
-use mathlib.Core.Bool.{Bool, true, false, _&&_, not, and-eq-true-iff, true≢false}
+use mathlib.Core.Bool.{Bool, true, false, _&&_, _||_, not, Bool·beq, and-assoc, and-true, and-eq-true-iff, true≢false}
 use mathlib.Core.List.{List, [], _∷_}
 use mathlib.Core.Option.{Option, none, some}
 use lib.Dec.{leb, eqb}
 use lib.ListN.{length, take, drop, getD, drop-of-length-le}
-use borrow.Author.Tests.{eq-eqb, ne-eqb, leb-true}
+use borrow.Author.Tests.{leb-true}
 use Rattle.format.proofs.Records.{records}
-use Rattle.format.specs.Bytes.{Bytes, pick, isAllowed, classOf, all, isSome}
+use Rattle.format.specs.Bytes.{Bytes, pick, isAllowed, all, isSome}
 use Rattle.format.specs.Lines.{isEnded}
 use Rattle.format.specs.Pieces.{Piece, pieces, readOf}
 use Rattle.format.specs.Numbers.{intBounds}
 use Rattle.format.specs.Records.{Record}
-use Rattle.format.specs.Limits.{fileBytes}
+use Rattle.format.specs.Limits.{fileBytes, descriptors}
+use Rattle.format.specs.Questions.{fitsRecord, fitsRules}
 use Rattle.format.specs.Calls.{checkAnswer}
-use Rattle.format.proofs.Table.{control-class}
+use Rattle.format.proofs.Table.{each-byte}
 use Rattle.format.proofs.Judging.{readNo, textNo, verdict-text}
-use Rattle.format.proofs.Walking.{walkFits, walkOnce, walkWell, walkTypes, walkNo, recordsNo, text-walk}
+use Rattle.format.proofs.Walking.{isHead, heads, walkFits, walkOnce, walkWell, walkTypes, walkNo, recordsNo, text-walk}
 use Rattle.lines.proofs.Cuts.{at-cons}
 use Rattle.records.specs.Places.{isReadable}
 use Rattle.records.proofs.Readings.{readable-pieces}
-use Rattle.integrity.specs.Stages.{formNo}
 
--- a walk over bytes, by their classes: all are allowed where those from i on are
-module _ (s : Bytes) (i : ℕ) (g : all isAllowed s ≡ all isAllowed (drop i s)) where
-  pub allowed-end : length s ≤ i → true ≡ all isAllowed s
-  allowed-end h = sym (g ∙ ap (all isAllowed) (drop-of-length-le s h))
+-- a byte is allowed where the tests of the code say so
+alike : (a b : Bool) → Bool·beq a b ≡ true → a ≡ b
+alike true true e = refl
+alike true false e = sym e
+alike false true e = e
+alike false false e = refl
 
-  module _ (h : i < length s) (low : getD s i 0 < 256) (k : ℕ) (e : k ≡ classOf (getD s i 0)) where
-    byte-by : (b : Bool) → eqb k 0 ≡ b → all isAllowed s ≡ (not b && all isAllowed (drop (i + 1) s))
-    byte-by b f =
-        g
-        ∙ ap (all isAllowed) (at-cons s i h)
-        ∙ ap (λ (t : Bool). t && all isAllowed (drop (i + 1) s)) (control-class (getD s i 0) low ∙ ap (λ (n : ℕ). not (eqb n 0)) (sym e) ∙ ap not f)
+abbrev passes : ℕ → Bool
+passes c = ((leb 32 c && not (eqb c 127)) || eqb c 9) || eqb c 10
 
-    pub allowed-stop : k ≡ 0 → false ≡ all isAllowed s
-    allowed-stop z = sym (byte-by true (eq-eqb k 0 z))
+pub allowed-by : (c : ℕ) → c < 256 → passes c ≡ isAllowed c
+allowed-by c h = alike (passes c) (isAllowed c) (each-byte (λ (x : ℕ). Bool·beq (passes x) (isAllowed x)) refl c h)
 
-    pub allowed-on : (k ≡ 0 → ⊥) → all isAllowed s ≡ all isAllowed (drop (i + 1) s)
-    allowed-on n = byte-by false (ne-eqb k 0 n)
+-- a walk over bytes: ok says whether those before i are allowed
+module _ (s : Bytes) (i : ℕ) (ok : Bool) (g : all isAllowed s ≡ (ok && all isAllowed (drop i s))) where
+  pub allowed-end : length s ≤ i → ok ≡ all isAllowed s
+  allowed-end h = sym (g ∙ ap (λ (t : Bytes). ok && all isAllowed t) (drop-of-length-le s h) ∙ and-true ok)
+
+  pub allowed-on : i < length s → (good : Bool) → good ≡ isAllowed (getD s i 0) → all isAllowed s ≡ ((ok && good) && all isAllowed (drop (i + 1) s))
+  allowed-on h good e =
+      g
+      ∙ ap (λ (t : Bytes). ok && all isAllowed t) (at-cons s i h)
+      ∙ sym (and-assoc ok (isAllowed (getD s i 0)) (all isAllowed (drop (i + 1) s)))
+      ∙ ap (λ (b : Bool). (ok && b) && all isAllowed (drop (i + 1) s)) (sym e)
 
 -- the last byte
 pub none-ended : (s : Bytes) → length s ≡ 0 → true ≡ isEnded s
 none-ended [] e = refl
 none-ended (c ∷ s) e = absurd (omega arith)
 
--- questions 2 and 3
+-- questions 2 and 3, and the number of a readable text's records
+none-read : (x : Option (List Piece)) → isSome x ≡ false → readNo x ≡ 3
+none-read none e = refl
+none-read (some ps) e = absurd (true≢false e)
+
 module _ (s : Bytes) where
-  pub bytes-no : all isAllowed s ≡ false → 2 ≡ formNo s
-  unfolding formNo
-  bytes-no h = sym (ap (λ (b : Bool). pick (b && isEnded s) (pick (isSome (pieces s)) 0 3) 2) h)
+  pub text-no : (all isAllowed s && isEnded s) ≡ false → 2 ≡ textNo s
+  unfolding textNo
+  text-no h = sym (ap (λ (b : Bool). pick b (readNo (pieces s)) 2) h)
 
-  module _ (a : all isAllowed s ≡ true) where
-    pub ended-no : isEnded s ≡ false → 2 ≡ formNo s
-    unfolding formNo
-    ended-no h = sym (λ i. pick (a i && h i) (pick (isSome (pieces s)) 0 3) 2)
+  module _ (t : (all isAllowed s && isEnded s) ≡ true) where
+    pub text-ended : isEnded s ≡ true
+    text-ended = and-eq-true-iff (all isAllowed s) (isEnded s) .0 t .1
 
-    module _ (e : isEnded s ≡ true) where
-      form-by : formNo s ≡ pick (isReadable s) 0 3
-      unfolding formNo isReadable
-      form-by = (λ i. pick (a i && e i) (pick (isSome (pieces s)) 0 3) 2) ∙ ap (λ (b : Bool). pick (b && isSome (pieces s)) 0 3) (sym e)
+    pub lines-no : isReadable s ≡ false → 3 ≡ textNo s
+    unfolding textNo isReadable
+    lines-no h =
+        sym (
+        ap (λ (b : Bool). pick b (readNo (pieces s)) 2) t
+        ∙ none-read (pieces s) (ap (λ (b : Bool). b && isSome (pieces s)) (sym text-ended) ∙ h))
 
-      pub lines-no : isReadable s ≡ false → 3 ≡ formNo s
-      lines-no h = sym (form-by ∙ ap (λ (b : Bool). pick b 0 3) h)
-
-      pub form-passes : isReadable s ≡ true → 0 ≡ formNo s
-      form-passes h = sym (form-by ∙ ap (λ (b : Bool). pick b 0 3) h)
-
-text-by : (t : Bool) (x : Option (List Piece)) → eqb (pick t (pick (isSome x) 0 3) 2) 0 ≡ false → _≡_ {A = ℕ} (pick t (pick (isSome x) 0 3) 2) (pick t (readNo x) 2)
-text-by true none h = refl
-text-by true (some ps) h = absurd (true≢false h)
-text-by false x h = refl
-
--- a text that fails one of them
-pub form-stops : (s : Bytes) → eqb (formNo s) 0 ≡ false → formNo s ≡ textNo s
-unfolding formNo textNo
-form-stops s h = text-by (all isAllowed s && isEnded s) (pieces s) h
-
-pub record Formed (s : Bytes) : Type 0 where
-  pub allowed : all isAllowed s ≡ true
-  pub ended : isEnded s ≡ true
-  pub reads : isSome (pieces s) ≡ true
-
-formed-by : (t r : Bool) → _≡_ {A = ℕ} (pick t (pick r 0 3) 2) 0 → (t ≡ true) × (r ≡ true)
-formed-by true true h = (refl, refl)
-formed-by true false h = absurd (omega arith)
-formed-by false r h = absurd (omega arith)
-
-formed : (s : Bytes) → formNo s ≡ 0 → Formed s
-unfolding formNo
-formed s h =
-    let b = formed-by (all isAllowed s && isEnded s) (isSome (pieces s)) h in
-    let t = and-eq-true-iff (all isAllowed s) (isEnded s) .0 (b .0) in
-    record { allowed = t .0; ended = t .1; reads = b .1 }
-
--- a text that passes both: it reads, and its number is that of its records
-pub form-readable : (s : Bytes) → formNo s ≡ 0 → isReadable s ≡ true
-unfolding isReadable
-form-readable s h = let f = formed s h in and-eq-true-iff (isEnded s) (isSome (pieces s)) .1 (f .ended, f .reads)
-
-pub form-records : (s : Bytes) → formNo s ≡ 0 → textNo s ≡ recordsNo intBounds (records (readOf s))
-form-records s h = let f = formed s h in text-walk s (readOf s) (f .allowed) (f .ended) (readable-pieces s (form-readable s h))
+    pub text-records : isReadable s ≡ true → textNo s ≡ recordsNo intBounds (records (readOf s))
+    text-records h = text-walk s (readOf s) (and-eq-true-iff (all isAllowed s) (isEnded s) .0 t .0) text-ended (readable-pieces s h)
 
 -- questions 4 to 7, and the rest
 module _ (rs : List Record) where
@@ -128,6 +102,12 @@ module _ (rs : List Record) where
         pub sets-no : walkTypes intBounds rs ≡ true → walkNo intBounds rs ≡ recordsNo intBounds rs
         unfolding recordsNo
         sets-no h = sym (λ i. pick (a i) (pick (b i) (pick (c i) (pick (h i) (walkNo intBounds rs) 7) 6) 5) 4)
+
+-- so many descriptors, within their limit
+pub few-heads : (rs : List Record) → walkFits rs ≡ true → (n : ℕ) → n ≡ length (heads rs) → n ≤ descriptors
+few-heads rs e n h =
+    let fit : Bool = all (λ (r : Record). fitsRecord r && (not (isHead r) || fitsRules r)) rs in
+    omega (arith, h, leb-true (length (heads rs)) descriptors (and-eq-true-iff fit (leb (length (heads rs)) descriptors) .0 e .1))
 
 -- question 1, and the used text
 module _ (buffer : Bytes) (used : ℕ) where

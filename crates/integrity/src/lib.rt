@@ -1,40 +1,41 @@
 // The fourteen questions of a file, in order.
 ghost use mathlib.Core.Path.{_≡_};
-ghost use mathlib.Core.Bool.{true, _||_, not};
+ghost use mathlib.Core.Bool.{true, _&&_};
 ghost use Prim.Native.Nat.{_≤_};
-ghost use lib.ListN.{length};
+ghost use lib.Dec.{ltb};
+ghost use lib.ListN.{length, getD};
 ghost use Rattle.format.specs.Pieces.{readOf};
 ghost use Rattle.format.proofs.Records.{records};
 ghost use Rattle.format.specs.Bytes.{classTable, pick, isAllowed, all};
 ghost use Rattle.format.specs.Lines.{isEnded};
-ghost use Rattle.format.specs.Limits.{fileBytes, valueBytes};
+ghost use Rattle.format.specs.Limits.{fileBytes, valueBytes, descriptors};
 ghost use Rattle.format.specs.Numbers.{intBounds};
-ghost use Rattle.format.specs.Rules.{isTypedWell};
-ghost use Rattle.format.specs.Questions.{fitsRecord, fitsRules};
 ghost use Rattle.format.specs.Calls.{checkAnswer};
-ghost use Rattle.format.proofs.Judging.{textNo, setNo};
-ghost use Rattle.format.proofs.Walking.{heads, ruled, walkFits, walkOnce, walkTypes, walkNo, recordsNo};
-ghost use Rattle.records.specs.Places.{isReadable};
-ghost use Rattle.records.specs.Walk.{recordIn};
-ghost use Rattle.setkeys.specs.Keyed.{membersIn};
-ghost use Rattle.rules.specs.Described.{IsRules, AllFit};
-ghost use Rattle.integrity.specs.Stages.{formNo, Granted};
+ghost use Rattle.format.proofs.Judging.{textNo};
+ghost use Rattle.format.proofs.Walking.{walkFits, walkOnce, walkTypes, walkNo, recordsNo};
+ghost use Rattle.records.specs.Heads.{HeadRows, HeadParts};
+ghost use Rattle.integrity.specs.Stages.{Granted};
 use limits::Bounded;
-use records::NextRecord;
+
+// Is a byte allowed? All tests are made, so that many bytes can be asked at once.
+fn is_allowed(b: u8) -> bool
+    ensures { λ r. ⌜ r ≡ isAllowed b ⌝ }
+{
+    (b >= 32) & (b != 127) | (b == 9) | (b == 10)
+}
 
 // Are all bytes allowed?
-fn all_allowed(table: &[u8; 256], s: &[u8]) -> bool
-    requires { ⌜ now table ≡ classTable ⌝ }
+fn all_allowed(s: &[u8]) -> bool
     ensures { λ r. ⌜ r ≡ all isAllowed (now (s .entry)) ⌝ }
 {
     let mut i = 0;
+    let mut ok = true;
     while i < s.len() {
-        if format::class_of(table, s[i]) == 0 {
-            return false;
-        }
+        let good = is_allowed(s[i]);
+        ok = ok & good;
         i += 1;
     }
-    true
+    ok
 }
 
 // Is a text empty or ended by a newline?
@@ -48,159 +49,138 @@ fn is_ended(s: &[u8]) -> bool
     s[len - 1] == 10
 }
 
-// Questions 2 and 3: the number of the first that says no, else 0.
-fn judge_form(table: &[u8; 256], s: &[u8]) -> u32
-    requires { ⌜ now table ≡ classTable ⌝ }
-    ensures { λ r. ⌜ r ≡ formNo (now (s .entry)) ⌝ }
+// Question 2: are all bytes allowed, and is the text empty or ended by a newline?
+fn is_text(s: &[u8]) -> bool
+    ensures { λ r. ⌜ r ≡ (all isAllowed (now (s .entry)) && isEnded (now (s .entry))) ⌝ }
 {
-    if all_allowed(table, s) {} else {
-        return 2;
+    if all_allowed(s) {
+        return is_ended(s);
     }
-    if is_ended(s) {} else {
-        return 2;
-    }
-    if records::is_readable(table, s) {} else {
-        return 3;
-    }
-    0
+    false
 }
 
-// Are the types of a part well formed, if it is a descriptor?
-fn part_typed(table: &[u8; 256], r: &[u8], descriptor: bool, scratch: &mut [u8]) -> bool
+// Question 7: are the types of all descriptors well formed? count of them stand in s, from each start to the end beside it.
+fn types_defined(
+    table: &[u8; 256],
+    s: &[u8],
+    starts: &[usize],
+    ends: &[usize],
+    count: usize,
+    scratch: &mut [u8],
+) -> bool
     requires { ⌜ now table ≡ classTable ⌝ }
-    requires { ⌜ isReadable (now r) ≡ true ⌝ }
-    requires { ⌜ (fitsRecord (recordIn (now r)) ≡ true) × (descriptor ≡ true → fitsRules (recordIn (now r)) ≡ true) ⌝ }
-    requires { ⌜ valueBytes ≤ length (now scratch) ⌝ }
-    ensures { λ b. ⌜ b ≡ (not descriptor || isTypedWell intBounds (recordIn (now (r .entry)))) ⌝ }
-{
-    if descriptor {
-        return typing::types_well(table, r, &mut *scratch);
-    }
-    true
-}
-
-// Question 7: are the types of all descriptors well formed? count of them stand in s; the walk ends behind the last.
-fn types_defined(table: &[u8; 256], s: &[u8], count: usize, scratch: &mut [u8]) -> bool
-    requires { ⌜ now table ≡ classTable ⌝ }
-    requires { ⌜ isReadable (now s) ≡ true ⌝ }
+    requires { ⌜ HeadParts (now s) (now starts) (now ends) count ⌝ }
     requires { ⌜ walkFits (records (readOf (now s))) ≡ true ⌝ }
-    requires { ⌜ count ≡ length (heads (records (readOf (now s)))) ⌝ }
     requires { ⌜ valueBytes ≤ length (now scratch) ⌝ }
     ensures { λ r. ⌜ r ≡ walkTypes intBounds (records (readOf (now (s .entry)))) ⌝ }
 {
-    let mut i = 0;
-    let mut met = 0;
-    while met < count {
-        let n = records::next_record(table, &s[i..]);
-        let NextRecord::At(p) = n else {
-            return true;
-        };
-        let a = i + p.start;
-        let e = i + p.end;
-        if part_typed(table, &s[a..e], p.descriptor, &mut *scratch) {} else {
+    let mut k = 0;
+    while k < count {
+        let a = starts[k];
+        let e = ends[k];
+        if typing::types_well(table, &s[a..e], &mut *scratch) {} else {
             return false;
         }
-        met += limits::one_if(p.descriptor);
-        i += p.after;
+        k += 1;
     }
     true
 }
 
-// The number of a part's set, if it is a descriptor; rest is the file behind it.
-fn judge_part(
-    table: &[u8; 256],
-    r: &[u8],
-    rest: &[u8],
-    descriptor: bool,
-    scratch: &mut [u8],
-    other: &mut [u8],
-    entries: &mut [u32],
-) -> u32
-    requires { ⌜ now table ≡ classTable ⌝ }
-    requires { ⌜ (descriptor ≡ true → IsRules (now r)) × (length (now r) ≤ fileBytes) ⌝ }
-    requires { ⌜ (isReadable (now rest) ≡ true) × (length (now rest) ≤ fileBytes) × AllFit (membersIn (now rest)) ⌝ }
-    requires { ⌜ (valueBytes ≤ length (now scratch)) × (valueBytes ≤ length (now other)) × (16384 ≤ length (now entries)) ⌝ }
-    ensures { λ n. ⌜ n ≡ pick descriptor (setNo intBounds (ruled (recordIn (now (r .entry))) (membersIn (now (rest .entry))))) 0 ⌝ }
+// Where the members of a set end: where the descriptor of row k begins, or the file ends.
+fn members_end(starts: &[usize], k: usize, count: usize, len: usize) -> usize
+    requires { ⌜ count ≤ length (now starts) ⌝ }
+    ensures { λ r. ⌜ r ≡ pick (ltb k count) (getD (now (starts .entry)) k 0) len ⌝ }
 {
-    if descriptor {
-        return rules::judge_set(table, r, rest, &mut *scratch, &mut *other, &mut *entries);
+    if k < count {
+        return starts[k];
     }
-    0
+    len
 }
 
-// Questions 8 to 14 of all sets: the least number of a descriptor's set, else 0. count descriptors stand in s; the walk ends behind the last.
+// Questions 8 to 14 of all sets: the least number of a descriptor's set, else 0. count descriptors stand in s, from each start to the end beside it, and the members of
+// each behind its block.
 fn judge_sets(
     table: &[u8; 256],
     s: &[u8],
+    starts: &[usize],
+    ends: &[usize],
+    afters: &[usize],
     count: usize,
     scratch: &mut [u8],
-    other: &mut [u8],
     entries: &mut [u32],
 ) -> u32
     requires { ⌜ now table ≡ classTable ⌝ }
-    requires { ⌜ (isReadable (now s) ≡ true) × (length (now s) ≤ fileBytes) ⌝ }
+    requires { ⌜ length (now s) ≤ fileBytes ⌝ }
     requires { ⌜ Granted (records (readOf (now s))) ⌝ }
-    requires { ⌜ count ≡ length (heads (records (readOf (now s)))) ⌝ }
-    requires { ⌜ (valueBytes ≤ length (now scratch)) × (valueBytes ≤ length (now other)) × (16384 ≤ length (now entries)) ⌝ }
+    requires { ⌜ HeadRows (now s) (now starts) (now ends) (now afters) count ⌝ }
+    requires { ⌜ (valueBytes ≤ length (now scratch)) × (16384 ≤ length (now entries)) ⌝ }
     ensures { λ r. ⌜ r ≡ walkNo intBounds (records (readOf (now (s .entry)))) ⌝ }
 {
-    let mut i = 0;
-    let mut met = 0;
+    let mut k = 0;
     let mut worst = 0;
-    while met < count {
-        let n = records::next_record(table, &s[i..]);
-        let NextRecord::At(p) = n else {
-            return worst;
-        };
-        let a = i + p.start;
-        let e = i + p.end;
-        i += p.after;
-        let k = judge_part(
-            table,
-            &s[a..e],
-            &s[i..],
-            p.descriptor,
-            &mut *scratch,
-            &mut *other,
-            &mut *entries,
-        );
-        worst = lists::lesser(worst, k);
-        met += limits::one_if(p.descriptor);
+    while k < count {
+        let a = starts[k];
+        let e = ends[k];
+        let b = afters[k];
+        let next = members_end(starts, k + 1, count, s.len());
+        let n = rules::judge_set(table, &s[a..e], &s[b..next], &mut *scratch, &mut *entries);
+        worst = tallies::lesser(worst, n);
+        k += 1;
     }
     worst
 }
 
 // Questions 6 to 14 of a readable text of which 4 and 5 say yes, with count descriptors.
-fn judge_described(table: &[u8; 256], s: &[u8], count: usize) -> u32
+fn judge_described(
+    table: &[u8; 256],
+    s: &[u8],
+    starts: &[usize],
+    ends: &[usize],
+    afters: &[usize],
+    count: usize,
+) -> u32
     requires { ⌜ now table ≡ classTable ⌝ }
-    requires { ⌜ (isReadable (now s) ≡ true) × (length (now s) ≤ fileBytes) ⌝ }
+    requires { ⌜ length (now s) ≤ fileBytes ⌝ }
     requires { ⌜ (walkFits (records (readOf (now s))) ≡ true) × (walkOnce (records (readOf (now s))) ≡ true) ⌝ }
-    requires { ⌜ count ≡ length (heads (records (readOf (now s)))) ⌝ }
+    requires { ⌜ HeadRows (now s) (now starts) (now ends) (now afters) count × (count ≤ descriptors) ⌝ }
     ensures { λ r. ⌜ r ≡ recordsNo intBounds (records (readOf (now (s .entry)))) ⌝ }
 {
     let mut scratch = [0u8; 4096];
-    if shapes::described_well(table, s, count, &mut scratch) {} else {
+    if shapes::described_well(table, s, starts, ends, count, &mut scratch) {} else {
         return 6;
     }
-    if types_defined(table, s, count, &mut scratch) {} else {
+    if types_defined(table, s, starts, ends, count, &mut scratch) {} else {
         return 7;
     }
-    let mut other = [0u8; 4096];
     let mut entries = [0u32; 16384];
-    judge_sets(table, s, count, &mut scratch, &mut other, &mut entries)
+    judge_sets(
+        table,
+        s,
+        starts,
+        ends,
+        afters,
+        count,
+        &mut scratch,
+        &mut entries,
+    )
 }
 
-// Questions 4 to 14 of a readable text.
-fn judge_records(table: &[u8; 256], s: &[u8]) -> u32
+// Questions 3 to 14 of a text of which 2 says yes.
+fn judge_lines(table: &[u8; 256], s: &[u8]) -> u32
     requires { ⌜ now table ≡ classTable ⌝ }
-    requires { ⌜ (isReadable (now s) ≡ true) × (length (now s) ≤ fileBytes) ⌝ }
-    ensures { λ r. ⌜ r ≡ recordsNo intBounds (records (readOf (now (s .entry)))) ⌝ }
+    requires { ⌜ (all isAllowed (now s) && isEnded (now s)) ≡ true ⌝ }
+    requires { ⌜ length (now s) ≤ fileBytes ⌝ }
+    ensures { λ r. ⌜ r ≡ textNo (now (s .entry)) ⌝ }
 {
-    let b = limits::bounds_of(table, s);
+    let mut starts = [0usize; 64];
+    let mut ends = [0usize; 64];
+    let mut afters = [0usize; 64];
+    let b = limits::bounds_of(table, s, &mut starts, &mut ends, &mut afters);
     match b {
+        Bounded::Fault => 3,
         Bounded::Past => 4,
         Bounded::Unnamed => 5,
-        Bounded::Heads(count) => judge_described(table, s, count),
+        Bounded::Heads(count) => judge_described(table, s, &starts, &ends, &afters, count),
     }
 }
 
@@ -210,11 +190,10 @@ pub fn judge(table: &[u8; 256], s: &[u8]) -> u32
     requires { ⌜ length (now s) ≤ fileBytes ⌝ }
     ensures { λ r. ⌜ r ≡ textNo (now (s .entry)) ⌝ }
 {
-    let n = judge_form(table, s);
-    if n != 0 {
-        return n;
+    if is_text(s) {
+        return judge_lines(table, s);
     }
-    judge_records(table, s)
+    2
 }
 
 // The number of the first question that says no of the first `used` bytes of a buffer, else 0.

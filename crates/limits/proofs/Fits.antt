@@ -13,9 +13,6 @@ use Rattle.format.specs.Limits.{recordFields, nameBytes, valueBytes}
 use Rattle.format.specs.Questions.{fitsField, fitsRecord}
 use Rattle.lines.specs.Value.{valueFrom}
 use Rattle.lines.proofs.Decoding.{value-length}
-use Rattle.records.specs.Fields.{fieldBetween, FieldHere}
-use Rattle.words.specs.Spans.{span}
-use Rattle.words.proofs.Spans.{span-length}
 
 -- n fields stand before these
 unfoldable pub fitsFrom : ℕ → Record → Bool
@@ -61,9 +58,3 @@ module _ (n : ℕ) (f : Field) (fs : Record) where
 -- a part within the limit of a value holds one that is
 pub value-within : (s : Bytes) → length s ≤ valueBytes → leb (length s) valueBytes ≡ leb (length (valueFrom s)) valueBytes
 value-within s h = le-leb (length s) valueBytes h ∙ sym (le-leb (length (valueFrom s)) valueBytes (omega (arith, value-length s)))
-
--- the field that a walk has found is asked by the length of its name and a bound of its value's
-pub fits-asked : (r : Bytes) (i start name value end : ℕ) (n len : ℕ) (b : Bool) → FieldHere r i start name value end → leb len valueBytes ≡ leb (length (valueFrom (span value end r))) valueBytes → b ≡ (leb (n + 1) recordFields && leb (name - start) nameBytes && leb len valueBytes) → b ≡ fitsHere n (fieldBetween r start name value end)
-fits-asked r i start name value end n len b f e h =
-    let k : length (span start name r) ≡ name - start = span-length r start name (f .named) (omega (arith, f .name-inside, f .inside)) in
-    h ∙ (λ j. leb (n + 1) recordFields && leb (sym k j) nameBytes && e j)

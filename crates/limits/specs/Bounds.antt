@@ -1,26 +1,40 @@
--- What questions 4 and 5 say, of a record and of a file.
-use Prim.Native.Nat.{ℕ}
+-- What questions 3, 4 and 5 say of a file, and where its descriptors stand.
+use Prim.Native.Nat.{ℕ, _≤_}
 use mathlib.Core.Path.{_≡_}
-use mathlib.Core.Bool.{Bool, true, false}
+use mathlib.Core.Bool.{true, false}
 use mathlib.Core.List.{List}
-use lib.Dec.{leb}
 use lib.ListN.{length}
-use Rattle.format.specs.Bytes.{pick}
+use Rattle.format.specs.Pieces.{readOf}
+use Rattle.format.proofs.Records.{records}
+use Rattle.format.specs.Bytes.{Bytes, all}
 use Rattle.format.specs.Limits.{descriptors}
+use Rattle.format.specs.Questions.{fitsRecord}
 use Rattle.format.specs.Records.{Record}
 use Rattle.format.proofs.Walking.{heads, walkFits, walkOnce}
-use Rattle.limits.specs.declared.Answers.{Answers}
+use Rattle.records.specs.Places.{isReadable}
+use Rattle.records.specs.Heads.{HeadRows}
 use Rattle.limits.specs.declared.Bounded.{Bounded}
+use Rattle.limits.specs.declared.Scan.{Scan}
 
--- question 5 of a record is answered where its limits are held
-abbrev pub Answered : Bool → Bool → Answers → Type 0
-Answered fits once k = (k .fits ≡ fits) × (k .fits ≡ true → k .once ≡ once)
+-- by a walk over the pieces, before descriptors are asked their own limits
+abbrev pub Scanned : Bytes → List ℕ → List ℕ → List ℕ → Scan → Type 0
+Scanned s starts ends afters Scan.Fault = isReadable s ≡ false
+Scanned s starts ends afters Scan.Past = (isReadable s ≡ true) × (all fitsRecord (records (readOf s)) ≡ false)
+Scanned s starts ends afters (Scan.Met count once) =
+    let rs : List Record = records (readOf s) in
+    (isReadable s ≡ true)
+    × (all fitsRecord rs ≡ true)
+    × (walkOnce rs ≡ once)
+    × (count ≡ length (heads rs))
+    × (count ≤ descriptors → HeadRows s starts ends afters count)
 
--- so many descriptors, in a file of which each record's limits are held
-abbrev pub outcomeOf : ℕ → Bool → Bounded
-outcomeOf n once = pick (leb n descriptors) (pick once (Bounded.Heads n) Bounded.Unnamed) Bounded.Past
-
-abbrev pub BoundedAs : List Record → Bounded → Type 0
-BoundedAs rs Bounded.Past = walkFits rs ≡ false
-BoundedAs rs Bounded.Unnamed = (walkFits rs ≡ true) × (walkOnce rs ≡ false)
-BoundedAs rs (Bounded.Heads n) = (walkFits rs ≡ true) × (walkOnce rs ≡ true) × (n ≡ length (heads rs))
+abbrev pub BoundedAs : Bytes → List ℕ → List ℕ → List ℕ → Bounded → Type 0
+BoundedAs s starts ends afters Bounded.Fault = isReadable s ≡ false
+BoundedAs s starts ends afters Bounded.Past = (isReadable s ≡ true) × (walkFits (records (readOf s)) ≡ false)
+BoundedAs s starts ends afters Bounded.Unnamed = (isReadable s ≡ true) × (walkFits (records (readOf s)) ≡ true) × (walkOnce (records (readOf s)) ≡ false)
+BoundedAs s starts ends afters (Bounded.Heads n) =
+    (isReadable s ≡ true)
+    × (walkFits (records (readOf s)) ≡ true)
+    × (walkOnce (records (readOf s)) ≡ true)
+    × (n ≡ length (heads (records (readOf s))))
+    × HeadRows s starts ends afters n

@@ -104,6 +104,18 @@ colon-inside (c ∷ []) (suc n) e h = absurd (omega arith)
 colon-inside (c ∷ d ∷ s) zero e h = omega arith
 colon-inside (c ∷ d ∷ s) (suc n) e h = omega (arith, colon-inside (d ∷ s) n e h)
 
+-- where a colon follows the name, it is the first one
+module _ (s : Bytes) (i : ℕ) (h : i < length s) (colon : getD s (nameLen s) 0 ≡ 58) (so : nameLen s ≡ i + run isLater (drop i s)) where
+  pub colon-more : (getD s i 0 ≡ 58 → ⊥) → nameLen s ≡ (i + 1) + run isLater (drop (i + 1) s)
+  colon-more n = go (isLater (getD s i 0)) refl
+    where
+      go : (t : Bool) → isLater (getD s i 0) ≡ t → nameLen s ≡ (i + 1) + run isLater (drop (i + 1) s)
+      go true e = omega (arith, so, run-more isLater s i h e)
+      go false e = absurd (n (ap (λ (j : ℕ). getD s j 0) (let z : i ≡ nameLen s = omega (arith, so, run-stop isLater s i h e) in z) ∙ colon))
+
+  pub colon-stop : getD s i 0 ≡ 58 → nameLen s ≡ i
+  colon-stop e = omega (arith, so, run-stop isLater s i h (ap isLater e))
+
 -- The form of a line that begins with a name of n bytes: by whether a colon follows, and by whether the byte behind that is a newline or a blank.
 abbrev pub Told : Bool → Bool → Bool → ℕ → ℕ → Bytes → Form → Type 0
 Told false e k n len name F = F ≡ Form.fault
@@ -198,23 +210,30 @@ told-blank true true k n len name F h p q r = absurd (false≢true (sym q))
 told-blank true false true n len name F h p q r = h .2
 told-blank true false false n len name F h p q r = absurd (false≢true r)
 
-module _ (s : Bytes) (n k : ℕ) (ended : isEnded s ≡ true) (some : 0 < nameLen s) (name : n ≡ nameLen s) (colon : getD s n 0 ≡ 58) (small : getD s (n + 1) 0 < 256) (class : k ≡ classOf (getD s (n + 1) 0)) where
+module _ (s : Bytes) (n : ℕ) (ended : isEnded s ≡ true) (some : 0 < nameLen s) (name : n ≡ nameLen s) (colon : getD s n 0 ≡ 58) where
   told : At n (lineLen s) s (form (firstLine s))
   told = subst (λ (j : ℕ). At j (lineLen s) s (form (firstLine s))) (sym name) (name-told s ended some)
 
-  newline-by : isNewline (getD s (suc n) 0) ≡ eqb k 4
-  newline-by = rw (← add-one n, newline-class (getD s (n + 1) 0) small, class)
-
-  blank-by : isBlank (getD s (suc n) 0) ≡ eqb k 3
-  blank-by = rw (← add-one n, blank-class (getD s (n + 1) 0) small, class)
-
-  pub goes-newline : k ≡ 4 → GoesOn s (n + 1)
-  goes-newline e =
-      let l = told-newline _ _ _ n (lineLen s) _ _ told (eq-eqb _ _ colon) (newline-by ∙ eq-eqb _ _ e) in
+  pub goes-empty : isNewline (getD s (n + 1) 0) ≡ true → GoesOn s (n + 1)
+  goes-empty e =
+      let l = told-newline _ _ _ n (lineLen s) _ _ told (eq-eqb _ _ colon) (rw (← add-one n) e) in
       (omega arith, omega arith, λ q. absurd (omega (arith, sym (ap (λ (j : ℕ). getD s j 0) (let z : (n + 1) - 1 ≡ n = omega arith in z)) ∙ q)))
 
-  pub goes-blank : k ≡ 3 → GoesOn s (n + 2)
-  goes-blank e =
-      let b : isBlank (getD s (suc n) 0) ≡ true = blank-by ∙ eq-eqb _ _ e in
-      let l = told-blank _ _ _ n (lineLen s) _ _ told (eq-eqb _ _ colon) (newline-by ∙ ne-eqb k 4 (λ q. omega (arith, e, q))) b in
-      (omega arith, omega arith, λ q. false≢true (ap isBlank (sym q) ∙ ap (λ (j : ℕ). isBlank (getD s j 0)) (let z : (n + 2) - 1 ≡ suc n = omega arith in z) ∙ b))
+  pub goes-value : isNewline (getD s (n + 1) 0) ≡ false → isBlank (getD s (n + 1) 0) ≡ true → GoesOn s (n + 2)
+  goes-value e b =
+      let l = told-blank _ _ _ n (lineLen s) _ _ told (eq-eqb _ _ colon) (rw (← add-one n) e) (rw (← add-one n) b) in
+      (omega arith, omega arith, λ q. false≢true (ap isBlank (sym q) ∙ ap (λ (j : ℕ). isBlank (getD s j 0)) (let z : (n + 2) - 1 ≡ n + 1 = omega arith in z) ∙ b))
+
+  -- the same by the class of the byte behind the colon
+  module _ (k : ℕ) (small : getD s (n + 1) 0 < 256) (class : k ≡ classOf (getD s (n + 1) 0)) where
+    newline-by : isNewline (getD s (n + 1) 0) ≡ eqb k 4
+    newline-by = rw (newline-class (getD s (n + 1) 0) small, class)
+
+    blank-by : isBlank (getD s (n + 1) 0) ≡ eqb k 3
+    blank-by = rw (blank-class (getD s (n + 1) 0) small, class)
+
+    pub goes-newline : k ≡ 4 → GoesOn s (n + 1)
+    goes-newline e = goes-empty (newline-by ∙ eq-eqb _ _ e)
+
+    pub goes-blank : k ≡ 3 → GoesOn s (n + 2)
+    goes-blank e = goes-value (newline-by ∙ ne-eqb k 4 (λ q. omega (arith, e, q))) (blank-by ∙ eq-eqb _ _ e)

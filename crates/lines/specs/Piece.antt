@@ -12,7 +12,6 @@ use Rattle.lines.specs.Line.{firstLine}
 use Rattle.lines.specs.Value.{valueFrom}
 use Rattle.lines.specs.declared.Extent.{Extent}
 use Rattle.lines.specs.declared.Next.{Next}
-use Rattle.lines.specs.declared.Step.{Step}
 
 -- a line with its newline
 abbrev pub lineSize : Line → ℕ
@@ -56,14 +55,6 @@ isFault Next.Fault = true
 isFault (Next.Blank k) = false
 isFault (Next.Comment k) = false
 isFault (Next.Field n v k) = false
-
--- the same by its bytes alone
-abbrev pub stepOf : Next → Step
-stepOf Next.End = Step.End
-stepOf Next.Fault = Step.End
-stepOf (Next.Blank k) = Step.Blank k
-stepOf (Next.Comment k) = Step.Comment k
-stepOf (Next.Field n v k) = Step.Field k
 
 -- how many bytes it takes, and the piece that it is
 abbrev pub sizeOf : Next → ℕ

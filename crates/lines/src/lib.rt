@@ -7,7 +7,7 @@ ghost use Rattle.format.specs.Bytes.{classTable, same, isBlank, all};
 ghost use Rattle.format.specs.Lines.{lines, isEnded};
 ghost use Rattle.format.specs.Calls.{over};
 ghost use Rattle.lines.specs.Line.{lineLen, firstLine, GoesOn, run, nameLen};
-ghost use Rattle.lines.specs.Piece.{extentOf, nextOf, isFault, stepOf};
+ghost use Rattle.lines.specs.Piece.{extentOf, nextOf, isFault};
 ghost use Rattle.lines.specs.Value.{valueFrom, Unfolds};
 
 // The byte at i, 0 past the end.
@@ -224,39 +224,59 @@ pub fn next_piece(table: &[u8; 256], s: &[u8]) -> Next
     Next::Fault
 }
 
-// What a part goes on with, by its bytes alone.
-pub enum Step {
-    End,
-    Blank { size: usize },
-    Comment { size: usize },
-    Field { size: usize },
+// The name that s begins with ends at its first colon, where a colon is known to follow it.
+fn name_to_colon(s: &[u8]) -> usize
+    requires { ⌜ isEnded (now s) ≡ true ⌝ }
+    requires { ⌜ (0 < nameLen (now s)) × (getD (now s) (nameLen (now s)) 0 ≡ 58) ⌝ }
+    ensures { λ r. ⌜ r ≡ nameLen (now (s .entry)) ⌝ }
+{
+    let mut i = 1;
+    while s[i] != 58 {
+        i += 1;
+    }
+    i
 }
 
-// The same for a part that goes on with no fault: its first byte tells the form, and a field's name need not be looked at.
-pub fn next_step(s: &[u8]) -> Step
+// A line that begins as a name does, in a part that goes on with no fault.
+fn read_field(s: &[u8]) -> Next
+    requires { ⌜ isEnded (now s) ≡ true ⌝ }
+    requires { ⌜ 0 < nameLen (now s) ⌝ }
+    requires { ⌜ isFault (nextOf (now s)) ≡ false ⌝ }
+    ensures { λ r. ⌜ r ≡ nextOf (now (s .entry)) ⌝ }
+{
+    let name = name_to_colon(s);
+    let mut value = name + 1;
+    if s[value] != 10 {
+        value += 1;
+    }
+    let e = field_extent(s, value);
+    match e {
+        Extent::Size(size) => Next::Field { name, value, size },
+        Extent::Open => Next::Fault,
+    }
+}
+
+// The next piece of a part that goes on with no fault: its first byte tells the form.
+pub fn read_piece(s: &[u8]) -> Next
     requires { ⌜ isEnded (now s) ≡ true ⌝ }
     requires { ⌜ isFault (nextOf (now s)) ≡ false ⌝ }
-    ensures { λ r. ⌜ r ≡ stepOf (nextOf (now (s .entry))) ⌝ }
+    ensures { λ r. ⌜ r ≡ nextOf (now (s .entry)) ⌝ }
 {
     if s.len() == 0 {
-        return Step::End;
+        return Next::End;
     }
     let b = s[0];
     if b == 10 {
-        return Step::Blank { size: 1 };
+        return Next::Blank { size: 1 };
     }
-    if b <= 35 {
-        let n = line_len(s);
-        if b == 35 {
-            return Step::Comment { size: n + 1 };
-        }
-        return Step::Blank { size: n + 1 };
+    if 35 < b {
+        return read_field(s);
     }
-    let e = field_extent(s, 1);
-    match e {
-        Extent::Size(size) => Step::Field { size },
-        Extent::Open => Step::End,
+    let n = line_end(s, 0);
+    if b == 35 {
+        return Next::Comment { size: n + 1 };
     }
+    Next::Blank { size: n + 1 }
 }
 
 // One byte of a value, and where the next one is looked for; or the value's end.

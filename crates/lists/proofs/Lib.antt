@@ -1,7 +1,3 @@
--- Laws of listed names and of the tables that hold them.
+-- Laws of listed words and names.
 pub mod Splitting
-pub mod Storing
-pub mod Counting
-pub mod Leasts
-pub mod Listed
-pub mod Judged
+pub mod Naming

@@ -1,4 +1,2 @@
--- The names that a descriptor lists, and what a record has of them.
-pub mod Entries
-pub mod Names
-pub mod Tables
+-- The words of a value, and names between commas.
+pub mod Words

@@ -3,6 +3,7 @@ pub mod Walks
 pub mod Shifts
 pub mod Readings
 pub mod Steps
+pub mod FieldNames
 pub mod Firsts
 pub mod Looks
 pub mod NextFields
@@ -10,6 +11,7 @@ pub mod Fields
 pub mod Words
 pub mod Searches
 pub mod Cuts
+pub mod Rows
 pub mod Going
 pub mod Members
 pub mod Views

@@ -5,8 +5,7 @@ use mathlib.Core.Path.{_≡_, refl, sym, ap, _∙_, subst}
 use mathlib.Core.Bool.{Bool, true, false, _||_}
 use mathlib.Core.List.{List, [], _∷_, _++_}
 use mathlib.Core.Option.{Option, none, some, Option·none-ne-some, Option·some-injective}
-use borrow.Author.Tests.{ne-eqb}
-use lib.ListN.{length, take, drop, getD, length-drop}
+use lib.ListN.{length, take, drop, length-drop}
 use lib.Seq.{drop-drop, take-nil, length-take-le}
 use Rattle.format.proofs.Whole.{Sound}
 use Rattle.format.proofs.Elements.{Each, each-append}
@@ -18,14 +17,12 @@ use Rattle.format.specs.Calls.{lead}
 use Rattle.format.proofs.Lines.{lines-bytes, Clean}
 use Rattle.format.proofs.Renaming.{sound-starts}
 use Rattle.lines.specs.Line.{lineLen, firstLine, nameLen}
-use Rattle.lines.specs.Piece.{valueAt, fieldNext, extentOf, nextBy, nextOf, isFault, stepOf, sizeOf, pieceOf, onPiece}
+use Rattle.lines.specs.Piece.{valueAt, fieldNext, extentOf, nextBy, nextOf, isFault, sizeOf, pieceOf, onPiece}
 use Rattle.lines.specs.Value.{valueFrom}
 use Rattle.lines.specs.declared.Extent.{Extent}
 use Rattle.lines.specs.declared.Next.{Next}
-use Rattle.lines.specs.declared.Step.{Step}
 use Rattle.lines.proofs.Cuts.{rest, lines-cut, ended-drop}
 use Rattle.lines.proofs.Nexts.{next-first}
-use Rattle.lines.proofs.Firsts.{NameBy, next-name}
 use Rattle.lines.proofs.Pieces.{next-cut, no-pieces}
 use Rattle.lines.proofs.Inside.{Inside, next-inside}
 use Rattle.records.specs.Places.{isReadable, sizeIn, headLine}
@@ -172,21 +169,8 @@ step-at s i (c ∷ t) q e =
 pub steps : (s : Bytes) (i : ℕ) (x : Next) {y : Next} → isReadable (drop i s) ≡ true → x ≡ nextOf (take (length s - i) (drop i s)) → x ≡ y → Steps s i y
 steps s i x {y} e f g = subst (Steps s i) (ap nextOf (sym (rest s i)) ∙ sym f ∙ g) (step-at s i (drop i s) refl e)
 
--- The same by the bytes alone; the name is the one that the part begins with.
-abbrev pub Walks : Bytes → ℕ → Step → Type 0
-Walks s i Step.End = readOf (drop i s) ≡ []
-Walks s i (Step.Blank k) = (l : Line) × Passed s i (Piece.blank l) k
-Walks s i (Step.Comment k) = (l : Line) × Passed s i (Piece.comment l) k
-Walks s i (Step.Field k) = (v : ℕ) × FieldAt s i (nameLen (drop i s)) v k
-
+-- it is no fault
 module _ (s : Bytes) (i : ℕ) where
-  walk-by : (x : Next) → NameBy (nameLen (drop i s)) x → Steps s i x → Walks s i (stepOf x)
-  walk-by Next.End n h = h
-  walk-by Next.Fault n h = absurd h
-  walk-by (Next.Blank k) n h = h
-  walk-by (Next.Comment k) n h = h
-  walk-by (Next.Field m v k) n h = (v, subst (λ (j : ℕ). FieldAt s i j v k) n h)
-
   no-fault : (x : Next) → Steps s i x → isFault x ≡ false
   no-fault Next.End h = refl
   no-fault Next.Fault h = absurd h
@@ -196,11 +180,6 @@ module _ (s : Bytes) (i : ℕ) where
 
   pub part-formed : isReadable (drop i s) ≡ true → isFault (nextOf (take (length s - i) (drop i s))) ≡ false
   part-formed e = rw (rest s i) (no-fault (nextOf (drop i s)) (step-at s i (drop i s) refl e))
-
-  pub walks : (x : Step) {y : Step} → isReadable (drop i s) ≡ true → x ≡ stepOf (nextOf (take (length s - i) (drop i s))) → x ≡ y → Walks s i y
-  walks x {y} e f g =
-      let t : Bytes = drop i s in
-      subst (Walks s i) (ap (λ (z : Bytes). stepOf (nextOf z)) (sym (rest s i)) ∙ sym f ∙ g) (walk-by (nextOf t) (next-name t (readable-ended t e)) (step-at s i t refl e))
 
 -- What stands before the first field, step by step.
 module _ (s : Bytes) (i : ℕ) where
@@ -217,15 +196,6 @@ module _ (s : Bytes) (i : ℕ) where
   pub lead-field : (n v k : ℕ) → FieldAt s i n v k → leadSize (drop i s) ≡ 0
   unfolding leadSize
   lead-field n v k f = rw (f .passed .reads) size-none
-
--- a name that does not begin with a percent sign is no `%rec`
-pub not-rec : (s : Bytes) → (getD s 0 0 ≡ 37 → ⊥) → isRec s ≡ false
-not-rec s h = go (nameLen s) s h
-  where
-    go : (n : ℕ) (t : Bytes) → (getD t 0 0 ≡ 37 → ⊥) → same (text "%rec") (take n t) ≡ false
-    go zero t k = refl
-    go (suc n) [] k = refl
-    go (suc n) (c ∷ t) k = rw (ne-eqb 37 c (λ e. k (sym e)))
 
 -- A record's run, step by step.
 module _ (s : Bytes) (i end : ℕ) (d : Bool) where

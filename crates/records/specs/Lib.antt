@@ -3,3 +3,4 @@ pub mod Places
 pub mod Walk
 pub mod Fields
 pub mod Gaps
+pub mod Heads

@@ -9,12 +9,11 @@ ghost use Rattle.format.specs.Bytes.{classTable, text, same};
 ghost use Rattle.format.specs.Words.{isGap, notGap, firstWord};
 ghost use Rattle.lines.specs.Value.{valueFrom};
 ghost use Rattle.records.specs.Places.{isReadable, placesOf, firstPlace, setPlace, recordPlace, countBefore, fieldPlace};
-ghost use Rattle.records.specs.Walk.{isRec, runFrom, opensSet};
+ghost use Rattle.records.specs.Walk.{runFrom, opensSet};
 ghost use Rattle.records.specs.Gaps.{gapIs};
 ghost use Rattle.records.specs.Fields.{FieldNext};
 use lines::Decoded;
 use lines::Next;
-use lines::Step;
 
 // Is a part empty or ended by a newline, and has every line of it a form?
 pub fn is_readable(table: &[u8; 256], s: &[u8]) -> bool
@@ -82,22 +81,8 @@ pub fn is_rec(name: &[u8]) -> bool
     lines::same_bytes(b"%rec", name)
 }
 
-// Is the name that s begins with `%rec`? Few names begin with a percent sign.
-fn rec_here(table: &[u8; 256], s: &[u8]) -> bool
-    requires { ⌜ now table ≡ classTable ⌝ }
-    ensures { λ r. ⌜ r ≡ isRec (now (s .entry)) ⌝ }
-{
-    if lines::byte(s, 0) != 37 {
-        return false;
-    }
-    let a = 0;
-    let e = lines::name_len(table, s);
-    is_rec(&s[a..e])
-}
-
 // A record that goes on at a byte, behind one of its fields; described: whether a `%rec` was met before.
-fn record_run(table: &[u8; 256], s: &[u8], at: usize, described: bool) -> Run
-    requires { ⌜ now table ≡ classTable ⌝ }
+fn record_run(s: &[u8], at: usize, described: bool) -> Run
     requires { ⌜ at ≤ length (now s) ⌝ }
     requires { ⌜ isReadable (drop at (now s)) ≡ true ⌝ }
     ensures { λ r. ⌜ r ≡ runFrom at at described (readOf (drop at (now (s .entry)))) ⌝ }
@@ -106,25 +91,37 @@ fn record_run(table: &[u8; 256], s: &[u8], at: usize, described: bool) -> Run
     let mut i = at;
     let mut descriptor = described;
     loop {
-        let n = lines::next_step(&s[i..]);
+        let n = lines::read_piece(&s[i..]);
         match n {
-            Step::Comment { size } => {
+            Next::Comment { size } => {
                 i += size;
             }
-            Step::Field { size } => {
-                let here = rec_here(table, &s[i..]);
+            Next::Field {
+                name,
+                value: _,
+                size,
+            } => {
+                let e = i + name;
+                let here = is_rec(&s[i..e]);
                 descriptor = descriptor | here;
                 i += size;
                 end = i;
             }
-            Step::Blank { size: _ } => {
+            Next::Blank { size: _ } => {
                 return Run {
                     end,
                     after: i,
                     descriptor,
                 };
             }
-            Step::End => {
+            Next::End => {
+                return Run {
+                    end,
+                    after: i,
+                    descriptor,
+                };
+            }
+            Next::Fault => {
                 return Run {
                     end,
                     after: i,
@@ -143,17 +140,22 @@ pub fn next_record(table: &[u8; 256], s: &[u8]) -> NextRecord
 {
     let mut i = 0;
     loop {
-        let n = lines::next_step(&s[i..]);
+        let n = lines::read_piece(&s[i..]);
         match n {
-            Step::Blank { size } => {
+            Next::Blank { size } => {
                 i += size;
             }
-            Step::Comment { size } => {
+            Next::Comment { size } => {
                 i += size;
             }
-            Step::Field { size } => {
-                let here = rec_here(table, &s[i..]);
-                let r = record_run(table, s, i + size, here);
+            Next::Field {
+                name,
+                value: _,
+                size,
+            } => {
+                let e = i + name;
+                let here = is_rec(&s[i..e]);
+                let r = record_run(s, i + size, here);
                 return NextRecord::At(Place {
                     start: i,
                     end: r.end,
@@ -161,7 +163,10 @@ pub fn next_record(table: &[u8; 256], s: &[u8]) -> NextRecord
                     descriptor: r.descriptor,
                 });
             }
-            Step::End => {
+            Next::End => {
+                return NextRecord::Nothing;
+            }
+            Next::Fault => {
                 return NextRecord::Nothing;
             }
         }
@@ -242,7 +247,7 @@ pub fn next_field(table: &[u8; 256], s: &[u8], i: usize) -> NextField
 {
     let mut at = i;
     loop {
-        let n = lines::next_piece(table, &s[at..]);
+        let n = lines::read_piece(&s[at..]);
         match n {
             Next::Blank { size } => {
                 at += size;
@@ -287,7 +292,7 @@ pub fn find_field(table: &[u8; 256], s: &[u8], name: &[u8], o: usize) -> FoundFi
     let mut i = 0;
     let mut left = o;
     loop {
-        let n = lines::next_piece(table, &s[i..]);
+        let n = lines::read_piece(&s[i..]);
         match n {
             Next::Blank { size } => {
                 i += size;

@@ -1,63 +1,109 @@
--- What the limits and the forms of a descriptor grant: values that fit a scratch, tables that hold its rules, at most one key.
-use Prim.Native.Nat.{ℕ, _≤_}
+-- What the limits and the forms of a descriptor grant: lists that tables hold, of names; a key; values that fit a scratch.
+use Prim.Native.Nat.{ℕ, zero, suc, _≤_}
 use native.Mathlib.Omega.{arith}
-use mathlib.Core.Path.{_≡_, refl}
-use mathlib.Core.Bool.{Bool, true, false, _&&_, and-eq-true-iff}
-use mathlib.Core.List.{List, [], _∷_}
-use lib.Dec.{leb}
+use mathlib.Core.Path.{_≡_, refl, sym, ap, _∙_, subst}
+use mathlib.Core.Bool.{Bool, true, false, _&&_, _||_, not, and-eq-true-iff}
+use mathlib.Core.List.{List, [], _∷_, _++_}
+use lib.Dec.{leb, eqb}
 use lib.ListN.{length}
-use borrow.Author.Tests.{leb-true, le-leb}
-use Rattle.format.specs.Bytes.{Bytes, text, all, same, pick}
+use borrow.Author.Tests.{leb-true, le-leb, ne-eqb}
+use Rattle.format.specs.Lists.{isFilled, flat}
+use Rattle.format.specs.Bytes.{Bytes, text, pick, all, same}
+use Rattle.format.specs.Lines.{isName}
+use Rattle.format.specs.Words.{words}
+use Rattle.format.specs.Pieces.{readOf}
 use Rattle.format.specs.Records.{Field, Record}
 use Rattle.format.specs.Sets.{valuesOf}
 use Rattle.format.specs.Limits.{valueBytes, typedefs, typeFields, listWords}
-use Rattle.format.specs.Rules.{mandatory, prohibited, allowed, unique}
+use Rattle.format.specs.Numbers.{intBounds}
+use Rattle.format.specs.Rules.{listed, mandatory, prohibited, allowed, unique, key}
 use Rattle.format.specs.Questions.{fitsField, fitsRecord, fitsRules}
-use Rattle.format.proofs.Elements.{Each, each-all, each-imp, all-each}
+use Rattle.format.proofs.Elements.{each-all, each-imp, all-each}
+use Rattle.format.proofs.Lines.{all-append}
+use Rattle.format.proofs.Listing.{same-true, listed-cons}
+use Rattle.format.proofs.Records.{records}
+use Rattle.records.specs.Walk.{recordIn}
+use Rattle.records.proofs.Cuts.{fields-records}
 use Rattle.sizes.proofs.Limits.{fits-fields, fits-value}
-use Rattle.typedefs.specs.Walks.{fits}
-use Rattle.typed.specs.Meets.{fieldFits}
+use Rattle.dictionary.specs.Tags.{listTag}
+use Rattle.dictionary.specs.Terms.{areNames}
+use Rattle.dictionary.specs.Known.{Described}
+use Rattle.dictionary.proofs.Listing.{lists-names}
+use Rattle.dictionary.proofs.Typing.{all-shaped}
+use Rattle.dictionary.proofs.Counting.{key-length}
+use Rattle.members.specs.Members.{fitsIn}
+use Rattle.members.proofs.Walking.{all-join}
+use Rattle.rules.specs.Described.{IsRules, AllFit}
 
+pub described-by : (d : Bytes) → IsRules d → length d ≤ 65536 → Described d
+described-by d r h = record { reads = r .reads; short = h; fits = r .fits; few = r .few; well = r .well; typed = r .typed }
+
+-- every value of records that hold their limits fits
 module _ (m : ℕ) (room : valueBytes ≤ m) where
-  -- every value of a record that holds its limits fits
-  value-short : (f : Field) → fitsField f ≡ true → leb (length (f .value)) m ≡ true
-  value-short f e = le-leb (length (f .value)) m (omega (arith, fits-value f e))
-
-  pub fields-fit : (r : Record) → fitsRecord r ≡ true → all (fieldFits m) r ≡ true
+  fields-fit : (r : Record) → fitsRecord r ≡ true → all (fitsIn m) r ≡ true
   fields-fit r e =
-      each-all (fieldFits m) r (each-imp (λ (f : Field). fitsField f ≡ true) (λ (f : Field). fieldFits m f ≡ true) (λ f h. value-short f h) r (all-each fitsField r (fits-fields r e)))
+      each-all (fitsIn m) r
+      (each-imp (λ (f : Field). fitsField f ≡ true) (λ (f : Field). fitsIn m f ≡ true) (λ f h. le-leb (length (f .value)) m (omega (arith, fits-value f h))) r (all-each fitsField r (fits-fields r e)))
 
-  keep-fit : (b : Bool) (v : Bytes) (vs : List Bytes) → fits m v ≡ true → all (fits m) vs ≡ true → all (fits m) (pick b (v ∷ vs) vs) ≡ true
-  keep-fit true v vs h k = and-eq-true-iff (fits m v) (all (fits m) vs) .1 (h, k)
-  keep-fit false v vs h k = k
+  pub values-fit : (s : Bytes) → AllFit (records (readOf s)) → all (fitsIn m) (recordIn s) ≡ true
+  values-fit s h =
+      let rs : List Record = records (readOf s) in
+      ap (all (fitsIn m)) (fields-records (readOf s))
+      ∙ all-join (fitsIn m) rs
+      ∙ each-all (all (fitsIn m)) rs (each-imp (λ (r : Record). fitsRecord r ≡ true) (λ (r : Record). all (fitsIn m) r ≡ true) (λ r e. fields-fit r e) rs (all-each fitsRecord rs h))
 
-  each-fit : (n : Bytes) (r : Record) → Each (λ (f : Field). fitsField f ≡ true) r → all (fits m) (valuesOf n r) ≡ true
-  each-fit n [] h = refl
-  each-fit n (f ∷ fs) h = keep-fit (same n (f .name)) (f .value) (valuesOf n fs) (value-short f (h .0)) (each-fit n fs (h .1))
+-- the words of a list are names
+names-by : (n : Bytes) (f : Field) (t : Bool) → eqb (listTag n) 64 ≡ false → areNames f ≡ true → same n (f .name) ≡ t → all isName (pick t (words (f .value)) []) ≡ true
+names-by n f true z h e =
+    ap (λ (b : Bool). b || all isName (words (f .value))) (sym (ap (λ (x : Bytes). eqb (listTag x) 64) (sym (same-true n (f .name) e)) ∙ z)) ∙ h
+names-by n f false z h e = refl
 
-  pub values-fit : (n : Bytes) (r : Record) → fitsRecord r ≡ true → all (fits m) (valuesOf n r) ≡ true
-  values-fit n r e = each-fit n r (all-each fitsField r (fits-fields r e))
+names-of : (n : Bytes) → eqb (listTag n) 64 ≡ false → (r : Record) → all areNames r ≡ true → all isName (listed n r) ≡ true
+names-of n z [] h = refl
+names-of n z (f ∷ r) h =
+    let b = and-eq-true-iff (areNames f) (all areNames r) .0 h in
+    ap (all isName) (listed-cons n f r)
+    ∙ all-append isName (pick (same n (f .name)) (words (f .value)) []) (listed n r)
+    ∙ (λ i. names-by n f (same n (f .name)) z (b .0) refl i && names-of n z r (b .1) i)
 
--- the limits of a descriptor
-module _ (r : Record) (e : fitsRules r ≡ true) where
-  abbrev typedefsFit : Bool
-  typedefsFit = leb (length (valuesOf (text "%typedef") r)) typedefs
+module _ (d : Bytes) (h : Described d) where
+  abbrev rules : Record
+  rules = recordIn d
 
-  abbrev typesFit : Bool
-  typesFit = leb (length (valuesOf (text "%type") r)) typeFields
+  lists-are : all areNames rules ≡ true
+  lists-are = lists-names intBounds rules (all-shaped d h)
 
-  both : (typedefsFit ≡ true) × (typesFit ≡ true)
-  both =
-      let c : Bool = leb (length (mandatory r)) listWords in
-      let d : Bool = leb (length (prohibited r)) listWords in
-      let f : Bool = leb (length (allowed r)) listWords in
-      let g : Bool = leb (length (unique r)) listWords in
-      let t : Bool = typedefsFit && typesFit in
-      and-eq-true-iff typedefsFit typesFit .0
-      (and-eq-true-iff t c .0 (and-eq-true-iff (t && c) d .0 (and-eq-true-iff (t && c && d) f .0 (and-eq-true-iff (t && c && d && f) g .0 e .0) .0) .0) .0)
+  pub mandatory-names : all isName (mandatory rules) ≡ true
+  unfolding listTag
+  mandatory-names = names-of (text "%mandatory") refl rules lists-are
 
-  pub few-typedefs : length (valuesOf (text "%typedef") r) ≤ 32
-  few-typedefs = leb-true (length (valuesOf (text "%typedef") r)) typedefs (both .0)
+  pub unique-names : all isName (unique rules) ≡ true
+  unfolding listTag
+  unique-names = names-of (text "%unique") refl rules lists-are
 
-  pub few-types : length (valuesOf (text "%type") r) ≤ 32
-  few-types = leb-true (length (valuesOf (text "%type") r)) typeFields (both .1)
+  lists-held : (length (mandatory rules) ≤ 64) × (length (unique rules) ≤ 64)
+  lists-held =
+      let t : Bool = leb (length (valuesOf (text "%typedef") rules)) typedefs && leb (length (valuesOf (text "%type") rules)) typeFields in
+      let m : Bool = leb (length (mandatory rules)) listWords in
+      let p : Bool = leb (length (prohibited rules)) listWords in
+      let a : Bool = leb (length (allowed rules)) listWords in
+      let u : Bool = leb (length (unique rules)) listWords in
+      let hu = and-eq-true-iff (t && m && p && a) u .0 (h .few) in
+      let ha = and-eq-true-iff (t && m && p) a .0 (hu .0) in
+      let hp = and-eq-true-iff (t && m) p .0 (ha .0) in
+      let hm = and-eq-true-iff t m .0 (hp .0) in
+      (leb-true (length (mandatory rules)) listWords (hm .1), leb-true (length (unique rules)) listWords (hu .1))
+
+  pub mandatory-few : length (mandatory rules) ≤ 64
+  mandatory-few = lists-held .0
+
+  pub unique-few : length (unique rules) ≤ 64
+  unique-few = lists-held .1
+
+  -- a key is named where there is a field that names it
+  filled-by : (ws : List Bytes) → not (eqb (length ws) 0) ≡ isFilled ws
+  filled-by [] = refl
+  filled-by (w ∷ ws) = ap not (ne-eqb (suc (length ws)) 0 (λ z. omega arith))
+
+  pub key-there : (t : Bool) → t ≡ not (eqb (length (valuesOf (text "%key") rules)) 0) → t ≡ isFilled (key rules)
+  key-there t e = e ∙ ap (λ (n : ℕ). not (eqb n 0)) (sym (key-length rules (all-shaped d h))) ∙ filled-by (key rules)

@@ -1,155 +1,313 @@
-// Questions 8 to 14 of one set: its descriptor's rules are read once; those on names are asked of each of its records, those on types of all their fields together.
+// Questions 8 to 14 of one set. Its descriptor is read once, into tables; then its records are walked.
 ghost use mathlib.Core.Path.{_≡_};
-ghost use mathlib.Core.Bool.{true};
-ghost use Prim.Native.Nat.{_≤_};
-ghost use lib.ListN.{length};
+ghost use mathlib.Core.Bool.{true, not};
+ghost use Prim.Native.Nat.{_-_, _≤_};
+ghost use lib.Dec.{eqb};
+ghost use lib.ListN.{length, take, drop};
 ghost use Rattle.format.specs.Bytes.{classTable, all};
 ghost use Rattle.format.specs.Limits.{fileBytes, valueBytes};
+ghost use Rattle.format.specs.Pieces.{readOf};
 ghost use Rattle.format.specs.Numbers.{intBounds};
-ghost use Rattle.format.specs.Questions.{firstNo, allTyped};
+ghost use Rattle.format.specs.Rules.{distinct};
+ghost use Rattle.format.specs.Sets.{valuesOf};
+ghost use Rattle.format.specs.Questions.{firstNo, keysOf};
 ghost use Rattle.format.proofs.Judging.{wholeRows, setNo};
+ghost use Rattle.format.proofs.Records.{records};
 ghost use Rattle.format.proofs.Walking.{ruled};
 ghost use Rattle.records.specs.Places.{isReadable};
 ghost use Rattle.records.specs.Walk.{recordIn};
-ghost use Rattle.lists.specs.Tables.{Lists};
-ghost use Rattle.setkeys.specs.Keyed.{membersIn, HaveKeys};
-ghost use Rattle.typed.specs.Meets.{fieldFits};
-ghost use Rattle.rules.specs.Described.{IsRules, AllFit, AllAsked};
-use records::FoundField;
-use records::NextRecord;
+ghost use Rattle.dictionary.specs.Known.{Described};
+ghost use Rattle.members.specs.Members.{IsRulebook, fitsIn, partNo};
+ghost use Rattle.rules.specs.Described.{IsRules, AllFit};
+ghost use Rattle.rules.specs.Chunks.{IsBook, HaveKeys, Chunked, SetAsked};
+use kinds::Kinds;
+use members::Asked;
+use members::Rulebook;
+use tallies::Tables;
+use typedefs::NextValue;
+use words::Word;
+use wordsets::Words;
 
-// The members of a set, asked questions 8 to 11: the least number that one of them has, and the byte behind which none stands.
-pub struct Asked {
-    pub number: u32,
-    pub end: usize,
+// What is read of a descriptor once: its mandatory and unique words, the kinds of its types, whether only allowed names may occur, and whether there is a key.
+struct Book {
+    mandatory: Words,
+    unique: Words,
+    kinds: Kinds,
+    limited: bool,
+    keyed: bool,
 }
 
-// Questions 8 to 11 of the records before the next descriptor, each asked once.
+// Has a descriptor a field of a name?
+fn has_field(table: &[u8; 256], d: &[u8], name: &[u8]) -> bool
+    requires { ⌜ now table ≡ classTable ⌝ }
+    requires { ⌜ isReadable (now d) ≡ true ⌝ }
+    ensures { λ r. ⌜ r ≡ not (eqb (length (valuesOf (now (name .entry)) (recordIn (now (d .entry))))) 0) ⌝ }
+{
+    let v = typedefs::next_value(table, d, name, 0);
+    match v {
+        NextValue::At { value: _, end: _ } => true,
+        NextValue::Nothing => false,
+    }
+}
+
+// The least number and the count of a set's records by some of the `%type` fields, and the first one that is left.
+struct Chunk {
+    number: u32,
+    count: usize,
+    next: usize,
+}
+
+// The records by a rulebook whose names stand in the first 8,192 entries, and whose symbols stand behind them.
+fn judge_halves(
+    table: &[u8; 256],
+    d: &[u8],
+    entries: &[u32],
+    needed: &[u32],
+    needsets: &[u64],
+    single: &[u32],
+    singlesets: &[u64],
+    r: Rulebook,
+    part: &[u8],
+    scratch: &mut [u8],
+) -> Asked
+    requires { ⌜ now table ≡ classTable ⌝ }
+    requires { ⌜ (8192 ≤ length (now entries)) × IsRulebook (now d) (take 8192 (now entries)) (now needed) (now needsets) (now single) (now singlesets) (drop 8192 (now entries)) r ⌝ }
+    requires { ⌜ (isReadable (now part) ≡ true) × (length (now part) ≤ 65536) × (all (fitsIn (length (now scratch))) (recordIn (now part)) ≡ true) ⌝ }
+    ensures { λ a. ⌜ (a .number ≡ partNo (now (d .entry)) (r .tables .from) (r .enums .next - r .tables .from) (records (readOf (now (part .entry))))) × (a .count ≡ length (records (readOf (now (part .entry))))) ⌝ }
+{
+    members::judge_part(
+        table,
+        d,
+        &entries[..8192],
+        needed,
+        needsets,
+        single,
+        singlesets,
+        &entries[8192..],
+        r,
+        part,
+        &mut *scratch,
+    )
+}
+
+// Questions 8 to 12 by the `%type` fields from one on, by as many of them as the tables have room for.
+fn judge_rows(
+    table: &[u8; 256],
+    d: &[u8],
+    needed: &[u32],
+    needsets: &[u64],
+    single: &[u32],
+    singlesets: &[u64],
+    b: Book,
+    from: usize,
+    part: &[u8],
+    scratch: &mut [u8],
+    entries: &mut [u32],
+) -> Chunk
+    requires { ⌜ now table ≡ classTable ⌝ }
+    requires { ⌜ IsBook (now d) (now needed) (now needsets) (now single) (now singlesets) b × (from ≤ b .kinds .count) ⌝ }
+    requires { ⌜ (isReadable (now part) ≡ true) × (length (now part) ≤ 65536) × (all (fitsIn (length (now scratch))) (recordIn (now part)) ≡ true) ⌝ }
+    requires { ⌜ 16384 ≤ length (now entries) ⌝ }
+    ensures { λ r. ⌜ Chunked (now (d .entry)) from (b .kinds .count) (records (readOf (now (part .entry)))) r ⌝ }
+{
+    let kinds = b.kinds;
+    let texts = kinds.texts;
+    let names = dictionary::read(table, d, from, &mut entries[..8192]);
+    let to = names.next;
+    let enums = symbols::read(d, &texts, from, to, &mut entries[8192..]);
+    let mandatory = b.mandatory;
+    let unique = b.unique;
+    let tables = Tables {
+        from,
+        names,
+        mandatory,
+        unique,
+    };
+    let r = Rulebook {
+        tables,
+        kinds,
+        enums,
+        limited: b.limited,
+        keyed: b.keyed,
+    };
+    let a = judge_halves(
+        table,
+        d,
+        &*entries,
+        needed,
+        needsets,
+        single,
+        singlesets,
+        r,
+        part,
+        &mut *scratch,
+    );
+    Chunk {
+        number: a.number,
+        count: a.count,
+        next: enums.next,
+    }
+}
+
+// Questions 8 to 12 by all `%type` fields.
+fn judge_records(
+    table: &[u8; 256],
+    d: &[u8],
+    needed: &[u32],
+    needsets: &[u64],
+    single: &[u32],
+    singlesets: &[u64],
+    b: Book,
+    part: &[u8],
+    scratch: &mut [u8],
+    entries: &mut [u32],
+) -> Asked
+    requires { ⌜ now table ≡ classTable ⌝ }
+    requires { ⌜ IsBook (now d) (now needed) (now needsets) (now single) (now singlesets) b ⌝ }
+    requires { ⌜ (isReadable (now part) ≡ true) × (length (now part) ≤ 65536) × (all (fitsIn (length (now scratch))) (recordIn (now part)) ≡ true) ⌝ }
+    requires { ⌜ 16384 ≤ length (now entries) ⌝ }
+    ensures { λ r. ⌜ SetAsked (recordIn (now (d .entry))) (records (readOf (now (part .entry)))) r ⌝ }
+{
+    let kinds = b.kinds;
+    let count = kinds.count;
+    let mut from = 0;
+    let mut worst = 0;
+    loop {
+        let c = judge_rows(
+            table,
+            d,
+            needed,
+            needsets,
+            single,
+            singlesets,
+            b,
+            from,
+            part,
+            &mut *scratch,
+            &mut *entries,
+        );
+        worst = tallies::lesser(worst, c.number);
+        if count <= c.next {
+            return Asked {
+                number: worst,
+                count: c.count,
+            };
+        }
+        from = c.next;
+    }
+}
+
+// Questions 8 to 12 of a set's records, and how many there are.
 fn judge_members(
     table: &[u8; 256],
     d: &[u8],
-    at: &[u32],
-    end: &[u32],
-    list: &[u8],
-    count: usize,
-    rest: &[u8],
+    part: &[u8],
+    scratch: &mut [u8],
+    entries: &mut [u32],
 ) -> Asked
     requires { ⌜ now table ≡ classTable ⌝ }
-    requires { ⌜ Lists (now d) (now at) (now end) (now list) count × (count ≤ 257) ⌝ }
-    requires { ⌜ isReadable (now rest) ≡ true ⌝ }
-    ensures { λ r. ⌜ AllAsked (recordIn (now (d .entry))) (now (rest .entry)) r ⌝ }
+    requires { ⌜ Described (now d) ⌝ }
+    requires { ⌜ (isReadable (now part) ≡ true) × (length (now part) ≤ 65536) × (all (fitsIn (length (now scratch))) (recordIn (now part)) ≡ true) ⌝ }
+    requires { ⌜ (valueBytes ≤ length (now scratch)) × (16384 ≤ length (now entries)) ⌝ }
+    ensures { λ r. ⌜ SetAsked (recordIn (now (d .entry))) (records (readOf (now (part .entry)))) r ⌝ }
 {
-    let mut seen = [0u8; 257];
-    let mut i = 0;
-    let mut worst = 0;
-    loop {
-        let n = records::next_record(table, &rest[i..]);
-        let NextRecord::At(p) = n else {
-            return Asked {
-                number: worst,
-                end: i,
-            };
-        };
-        if p.descriptor {
-            return Asked {
-                number: worst,
-                end: i,
-            };
-        }
-        let a = i + p.start;
-        let e = i + p.end;
-        let k = lists::judge_names(table, d, at, end, list, count, &rest[a..e], &mut seen);
-        worst = lists::lesser(worst, k);
-        i += p.after;
-    }
+    let mut needed = [0u32; 64];
+    let mut needsets = [0u64; 64];
+    let mut single = [0u32; 64];
+    let mut singlesets = [0u64; 64];
+    let kinds = kinds::read(table, d, &mut *scratch);
+    let mandatory = wordsets::read(table, d, b"%mandatory", &mut needed, &mut needsets);
+    let unique = wordsets::read(table, d, b"%unique", &mut single, &mut singlesets);
+    let limited = has_field(table, d, b"%allowed");
+    let keyed = has_field(table, d, b"%key");
+    let b = Book {
+        mandatory,
+        unique,
+        kinds,
+        limited,
+        keyed,
+    };
+    judge_records(
+        table,
+        d,
+        &needed,
+        &needsets,
+        &single,
+        &singlesets,
+        b,
+        part,
+        &mut *scratch,
+        &mut *entries,
+    )
 }
 
-// Question 12 of all fields of a part, by the type rules of a descriptor; without such rules it asks nothing.
-fn all_typed(table: &[u8; 256], d: &[u8], s: &[u8], scratch: &mut [u8], other: &mut [u8]) -> bool
+// Question 13 of a set whose records have its key.
+fn keys_apart(
+    table: &[u8; 256],
+    d: &[u8],
+    part: &[u8],
+    scratch: &mut [u8],
+    entries: &mut [u32],
+) -> bool
     requires { ⌜ now table ≡ classTable ⌝ }
-    requires { ⌜ IsRules (now d) × (length (now d) ≤ fileBytes) × (valueBytes ≤ length (now other)) ⌝ }
-    requires { ⌜ (isReadable (now s) ≡ true) × (all (fieldFits (length (now scratch))) (recordIn (now s)) ≡ true) ⌝ }
-    ensures { λ r. ⌜ r ≡ allTyped intBounds (recordIn (now (d .entry))) (recordIn (now (s .entry))) ⌝ }
+    requires { ⌜ IsRules (now d) × (length (now d) ≤ 65536) ⌝ }
+    requires { ⌜ (isReadable (now part) ≡ true) × (length (now part) ≤ 65536) × HaveKeys (recordIn (now d)) (records (readOf (now part))) ⌝ }
+    requires { ⌜ (valueBytes ≤ length (now scratch)) × (16384 ≤ length (now entries)) ⌝ }
+    ensures { λ r. ⌜ r ≡ distinct (keysOf (ruled (recordIn (now (d .entry))) (records (readOf (now (part .entry)))))) ⌝ }
 {
-    let types = typed::read_rules(table, d, &mut *other);
-    if types.count == 0 {
+    let v = typedefs::next_value(table, d, b"%key", 0);
+    let NextValue::At { value, end } = v else {
         return true;
-    }
-    typed::part_typed(table, d, types, s, &mut *scratch, &mut *other)
+    };
+    let n = lines::copy_value(&d[value..end], &mut *scratch);
+    let w = words::next_word(&scratch[..n], 0);
+    let Word::At { start, end: e } = w else {
+        return true;
+    };
+    setkeys::keys_distinct(table, &scratch[start..e], part, &mut *entries)
 }
 
-// Questions 13 and 14 of a set whose records have its key: the number of the first that says no, else 0.
+// Questions 13 and 14 of a set whose records have its key; so many they are. The number of the first that says no, else 0.
 fn judge_whole(
     table: &[u8; 256],
     d: &[u8],
-    at: &[u32],
-    end: &[u32],
-    list: &[u8],
     count: usize,
-    rest: &[u8],
+    part: &[u8],
     scratch: &mut [u8],
     entries: &mut [u32],
 ) -> u32
     requires { ⌜ now table ≡ classTable ⌝ }
-    requires { ⌜ IsRules (now d) × Lists (now d) (now at) (now end) (now list) count ⌝ }
-    requires { ⌜ (isReadable (now rest) ≡ true) × (length (now rest) ≤ fileBytes) × HaveKeys (recordIn (now d)) (membersIn (now rest)) ⌝ }
+    requires { ⌜ IsRules (now d) × (length (now d) ≤ 65536) × (count ≡ length (records (readOf (now part)))) ⌝ }
+    requires { ⌜ (isReadable (now part) ≡ true) × (length (now part) ≤ 65536) × HaveKeys (recordIn (now d)) (records (readOf (now part))) ⌝ }
     requires { ⌜ (valueBytes ≤ length (now scratch)) × (16384 ≤ length (now entries)) ⌝ }
-    ensures { λ n. ⌜ n ≡ firstNo (wholeRows intBounds) (ruled (recordIn (now (d .entry))) (membersIn (now (rest .entry)))) ⌝ }
+    ensures { λ n. ⌜ n ≡ firstNo (wholeRows intBounds) (ruled (recordIn (now (d .entry))) (records (readOf (now (part .entry))))) ⌝ }
 {
-    if setkeys::keys_distinct(table, d, at, end, list, count, rest, &mut *entries) {} else {
+    if keys_apart(table, d, part, &mut *scratch, &mut *entries) {} else {
         return 13;
     }
-    let f = records::find_field(table, d, b"%size", 0);
-    let FoundField::At {
-        start: _,
-        value: _,
-        end: _,
-    } = f
-    else {
-        return 0;
-    };
-    let n = records::count_records(table, rest);
-    if sizes::size_met(table, d, n, &mut *scratch) {} else {
+    if sizes::size_met(table, d, count, &mut *scratch) {} else {
         return 14;
     }
     0
 }
 
-// The number of the first of questions 8 to 14 that a set fails, else 0: d is its descriptor, rest the file behind that.
+// The number of the first of questions 8 to 14 that a set fails, else 0: d is its descriptor, part the bytes of its records.
 pub fn judge_set(
     table: &[u8; 256],
     d: &[u8],
-    rest: &[u8],
+    part: &[u8],
     scratch: &mut [u8],
-    other: &mut [u8],
     entries: &mut [u32],
 ) -> u32
     requires { ⌜ now table ≡ classTable ⌝ }
     requires { ⌜ IsRules (now d) × (length (now d) ≤ fileBytes) ⌝ }
-    requires { ⌜ (isReadable (now rest) ≡ true) × (length (now rest) ≤ fileBytes) × AllFit (membersIn (now rest)) ⌝ }
-    requires { ⌜ (valueBytes ≤ length (now scratch)) × (valueBytes ≤ length (now other)) × (16384 ≤ length (now entries)) ⌝ }
-    ensures { λ n. ⌜ n ≡ setNo intBounds (ruled (recordIn (now (d .entry))) (membersIn (now (rest .entry)))) ⌝ }
+    requires { ⌜ (isReadable (now part) ≡ true) × (length (now part) ≤ fileBytes) × AllFit (records (readOf (now part))) ⌝ }
+    requires { ⌜ (valueBytes ≤ length (now scratch)) × (16384 ≤ length (now entries)) ⌝ }
+    ensures { λ n. ⌜ n ≡ setNo intBounds (ruled (recordIn (now (d .entry))) (records (readOf (now (part .entry))))) ⌝ }
 {
-    let mut at = [0u32; 257];
-    let mut end = [0u32; 257];
-    let mut list = [0u8; 257];
-    let count = lists::read_lists(table, d, &mut at, &mut end, &mut list);
-    let m = judge_members(table, d, &at, &end, &list, count, rest);
-    if m.number != 0 {
-        return m.number;
+    let a = judge_members(table, d, part, &mut *scratch, &mut *entries);
+    if a.number != 0 {
+        return a.number;
     }
-    if all_typed(table, d, &rest[..m.end], &mut *scratch, &mut *other) {} else {
-        return 12;
-    }
-    judge_whole(
-        table,
-        d,
-        &at,
-        &end,
-        &list,
-        count,
-        rest,
-        &mut *scratch,
-        &mut *entries,
-    )
+    judge_whole(table, d, a.count, part, &mut *scratch, &mut *entries)
 }

@@ -1,7 +1,2 @@
--- Laws of the keys of a set's members.
-pub mod KeyWords
-pub mod Firsts
-pub mod Following
+-- Laws of the keys of a set.
 pub mod Gathering
-pub mod Asked
-pub mod Room

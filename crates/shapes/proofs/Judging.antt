@@ -1,10 +1,7 @@
--- When a descriptor is well formed; and question 6 as a walk that keeps the names it has met: each new descriptor is well formed and called like none before it.
-use Prim.Native.Nat.{_≤_}
-use native.Mathlib.Omega.{arith}
+-- When a descriptor is well formed; and question 6 as a walk over the descriptors that keeps the names it has met: each is well formed and called like none before it.
 use mathlib.Core.Path.{_≡_, refl, sym, ap, _∙_}
 use mathlib.Core.Bool.{Bool, true, false, _&&_, _||_, not, and-eq-true-iff}
 use mathlib.Core.List.{List, [], _∷_, _++_, map}
-use borrow.Author.Tests.{leb-true}
 use lib.Dec.{leb}
 use lib.ListN.{length}
 use Rattle.format.specs.Bytes.{Bytes, text, pick, all, same, among}
@@ -17,6 +14,7 @@ use Rattle.format.specs.Sets.{valuesOf}
 use Rattle.format.proofs.Elements.{all-alike, all-both}
 use Rattle.format.proofs.Listing.{same-swap}
 use Rattle.format.proofs.Walking.{isHead, headName, heads, headNames, walkFits, walkWell}
+use Rattle.records.proofs.Rows.{heads-asked}
 use Rattle.shapes.specs.Names.{passes}
 
 -- does a name occur at most once
@@ -100,69 +98,45 @@ none-seen : (ns : List Bytes) → all (isNew []) ns ≡ true
 none-seen [] = refl
 none-seen (n ∷ ns) = none-seen ns
 
--- a walk that has seen some names
-abbrev pub isWell : Record → Bool
-isWell r = not (isHead r) || isWellFormed intBounds r
-
+-- descriptors behind some names that were seen
 abbrev pub wellFrom : List Bytes → List Record → Bool
-wellFrom seen rs = all isWell rs && newNames seen (headNames rs)
+wellFrom seen hs = all (isWellFormed intBounds) hs && newNames seen (map headName hs)
 
-pub well-start : (rs : List Record) → walkWell intBounds rs ≡ wellFrom [] rs
-well-start rs = ap (λ (b : Bool). all isWell rs && (b && distinct (headNames rs))) (sym (none-seen (headNames rs)))
+pub well-start : (rs : List Record) → walkWell intBounds rs ≡ wellFrom [] (heads rs)
+well-start rs = (λ i. heads-asked (isWellFormed intBounds) rs i && (sym (none-seen (headNames rs)) i && distinct (headNames rs)))
 
-module _ (seen : List Bytes) (qs : List Record) (r : Record) (rs : List Record) (e : qs ≡ r ∷ rs) where
-  -- a member adds nothing
-  pub well-member : isHead r ≡ false → wellFrom seen qs ≡ wellFrom seen rs
-  well-member h =
-      ap (wellFrom seen) e
-      ∙ ap (λ (b : Bool). ((not b || isWellFormed intBounds r) && all isWell rs) && newNames seen (map headName (pick b (r ∷ heads rs) (heads rs)))) h
+judged-by : (a b c d : Bool) → ((a && b) && (c && d)) ≡ ((a && c) && (b && d))
+judged-by true true c d = refl
+judged-by true false true d = refl
+judged-by true false false d = refl
+judged-by false b c d = refl
 
-  judged-by : (a b c d : Bool) → ((a && b) && (c && d)) ≡ ((a && c) && (b && d))
-  judged-by true true c d = refl
-  judged-by true false true d = refl
-  judged-by true false false d = refl
-  judged-by false b c d = refl
+-- a descriptor passes, or all ends
+module _ (seen : List Bytes) (r : Record) (hs : List Record) where
+  head-on : wellFrom seen (r ∷ hs) ≡ (passes r seen && wellFrom (seen ++ (headName r ∷ [])) hs)
+  head-on =
+      ap (λ (b : Bool). (isWellFormed intBounds r && all (isWellFormed intBounds) hs) && b) (new-more seen (headName r) (map headName hs))
+      ∙ judged-by (isWellFormed intBounds r) (all (isWellFormed intBounds) hs) (isNew seen (headName r)) (newNames (seen ++ (headName r ∷ [])) (map headName hs))
 
-  head-on : isHead r ≡ true → wellFrom seen qs ≡ (passes r seen && wellFrom (seen ++ (headName r ∷ [])) rs)
-  head-on h =
-      ap (wellFrom seen) e
-      ∙ ap (λ (b : Bool). ((not b || isWellFormed intBounds r) && all isWell rs) && newNames seen (map headName (pick b (r ∷ heads rs) (heads rs)))) h
-      ∙ ap (λ (b : Bool). (isWellFormed intBounds r && all isWell rs) && b) (new-more seen (headName r) (headNames rs))
-      ∙ judged-by (isWellFormed intBounds r) (all isWell rs) (isNew seen (headName r)) (newNames (seen ++ (headName r ∷ [])) (headNames rs))
+  pub well-stop : passes r seen ≡ false → wellFrom seen (r ∷ hs) ≡ false
+  well-stop p = head-on ∙ ap (λ (b : Bool). b && wellFrom (seen ++ (headName r ∷ [])) hs) p
 
-  -- a descriptor passes, or the walk ends
-  pub well-stop : isHead r ≡ true → passes r seen ≡ false → wellFrom seen qs ≡ false
-  well-stop h p = head-on h ∙ ap (λ (b : Bool). b && wellFrom (seen ++ (headName r ∷ [])) rs) p
+  pub well-more : (n : Bytes) → passes r seen ≡ true → n ≡ headName r → wellFrom seen (r ∷ hs) ≡ wellFrom (seen ++ (n ∷ [])) hs
+  well-more n p q = head-on ∙ ap (λ (b : Bool). b && wellFrom (seen ++ (headName r ∷ [])) hs) p ∙ ap (λ (x : Bytes). wellFrom (seen ++ (x ∷ [])) hs) (sym q)
 
-  pub well-more : (n : Bytes) → isHead r ≡ true → passes r seen ≡ true → n ≡ headName r → wellFrom seen qs ≡ wellFrom (seen ++ (n ∷ [])) rs
-  well-more n h p q = head-on h ∙ ap (λ (b : Bool). b && wellFrom (seen ++ (headName r ∷ [])) rs) p ∙ ap (λ (x : Bytes). wellFrom (seen ++ (x ∷ [])) rs) (sym q)
+-- the limits of descriptors
+fit-by : (b : Bool) (r : Record) (hs : List Record) → fitsRecord r ≡ true → all fitsRecord hs ≡ true → all fitsRecord (pick b (r ∷ hs) hs) ≡ true
+fit-by true r hs e f = and-eq-true-iff (fitsRecord r) (all fitsRecord hs) .1 (e, f)
+fit-by false r hs e f = f
 
--- the limits: each record fits, and so many descriptors are left
-
-abbrev pub isFitting : Record → Bool
+abbrev isFitting : Record → Bool
 isFitting r = fitsRecord r && (not (isHead r) || fitsRules r)
 
-pub fitting-record : (r : Record) → isFitting r ≡ true → fitsRecord r ≡ true
-fitting-record r e = and-eq-true-iff (fitsRecord r) (not (isHead r) || fitsRules r) .0 e .0
+heads-fit : (rs : List Record) → all isFitting rs ≡ true → all fitsRecord (heads rs) ≡ true
+heads-fit [] e = refl
+heads-fit (r ∷ rs) e =
+    let h = and-eq-true-iff (isFitting r) (all isFitting rs) .0 e in
+    fit-by (isHead r) r (heads rs) (and-eq-true-iff (fitsRecord r) (not (isHead r) || fitsRules r) .0 (h .0) .0) (heads-fit rs (h .1))
 
-pub walk-fitting : (rs : List Record) → walkFits rs ≡ true → (all isFitting rs ≡ true) × (length (heads rs) ≤ descriptors)
-walk-fitting rs e =
-    let h = and-eq-true-iff (all isFitting rs) (leb (length (heads rs)) descriptors) .0 e in
-    (h .0, leb-true (length (heads rs)) descriptors (h .1))
-
--- no descriptor is left
-
-none-by : (p : Record → Bool) (b : Bool) (r : Record) (rs : List Record) → length (pick b (r ∷ heads rs) (heads rs)) ≡ 0 → (length (heads rs) ≡ 0 → all (λ (x : Record). not (isHead x) || p x) rs ≡ true) → ((not b || p r) && all (λ (x : Record). not (isHead x) || p x) rs) ≡ true
-none-by p true r rs e h = absurd (omega (arith, e))
-none-by p false r rs e h = h e
-
-pub none-asked : (p : Record → Bool) (rs : List Record) → length (heads rs) ≡ 0 → all (λ (r : Record). not (isHead r) || p r) rs ≡ true
-none-asked p [] e = refl
-none-asked p (r ∷ rs) e = none-by p (isHead r) r rs e (none-asked p rs)
-
-none-named : (hs : List Record) → length hs ≡ 0 → map headName hs ≡ []
-none-named [] e = refl
-none-named (h ∷ hs) e = absurd (omega (arith, e))
-
-pub well-none : (seen : List Bytes) (rs : List Record) → length (heads rs) ≡ 0 → wellFrom seen rs ≡ true
-well-none seen rs e = λ i. none-asked (isWellFormed intBounds) rs e i && newNames seen (none-named (heads rs) e i)
+pub walk-fit : (rs : List Record) → walkFits rs ≡ true → all fitsRecord (heads rs) ≡ true
+walk-fit rs e = heads-fit rs (and-eq-true-iff (all isFitting rs) (leb (length (heads rs)) descriptors) .0 e .0)

@@ -8,23 +8,23 @@ ghost use Rattle.format.specs.Pieces.{readOf};
 ghost use Rattle.format.proofs.Records.{records};
 ghost use Rattle.format.specs.Bytes.{classTable, all, among};
 ghost use Rattle.format.specs.Lines.{isName, isSpecial};
-ghost use Rattle.format.specs.Limits.{valueBytes};
+ghost use Rattle.format.specs.Limits.{valueBytes, descriptors};
 ghost use Rattle.format.specs.Numbers.{intBounds};
 ghost use Rattle.format.specs.Records.{fieldsOf};
 ghost use Rattle.format.specs.Rules.{one, several, isShaped, isWellFormed};
 ghost use Rattle.format.specs.Sets.{valuesOf};
 ghost use Rattle.format.specs.Questions.{fitsRecord};
 ghost use Rattle.format.specs.Words.{words, firstWord, isTypeName};
-ghost use Rattle.format.proofs.Walking.{heads, walkFits, walkWell};
+ghost use Rattle.format.proofs.Walking.{walkFits, walkWell};
 ghost use Rattle.lines.specs.Value.{valueFrom};
 ghost use Rattle.records.specs.Places.{isReadable};
+ghost use Rattle.records.specs.Heads.{HeadParts};
 ghost use Rattle.words.specs.Spans.{span};
 ghost use Rattle.sizes.specs.Sizes.{fieldOf};
 ghost use Rattle.shapes.specs.Contents.{OnlyWord, holds, Asks};
 ghost use Rattle.shapes.specs.Names.{namesAt, Inside, NamedBy, Told};
 use records::FoundField;
 use records::NextField;
-use records::NextRecord;
 use words::Span;
 use words::Word;
 
@@ -329,42 +329,34 @@ fn head_of(
     }
 }
 
-// Question 6: are all descriptors well formed, and no two sets called alike? count of them, at most 64, stand in s; the walk ends behind the last.
-pub fn described_well(table: &[u8; 256], s: &[u8], count: usize, scratch: &mut [u8]) -> bool
+// Question 6: are all descriptors well formed, and no two sets called alike? count of them stand in s, from each start to the end beside it.
+pub fn described_well(
+    table: &[u8; 256],
+    s: &[u8],
+    starts: &[usize],
+    ends: &[usize],
+    count: usize,
+    scratch: &mut [u8],
+) -> bool
     requires { ⌜ now table ≡ classTable ⌝ }
-    requires { ⌜ isReadable (now s) ≡ true ⌝ }
+    requires { ⌜ HeadParts (now s) (now starts) (now ends) count × (count ≤ descriptors) ⌝ }
     requires { ⌜ walkFits (records (readOf (now s))) ≡ true ⌝ }
-    requires { ⌜ count ≡ length (heads (records (readOf (now s)))) ⌝ }
     requires { ⌜ valueBytes ≤ length (now scratch) ⌝ }
     ensures { λ r. ⌜ (r ≡ walkWell intBounds (records (readOf (now (s .entry))))) × (length (now (scratch .exit)) ≡ length (now (scratch .entry))) ⌝ }
 {
-    let mut starts = [0usize; 64];
-    let mut ends = [0usize; 64];
+    let mut from = [0usize; 64];
+    let mut to = [0usize; 64];
     let mut n = 0;
-    let mut i = 0;
     while n < count {
-        let r = records::next_record(table, &s[i..]);
-        let NextRecord::At(p) = r else {
-            return true;
+        let a = starts[n];
+        let e = ends[n];
+        let h = head_of(table, s, a, e, &from[..n], &to[..n], scratch);
+        let Head::Named { start, end } = h else {
+            return false;
         };
-        if p.descriptor {
-            let h = head_of(
-                table,
-                s,
-                i + p.start,
-                i + p.end,
-                &starts[..n],
-                &ends[..n],
-                scratch,
-            );
-            let Head::Named { start, end } = h else {
-                return false;
-            };
-            starts[n] = start;
-            ends[n] = end;
-            n += 1;
-        }
-        i += p.after;
+        from[n] = start;
+        to[n] = end;
+        n += 1;
     }
     true
 }

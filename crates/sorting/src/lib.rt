@@ -213,16 +213,57 @@ fn sort_part(s: &[u8], entries: &mut [u32], words: bool, lo: usize, hi: usize)
     }
 }
 
-// The bucket that an entry goes to, by its uppermost byte.
-fn bucket(x: u32) -> usize
-    ensures { λ r. ⌜ r < 256 ⌝ }
+// The entry at i sinks among those from lo on: it changes places with its left neighbour while it is before that.
+fn insert(s: &[u8], entries: &mut [u32], words: bool, lo: usize, i: usize)
+    requires { ⌜ i < length (now entries) ⌝ }
+    ensures { λ _. ⌜ Moved (now (entries .entry)) (now (entries .exit)) ⌝ }
 {
-    wide(x / 16777216)
+    let mut at = i;
+    while lo < at {
+        let left = at - 1;
+        if is_before(s, entries[at], entries[left], words) {
+            swap(&mut *entries, at, left);
+            at = left;
+        } else {
+            return;
+        }
+    }
+}
+
+// Insertion sort of the entries from lo to hi.
+fn sort_few(s: &[u8], entries: &mut [u32], words: bool, lo: usize, hi: usize)
+    requires { ⌜ hi ≤ length (now entries) ⌝ }
+    ensures { λ _. ⌜ Moved (now (entries .entry)) (now (entries .exit)) ⌝ }
+{
+    let mut i = lo;
+    while i < hi {
+        insert(s, &mut *entries, words, lo, i);
+        i += 1;
+    }
+}
+
+// The entries from lo to hi are sorted: by insertion, which is quicker, where there are few.
+fn sort_bucket(s: &[u8], entries: &mut [u32], words: bool, lo: usize, hi: usize)
+    requires { ⌜ (lo ≤ hi) × (hi ≤ length (now entries)) ⌝ }
+    ensures { λ _. ⌜ Moved (now (entries .entry)) (now (entries .exit)) ⌝ }
+{
+    if hi - lo <= 48 {
+        sort_few(s, &mut *entries, words, lo, hi);
+    } else {
+        sort_part(s, &mut *entries, words, lo, hi);
+    }
+}
+
+// The bucket that an entry goes to, by its upper ten bits.
+fn bucket(x: u32) -> usize
+    ensures { λ r. ⌜ r < 1024 ⌝ }
+{
+    wide(x / 4194304)
 }
 
 // The entries of each bucket are counted.
 fn count_buckets(entries: &[u32], counts: &mut [u32])
-    requires { ⌜ 256 ≤ length (now counts) ⌝ }
+    requires { ⌜ 1024 ≤ length (now counts) ⌝ }
 {
     let mut i = 0;
     while i < entries.len() {
@@ -246,7 +287,7 @@ fn sum_counts(counts: &mut [u32]) {
 
 // The entry at i changes places with the one where its bucket goes on; false where there is no such place.
 fn settle(entries: &mut [u32], next: &mut [u32], i: usize) -> bool
-    requires { ⌜ 256 ≤ length (now next) ⌝ }
+    requires { ⌜ 1024 ≤ length (now next) ⌝ }
     ensures { λ _. ⌜ Moved (now (entries .entry)) (now (entries .exit)) ⌝ }
 {
     if entries.len() <= i {
@@ -264,7 +305,7 @@ fn settle(entries: &mut [u32], next: &mut [u32], i: usize) -> bool
 
 // Entries are settled until bucket b goes on at e.
 fn fill_bucket(entries: &mut [u32], next: &mut [u32], b: usize, e: usize)
-    requires { ⌜ (256 ≤ length (now next)) × (b < 256) ⌝ }
+    requires { ⌜ (1024 ≤ length (now next)) × (b < 1024) ⌝ }
     ensures { λ _. ⌜ Moved (now (entries .entry)) (now (entries .exit)) ⌝ }
 {
     let mut left = entries.len();
@@ -282,11 +323,11 @@ fn fill_bucket(entries: &mut [u32], next: &mut [u32], b: usize, e: usize)
 
 // Every entry is moved into its bucket.
 fn fill_buckets(entries: &mut [u32], starts: &[u32], next: &mut [u32])
-    requires { ⌜ (257 ≤ length (now starts)) × (256 ≤ length (now next)) ⌝ }
+    requires { ⌜ (1025 ≤ length (now starts)) × (1024 ≤ length (now next)) ⌝ }
     ensures { λ _. ⌜ Moved (now (entries .entry)) (now (entries .exit)) ⌝ }
 {
     let mut b = 0;
-    while b < 256 {
+    while b < 1024 {
         let e = wide(starts[b + 1]);
         fill_bucket(&mut *entries, &mut *next, b, e);
         b += 1;
@@ -295,30 +336,42 @@ fn fill_buckets(entries: &mut [u32], starts: &[u32], next: &mut [u32])
 
 // Each bucket is sorted.
 fn sort_buckets(s: &[u8], entries: &mut [u32], words: bool, starts: &[u32])
-    requires { ⌜ 257 ≤ length (now starts) ⌝ }
+    requires { ⌜ 1025 ≤ length (now starts) ⌝ }
     ensures { λ _. ⌜ Moved (now (entries .entry)) (now (entries .exit)) ⌝ }
 {
     let mut b = 0;
-    while b < 256 {
+    while b < 1024 {
         let lo = wide(starts[b]);
         b += 1;
         let hi = wide(starts[b]);
         if hi <= entries.len() {
             if lo < hi {
-                sort_part(s, &mut *entries, words, lo, hi);
+                sort_bucket(s, &mut *entries, words, lo, hi);
             }
         }
     }
 }
 
-// Entries go into buckets by their uppermost byte, and each bucket is sorted: about linear time where those are spread, and no file makes it quadratic.
-pub fn sort(s: &[u8], entries: &mut [u32], words: bool)
+// Entries go into buckets by their upper ten bits, and each bucket is sorted: about linear time where those are spread, and no file makes it quadratic.
+fn sort_many(s: &[u8], entries: &mut [u32], words: bool)
     ensures { λ _. ⌜ Moved (now (entries .entry)) (now (entries .exit)) ⌝ }
 {
-    let mut starts = [0u32; 257];
+    let mut starts = [0u32; 1025];
     count_buckets(&*entries, &mut starts);
     sum_counts(&mut starts);
     let mut next = starts;
     fill_buckets(&mut *entries, &starts, &mut next);
     sort_buckets(s, &mut *entries, words, &starts);
+}
+
+// Entries are sorted. Few are one bucket.
+pub fn sort(s: &[u8], entries: &mut [u32], words: bool)
+    ensures { λ _. ⌜ Moved (now (entries .entry)) (now (entries .exit)) ⌝ }
+{
+    let n = entries.len();
+    if n <= 48 {
+        sort_few(s, &mut *entries, words, 0, n);
+    } else {
+        sort_many(s, &mut *entries, words);
+    }
 }

@@ -3,3 +3,4 @@ pub mod Sets
 pub mod Numbers
 pub mod Fields
 pub mod Asking
+pub mod Leasts

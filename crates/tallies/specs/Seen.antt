@@ -12,12 +12,12 @@ use Rattle.wordsets.specs.Numbered.{IsWords, Places}
 use Rattle.tallies.specs.declared.Tables.{Tables}
 use Rattle.tallies.specs.declared.Seen.{Seen}
 
--- the tables of a descriptor, in three arrays
-pub record IsTables (d : Bytes) (names needed single : List ℕ) (t : Tables) : Type 0 where
+-- the tables of a descriptor, in three arrays, and two of the sets of words
+pub record IsTables (d : Bytes) (names needed needsets single singlesets : List ℕ) (t : Tables) : Type 0 where
   pub described : Described d
   pub dictionary : IsDictionary d (t .from) names (t .names)
-  pub needed-are : IsWords d (mandatory (recordIn d)) needed (t .mandatory)
-  pub single-are : IsWords d (unique (recordIn d)) single (t .unique)
+  pub needed-are : IsWords d (mandatory (recordIn d)) needed needsets (t .mandatory)
+  pub single-are : IsWords d (unique (recordIn d)) single singlesets (t .unique)
 
 -- what is known of a name, by the rules
 pub record Stands (rules : Record) (from next : ℕ) (name : Bytes) (x : Seen) : Type 0 where

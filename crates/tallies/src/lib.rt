@@ -1,13 +1,14 @@
 // What a record has of the names that a descriptor lists, field by field, as a few numbers: questions 8 to 11.
 ghost use mathlib.Core.Path.{_≡_};
-ghost use Prim.Native.Nat.{_≤_};
+ghost use Prim.Native.Nat.{_+_, _≤_, min};
 ghost use mathlib.Core.List.{List};
 ghost use lib.ListN.{length};
-ghost use Rattle.format.specs.Bytes.{Bytes, among};
+ghost use Rattle.format.specs.Bytes.{Bytes, pick, among};
+ghost use Rattle.format.proofs.Least.{least};
 ghost use Rattle.words.specs.Spans.{span};
 ghost use Rattle.records.specs.Walk.{recordIn};
 ghost use Rattle.terms.specs.Sets.{inSet};
-ghost use Rattle.terms.specs.Order.{IsTable};
+ghost use Rattle.terms.specs.Joined.{IsJoined};
 ghost use Rattle.wordsets.specs.Numbered.{IsWords, Places};
 ghost use Rattle.tallies.specs.Tallies.{hasAll, empty, counted, tallyNo};
 ghost use Rattle.tallies.specs.Seen.{IsTables, SeenAt};
@@ -39,6 +40,16 @@ pub fn start() -> Tally
     }
 }
 
+// One more or none, up to 2.
+fn bump(n: u8, hit: bool) -> u8
+    ensures { λ r. ⌜ r ≡ min 2 (n + pick hit 1 0) ⌝ }
+{
+    if 1 < n {
+        return 2;
+    }
+    if hit { n + 1 } else { n }
+}
+
 // One field more, by what the dictionary knows of its name (tags 33, 34 and 36: prohibited, allowed, the key) and the places of that among the
 // mandatory and the unique words.
 pub fn count(t: Tally, known: u64, mandatory: u64, unique: u64) -> Tally
@@ -53,18 +64,18 @@ pub fn count(t: Tally, known: u64, mandatory: u64, unique: u64) -> Tally
         present: t.present | mandatory,
         once: t.once | unique,
         twice: t.twice | (t.once & unique),
-        keys: lists::bump(t.keys, key),
+        keys: bump(t.keys, key),
     }
 }
 
 // The places of a name among the words of a list: they are searched only if the name is one of them.
-fn places(d: &[u8], entries: &[u32], r: Words, listed: bool, name: &[u8]) -> u64
-    requires { ⌜ IsTable (now d) (now entries) (r .table) ⌝ }
-    ensures { λ x. ⌜ ((ws : List Bytes) → IsWords (now (d .entry)) ws (now (entries .entry)) r → listed ≡ among (now (name .entry)) ws → Places ws (now (name .entry)) x) ⌝ }
+fn places(d: &[u8], entries: &[u32], sets: &[u64], r: Words, listed: bool, name: &[u8]) -> u64
+    requires { ⌜ IsJoined (now d) (now entries) (now sets) (r .table) ⌝ }
+    ensures { λ x. ⌜ ((ws : List Bytes) → IsWords (now (d .entry)) ws (now (entries .entry)) (now (sets .entry)) r → listed ≡ among (now (name .entry)) ws → Places ws (now (name .entry)) x) ⌝ }
 {
     if listed {
         let t = r.table;
-        return terms::find(d, entries, t, name);
+        return terms::find_joined(d, entries, t, sets, name);
     }
     0
 }
@@ -86,25 +97,41 @@ pub struct Seen {
     pub unique: u64,
 }
 
-// A name is looked up in the tables of a descriptor.
+// A name is looked up in the tables of a descriptor: `needed` and `single` hold the mandatory and the unique words, `needsets` and `singlesets` their sets.
 pub fn look_up(
     d: &[u8],
     names: &[u32],
     needed: &[u32],
+    needsets: &[u64],
     single: &[u32],
+    singlesets: &[u64],
     t: Tables,
     s: &[u8],
     at: usize,
     end: usize,
 ) -> Seen
-    requires { ⌜ IsTables (now d) (now names) (now needed) (now single) t ⌝ }
+    requires { ⌜ IsTables (now d) (now names) (now needed) (now needsets) (now single) (now singlesets) t ⌝ }
     requires { ⌜ (at ≤ end) × (end ≤ length (now s)) ⌝ }
     ensures { λ r. ⌜ SeenAt (recordIn (now (d .entry))) (t .from) (t .names .next) (now (s .entry)) r × (r .at ≡ at) × (r .end ≡ end) ⌝ }
 {
     let r = t.names;
     let known = dictionary::look_up(d, t.from, names, r, &s[at..end]);
-    let m = places(d, needed, t.mandatory, terms::has(known, 32), &s[at..end]);
-    let u = places(d, single, t.unique, terms::has(known, 35), &s[at..end]);
+    let m = places(
+        d,
+        needed,
+        needsets,
+        t.mandatory,
+        terms::has(known, 32),
+        &s[at..end],
+    );
+    let u = places(
+        d,
+        single,
+        singlesets,
+        t.unique,
+        terms::has(known, 35),
+        &s[at..end],
+    );
     Seen {
         at,
         end,
@@ -119,14 +146,16 @@ pub fn recall(
     d: &[u8],
     names: &[u32],
     needed: &[u32],
+    needsets: &[u64],
     single: &[u32],
+    singlesets: &[u64],
     t: Tables,
     s: &[u8],
     at: usize,
     end: usize,
     before: Seen,
 ) -> Seen
-    requires { ⌜ IsTables (now d) (now names) (now needed) (now single) t ⌝ }
+    requires { ⌜ IsTables (now d) (now names) (now needed) (now needsets) (now single) (now singlesets) t ⌝ }
     requires { ⌜ (at ≤ end) × (end ≤ length (now s)) ⌝ }
     requires { ⌜ SeenAt (recordIn (now d)) (t .from) (t .names .next) (now s) before ⌝ }
     ensures { λ r. ⌜ SeenAt (recordIn (now (d .entry))) (t .from) (t .names .next) (now (s .entry)) r × (span (r .at) (r .end) (now (s .entry)) ≡ span at end (now (s .entry))) ⌝ }
@@ -136,7 +165,18 @@ pub fn recall(
     if lines::same_bytes(&s[a..e], &s[at..end]) {
         return before;
     }
-    look_up(d, names, needed, single, t, s, at, end)
+    look_up(
+        d,
+        names,
+        needed,
+        needsets,
+        single,
+        singlesets,
+        t,
+        s,
+        at,
+        end,
+    )
 }
 
 // Are the first n places all in a set?
@@ -179,4 +219,17 @@ pub fn number(t: Tally, limited: bool, keyed: bool, mandatory: usize) -> u32
         return 11;
     }
     0
+}
+
+// The lesser of two numbers of questions, 0 being none.
+pub fn lesser(a: u32, b: u32) -> u32
+    ensures { λ r. ⌜ r ≡ least a b ⌝ }
+{
+    if a == 0 {
+        return b;
+    }
+    if b == 0 {
+        return a;
+    }
+    if a < b { a } else { b }
 }

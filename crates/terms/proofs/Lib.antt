@@ -6,5 +6,6 @@ pub mod Order
 pub mod Moves
 pub mod Merging
 pub mod Search
+pub mod Joining
 pub mod Adding
 pub mod Tables

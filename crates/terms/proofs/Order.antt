@@ -40,6 +40,9 @@ lt-le a b c e n =
     by-compared (ranked b c) (λ q. subst (λ (z : Bytes). ranked a z ≡ Compared.Before) (ranked-same b c q) e) (λ q. ranked-trans a b c e q)
     (λ q. absurd (n (ranked-behind b c q)))
 
+pub le-apart : (a b : Bytes) → NotBehind a b → (a ≡ b → ⊥) → ranked a b ≡ Compared.Before
+le-apart a b n d = by-compared (ranked a b) (λ q. absurd (d (ranked-same a b q))) (λ q. q) (λ q. absurd (n (ranked-behind a b q)))
+
 pub le-trans : (a b c : Bytes) → NotBehind a b → NotBehind b c → NotBehind a c
 le-trans a b c m n e = n (lt-le c a b e m)
 

@@ -21,6 +21,10 @@ module _ (s : Bytes) (l : List ℕ) (w : Bytes) where
   abbrev W : ℕ → Bytes
   W q = wordAt s (getD l q 0)
 
+  -- the tag of an entry whose word is w
+  pub tag-said : (i k b : ℕ) → W i ≡ w → b ≡ 2 ^ tagOf (getD l i 0) → inSet k b ≡ says w k (termAt s (getD l i 0))
+  tag-said i k b e c = ap (inSet k) c ∙ in-single (tagOf (getD l i 0)) k ∙ sym (says-hit w k (termAt s (getD l i 0)) e)
+
   -- the tags of w are those in the set x and those that entries from i on have
   abbrev pub Left : ℕ → ℕ → Type 0
   Left x i = (k : ℕ) → inSet k x || some w k s (drop i l) ≡ some w k s l
@@ -33,8 +37,7 @@ module _ (s : Bytes) (l : List ℕ) (w : Bytes) where
     left-hit e b c k =
         let t = termAt s (getD l i 0) in
         let z : Bool = some w k s (drop (i + 1) l) in
-        let q : inSet k b ≡ says w k t = ap (inSet k) c ∙ in-single (tagOf (getD l i 0)) k ∙ sym (says-hit w k t (ranked-same (W i) w e)) in
-        ap (λ (y : Bool). y || z) (in-or k x b ∙ ap (λ (y : Bool). inSet k x || y) q)
+        ap (λ (y : Bool). y || z) (in-or k x b ∙ ap (λ (y : Bool). inSet k x || y) (tag-said i k b (ranked-same (W i) w e) c))
         ∙ or-assoc (inSet k x) (says w k t) z
         ∙ ap (λ (y : Bool). inSet k x || y) (sym (some-at w k s l i h))
         ∙ f k
@@ -63,7 +66,7 @@ module _ (s : Bytes) (l : List ℕ) (w : Bytes) where
   left-all = left-low 0 (omega arith) (λ q h. absurd (omega arith))
 
   module _ (r : Rising s (length l) l) where
-    rises : (j : ℕ) → j < length l → (i : ℕ) → i ≤ j → NotBehind (W i) (W j)
+    pub rises : (j : ℕ) → j < length l → (i : ℕ) → i ≤ j → NotBehind (W i) (W j)
     rises zero g i k = let e : 0 ≡ i = omega arith in subst (λ (p : ℕ). NotBehind (W p) (W 0)) e (le-same (W 0))
     rises (suc j) g i k =
         let one : suc j - 1 ≡ j = omega arith in
@@ -76,14 +79,19 @@ module _ (s : Bytes) (l : List ℕ) (w : Bytes) where
     low-up mid g e q k = le-lt (W q) (W mid) w (rises mid g q (omega arith)) e
 
     -- where one comes behind w, so does all behind it
-    pub left-stop : (x i : ℕ) → Left x i → ranked (W i) w ≡ Compared.Behind → Answers w (termsOf s l) x
-    left-stop x i f e k =
+    pub none-behind : (k i : ℕ) → ranked w (W i) ≡ Compared.Before → some w k s (drop i l) ≡ false
+    none-behind k i e =
         let n = length-drop i l in
-        let none : some w k s (drop i l) ≡ false =
         some-none w k s (drop i l)
         (λ q b z.
-        ranked-apart w (W (i + q)) (lt-le w (W i) (W (i + q)) (ranked-behind (W i) w e) (rises (i + q) (omega arith) i (omega arith))) (z ∙ ap (wordAt s) (getD-drop i l q 0))) in
-        sym (or-none (inSet k x)) ∙ ap (λ (y : Bool). inSet k x || y) (sym none) ∙ f k
+        ranked-apart w (W (i + q)) (lt-le w (W i) (W (i + q)) e (rises (i + q) (omega arith) i (omega arith))) (z ∙ ap (wordAt s) (getD-drop i l q 0)))
+
+    pub left-stop : (x i : ℕ) → Left x i → ranked (W i) w ≡ Compared.Behind → Answers w (termsOf s l) x
+    left-stop x i f e k = sym (or-none (inSet k x)) ∙ ap (λ (y : Bool). inSet k x || y) (sym (none-behind k i (ranked-behind (W i) w e))) ∙ f k
+
+-- of no entries no tag is found
+pub none-found : (s w : Bytes) (l : List ℕ) (n : ℕ) → n ≡ 0 → Answers w (termsOf s (take n l)) 0
+none-found s w l n e k = rw e (in-none k)
 
 -- the first entries by themselves
 pub rising-front : (s : Bytes) (l : List ℕ) (n : ℕ) → n ≤ length l → Rising s n l → Rising s (length (take n l)) (take n l)

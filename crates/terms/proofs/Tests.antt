@@ -2,7 +2,7 @@
 use Prim.Native.Nat.{ℕ, suc, _+_, _<_, suc-le-suc}
 use native.Mathlib.Nat.{zero-lt-suc}
 use mathlib.Core.Path.{_≡_, refl, sym, ap, ap₂, _∙_}
-use mathlib.Core.Bool.{Bool, true, false, _&&_, _||_}
+use mathlib.Core.Bool.{Bool, true, false, _&&_, _||_, false≢true}
 use mathlib.Core.List.{List, [], _∷_, _++_, map-append}
 use borrow.Author.Tests.{eq-eqb}
 use lib.Dec.{eqb}
@@ -26,6 +26,12 @@ pub same-self : (x : Bytes) → same x x ≡ true
 same-self [] = refl
 same-self (x ∷ s) = rw (eq-eqb x x refl) (same-self s)
 
+pub same-apart : (a b : Bytes) → (a ≡ b → ⊥) → same a b ≡ false
+same-apart a b n = by-bool (same a b) (λ e. absurd (n (same-true a b e))) (λ e. e)
+
+pub same-false : (a b : Bytes) → same a b ≡ false → a ≡ b → ⊥
+same-false a b e q = false≢true (sym e ∙ ap (same a) (sym q) ∙ same-self a)
+
 module _ (w : Bytes) (k : ℕ) where
   pub tagged-append : (a b : List Term) → tagged w k (a ++ b) ≡ tagged w k a || tagged w k b
   tagged-append [] b = refl
@@ -35,7 +41,7 @@ module _ (w : Bytes) (k : ℕ) where
   says-hit t e = ap (λ (v : Bytes). same w v && eqb k (t .tag)) e ∙ ap (λ (b : Bool). b && eqb k (t .tag)) (same-self w)
 
   pub says-miss : (t : Term) → (w ≡ t .word → ⊥) → says w k t ≡ false
-  says-miss t n = by-bool (same w (t .word)) (λ e. absurd (n (same-true w (t .word) e))) (λ e. ap (λ (b : Bool). b && eqb k (t .tag)) e)
+  says-miss t n = ap (λ (b : Bool). b && eqb k (t .tag)) (same-apart w (t .word) n)
 
   module _ (s : Bytes) where
     -- some entry says so

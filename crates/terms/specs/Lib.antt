@@ -2,4 +2,5 @@
 pub mod Sets
 pub mod Entries
 pub mod Order
+pub mod Joined
 pub mod Adding

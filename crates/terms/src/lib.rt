@@ -2,13 +2,15 @@
 // What is proved does not depend on the sort: a table that was not found to rise is searched from end to end.
 ghost use mathlib.Core.Path.{_≡_};
 ghost use mathlib.Core.Bool.{true};
-ghost use Prim.Native.Nat.{_<_, _≤_, _^_};
-ghost use lib.ListN.{length, take, drop};
+ghost use Prim.Native.Nat.{_+_, _<_, _≤_, _^_};
+ghost use lib.ListN.{length, getD, take, drop};
+ghost use Rattle.format.specs.Bytes.{same};
 ghost use Rattle.sorting.specs.Texts.{textAt, mixed};
 ghost use Rattle.sorting.specs.Order.{comparedOf};
 ghost use Rattle.terms.specs.Sets.{inSet, Answers};
 ghost use Rattle.terms.specs.Entries.{printOf, entryOf, tagOf, wordAt, termAt, termsOf, IsEntry, Entries, Kept};
-ghost use Rattle.terms.specs.Order.{ranked, Rising, Low, IsTable, Holds};
+ghost use Rattle.terms.specs.Order.{ranked, NotBehind, Rising, Low, IsTable, Holds};
+ghost use Rattle.terms.specs.Joined.{TagsFrom, Joined, IsJoined};
 use lines::Decoded;
 use sorting::Compared;
 
@@ -143,6 +145,19 @@ fn tag(x: u32) -> u64
     wide(x / 65536 % 64)
 }
 
+// Have two entries the same word?
+fn same_word(s: &[u8], x: u32, y: u32) -> bool
+    requires { ⌜ IsEntry (now s) x × IsEntry (now s) y ⌝ }
+    ensures { λ r. ⌜ r ≡ same (wordAt (now (s .entry)) x) (wordAt (now (s .entry)) y) ⌝ }
+{
+    let c = compare_entries(s, x, y);
+    match c {
+        Compared::Equal => true,
+        Compared::Before => false,
+        Compared::Behind => false,
+    }
+}
+
 // Have two entries the same word and the same tag?
 fn is_twin(s: &[u8], x: u32, y: u32) -> bool
     requires { ⌜ IsEntry (now s) x × IsEntry (now s) y ⌝ }
@@ -151,12 +166,7 @@ fn is_twin(s: &[u8], x: u32, y: u32) -> bool
     if tag(x) != tag(y) {
         return false;
     }
-    let c = compare_entries(s, x, y);
-    match c {
-        Compared::Equal => true,
-        Compared::Before => false,
-        Compared::Behind => false,
-    }
+    same_word(s, x, y)
 }
 
 // Of neighbours with the same word and tag one is left. How many are left.
@@ -253,7 +263,7 @@ fn find_all(s: &[u8], entries: &[u32], w: &[u8], print: u32) -> u64
 fn first_of(s: &[u8], entries: &[u32], w: &[u8], print: u32) -> usize
     requires { ⌜ Entries (now s) (length (now entries)) (now entries) ⌝ }
     requires { ⌜ (print ≡ printOf (now w)) × Rising (now s) (length (now entries)) (now entries) ⌝ }
-    ensures { λ r. ⌜ (r ≤ length (now (entries .entry))) × Low (now (s .entry)) (now (entries .entry)) (now (w .entry)) r ⌝ }
+    ensures { λ r. ⌜ (r ≤ length (now (entries .entry))) × Low (now (s .entry)) (now (entries .entry)) (now (w .entry)) r × (r < length (now (entries .entry)) → NotBehind (now (w .entry)) (wordAt (now (s .entry)) (getD (now (entries .entry)) r 0))) ⌝ }
 {
     let mut lo = 0;
     let mut hi = entries.len();
@@ -307,10 +317,92 @@ pub fn find(s: &[u8], entries: &[u32], t: Table, w: &[u8]) -> u64
     requires { ⌜ IsTable (now s) (now entries) t ⌝ }
     ensures { λ r. ⌜ Answers (now (w .entry)) (termsOf (now (s .entry)) (take (t .count) (now (entries .entry)))) r ⌝ }
 {
-    let print = word_print(w);
     let n = t.count;
+    if n == 0 {
+        return 0;
+    }
+    let print = word_print(w);
     if t.sorted {
         return find_sorted(s, &entries[..n], w, print);
+    }
+    find_all(s, &entries[..n], w, print)
+}
+
+// The tags that the word of entry i has from there on, by those that the word of the next has: in a table that rises equal words are neighbours.
+fn with_next(s: &[u8], entries: &[u32], i: usize, next: u64) -> u64
+    requires { ⌜ Entries (now s) (length (now entries)) (now entries) × Rising (now s) (length (now entries)) (now entries) ⌝ }
+    requires { ⌜ (i < length (now entries)) × TagsFrom (now s) (now entries) (i + 1) next ⌝ }
+    ensures { λ r. ⌜ TagsFrom (now (s .entry)) (now (entries .entry)) i r ⌝ }
+{
+    let x = entries[i];
+    let own = single(tag(x));
+    if i + 1 == entries.len() {
+        return own;
+    }
+    let y = entries[i + 1];
+    if same_word(s, x, y) {
+        return own | next;
+    }
+    own
+}
+
+// Such a set for every entry, from the last to the first.
+fn join_rising(s: &[u8], entries: &[u32], sets: &mut [u64])
+    requires { ⌜ Entries (now s) (length (now entries)) (now entries) × Rising (now s) (length (now entries)) (now entries) ⌝ }
+    requires { ⌜ length (now entries) ≤ length (now sets) ⌝ }
+    ensures { λ _. ⌜ Joined (now (s .entry)) (now (entries .entry)) (now (sets .exit)) ⌝ }
+{
+    let mut set = 0;
+    let mut i = entries.len();
+    while 0 < i {
+        i -= 1;
+        set = with_next(s, entries, i, set);
+        sets[i] = set;
+    }
+}
+
+// The sets of a table's words, in a lent array: the first entry of a word then has all its tags. A table that does not rise has none.
+pub fn join(s: &[u8], entries: &[u32], t: Table, sets: &mut [u64])
+    requires { ⌜ IsTable (now s) (now entries) t × (t .count ≤ length (now sets)) ⌝ }
+    ensures { λ _. ⌜ IsJoined (now (s .entry)) (now (entries .entry)) (now (sets .exit)) t ⌝ }
+{
+    if t.sorted {
+        let n = t.count;
+        join_rising(s, &entries[..n], &mut *sets);
+    }
+}
+
+// Where no word is behind the next: the set of the first entry whose word is w.
+fn find_first(s: &[u8], entries: &[u32], sets: &[u64], w: &[u8], print: u32) -> u64
+    requires { ⌜ Entries (now s) (length (now entries)) (now entries) ⌝ }
+    requires { ⌜ (print ≡ printOf (now w)) × Rising (now s) (length (now entries)) (now entries) ⌝ }
+    requires { ⌜ (length (now entries) ≤ length (now sets)) × Joined (now s) (now entries) (now sets) ⌝ }
+    ensures { λ r. ⌜ Answers (now (w .entry)) (termsOf (now (s .entry)) (now (entries .entry))) r ⌝ }
+{
+    let i = first_of(s, entries, w, print);
+    if i == entries.len() {
+        return 0;
+    }
+    let c = compare(s, entries[i], w, print);
+    match c {
+        Compared::Equal => sets[i],
+        Compared::Before => 0,
+        Compared::Behind => 0,
+    }
+}
+
+// The set of the tags that the word w has in a table with the sets of its words: its first entry answers for all.
+pub fn find_joined(s: &[u8], entries: &[u32], t: Table, sets: &[u64], w: &[u8]) -> u64
+    requires { ⌜ IsJoined (now s) (now entries) (now sets) t ⌝ }
+    ensures { λ r. ⌜ Answers (now (w .entry)) (termsOf (now (s .entry)) (take (t .count) (now (entries .entry)))) r ⌝ }
+{
+    let n = t.count;
+    if n == 0 {
+        return 0;
+    }
+    let print = word_print(w);
+    if t.sorted {
+        return find_first(s, &entries[..n], sets, w, print);
     }
     find_all(s, &entries[..n], w, print)
 }

@@ -48,5 +48,5 @@ module _ (w : Bytes) where
       (λ h. above k 0 ws (omega arith) ∙ sym (ap (λ (t : Bool). t && same w (getD ws k [])) (le-ltb k (length ws) h)))
 
 -- the tags that are found are the places
-pub places-found : (d : Bytes) (ws : List Bytes) (l : List ℕ) (r : Words) → IsWords d ws l r → (w : Bytes) (x : ℕ) → Answers w (termsOf d (take (r .table .count) l)) x → Places ws w x
-places-found d ws l r h w x q k = q k ∙ h .terms w k ∙ tagged-place w ws k
+pub places-found : (d : Bytes) (ws : List Bytes) (l sets : List ℕ) (r : Words) → IsWords d ws l sets r → (w : Bytes) (x : ℕ) → Answers w (termsOf d (take (r .table .count) l)) x → Places ws w x
+places-found d ws l sets r h w x q k = q k ∙ h .terms w k ∙ tagged-place w ws k

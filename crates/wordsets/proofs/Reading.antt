@@ -15,12 +15,13 @@ use Rattle.format.proofs.Lines.{all-append}
 use Rattle.lines.specs.Value.{valueFrom}
 use Rattle.records.specs.Places.{isReadable}
 use Rattle.records.specs.Walk.{recordIn}
-use Rattle.lists.specs.Tables.{Cuts}
+use Rattle.lists.specs.Words.{Cuts}
 use Rattle.lists.specs.declared.NextWord.{NextWord}
 use Rattle.typedefs.specs.Walks.{valuesFrom, ValueHere}
 use Rattle.terms.specs.Sets.{Term, termOf, tagged}
 use Rattle.terms.specs.Entries.{termsOf, Entries}
-use Rattle.terms.specs.Order.{Holds}
+use Rattle.terms.specs.Order.{IsTable, Holds}
+use Rattle.terms.specs.Joined.{IsJoined}
 use Rattle.terms.specs.Adding.{Adding}
 use Rattle.terms.specs.declared.Table.{Table}
 use Rattle.terms.proofs.Adding.{adding-start, adding-rest, adding-one, adding-many}
@@ -152,16 +153,23 @@ module _ (d name : Bytes) (l m : List ℕ) (n i : ℕ) (w : ListLeft d name l m 
 
 -- the table of all of them, at the front of the lent array
 module _ (d : Bytes) (ws : List Bytes) (l m : List ℕ) (n : ℕ) (few : length ws ≤ 64) (room : 64 ≤ length l) (a : Adding d l 0 (numbered 0 ws) [] m n) where
+  pub read-few : n ≤ 64
+  read-few = omega (arith, few, a .count, numbered-length 0 ws)
+
   pub read-room : n ≤ length m
-  read-room = omega (arith, few, room, a .count, a .long, numbered-length 0 ws)
+  read-room = omega (arith, read-few, room, a .long)
 
   pub read-entries : Entries d (length (take n m)) (take n m)
   read-entries = entries-front d m n read-room (a .entries (λ i h. absurd (omega arith)))
 
-  pub read-words : (p : List ℕ) (t : Table) → Holds d (take n m) p t → IsWords d ws (p ++ drop n m) (record { table = t; count = n })
-  read-words p t h = record {
-    few = few;
-    count = omega (arith, a .count, numbered-length 0 ws);
-    table = table-front d p (drop n m) t (h .table);
-    terms = λ w k. front-terms d (take n m) p (drop n m) t h w k ∙ ap (λ (ts : List Term). tagged w k ts) (sym (append-nil (termsOf d (take n m))) ∙ a .terms);
-  }
+  module _ (p : List ℕ) (t : Table) (h : Holds d (take n m) p t) where
+    pub read-table : IsTable d (p ++ drop n m) t
+    read-table = table-front d p (drop n m) t (h .table)
+
+    pub read-words : (sets : List ℕ) → IsJoined d (p ++ drop n m) sets t → IsWords d ws (p ++ drop n m) sets (record { table = t; count = n })
+    read-words sets j = record {
+      few = few;
+      count = omega (arith, a .count, numbered-length 0 ws);
+      table = j;
+      terms = λ w k. front-terms d (take n m) p (drop n m) t h w k ∙ ap (λ (ts : List Term). tagged w k ts) (sym (append-nil (termsOf d (take n m))) ∙ a .terms);
+    }

@@ -8,7 +8,7 @@ use lib.ListN.{length, getD, take}
 use Rattle.format.specs.Bytes.{Bytes, same}
 use Rattle.terms.specs.Sets.{Term, termOf, inSet, tagged}
 use Rattle.terms.specs.Entries.{termsOf}
-use Rattle.terms.specs.Order.{IsTable}
+use Rattle.terms.specs.Joined.{IsJoined}
 use Rattle.wordsets.specs.declared.Words.{Words}
 
 -- numbered from k on
@@ -16,11 +16,11 @@ abbrev pub numbered : ℕ → List Bytes → List Term
 numbered k [] = []
 numbered k (w ∷ ws) = termOf k w ∷ numbered (suc k) ws
 
--- a table of the words ws, at most 64
-pub record IsWords (d : Bytes) (ws : List Bytes) (l : List ℕ) (r : Words) : Type 0 where
+-- a table of the words ws, at most 64, with their sets
+pub record IsWords (d : Bytes) (ws : List Bytes) (l sets : List ℕ) (r : Words) : Type 0 where
   pub few : length ws ≤ 64
   pub count : r .count ≡ length ws
-  pub table : IsTable d l (r .table)
+  pub table : IsJoined d l sets (r .table)
   pub terms : (w : Bytes) (k : ℕ) → tagged w k (termsOf d (take (r .table .count) l)) ≡ tagged w k (numbered 0 ws)
 
 -- x is the set of the places at which w stands in ws

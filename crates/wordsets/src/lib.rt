@@ -63,15 +63,22 @@ pub struct Words {
     pub count: usize,
 }
 
-// The table of the words that the fields of a name list, in a lent array: `terms::find` tells the places at which a word stands in the list.
-pub fn read(table: &[u8; 256], d: &[u8], name: &[u8], entries: &mut [u32]) -> Words
+// The table of the words that the fields of a name list, and their sets, in lent arrays: `terms::find_joined` tells the places at which a word stands in the list.
+pub fn read(
+    table: &[u8; 256],
+    d: &[u8],
+    name: &[u8],
+    entries: &mut [u32],
+    sets: &mut [u64],
+) -> Words
     requires { ⌜ now table ≡ classTable ⌝ }
     requires { ⌜ (isReadable (now d) ≡ true) × (length (now d) ≤ 65536) ⌝ }
-    requires { ⌜ (length (listed (now name) (recordIn (now d))) ≤ 64) × (64 ≤ length (now entries)) ⌝ }
+    requires { ⌜ (length (listed (now name) (recordIn (now d))) ≤ 64) × (64 ≤ length (now entries)) × (64 ≤ length (now sets)) ⌝ }
     requires { ⌜ all isName (listed (now name) (recordIn (now d))) ≡ true ⌝ }
-    ensures { λ r. ⌜ IsWords (now (d .entry)) (listed (now (name .entry)) (recordIn (now (d .entry)))) (now (entries .exit)) r ⌝ }
+    ensures { λ r. ⌜ IsWords (now (d .entry)) (listed (now (name .entry)) (recordIn (now (d .entry)))) (now (entries .exit)) (now (sets .exit)) r ⌝ }
 {
     let n = add_list(table, d, name, &mut *entries);
     let t = terms::build(d, &mut entries[..n]);
+    terms::join(d, &*entries, t, &mut *sets);
     Words { table: t, count: n }
 }

@@ -3,7 +3,8 @@ use borrow.Author.Needs.{needs}
 use Prim.Native.Nat.{_-_}
 use native.Mathlib.Omega.{arith}
 use lib.ListN.{length}
-use Rattle.dictionary.proofs.Reading.{WordsLeft, cuts-told, words-start, words-end, words-room, words-more}
+use Rattle.lists.proofs.Splitting.{cuts-told}
+use Rattle.dictionary.proofs.Reading.{WordsLeft, words-start, words-end, words-room, words-more}
 use Rattle.dictionary.proofs.add_words.Statement.{statement}
 use Rattle.dictionary.proofs.add_words.Tie as tie
 use Rattle.dictionary.proofs.add_words.Reads as reads

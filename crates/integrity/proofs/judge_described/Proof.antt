@@ -1,4 +1,5 @@
 -- `integrity::judge_described` meets its contract, question by question.
+use borrow.Author.Needs.{needs}
 use native.Mathlib.Omega.{arith}
 use mathlib.Core.Path.{sym, _∙_}
 use Rattle.format.specs.Pieces.{readOf}
@@ -18,13 +19,14 @@ slice-aggregate-described-well c = search needs
 
 described-well-requires : tie.Need-described-well-requires
 described-well-requires c κs =
-    let at-pre = c .before .before .pre in
-    (at-pre .0, (at-pre .1 .0 .0, (at-pre .1 .1 .0 .0, (at-pre .1 .1 .1, omega arith))))
+    let at-pre = c .before .before .before .before .before .pre in
+    let at-args = c .before .before .before .before .before .args in
+    (at-pre .0, (((at-args .afters .now, at-pre .1 .1 .1 .0), at-pre .1 .1 .1 .1), (at-pre .1 .1 .0 .0, omega arith)))
 
 returns : tie.Need-returns
 returns c =
-    let at-args = c .before .before .before .before .before .args in
-    let at-pre = c .before .before .before .before .before .pre in
+    let at-args = c .before .before .before .before .before .before .before .before .args in
+    let at-pre = c .before .before .before .before .before .before .before .before .pre in
     let at-described-well = c .before .before .described-well in
     let at-if1 = c .if1 in
     well-no (records (readOf (at-args .s .now))) (at-pre .1 .1 .0 .0) (at-pre .1 .1 .0 .1) (sym (at-described-well .ensures .0) ∙ at-if1 .left)
@@ -34,14 +36,15 @@ slice-aggregate-types-defined c = search needs
 
 types-defined-requires : tie.Need-types-defined-requires
 types-defined-requires c κs =
-    let at-pre = c .before .before .before .before .before .before .pre in
+    let at-pre = c .before .before .before .before .before .before .before .before .before .pre in
+    let at-args = c .before .before .before .before .before .before .before .before .before .args in
     let at-described-well = c .before .before .before .described-well in
-    (at-pre .0, (at-pre .1 .0 .0, (at-pre .1 .1 .0 .0, (at-pre .1 .1 .1, omega (arith, at-described-well .ensures .1)))))
+    (at-pre .0, ((at-args .afters .now, at-pre .1 .1 .1 .0), (at-pre .1 .1 .0 .0, omega (arith, at-described-well .ensures .1))))
 
 returns-2 : tie.Need-returns-2
 returns-2 c =
-    let at-args = c .before .before .before .before .before .before .before .before .before .args in
-    let at-pre = c .before .before .before .before .before .before .before .before .before .pre in
+    let at-args = c .before .before .before .before .before .before .before .before .before .before .before .before .args in
+    let at-pre = c .before .before .before .before .before .before .before .before .before .before .before .before .pre in
     let at-described-well = c .before .before .before .before .before .before .described-well in
     let at-if1 = c .before .before .before .before .if1 in
     let at-types-defined = c .before .before .types-defined in
@@ -54,27 +57,24 @@ slice-aggregate-judge-sets c = search needs
 slice-aggregate-judge-sets-2 : tie.Need-slice-aggregate-judge-sets-2
 slice-aggregate-judge-sets-2 c = search needs
 
-slice-aggregate-judge-sets-3 : tie.Need-slice-aggregate-judge-sets-3
-slice-aggregate-judge-sets-3 c = search needs
-
 judge-sets-requires : tie.Need-judge-sets-requires
 judge-sets-requires c κs =
-    let at-pre = c .before .before .before .before .before .before .before .before .before .before .before .before .pre in
-    let at-described-well = c .before .before .before .before .before .before .before .before .before .described-well in
-    let at-if1 = c .before .before .before .before .before .before .before .if1 in
-    let at-types-defined = c .before .before .before .before .before .types-defined in
-    let at-if2 = c .before .before .before .if2 in
-    (at-pre .0, (at-pre .1 .0, (record { fit = at-pre .1 .1 .0 .0; well = sym (at-described-well .ensures .0) ∙ at-if1 .taken; types = sym (at-types-defined .ensures) ∙ at-if2 .taken }, (at-pre .1 .1 .1, (omega (arith, at-described-well .ensures .1), omega arith, omega arith)))))
+    let at-pre = c .before .before .before .before .before .before .before .before .before .before .before .before .before .before .pre in
+    let at-described-well = c .before .before .before .before .before .before .before .before .described-well in
+    let at-if1 = c .before .before .before .before .before .before .if1 in
+    let at-types-defined = c .before .before .before .before .types-defined in
+    let at-if2 = c .before .before .if2 in
+    (at-pre .0, (at-pre .1 .0, (record { fit = at-pre .1 .1 .0 .0; well = (sym (at-described-well .ensures .0) ∙ at-if1 .taken); types = sym (at-types-defined .ensures) ∙ at-if2 .taken }, (at-pre .1 .1 .1 .0, (omega (arith, at-described-well .ensures .1), omega arith)))))
 
 returns-3 : tie.Need-returns-3
 returns-3 c =
-    let at-judge-sets = c .before .before .before .judge-sets in
-    let at-args = c .before .before .before .before .before .before .before .before .before .before .before .before .before .before .before .before .args in
-    let at-pre = c .before .before .before .before .before .before .before .before .before .before .before .before .before .before .before .before .pre in
-    let at-described-well = c .before .before .before .before .before .before .before .before .before .before .before .before .before .described-well in
-    let at-if1 = c .before .before .before .before .before .before .before .before .before .before .before .if1 in
-    let at-types-defined = c .before .before .before .before .before .before .before .before .before .types-defined in
-    let at-if2 = c .before .before .before .before .before .before .before .if2 in
+    let at-judge-sets = c .before .before .judge-sets in
+    let at-args = c .before .before .before .before .before .before .before .before .before .before .before .before .before .before .before .before .before .args in
+    let at-pre = c .before .before .before .before .before .before .before .before .before .before .before .before .before .before .before .before .before .pre in
+    let at-described-well = c .before .before .before .before .before .before .before .before .before .before .before .described-well in
+    let at-if1 = c .before .before .before .before .before .before .before .before .before .if1 in
+    let at-types-defined = c .before .before .before .before .before .before .before .types-defined in
+    let at-if2 = c .before .before .before .before .before .if2 in
     at-judge-sets .ensures ∙ sets-no (records (readOf (at-args .s .now))) (at-pre .1 .1 .0 .0) (at-pre .1 .1 .0 .1) (sym (at-described-well .ensures .0) ∙ at-if1 .taken) (sym (at-types-defined .ensures) ∙ at-if2 .taken)
 
 pub judge-described-spec : {M : Type 1} → statement M
@@ -89,6 +89,5 @@ judge-described-spec =
     returns-2
     slice-aggregate-judge-sets
     slice-aggregate-judge-sets-2
-    slice-aggregate-judge-sets-3
     judge-sets-requires
     returns-3)

@@ -91,7 +91,7 @@ field-extent-requires c κs =
     let at-if1 = c .before .before .before .if1 in
     let at-if2 = c .if2 in
     let small : getD (at-args .s .now) (at-name-end .result + 1) 0 < 256 = omega (arith, at-shared-slice-known3 .given (at-name-end .result + 1)) in
-    (at-pre .1 .0, ⊎-elim (λ w. rw (w .1) (goes-newline (at-args .s .now) (at-name-end .result) (at-class-of .result) (at-pre .1 .0) (at-pre .1 .1) (at-name-end .ensures) (at-if1 .left) small (at-class-of .ensures) (w .0 .taken))) (λ w. rw (w .2) (goes-blank (at-args .s .now) (at-name-end .result) (at-class-of .result) (at-pre .1 .0) (at-pre .1 .1) (at-name-end .ensures) (at-if1 .left) small (at-class-of .ensures) (w .1 .left))) (at-if2 .came))
+    (at-pre .1 .0, ⊎-elim (λ w. rw (w .1) (goes-newline (at-args .s .now) (at-name-end .result) (at-pre .1 .0) (at-pre .1 .1) (at-name-end .ensures) (at-if1 .left) (at-class-of .result) small (at-class-of .ensures) (w .0 .taken))) (λ w. rw (w .2) (goes-blank (at-args .s .now) (at-name-end .result) (at-pre .1 .0) (at-pre .1 .1) (at-name-end .ensures) (at-if1 .left) (at-class-of .result) small (at-class-of .ensures) (w .1 .left))) (at-if2 .came))
 
 enum-known-e : tie.Need-enum-known-e
 enum-known-e c = search needs

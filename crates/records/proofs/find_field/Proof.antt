@@ -10,13 +10,13 @@ use lib.ListN.{length, drop}
 use Rattle.format.specs.Pieces.{Piece, readOf}
 use Rattle.records.specs.Places.{isReadable, fieldIn, fieldPlace}
 use Rattle.records.proofs.Readings.{part-ended}
-use Rattle.records.proofs.Steps.{steps}
+use Rattle.records.proofs.Steps.{part-formed, steps}
 use Rattle.records.proofs.Fields.{field-read, field-none, field-loose, field-other, field-here, field-later}
 use Rattle.records.proofs.find_field.Statement.{statement}
 use Rattle.records.proofs.find_field.Tie as tie
 use Rattle.records.proofs.find_field.Reads as reads
 use Rattle.records.proofs.find_field.Lts as lts
-use Rattle.lines.proofs.next_piece.Reads as next-piece-reads
+use Rattle.lines.proofs.read_piece.Reads as read-piece-reads
 use Rattle.lines.proofs.same_bytes.Reads as same-bytes-reads
 
 abbrev Inv-loop : tie.InvT-loop
@@ -31,21 +31,20 @@ loop-holds c =
     let at-args = c .before .before .args in
     (omega arith, at-pre .1, field-read (at-args .name .now) (at-args .s .now) (at-args .o))
 
-sub-next-piece : tie.Need-sub-next-piece Inv-loop μ-loop
-sub-next-piece c = search needs
+sub-read-piece : tie.Need-sub-read-piece Inv-loop μ-loop
+sub-read-piece c = search needs
 
-part-next-piece-start : tie.Need-part-next-piece-start Inv-loop μ-loop
-part-next-piece-start c = search needs
+part-read-piece-start : tie.Need-part-read-piece-start Inv-loop μ-loop
+part-read-piece-start c = search needs
 
-part-next-piece-end : tie.Need-part-next-piece-end Inv-loop μ-loop
-part-next-piece-end c = search needs
+part-read-piece-end : tie.Need-part-read-piece-end Inv-loop μ-loop
+part-read-piece-end c = search needs
 
-next-piece-requires : tie.Need-next-piece-requires Inv-loop μ-loop
-next-piece-requires c κs =
-    let at-pre = c .before .before .before .before .pre in
+read-piece-requires : tie.Need-read-piece-requires Inv-loop μ-loop
+read-piece-requires c κs =
     let at-args = c .before .before .before .before .args in
     let at-loop = c .before .loop in
-    (at-pre .0, part-ended (at-args .s .now) (at-loop .i) (at-loop .inv .1))
+    (part-ended (at-args .s .now) (at-loop .i) (at-loop .inv .1), part-formed (at-args .s .now) (at-loop .i) (at-loop .inv .1))
 
 enum-known-n : tie.Need-enum-known-n Inv-loop μ-loop
 enum-known-n c = search needs
@@ -54,27 +53,27 @@ add-i : tie.Need-add-i Inv-loop μ-loop
 add-i c =
     let at-args = c .before .before .before .before .before .before .before .before .args in
     let at-loop = c .before .before .before .before .before .loop in
-    let at-next-piece = c .before .before .before .next-piece in
+    let at-read-piece = c .before .before .before .read-piece in
     let at-n = c .before .n in
-    let p = steps (at-args .s .now) (at-loop .i) (at-next-piece .result) (at-loop .inv .1) (at-next-piece .ensures) (at-n .given .1) in
+    let p = steps (at-args .s .now) (at-loop .i) (at-read-piece .result) (at-loop .inv .1) (at-read-piece .ensures) (at-n .given .1) in
     omega (arith, p .1 .inside)
 
 loop-less : tie.Need-loop-less Inv-loop μ-loop
 loop-less c =
     let at-args = c .before .before .before .before .before .before .before .before .args in
     let at-loop = c .before .before .before .before .before .loop in
-    let at-next-piece = c .before .before .before .next-piece in
+    let at-read-piece = c .before .before .before .read-piece in
     let at-n = c .before .n in
-    let p = steps (at-args .s .now) (at-loop .i) (at-next-piece .result) (at-loop .inv .1) (at-next-piece .ensures) (at-n .given .1) in
+    let p = steps (at-args .s .now) (at-loop .i) (at-read-piece .result) (at-loop .inv .1) (at-read-piece .ensures) (at-n .given .1) in
     omega (arith, p .1 .inside, p .1 .moves)
 
 loop-again : tie.Need-loop-again Inv-loop μ-loop
 loop-again c =
     let at-args = c .before .before .before .before .before .before .before .before .args in
     let at-loop = c .before .before .before .before .before .loop in
-    let at-next-piece = c .before .before .before .next-piece in
+    let at-read-piece = c .before .before .before .read-piece in
     let at-n = c .before .n in
-    let p = steps (at-args .s .now) (at-loop .i) (at-next-piece .result) (at-loop .inv .1) (at-next-piece .ensures) (at-n .given .1) in
+    let p = steps (at-args .s .now) (at-loop .i) (at-read-piece .result) (at-loop .inv .1) (at-read-piece .ensures) (at-n .given .1) in
     (p .1 .inside, p .1 .readable, at-loop .inv .2 ∙ field-loose (at-args .name .now) (at-args .s .now) (at-loop .i) (at-loop .left) (Piece.blank (p .0)) (at-n .given .0 .0) (λ ps. refl) (p .1))
 
 enum-known-n-2 : tie.Need-enum-known-n-2 Inv-loop μ-loop
@@ -84,27 +83,27 @@ add-i-2 : tie.Need-add-i-2 Inv-loop μ-loop
 add-i-2 c =
     let at-args = c .before .before .before .before .before .before .before .before .args in
     let at-loop = c .before .before .before .before .before .loop in
-    let at-next-piece = c .before .before .before .next-piece in
+    let at-read-piece = c .before .before .before .read-piece in
     let at-n2 = c .before .n2 in
-    let p = steps (at-args .s .now) (at-loop .i) (at-next-piece .result) (at-loop .inv .1) (at-next-piece .ensures) (at-n2 .given .1) in
+    let p = steps (at-args .s .now) (at-loop .i) (at-read-piece .result) (at-loop .inv .1) (at-read-piece .ensures) (at-n2 .given .1) in
     omega (arith, p .1 .inside)
 
 loop-less-2 : tie.Need-loop-less-2 Inv-loop μ-loop
 loop-less-2 c =
     let at-args = c .before .before .before .before .before .before .before .before .args in
     let at-loop = c .before .before .before .before .before .loop in
-    let at-next-piece = c .before .before .before .next-piece in
+    let at-read-piece = c .before .before .before .read-piece in
     let at-n2 = c .before .n2 in
-    let p = steps (at-args .s .now) (at-loop .i) (at-next-piece .result) (at-loop .inv .1) (at-next-piece .ensures) (at-n2 .given .1) in
+    let p = steps (at-args .s .now) (at-loop .i) (at-read-piece .result) (at-loop .inv .1) (at-read-piece .ensures) (at-n2 .given .1) in
     omega (arith, p .1 .inside, p .1 .moves)
 
 loop-again-2 : tie.Need-loop-again-2 Inv-loop μ-loop
 loop-again-2 c =
     let at-args = c .before .before .before .before .before .before .before .before .args in
     let at-loop = c .before .before .before .before .before .loop in
-    let at-next-piece = c .before .before .before .next-piece in
+    let at-read-piece = c .before .before .before .read-piece in
     let at-n2 = c .before .n2 in
-    let p = steps (at-args .s .now) (at-loop .i) (at-next-piece .result) (at-loop .inv .1) (at-next-piece .ensures) (at-n2 .given .1) in
+    let p = steps (at-args .s .now) (at-loop .i) (at-read-piece .result) (at-loop .inv .1) (at-read-piece .ensures) (at-n2 .given .1) in
     (p .1 .inside, p .1 .readable, at-loop .inv .2 ∙ field-loose (at-args .name .now) (at-args .s .now) (at-loop .i) (at-loop .left) (Piece.comment (p .0)) (at-n2 .given .0 .0) (λ ps. refl) (p .1))
 
 enum-known-n-3 : tie.Need-enum-known-n-3 Inv-loop μ-loop
@@ -114,9 +113,9 @@ add-e : tie.Need-add-e Inv-loop μ-loop
 add-e c =
     let at-args = c .before .before .before .before .before .before .before .before .args in
     let at-loop = c .before .before .before .before .before .loop in
-    let at-next-piece = c .before .before .before .next-piece in
+    let at-read-piece = c .before .before .before .read-piece in
     let at-n3 = c .before .n3 in
-    let p = steps (at-args .s .now) (at-loop .i) (at-next-piece .result) (at-loop .inv .1) (at-next-piece .ensures) (at-n3 .given .1) in
+    let p = steps (at-args .s .now) (at-loop .i) (at-read-piece .result) (at-loop .inv .1) (at-read-piece .ensures) (at-n3 .given .1) in
     omega (arith, p .passed .inside, p .name-inside)
 
 sub-same-bytes : tie.Need-sub-same-bytes Inv-loop μ-loop
@@ -129,9 +128,9 @@ part-same-bytes-end : tie.Need-part-same-bytes-end Inv-loop μ-loop
 part-same-bytes-end c =
     let at-args = c .before .before .before .before .before .before .before .before .args in
     let at-loop = c .before .before .before .before .before .loop in
-    let at-next-piece = c .before .before .before .next-piece in
+    let at-read-piece = c .before .before .before .read-piece in
     let at-n3 = c .before .n3 in
-    let p = steps (at-args .s .now) (at-loop .i) (at-next-piece .result) (at-loop .inv .1) (at-next-piece .ensures) (at-n3 .given .1) in
+    let p = steps (at-args .s .now) (at-loop .i) (at-read-piece .result) (at-loop .inv .1) (at-read-piece .ensures) (at-n3 .given .1) in
     omega (arith, p .passed .inside, p .name-inside)
 
 same-bytes-requires : tie.Need-same-bytes-requires Inv-loop μ-loop
@@ -141,18 +140,18 @@ add-t24 : tie.Need-add-t24 Inv-loop μ-loop
 add-t24 c =
     let at-args = c .before .before .before .before .before .before .before .before .before .before .before .before .args in
     let at-loop = c .before .before .before .before .before .before .before .before .before .loop in
-    let at-next-piece = c .before .before .before .before .before .before .before .next-piece in
+    let at-read-piece = c .before .before .before .before .before .before .before .read-piece in
     let at-n3 = c .before .before .before .before .before .n3 in
-    let p = steps (at-args .s .now) (at-loop .i) (at-next-piece .result) (at-loop .inv .1) (at-next-piece .ensures) (at-n3 .given .1) in
+    let p = steps (at-args .s .now) (at-loop .i) (at-read-piece .result) (at-loop .inv .1) (at-read-piece .ensures) (at-n3 .given .1) in
     omega (arith, p .passed .inside, p .value-inside)
 
 add-t25 : tie.Need-add-t25 Inv-loop μ-loop
 add-t25 c =
     let at-args = c .before .before .before .before .before .before .before .before .before .before .before .before .args in
     let at-loop = c .before .before .before .before .before .before .before .before .before .loop in
-    let at-next-piece = c .before .before .before .before .before .before .before .next-piece in
+    let at-read-piece = c .before .before .before .before .before .before .before .read-piece in
     let at-n3 = c .before .before .before .before .before .n3 in
-    let p = steps (at-args .s .now) (at-loop .i) (at-next-piece .result) (at-loop .inv .1) (at-next-piece .ensures) (at-n3 .given .1) in
+    let p = steps (at-args .s .now) (at-loop .i) (at-read-piece .result) (at-loop .inv .1) (at-read-piece .ensures) (at-n3 .given .1) in
     omega (arith, p .passed .inside)
 
 returns : tie.Need-returns Inv-loop μ-loop
@@ -160,12 +159,12 @@ returns c =
     let at-n3 = c .before .before .before .before .before .n3 in
     let at-args = c .before .before .before .before .before .before .before .before .before .before .before .before .args in
     let at-loop = c .before .before .before .before .before .before .before .before .before .loop in
-    let at-next-piece = c .before .before .before .before .before .before .before .next-piece in
+    let at-read-piece = c .before .before .before .before .before .before .before .read-piece in
     let at-same-bytes = c .before .before .same-bytes in
     let at-if1 = c .before .if1 in
     let at-if2 = c .if2 in
     let g = at-n3 .given in
-    let p = steps (at-args .s .now) (at-loop .i) (at-next-piece .result) (at-loop .inv .1) (at-next-piece .ensures) (g .1) in
+    let p = steps (at-args .s .now) (at-loop .i) (at-read-piece .result) (at-loop .inv .1) (at-read-piece .ensures) (g .1) in
     sym (at-loop .inv .2 ∙ field-here (at-args .name .now) (at-args .s .now) (at-loop .i) (at-loop .left) (g .0 .0) (g .0 .1 .0) (g .0 .1 .1 .0) (at-same-bytes .result) p (at-same-bytes .ensures) (at-if1 .taken) (at-if2 .taken))
 
 sub-left : tie.Need-sub-left Inv-loop μ-loop
@@ -175,18 +174,18 @@ add-i-3 : tie.Need-add-i-3 Inv-loop μ-loop
 add-i-3 c =
     let at-args = c .before .before .before .before .before .before .before .before .before .before .before .args in
     let at-loop = c .before .before .before .before .before .before .before .before .loop in
-    let at-next-piece = c .before .before .before .before .before .before .next-piece in
+    let at-read-piece = c .before .before .before .before .before .before .read-piece in
     let at-n3 = c .before .before .before .before .n3 in
-    let p = steps (at-args .s .now) (at-loop .i) (at-next-piece .result) (at-loop .inv .1) (at-next-piece .ensures) (at-n3 .given .1) in
+    let p = steps (at-args .s .now) (at-loop .i) (at-read-piece .result) (at-loop .inv .1) (at-read-piece .ensures) (at-n3 .given .1) in
     omega (arith, p .passed .inside)
 
 loop-less-3 : tie.Need-loop-less-3 Inv-loop μ-loop
 loop-less-3 c =
     let at-args = c .before .before .before .before .before .before .before .before .before .before .before .args in
     let at-loop = c .before .before .before .before .before .before .before .before .loop in
-    let at-next-piece = c .before .before .before .before .before .before .next-piece in
+    let at-read-piece = c .before .before .before .before .before .before .read-piece in
     let at-n3 = c .before .before .before .before .n3 in
-    let p = steps (at-args .s .now) (at-loop .i) (at-next-piece .result) (at-loop .inv .1) (at-next-piece .ensures) (at-n3 .given .1) in
+    let p = steps (at-args .s .now) (at-loop .i) (at-read-piece .result) (at-loop .inv .1) (at-read-piece .ensures) (at-n3 .given .1) in
     omega (arith, p .passed .inside, p .passed .moves)
 
 loop-again-3 : tie.Need-loop-again-3 Inv-loop μ-loop
@@ -194,11 +193,11 @@ loop-again-3 c =
     let at-n3 = c .before .before .before .before .n3 in
     let at-args = c .before .before .before .before .before .before .before .before .before .before .before .args in
     let at-loop = c .before .before .before .before .before .before .before .before .loop in
-    let at-next-piece = c .before .before .before .before .before .before .next-piece in
+    let at-read-piece = c .before .before .before .before .before .before .read-piece in
     let at-same-bytes = c .before .same-bytes in
     let at-if1 = c .if1 in
     let g = at-n3 .given in
-    let p = steps (at-args .s .now) (at-loop .i) (at-next-piece .result) (at-loop .inv .1) (at-next-piece .ensures) (g .1) in
+    let p = steps (at-args .s .now) (at-loop .i) (at-read-piece .result) (at-loop .inv .1) (at-read-piece .ensures) (g .1) in
     (p .passed .inside, p .passed .readable, at-loop .inv .2 ∙ ⊎-elim (λ w. field-later (at-args .name .now) (at-args .s .now) (at-loop .i) (at-loop .left) (g .0 .0) (g .0 .1 .0) (g .0 .1 .1 .0) (at-same-bytes .result) p (at-same-bytes .ensures) (at-if1 .left) (w .0 .taken) (omega (arith, w .1 .left, w .2))) (λ w. rw (w .1) (field-other (at-args .name .now) (at-args .s .now) (at-loop .i) (at-loop .left) (g .0 .0) (g .0 .1 .0) (g .0 .1 .1 .0) (at-same-bytes .result) p (at-same-bytes .ensures) (w .0 .left))) (at-if1 .came))
 
 enum-told : tie.Need-enum-told Inv-loop μ-loop
@@ -208,9 +207,9 @@ returns-2 : tie.Need-returns-2 Inv-loop μ-loop
 returns-2 c =
     let at-loop = c .before .before .before .before .loop in
     let at-args = c .before .before .before .before .before .before .before .args in
-    let at-next-piece = c .before .before .next-piece in
+    let at-read-piece = c .before .before .read-piece in
     let at-enum-told = c .enum-told in
-    sym (at-loop .inv .2 ∙ field-none (at-args .name .now) (at-args .s .now) (at-loop .i) (at-loop .left) (steps (at-args .s .now) (at-loop .i) (at-next-piece .result) (at-loop .inv .1) (at-next-piece .ensures) (at-enum-told .given .1)))
+    sym (at-loop .inv .2 ∙ field-none (at-args .name .now) (at-args .s .now) (at-loop .i) (at-loop .left) (steps (at-args .s .now) (at-loop .i) (at-read-piece .result) (at-loop .inv .1) (at-read-piece .ensures) (at-enum-told .given .1)))
 
 enum-told-2 : tie.Need-enum-told-2 Inv-loop μ-loop
 enum-told-2 c = search needs
@@ -219,9 +218,9 @@ returns-3 : tie.Need-returns-3 Inv-loop μ-loop
 returns-3 c =
     let at-args = c .before .before .before .before .before .before .before .args in
     let at-loop = c .before .before .before .before .loop in
-    let at-next-piece = c .before .before .next-piece in
+    let at-read-piece = c .before .before .read-piece in
     let at-enum-told2 = c .enum-told2 in
-    absurd (steps (at-args .s .now) (at-loop .i) (at-next-piece .result) (at-loop .inv .1) (at-next-piece .ensures) (at-enum-told2 .given .1))
+    absurd (steps (at-args .s .now) (at-loop .i) (at-read-piece .result) (at-loop .inv .1) (at-read-piece .ensures) (at-enum-told2 .given .1))
 
 pub find-field-spec : {M : Type 1} → statement M
 find-field-spec =
@@ -230,10 +229,10 @@ find-field-spec =
     Inv-loop
     μ-loop
     loop-holds
-    sub-next-piece
-    part-next-piece-start
-    part-next-piece-end
-    next-piece-requires
+    sub-read-piece
+    part-read-piece-start
+    part-read-piece-end
+    read-piece-requires
     enum-known-n
     add-i
     loop-less

@@ -9,13 +9,13 @@ use lib.ListN.{length, drop}
 use Rattle.records.specs.Places.{isReadable}
 use Rattle.records.specs.Fields.{fieldsFrom}
 use Rattle.records.proofs.Readings.{part-ended}
-use Rattle.records.proofs.Steps.{steps, record-none, record-blank, record-comment}
+use Rattle.records.proofs.Steps.{part-formed, steps, record-none, record-blank, record-comment}
 use Rattle.records.proofs.NextFields.{field-here}
 use Rattle.records.proofs.next_field.Statement.{statement}
 use Rattle.records.proofs.next_field.Tie as tie
 use Rattle.records.proofs.next_field.Reads as reads
 use Rattle.records.proofs.next_field.Lts as lts
-use Rattle.lines.proofs.next_piece.Reads as next-piece-reads
+use Rattle.lines.proofs.read_piece.Reads as read-piece-reads
 
 abbrev Inv-loop : tie.InvT-loop
 Inv-loop table s i at₀ at = (i ≤ at) × (at ≤ length s) × (isReadable (drop at s) ≡ true) × (fieldsFrom s i ≡ fieldsFrom s at)
@@ -28,21 +28,20 @@ loop-holds c =
     let at-pre = c .before .pre in
     (omega arith, at-pre .1 .0, at-pre .1 .1, refl)
 
-sub-next-piece : tie.Need-sub-next-piece Inv-loop μ-loop
-sub-next-piece c = search needs
+sub-read-piece : tie.Need-sub-read-piece Inv-loop μ-loop
+sub-read-piece c = search needs
 
-part-next-piece-start : tie.Need-part-next-piece-start Inv-loop μ-loop
-part-next-piece-start c = search needs
+part-read-piece-start : tie.Need-part-read-piece-start Inv-loop μ-loop
+part-read-piece-start c = search needs
 
-part-next-piece-end : tie.Need-part-next-piece-end Inv-loop μ-loop
-part-next-piece-end c = search needs
+part-read-piece-end : tie.Need-part-read-piece-end Inv-loop μ-loop
+part-read-piece-end c = search needs
 
-next-piece-requires : tie.Need-next-piece-requires Inv-loop μ-loop
-next-piece-requires c κs =
-    let at-pre = c .before .before .before .pre in
+read-piece-requires : tie.Need-read-piece-requires Inv-loop μ-loop
+read-piece-requires c κs =
     let at-args = c .before .before .before .args in
     let at-loop = c .before .loop in
-    (at-pre .0, part-ended (at-args .s .now) (at-loop .at) (at-loop .inv .2))
+    (part-ended (at-args .s .now) (at-loop .at) (at-loop .inv .2), part-formed (at-args .s .now) (at-loop .at) (at-loop .inv .2))
 
 enum-known-n : tie.Need-enum-known-n Inv-loop μ-loop
 enum-known-n c = search needs
@@ -51,27 +50,27 @@ add-at : tie.Need-add-at Inv-loop μ-loop
 add-at c =
     let at-args = c .before .before .before .before .before .before .before .args in
     let at-loop = c .before .before .before .before .before .loop in
-    let at-next-piece = c .before .before .before .next-piece in
+    let at-read-piece = c .before .before .before .read-piece in
     let at-n = c .before .n in
-    let p = steps (at-args .s .now) (at-loop .at) (at-next-piece .result) (at-loop .inv .2) (at-next-piece .ensures) (at-n .given .1) in
+    let p = steps (at-args .s .now) (at-loop .at) (at-read-piece .result) (at-loop .inv .2) (at-read-piece .ensures) (at-n .given .1) in
     omega (arith, p .1 .inside)
 
 loop-less : tie.Need-loop-less Inv-loop μ-loop
 loop-less c =
     let at-args = c .before .before .before .before .before .before .before .args in
     let at-loop = c .before .before .before .before .before .loop in
-    let at-next-piece = c .before .before .before .next-piece in
+    let at-read-piece = c .before .before .before .read-piece in
     let at-n = c .before .n in
-    let p = steps (at-args .s .now) (at-loop .at) (at-next-piece .result) (at-loop .inv .2) (at-next-piece .ensures) (at-n .given .1) in
+    let p = steps (at-args .s .now) (at-loop .at) (at-read-piece .result) (at-loop .inv .2) (at-read-piece .ensures) (at-n .given .1) in
     omega (arith, p .1 .inside, p .1 .moves)
 
 loop-again : tie.Need-loop-again Inv-loop μ-loop
 loop-again c =
     let at-args = c .before .before .before .before .before .before .before .args in
     let at-loop = c .before .before .before .before .before .loop in
-    let at-next-piece = c .before .before .before .next-piece in
+    let at-read-piece = c .before .before .before .read-piece in
     let at-n = c .before .n in
-    let p = steps (at-args .s .now) (at-loop .at) (at-next-piece .result) (at-loop .inv .2) (at-next-piece .ensures) (at-n .given .1) in
+    let p = steps (at-args .s .now) (at-loop .at) (at-read-piece .result) (at-loop .inv .2) (at-read-piece .ensures) (at-n .given .1) in
     (omega (arith, at-loop .inv .0), p .1 .inside, p .1 .readable, at-loop .inv .3 ∙ record-blank (at-args .s .now) (at-loop .at) (p .0) (at-n .given .0 .0) (p .1))
 
 enum-known-n-2 : tie.Need-enum-known-n-2 Inv-loop μ-loop
@@ -81,27 +80,27 @@ add-at-2 : tie.Need-add-at-2 Inv-loop μ-loop
 add-at-2 c =
     let at-args = c .before .before .before .before .before .before .before .args in
     let at-loop = c .before .before .before .before .before .loop in
-    let at-next-piece = c .before .before .before .next-piece in
+    let at-read-piece = c .before .before .before .read-piece in
     let at-n2 = c .before .n2 in
-    let p = steps (at-args .s .now) (at-loop .at) (at-next-piece .result) (at-loop .inv .2) (at-next-piece .ensures) (at-n2 .given .1) in
+    let p = steps (at-args .s .now) (at-loop .at) (at-read-piece .result) (at-loop .inv .2) (at-read-piece .ensures) (at-n2 .given .1) in
     omega (arith, p .1 .inside)
 
 loop-less-2 : tie.Need-loop-less-2 Inv-loop μ-loop
 loop-less-2 c =
     let at-args = c .before .before .before .before .before .before .before .args in
     let at-loop = c .before .before .before .before .before .loop in
-    let at-next-piece = c .before .before .before .next-piece in
+    let at-read-piece = c .before .before .before .read-piece in
     let at-n2 = c .before .n2 in
-    let p = steps (at-args .s .now) (at-loop .at) (at-next-piece .result) (at-loop .inv .2) (at-next-piece .ensures) (at-n2 .given .1) in
+    let p = steps (at-args .s .now) (at-loop .at) (at-read-piece .result) (at-loop .inv .2) (at-read-piece .ensures) (at-n2 .given .1) in
     omega (arith, p .1 .inside, p .1 .moves)
 
 loop-again-2 : tie.Need-loop-again-2 Inv-loop μ-loop
 loop-again-2 c =
     let at-args = c .before .before .before .before .before .before .before .args in
     let at-loop = c .before .before .before .before .before .loop in
-    let at-next-piece = c .before .before .before .next-piece in
+    let at-read-piece = c .before .before .before .read-piece in
     let at-n2 = c .before .n2 in
-    let p = steps (at-args .s .now) (at-loop .at) (at-next-piece .result) (at-loop .inv .2) (at-next-piece .ensures) (at-n2 .given .1) in
+    let p = steps (at-args .s .now) (at-loop .at) (at-read-piece .result) (at-loop .inv .2) (at-read-piece .ensures) (at-n2 .given .1) in
     (omega (arith, at-loop .inv .0), p .1 .inside, p .1 .readable, at-loop .inv .3 ∙ record-comment (at-args .s .now) (at-loop .at) (p .0) (at-n2 .given .0 .0) (p .1))
 
 enum-known-n-3 : tie.Need-enum-known-n-3 Inv-loop μ-loop
@@ -111,27 +110,27 @@ add-t15 : tie.Need-add-t15 Inv-loop μ-loop
 add-t15 c =
     let at-args = c .before .before .before .before .before .before .before .args in
     let at-loop = c .before .before .before .before .before .loop in
-    let at-next-piece = c .before .before .before .next-piece in
+    let at-read-piece = c .before .before .before .read-piece in
     let at-n3 = c .before .n3 in
-    let p = steps (at-args .s .now) (at-loop .at) (at-next-piece .result) (at-loop .inv .2) (at-next-piece .ensures) (at-n3 .given .1) in
+    let p = steps (at-args .s .now) (at-loop .at) (at-read-piece .result) (at-loop .inv .2) (at-read-piece .ensures) (at-n3 .given .1) in
     omega (arith, p .passed .inside, p .name-inside)
 
 add-t16 : tie.Need-add-t16 Inv-loop μ-loop
 add-t16 c =
     let at-args = c .before .before .before .before .before .before .before .args in
     let at-loop = c .before .before .before .before .before .loop in
-    let at-next-piece = c .before .before .before .next-piece in
+    let at-read-piece = c .before .before .before .read-piece in
     let at-n3 = c .before .n3 in
-    let p = steps (at-args .s .now) (at-loop .at) (at-next-piece .result) (at-loop .inv .2) (at-next-piece .ensures) (at-n3 .given .1) in
+    let p = steps (at-args .s .now) (at-loop .at) (at-read-piece .result) (at-loop .inv .2) (at-read-piece .ensures) (at-n3 .given .1) in
     omega (arith, p .passed .inside, p .value-inside)
 
 add-t17 : tie.Need-add-t17 Inv-loop μ-loop
 add-t17 c =
     let at-args = c .before .before .before .before .before .before .before .args in
     let at-loop = c .before .before .before .before .before .loop in
-    let at-next-piece = c .before .before .before .next-piece in
+    let at-read-piece = c .before .before .before .read-piece in
     let at-n3 = c .before .n3 in
-    let p = steps (at-args .s .now) (at-loop .at) (at-next-piece .result) (at-loop .inv .2) (at-next-piece .ensures) (at-n3 .given .1) in
+    let p = steps (at-args .s .now) (at-loop .at) (at-read-piece .result) (at-loop .inv .2) (at-read-piece .ensures) (at-n3 .given .1) in
     omega (arith, p .passed .inside)
 
 returns : tie.Need-returns Inv-loop μ-loop
@@ -139,9 +138,9 @@ returns c =
     let at-n3 = c .before .n3 in
     let at-args = c .before .before .before .before .before .before .before .args in
     let at-loop = c .before .before .before .before .before .loop in
-    let at-next-piece = c .before .before .before .next-piece in
+    let at-read-piece = c .before .before .before .read-piece in
     let g = at-n3 .given in
-    field-here (at-args .s .now) (at-args .i) (at-loop .at) (g .0 .0) (g .0 .1 .0) (g .0 .1 .1 .0) (steps (at-args .s .now) (at-loop .at) (at-next-piece .result) (at-loop .inv .2) (at-next-piece .ensures) (g .1)) (at-loop .inv .2) (at-loop .inv .0) (at-loop .inv .3)
+    field-here (at-args .s .now) (at-args .i) (at-loop .at) (g .0 .0) (g .0 .1 .0) (g .0 .1 .1 .0) (steps (at-args .s .now) (at-loop .at) (at-read-piece .result) (at-loop .inv .2) (at-read-piece .ensures) (g .1)) (at-loop .inv .2) (at-loop .inv .0) (at-loop .inv .3)
 
 enum-told : tie.Need-enum-told Inv-loop μ-loop
 enum-told c = search needs
@@ -150,9 +149,9 @@ returns-2 : tie.Need-returns-2 Inv-loop μ-loop
 returns-2 c =
     let at-loop = c .before .before .before .before .loop in
     let at-args = c .before .before .before .before .before .before .args in
-    let at-next-piece = c .before .before .next-piece in
+    let at-read-piece = c .before .before .read-piece in
     let at-enum-told = c .enum-told in
-    at-loop .inv .3 ∙ record-none (at-args .s .now) (at-loop .at) (steps (at-args .s .now) (at-loop .at) (at-next-piece .result) (at-loop .inv .2) (at-next-piece .ensures) (at-enum-told .given .1))
+    at-loop .inv .3 ∙ record-none (at-args .s .now) (at-loop .at) (steps (at-args .s .now) (at-loop .at) (at-read-piece .result) (at-loop .inv .2) (at-read-piece .ensures) (at-enum-told .given .1))
 
 enum-told-2 : tie.Need-enum-told-2 Inv-loop μ-loop
 enum-told-2 c = search needs
@@ -161,9 +160,9 @@ returns-3 : tie.Need-returns-3 Inv-loop μ-loop
 returns-3 c =
     let at-args = c .before .before .before .before .before .before .args in
     let at-loop = c .before .before .before .before .loop in
-    let at-next-piece = c .before .before .next-piece in
+    let at-read-piece = c .before .before .read-piece in
     let at-enum-told2 = c .enum-told2 in
-    absurd (steps (at-args .s .now) (at-loop .at) (at-next-piece .result) (at-loop .inv .2) (at-next-piece .ensures) (at-enum-told2 .given .1))
+    absurd (steps (at-args .s .now) (at-loop .at) (at-read-piece .result) (at-loop .inv .2) (at-read-piece .ensures) (at-enum-told2 .given .1))
 
 pub next-field-spec : {M : Type 1} → statement M
 next-field-spec =
@@ -172,10 +171,10 @@ next-field-spec =
     Inv-loop
     μ-loop
     loop-holds
-    sub-next-piece
-    part-next-piece-start
-    part-next-piece-end
-    next-piece-requires
+    sub-read-piece
+    part-read-piece-start
+    part-read-piece-end
+    read-piece-requires
     enum-known-n
     add-at
     loop-less

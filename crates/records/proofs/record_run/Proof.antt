@@ -10,36 +10,37 @@ use Rattle.format.specs.Pieces.{readOf}
 use Rattle.records.specs.Places.{isReadable}
 use Rattle.records.specs.Walk.{runFrom}
 use Rattle.records.proofs.Readings.{part-ended}
-use Rattle.records.proofs.Steps.{part-formed, walks, run-none, run-blank, run-comment, run-field}
+use Rattle.records.proofs.Steps.{part-formed, steps, run-none, run-blank, run-comment, run-field}
+use Rattle.records.proofs.FieldNames.{field-named, rec-told}
 use Rattle.records.proofs.record_run.Statement.{statement}
 use Rattle.records.proofs.record_run.Tie as tie
 use Rattle.records.proofs.record_run.Reads as reads
 use Rattle.records.proofs.record_run.Lts as lts
-use Rattle.lines.proofs.next_step.Reads as next-step-reads
-use Rattle.records.proofs.rec_here.Reads as rec-here-reads
+use Rattle.lines.proofs.read_piece.Reads as read-piece-reads
+use Rattle.records.proofs.is_rec.Reads as is-rec-reads
 
 abbrev Inv-loop : tie.InvT-loop
-Inv-loop table s at described end₀ i₀ descriptor₀ end i descriptor = (i ≤ length s) × (isReadable (drop i s) ≡ true) × (runFrom at at described (readOf (drop at s)) ≡ runFrom i end descriptor (readOf (drop i s)))
+Inv-loop s at described end₀ i₀ descriptor₀ end i descriptor = (i ≤ length s) × (isReadable (drop i s) ≡ true) × (runFrom at at described (readOf (drop at s)) ≡ runFrom i end descriptor (readOf (drop i s)))
 
 abbrev μ-loop : tie.MeasureT-loop
-μ-loop table s at described end₀ i₀ descriptor₀ end i descriptor = length s - i
+μ-loop s at described end₀ i₀ descriptor₀ end i descriptor = length s - i
 
 loop-holds : tie.Need-loop-holds Inv-loop μ-loop
 loop-holds c =
     let at-pre = c .before .pre in
-    (at-pre .1 .0, at-pre .1 .1, refl)
+    (at-pre .0, at-pre .1, refl)
 
-sub-next-step : tie.Need-sub-next-step Inv-loop μ-loop
-sub-next-step c = search needs
+sub-read-piece : tie.Need-sub-read-piece Inv-loop μ-loop
+sub-read-piece c = search needs
 
-part-next-step-start : tie.Need-part-next-step-start Inv-loop μ-loop
-part-next-step-start c = search needs
+part-read-piece-start : tie.Need-part-read-piece-start Inv-loop μ-loop
+part-read-piece-start c = search needs
 
-part-next-step-end : tie.Need-part-next-step-end Inv-loop μ-loop
-part-next-step-end c = search needs
+part-read-piece-end : tie.Need-part-read-piece-end Inv-loop μ-loop
+part-read-piece-end c = search needs
 
-next-step-requires : tie.Need-next-step-requires Inv-loop μ-loop
-next-step-requires c κs =
+read-piece-requires : tie.Need-read-piece-requires Inv-loop μ-loop
+read-piece-requires c κs =
     let at-args = c .before .before .before .args in
     let at-loop = c .before .loop in
     (part-ended (at-args .s .now) (at-loop .i) (at-loop .inv .1), part-formed (at-args .s .now) (at-loop .i) (at-loop .inv .1))
@@ -51,71 +52,90 @@ add-i : tie.Need-add-i Inv-loop μ-loop
 add-i c =
     let at-args = c .before .before .before .before .before .before .before .args in
     let at-loop = c .before .before .before .before .before .loop in
-    let at-next-step = c .before .before .before .next-step in
+    let at-read-piece = c .before .before .before .read-piece in
     let at-n = c .before .n in
-    let p = walks (at-args .s .now) (at-loop .i) (at-next-step .result) (at-loop .inv .1) (at-next-step .ensures) (at-n .given .1) in
+    let p = steps (at-args .s .now) (at-loop .i) (at-read-piece .result) (at-loop .inv .1) (at-read-piece .ensures) (at-n .given .1) in
     omega (arith, p .1 .inside)
 
 loop-less : tie.Need-loop-less Inv-loop μ-loop
 loop-less c =
     let at-args = c .before .before .before .before .before .before .before .args in
     let at-loop = c .before .before .before .before .before .loop in
-    let at-next-step = c .before .before .before .next-step in
+    let at-read-piece = c .before .before .before .read-piece in
     let at-n = c .before .n in
-    let p = walks (at-args .s .now) (at-loop .i) (at-next-step .result) (at-loop .inv .1) (at-next-step .ensures) (at-n .given .1) in
+    let p = steps (at-args .s .now) (at-loop .i) (at-read-piece .result) (at-loop .inv .1) (at-read-piece .ensures) (at-n .given .1) in
     omega (arith, p .1 .inside, p .1 .moves)
 
 loop-again : tie.Need-loop-again Inv-loop μ-loop
 loop-again c =
     let at-args = c .before .before .before .before .before .before .before .args in
     let at-loop = c .before .before .before .before .before .loop in
-    let at-next-step = c .before .before .before .next-step in
+    let at-read-piece = c .before .before .before .read-piece in
     let at-n = c .before .n in
-    let p = walks (at-args .s .now) (at-loop .i) (at-next-step .result) (at-loop .inv .1) (at-next-step .ensures) (at-n .given .1) in
+    let p = steps (at-args .s .now) (at-loop .i) (at-read-piece .result) (at-loop .inv .1) (at-read-piece .ensures) (at-n .given .1) in
     (p .1 .inside, p .1 .readable, at-loop .inv .2 ∙ run-comment (at-args .s .now) (at-loop .i) (at-loop .end) (at-loop .descriptor) (p .0) (at-n .given .0 .0) (p .1))
 
 enum-known-n-2 : tie.Need-enum-known-n-2 Inv-loop μ-loop
 enum-known-n-2 c = search needs
 
-sub-rec-here : tie.Need-sub-rec-here Inv-loop μ-loop
-sub-rec-here c = search needs
+add-e : tie.Need-add-e Inv-loop μ-loop
+add-e c =
+    let at-args = c .before .before .before .before .before .before .before .args in
+    let at-loop = c .before .before .before .before .before .loop in
+    let at-read-piece = c .before .before .before .read-piece in
+    let at-n2 = c .before .n2 in
+    let p = steps (at-args .s .now) (at-loop .i) (at-read-piece .result) (at-loop .inv .1) (at-read-piece .ensures) (at-n2 .given .1) in
+    omega (arith, p .passed .inside, p .name-inside)
 
-part-rec-here-start : tie.Need-part-rec-here-start Inv-loop μ-loop
-part-rec-here-start c = search needs
+sub-is-rec : tie.Need-sub-is-rec Inv-loop μ-loop
+sub-is-rec c = search needs
 
-part-rec-here-end : tie.Need-part-rec-here-end Inv-loop μ-loop
-part-rec-here-end c = search needs
+part-is-rec-start : tie.Need-part-is-rec-start Inv-loop μ-loop
+part-is-rec-start c = search needs
 
-rec-here-requires : tie.Need-rec-here-requires Inv-loop μ-loop
-rec-here-requires c κs = search needs
+part-is-rec-end : tie.Need-part-is-rec-end Inv-loop μ-loop
+part-is-rec-end c =
+    let at-args = c .before .before .before .before .before .before .before .args in
+    let at-loop = c .before .before .before .before .before .loop in
+    let at-read-piece = c .before .before .before .read-piece in
+    let at-n2 = c .before .n2 in
+    let p = steps (at-args .s .now) (at-loop .i) (at-read-piece .result) (at-loop .inv .1) (at-read-piece .ensures) (at-n2 .given .1) in
+    omega (arith, p .passed .inside, p .name-inside)
+
+is-rec-requires : tie.Need-is-rec-requires Inv-loop μ-loop
+is-rec-requires c κs = search needs
 
 add-i-2 : tie.Need-add-i-2 Inv-loop μ-loop
 add-i-2 c =
     let at-args = c .before .before .before .before .before .before .before .before .before .args in
     let at-loop = c .before .before .before .before .before .before .before .loop in
-    let at-next-step = c .before .before .before .before .before .next-step in
+    let at-read-piece = c .before .before .before .before .before .read-piece in
     let at-n2 = c .before .before .before .n2 in
-    let p = walks (at-args .s .now) (at-loop .i) (at-next-step .result) (at-loop .inv .1) (at-next-step .ensures) (at-n2 .given .1) in
-    omega (arith, p .1 .passed .inside)
+    let p = steps (at-args .s .now) (at-loop .i) (at-read-piece .result) (at-loop .inv .1) (at-read-piece .ensures) (at-n2 .given .1) in
+    omega (arith, p .passed .inside)
 
 loop-less-2 : tie.Need-loop-less-2 Inv-loop μ-loop
 loop-less-2 c =
     let at-args = c .before .before .before .before .before .before .before .before .before .args in
     let at-loop = c .before .before .before .before .before .before .before .loop in
-    let at-next-step = c .before .before .before .before .before .next-step in
+    let at-read-piece = c .before .before .before .before .before .read-piece in
     let at-n2 = c .before .before .before .n2 in
-    let p = walks (at-args .s .now) (at-loop .i) (at-next-step .result) (at-loop .inv .1) (at-next-step .ensures) (at-n2 .given .1) in
-    omega (arith, p .1 .passed .inside, p .1 .passed .moves)
+    let p = steps (at-args .s .now) (at-loop .i) (at-read-piece .result) (at-loop .inv .1) (at-read-piece .ensures) (at-n2 .given .1) in
+    omega (arith, p .passed .inside, p .passed .moves)
 
 loop-again-2 : tie.Need-loop-again-2 Inv-loop μ-loop
 loop-again-2 c =
+    let at-n2 = c .before .before .before .n2 in
     let at-args = c .before .before .before .before .before .before .before .before .before .args in
     let at-loop = c .before .before .before .before .before .before .before .loop in
-    let at-next-step = c .before .before .before .before .before .next-step in
-    let at-n2 = c .before .before .before .n2 in
-    let at-rec-here = c .rec-here in
-    let p = walks (at-args .s .now) (at-loop .i) (at-next-step .result) (at-loop .inv .1) (at-next-step .ensures) (at-n2 .given .1) in
-    (p .1 .passed .inside, p .1 .passed .readable, at-loop .inv .2 ∙ run-field (at-args .s .now) (at-loop .i) (at-loop .end) (at-loop .descriptor) (p .0) (at-n2 .given .0 .0) (at-rec-here .result) (p .1) (at-rec-here .ensures))
+    let at-read-piece = c .before .before .before .before .before .read-piece in
+    let at-is-rec = c .is-rec in
+    let g = at-n2 .given in
+    let s = at-args .s .now in
+    let i = at-loop .i in
+    let p = field-named s i (at-read-piece .result) (at-loop .inv .1) (at-read-piece .ensures) (g .1) in
+    let t = rec-told s i (at-read-piece .result) (at-loop .inv .1) (at-read-piece .ensures) (g .1) (at-is-rec .result) (at-is-rec .ensures) in
+    (p .passed .inside, p .passed .readable, at-loop .inv .2 ∙ run-field s i (at-loop .end) (at-loop .descriptor) (g .0 .1 .0) (g .0 .1 .1 .0) (at-is-rec .result) p t)
 
 enum-told : tie.Need-enum-told Inv-loop μ-loop
 enum-told c = search needs
@@ -124,9 +144,9 @@ returns : tie.Need-returns Inv-loop μ-loop
 returns c =
     let at-args = c .before .before .before .before .before .before .args in
     let at-loop = c .before .before .before .before .loop in
-    let at-next-step = c .before .before .next-step in
+    let at-read-piece = c .before .before .read-piece in
     let at-enum-told = c .enum-told in
-    let p = walks (at-args .s .now) (at-loop .i) (at-next-step .result) (at-loop .inv .1) (at-next-step .ensures) (at-enum-told .given .1) in
+    let p = steps (at-args .s .now) (at-loop .i) (at-read-piece .result) (at-loop .inv .1) (at-read-piece .ensures) (at-enum-told .given .1) in
     sym (at-loop .inv .2 ∙ run-blank (at-args .s .now) (at-loop .i) (at-loop .end) (at-loop .descriptor) (p .0) (at-enum-told .given .0 .0) (p .1))
 
 enum-told-2 : tie.Need-enum-told-2 Inv-loop μ-loop
@@ -136,10 +156,21 @@ returns-2 : tie.Need-returns-2 Inv-loop μ-loop
 returns-2 c =
     let at-args = c .before .before .before .before .before .before .args in
     let at-loop = c .before .before .before .before .loop in
-    let at-next-step = c .before .before .next-step in
+    let at-read-piece = c .before .before .read-piece in
     let at-enum-told2 = c .enum-told2 in
-    let p = walks (at-args .s .now) (at-loop .i) (at-next-step .result) (at-loop .inv .1) (at-next-step .ensures) (at-enum-told2 .given .1) in
+    let p = steps (at-args .s .now) (at-loop .i) (at-read-piece .result) (at-loop .inv .1) (at-read-piece .ensures) (at-enum-told2 .given .1) in
     sym (at-loop .inv .2 ∙ run-none (at-args .s .now) (at-loop .i) (at-loop .end) (at-loop .descriptor) p)
+
+enum-told-3 : tie.Need-enum-told-3 Inv-loop μ-loop
+enum-told-3 c = search needs
+
+returns-3 : tie.Need-returns-3 Inv-loop μ-loop
+returns-3 c =
+    let at-args = c .before .before .before .before .before .before .args in
+    let at-loop = c .before .before .before .before .loop in
+    let at-read-piece = c .before .before .read-piece in
+    let at-enum-told3 = c .enum-told3 in
+    absurd (steps (at-args .s .now) (at-loop .i) (at-read-piece .result) (at-loop .inv .1) (at-read-piece .ensures) (at-enum-told3 .given .1))
 
 pub record-run-spec : {M : Type 1} → statement M
 record-run-spec =
@@ -148,23 +179,26 @@ record-run-spec =
     Inv-loop
     μ-loop
     loop-holds
-    sub-next-step
-    part-next-step-start
-    part-next-step-end
-    next-step-requires
+    sub-read-piece
+    part-read-piece-start
+    part-read-piece-end
+    read-piece-requires
     enum-known-n
     add-i
     loop-less
     loop-again
     enum-known-n-2
-    sub-rec-here
-    part-rec-here-start
-    part-rec-here-end
-    rec-here-requires
+    add-e
+    sub-is-rec
+    part-is-rec-start
+    part-is-rec-end
+    is-rec-requires
     add-i-2
     loop-less-2
     loop-again-2
     enum-told
     returns
     enum-told-2
-    returns-2)
+    returns-2
+    enum-told-3
+    returns-3)

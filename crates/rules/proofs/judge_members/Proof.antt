@@ -1,191 +1,131 @@
--- `rules::judge_members` meets its contract. The invariant: the members before byte i have the least number worst and stand in the front up to i,
--- and the part from i on is readable. The measure is what is left of the length.
+-- `rules::judge_members` meets its contract: what is read of the descriptor is a book, and the records are asked by it.
 use borrow.Author.Needs.{needs}
-use Prim.Native.Nat.{_-_}
+use Prim.Native.Nat.{ℕ}
 use native.Mathlib.Omega.{arith}
-use mathlib.Core.Path.{_≡_, refl}
+use mathlib.Core.Path.{_≡_, sym, _∙_, subst}
+use mathlib.Core.Bool.{true}
 use lib.ListN.{length}
+use Rattle.format.specs.Bytes.{all}
 use Rattle.records.specs.Walk.{recordIn}
-use Rattle.records.proofs.Readings.{part-readable, reads-readable}
-use Rattle.records.proofs.Searches.{meets}
-use Rattle.lists.specs.Names.{namesNo}
-use Rattle.rules.proofs.Members.{Walked, walk-start, walk-end, walk-stop, walk-more}
+use Rattle.members.specs.Members.{fitsIn}
+use Rattle.rules.proofs.Granted.{mandatory-names, unique-names, mandatory-few, unique-few, key-there}
+use borrow.Author.Needs.{needs}
 use Rattle.rules.proofs.judge_members.Statement.{statement}
 use Rattle.rules.proofs.judge_members.Tie as tie
 use Rattle.rules.proofs.judge_members.Reads as reads
 use Rattle.rules.proofs.judge_members.Lts as lts
-use Rattle.lists.proofs.judge_names.Reads as judge-names-reads
-use Rattle.lists.proofs.lesser.Reads as lesser-reads
-use Rattle.records.proofs.next_record.Reads as next-record-reads
+use Rattle.kinds.proofs.read.Reads as read-reads
+use Rattle.rules.proofs.has_field.Reads as has-field-reads
+use Rattle.rules.proofs.judge_records.Reads as judge-records-reads
+use Rattle.wordsets.proofs.read.Reads as read-reads′
 
-abbrev Inv-loop : tie.InvT-loop
-Inv-loop table d at end list count rest seen₀ i₀ worst₀ seen i worst = Walked (namesNo (recordIn d)) rest worst i × (length seen ≡ 257)
+read-requires : tie.Need-read-requires
+read-requires c κs = search needs
 
-abbrev μ-loop : tie.MeasureT-loop
-μ-loop table d at end list count rest seen₀ i₀ worst₀ seen i worst = length rest - i
+slice-aggregate-read : tie.Need-slice-aggregate-read
+slice-aggregate-read c = search needs
 
-loop-holds : tie.Need-loop-holds Inv-loop μ-loop
-loop-holds c =
-    let at-args = c .before .before .before .before .before .args in
-    let at-pre = c .before .before .before .before .before .pre in
-    (walk-start (namesNo (recordIn (at-args .d .now))) (at-args .rest .now) (at-pre .1 .1), refl)
+slice-aggregate-read-2 : tie.Need-slice-aggregate-read-2
+slice-aggregate-read-2 c = search needs
 
-sub-next-record : tie.Need-sub-next-record Inv-loop μ-loop
-sub-next-record c =
-    let at-loop = c .loop in
-    at-loop .inv .0 .inside
+slice-aggregate-read-3 : tie.Need-slice-aggregate-read-3
+slice-aggregate-read-3 c = search needs
 
-part-next-record-start : tie.Need-part-next-record-start Inv-loop μ-loop
-part-next-record-start c =
-    let at-loop = c .loop in
-    at-loop .inv .0 .inside
+read-requires-2 : tie.Need-read-requires-2
+read-requires-2 c κs =
+    let at-pre = c .before .before .before .before .before .before .before .before .before .before .before .pre in
+    let at-args = c .before .before .before .before .before .before .before .before .before .before .before .args in
+    (at-pre .0, ((at-pre .1 .0 .reads, at-pre .1 .0 .short), ((mandatory-few (at-args .d .now) (at-pre .1 .0), omega arith, omega arith), mandatory-names (at-args .d .now) (at-pre .1 .0))))
 
-part-next-record-end : tie.Need-part-next-record-end Inv-loop μ-loop
-part-next-record-end c =
-    let at-loop = c .loop in
-    omega (arith, at-loop .inv .0 .inside)
+slice-aggregate-read-4 : tie.Need-slice-aggregate-read-4
+slice-aggregate-read-4 c = search needs
 
-next-record-requires : tie.Need-next-record-requires Inv-loop μ-loop
-next-record-requires c κs =
-    let at-pre = c .before .before .before .before .before .before .before .pre in
-    let at-args = c .before .before .before .before .before .before .before .args in
-    let at-loop = c .before .loop in
-    (at-pre .0, part-readable (at-args .rest .now) (at-loop .i) (at-loop .inv .0 .readable))
+slice-aggregate-read-5 : tie.Need-slice-aggregate-read-5
+slice-aggregate-read-5 c = search needs
 
-enum-known-n : tie.Need-enum-known-n Inv-loop μ-loop
-enum-known-n c = search needs
+slice-aggregate-read-6 : tie.Need-slice-aggregate-read-6
+slice-aggregate-read-6 c = search needs
 
-enum-told : tie.Need-enum-told Inv-loop μ-loop
-enum-told c = search needs
+read-requires-3 : tie.Need-read-requires-3
+read-requires-3 c κs =
+    let at-pre = c .before .before .before .before .before .before .before .before .before .before .before .before .before .before .before .before .before .pre in
+    let at-args = c .before .before .before .before .before .before .before .before .before .before .before .before .before .before .before .before .before .args in
+    (at-pre .0, ((at-pre .1 .0 .reads, at-pre .1 .0 .short), ((unique-few (at-args .d .now) (at-pre .1 .0), omega arith, omega arith), unique-names (at-args .d .now) (at-pre .1 .0))))
 
-returns : tie.Need-returns Inv-loop μ-loop
-returns c =
-    let at-args = c .before .before .before .before .before .before .before .before .before .before .args in
-    let at-loop = c .before .before .before .before .loop in
-    let at-next-record = c .before .before .next-record in
-    let at-enum-told = c .enum-told in
-    let m = meets (at-args .rest .now) (at-loop .i) (at-next-record .result) (at-loop .inv .0 .inside) (at-loop .inv .0 .readable) (at-next-record .ensures) (at-enum-told .given .1) in walk-end (recordIn (at-args .d .now)) (at-args .rest .now) (at-loop .worst) (at-loop .i) (at-loop .inv .0) m
+slice-aggregate-has-field : tie.Need-slice-aggregate-has-field
+slice-aggregate-has-field c = search needs
 
-returns-2 : tie.Need-returns-2 Inv-loop μ-loop
-returns-2 c =
-    let at-args = c .before .before .before .before .before .before .before .before .before .before .before .before .args in
-    let at-loop = c .before .before .before .before .before .before .loop in
-    let at-next-record = c .before .before .before .before .next-record in
-    let at-n = c .before .before .n in
-    let at-if1 = c .if1 in
-    let m = meets (at-args .rest .now) (at-loop .i) (at-next-record .result) (at-loop .inv .0 .inside) (at-loop .inv .0 .readable) (at-next-record .ensures) (at-n .given .1) in walk-stop (recordIn (at-args .d .now)) (at-args .rest .now) (at-loop .worst) (at-loop .i) (at-loop .inv .0) (at-n .given .0 .0) m (at-if1 .taken)
+has-field-requires : tie.Need-has-field-requires
+has-field-requires c κs =
+    let at-pre = c .before .before .before .before .before .before .before .before .before .before .before .before .before .before .before .before .before .before .before .before .before .pre in
+    (at-pre .0, at-pre .1 .0 .reads)
 
-add-a : tie.Need-add-a Inv-loop μ-loop
-add-a c =
-    let at-args = c .before .before .before .before .before .before .before .before .before .before .before .before .before .args in
-    let at-loop = c .before .before .before .before .before .before .before .loop in
-    let at-next-record = c .before .before .before .before .before .next-record in
-    let at-n = c .before .before .before .n in
-    let at-good = c .before .before .before .before .before .before .before .before .before .before .before .before .before .good in
-    let m = meets (at-args .rest .now) (at-loop .i) (at-next-record .result) (at-loop .inv .0 .inside) (at-loop .inv .0 .readable) (at-next-record .ensures) (at-n .given .1) in omega (arith, m .stand .filled, m .stand .within, m .stand .inside, at-good .1 .0 .0)
+slice-aggregate-has-field-2 : tie.Need-slice-aggregate-has-field-2
+slice-aggregate-has-field-2 c = search needs
 
-add-e : tie.Need-add-e Inv-loop μ-loop
-add-e c =
-    let at-args = c .before .before .before .before .before .before .before .before .before .before .before .before .before .before .args in
-    let at-loop = c .before .before .before .before .before .before .before .before .loop in
-    let at-next-record = c .before .before .before .before .before .before .next-record in
-    let at-n = c .before .before .before .before .n in
-    let at-good = c .before .before .before .before .before .before .before .before .before .before .before .before .before .before .good in
-    let m = meets (at-args .rest .now) (at-loop .i) (at-next-record .result) (at-loop .inv .0 .inside) (at-loop .inv .0 .readable) (at-next-record .ensures) (at-n .given .1) in omega (arith, m .stand .filled, m .stand .within, m .stand .inside, at-good .1 .0 .0)
+has-field-requires-2 : tie.Need-has-field-requires-2
+has-field-requires-2 c κs =
+    let at-pre = c .before .before .before .before .before .before .before .before .before .before .before .before .before .before .before .before .before .before .before .before .before .before .before .pre in
+    (at-pre .0, at-pre .1 .0 .reads)
 
-sub-judge-names : tie.Need-sub-judge-names Inv-loop μ-loop
-sub-judge-names c =
-    let at-args = c .before .before .before .before .before .before .before .before .before .before .before .before .before .before .args in
-    let at-loop = c .before .before .before .before .before .before .before .before .loop in
-    let at-next-record = c .before .before .before .before .before .before .next-record in
-    let at-n = c .before .before .before .before .n in
-    let at-good = c .before .before .before .before .before .before .before .before .before .before .before .before .before .before .good in
-    let m = meets (at-args .rest .now) (at-loop .i) (at-next-record .result) (at-loop .inv .0 .inside) (at-loop .inv .0 .readable) (at-next-record .ensures) (at-n .given .1) in omega (arith, m .stand .filled, m .stand .within, m .stand .inside, at-good .1 .0 .0)
+slice-aggregate-judge-records : tie.Need-slice-aggregate-judge-records
+slice-aggregate-judge-records c = search needs
 
-part-judge-names-start : tie.Need-part-judge-names-start Inv-loop μ-loop
-part-judge-names-start c =
-    let at-args = c .before .before .before .before .before .before .before .before .before .before .before .before .before .before .args in
-    let at-loop = c .before .before .before .before .before .before .before .before .loop in
-    let at-next-record = c .before .before .before .before .before .before .next-record in
-    let at-n = c .before .before .before .before .n in
-    let at-good = c .before .before .before .before .before .before .before .before .before .before .before .before .before .before .good in
-    let m = meets (at-args .rest .now) (at-loop .i) (at-next-record .result) (at-loop .inv .0 .inside) (at-loop .inv .0 .readable) (at-next-record .ensures) (at-n .given .1) in omega (arith, m .stand .filled, m .stand .within, m .stand .inside, at-good .1 .0 .0)
+slice-aggregate-judge-records-2 : tie.Need-slice-aggregate-judge-records-2
+slice-aggregate-judge-records-2 c = search needs
 
-part-judge-names-end : tie.Need-part-judge-names-end Inv-loop μ-loop
-part-judge-names-end c =
-    let at-args = c .before .before .before .before .before .before .before .before .before .before .before .before .before .before .args in
-    let at-loop = c .before .before .before .before .before .before .before .before .loop in
-    let at-next-record = c .before .before .before .before .before .before .next-record in
-    let at-n = c .before .before .before .before .n in
-    let at-good = c .before .before .before .before .before .before .before .before .before .before .before .before .before .before .good in
-    let m = meets (at-args .rest .now) (at-loop .i) (at-next-record .result) (at-loop .inv .0 .inside) (at-loop .inv .0 .readable) (at-next-record .ensures) (at-n .given .1) in omega (arith, m .stand .filled, m .stand .within, m .stand .inside, at-good .1 .0 .0)
+slice-aggregate-judge-records-3 : tie.Need-slice-aggregate-judge-records-3
+slice-aggregate-judge-records-3 c = search needs
 
-slice-aggregate-judge-names : tie.Need-slice-aggregate-judge-names Inv-loop μ-loop
-slice-aggregate-judge-names c = search needs
+slice-aggregate-judge-records-4 : tie.Need-slice-aggregate-judge-records-4
+slice-aggregate-judge-records-4 c = search needs
 
-judge-names-requires : tie.Need-judge-names-requires Inv-loop μ-loop
-judge-names-requires c κs =
-    let at-args = c .before .before .before .before .before .before .before .before .before .before .before .before .before .before .before .before .args in
-    let at-loop = c .before .before .before .before .before .before .before .before .before .before .loop in
-    let at-next-record = c .before .before .before .before .before .before .before .before .next-record in
-    let at-n = c .before .before .before .before .before .before .n in
-    let at-pre = c .before .before .before .before .before .before .before .before .before .before .before .before .before .before .before .before .pre in
-    let m = meets (at-args .rest .now) (at-loop .i) (at-next-record .result) (at-loop .inv .0 .inside) (at-loop .inv .0 .readable) (at-next-record .ensures) (at-n .given .1) in (at-pre .0, (reads-readable (m .stand .own-reads), (at-pre .1 .0 .0, omega (arith, at-pre .1 .0 .1, at-loop .inv .1))))
+judge-records-requires : tie.Need-judge-records-requires
+judge-records-requires c κs =
+    let at-pre = c .before .before .before .before .before .before .before .before .before .before .before .before .before .before .before .before .before .before .before .before .before .before .before .before .before .before .before .before .before .before .pre in
+    let at-read2 = c .before .before .before .before .before .before .before .before .before .before .before .before .before .before .before .before .before .before .read2 in
+    let at-read3 = c .before .before .before .before .before .before .before .before .before .before .before .before .read3 in
+    let at-read = c .before .before .before .before .before .before .before .before .before .before .before .before .before .before .before .before .before .before .before .before .before .before .before .before .read in
+    let at-has-field = c .before .before .before .before .before .before .before .before .has-field in
+    let at-args = c .before .before .before .before .before .before .before .before .before .before .before .before .before .before .before .before .before .before .before .before .before .before .before .before .before .before .before .before .before .before .args in
+    let at-has-field2 = c .before .before .before .before .before .before .has-field2 in
+    let at-scratch = c .before .before .before .before .before .before .before .before .before .before .before .before .before .before .before .before .before .before .before .before .before .before .before .scratch in
+    (at-pre .0, (record { described = at-pre .1 .0; mandatory-are = at-read2 .ensures; unique-are = at-read3 .ensures; kinds-are = at-read .ensures; limited-is = at-has-field .ensures; keyed-is = key-there (at-args .d .now) (at-pre .1 .0) (at-has-field2 .result) (at-has-field2 .ensures) }, ((at-pre .1 .1 .0 .0, at-pre .1 .1 .0 .1, subst (λ (n : ℕ). all (fitsIn n) (recordIn (at-args .part .now)) ≡ true) (sym (at-scratch .given)) (at-pre .1 .1 .0 .2)), at-pre .1 .1 .1 .1)))
 
-lesser-requires : tie.Need-lesser-requires Inv-loop μ-loop
-lesser-requires c κs = search needs
+same-length : tie.Need-same-length
+same-length c =
+    let at-scratch2 = c .before .before .before .scratch2 in
+    let at-scratch = c .before .before .before .before .before .before .before .before .before .before .before .before .before .before .before .before .before .before .before .before .before .before .before .before .before .before .before .before .scratch in
+    at-scratch2 .given ∙ at-scratch .given
 
-add-i : tie.Need-add-i Inv-loop μ-loop
-add-i c =
-    let at-args = c .before .before .before .before .before .before .before .before .before .before .before .before .before .before .before .before .before .before .before .before .args in
-    let at-loop = c .before .before .before .before .before .before .before .before .before .before .before .before .before .before .loop in
-    let at-next-record = c .before .before .before .before .before .before .before .before .before .before .before .before .next-record in
-    let at-n = c .before .before .before .before .before .before .before .before .before .before .n in
-    let at-good = c .before .before .before .before .before .before .before .before .before .before .before .before .before .before .before .before .before .before .before .before .good in
-    let m = meets (at-args .rest .now) (at-loop .i) (at-next-record .result) (at-loop .inv .0 .inside) (at-loop .inv .0 .readable) (at-next-record .ensures) (at-n .given .1) in omega (arith, m .stand .filled, m .stand .within, m .stand .inside, at-good .1 .0 .0)
+same-length-2 : tie.Need-same-length-2
+same-length-2 c = search needs
 
-loop-less : tie.Need-loop-less Inv-loop μ-loop
-loop-less c =
-    let at-args = c .before .before .before .before .before .before .before .before .before .before .before .before .before .before .before .before .before .before .before .before .args in
-    let at-loop = c .before .before .before .before .before .before .before .before .before .before .before .before .before .before .loop in
-    let at-next-record = c .before .before .before .before .before .before .before .before .before .before .before .before .next-record in
-    let at-n = c .before .before .before .before .before .before .before .before .before .before .n in
-    let m = meets (at-args .rest .now) (at-loop .i) (at-next-record .result) (at-loop .inv .0 .inside) (at-loop .inv .0 .readable) (at-next-record .ensures) (at-n .given .1) in omega (arith, m .stand .filled, m .stand .within, m .stand .inside)
-
-loop-again : tie.Need-loop-again Inv-loop μ-loop
-loop-again c =
-    let at-args = c .before .before .before .before .before .before .before .before .before .before .before .before .before .before .before .before .before .before .before .before .args in
-    let at-loop = c .before .before .before .before .before .before .before .before .before .before .before .before .before .before .loop in
-    let at-next-record = c .before .before .before .before .before .before .before .before .before .before .before .before .next-record in
-    let at-n = c .before .before .before .before .before .before .before .before .before .before .n in
-    let at-if1 = c .before .before .before .before .before .before .before .before .if1 in
-    let at-judge-names = c .before .before .before .judge-names in
-    let at-lesser = c .before .lesser in
-    let m = meets (at-args .rest .now) (at-loop .i) (at-next-record .result) (at-loop .inv .0 .inside) (at-loop .inv .0 .readable) (at-next-record .ensures) (at-n .given .1) in (walk-more (recordIn (at-args .d .now)) (at-args .rest .now) (at-loop .worst) (at-loop .i) (at-loop .inv .0) (at-n .given .0 .0) m (at-if1 .left) (at-judge-names .result) (at-lesser .result) (at-judge-names .ensures) (at-lesser .ensures), search needs)
+returns : tie.Need-returns
+returns c = search needs
 
 pub judge-members-spec : {M : Type 1} → statement M
 judge-members-spec =
     tie.close
     (tie.spec
-    Inv-loop
-    μ-loop
-    loop-holds
-    sub-next-record
-    part-next-record-start
-    part-next-record-end
-    next-record-requires
-    enum-known-n
-    enum-told
-    returns
-    returns-2
-    add-a
-    add-e
-    sub-judge-names
-    part-judge-names-start
-    part-judge-names-end
-    slice-aggregate-judge-names
-    judge-names-requires
-    lesser-requires
-    add-i
-    loop-less
-    loop-again)
+    read-requires
+    slice-aggregate-read
+    slice-aggregate-read-2
+    slice-aggregate-read-3
+    read-requires-2
+    slice-aggregate-read-4
+    slice-aggregate-read-5
+    slice-aggregate-read-6
+    read-requires-3
+    slice-aggregate-has-field
+    has-field-requires
+    slice-aggregate-has-field-2
+    has-field-requires-2
+    slice-aggregate-judge-records
+    slice-aggregate-judge-records-2
+    slice-aggregate-judge-records-3
+    slice-aggregate-judge-records-4
+    judge-records-requires
+    same-length
+    same-length-2
+    returns)

@@ -1,4 +1,4 @@
--- `sorting::count_buckets` returns: there are 256 counts. The measure is what is left of the entries.
+-- `sorting::count_buckets` returns: there are 1,024 counts. The measure is what is left of the entries.
 use borrow.Author.Needs.{needs}
 use Prim.Native.Nat.{_-_}
 use native.Mathlib.Omega.{arith}

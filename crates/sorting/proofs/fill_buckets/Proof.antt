@@ -14,10 +14,10 @@ use Rattle.sorting.proofs.fill_bucket.Reads as fill-bucket-reads
 use Rattle.sorting.proofs.wide.Reads as wide-reads
 
 abbrev Inv-loop : tie.InvT-loop
-Inv-loop entries₀ starts next₀ b₀ entries next b = (Moved entries₀ entries) × (length next ≡ length next₀) × (b ≤ 256)
+Inv-loop entries₀ starts next₀ b₀ entries next b = (Moved entries₀ entries) × (length next ≡ length next₀) × (b ≤ 1024)
 
 abbrev μ-loop : tie.MeasureT-loop
-μ-loop entries₀ starts next₀ b₀ entries next b = 256 - b
+μ-loop entries₀ starts next₀ b₀ entries next b = 1024 - b
 
 loop-holds : tie.Need-loop-holds Inv-loop μ-loop
 loop-holds c = (none, refl, omega arith)

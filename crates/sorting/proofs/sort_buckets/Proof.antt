@@ -8,14 +8,14 @@ use Rattle.sorting.proofs.sort_buckets.Statement.{statement}
 use Rattle.sorting.proofs.sort_buckets.Tie as tie
 use Rattle.sorting.proofs.sort_buckets.Reads as reads
 use Rattle.sorting.proofs.sort_buckets.Lts as lts
-use Rattle.sorting.proofs.sort_part.Reads as sort-part-reads
+use Rattle.sorting.proofs.sort_bucket.Reads as sort-bucket-reads
 use Rattle.sorting.proofs.wide.Reads as wide-reads
 
 abbrev Inv-loop : tie.InvT-loop
-Inv-loop s entries₀ words starts b₀ entries b = (Moved entries₀ entries) × (b ≤ 256)
+Inv-loop s entries₀ words starts b₀ entries b = (Moved entries₀ entries) × (b ≤ 1024)
 
 abbrev μ-loop : tie.MeasureT-loop
-μ-loop s entries₀ words starts b₀ entries b = 256 - b
+μ-loop s entries₀ words starts b₀ entries b = 1024 - b
 
 loop-holds : tie.Need-loop-holds Inv-loop μ-loop
 loop-holds c = (none, omega arith)
@@ -41,8 +41,8 @@ shared-slice-read-wide-2 c = search needs
 wide-requires-2 : tie.Need-wide-requires-2 Inv-loop μ-loop
 wide-requires-2 c κs = search needs
 
-sort-part-requires : tie.Need-sort-part-requires Inv-loop μ-loop
-sort-part-requires c κs = (omega arith, omega arith)
+sort-bucket-requires : tie.Need-sort-bucket-requires Inv-loop μ-loop
+sort-bucket-requires c κs = (omega arith, omega arith)
 
 loop-less : tie.Need-loop-less Inv-loop μ-loop
 loop-less c = search needs
@@ -51,8 +51,8 @@ loop-again : tie.Need-loop-again Inv-loop μ-loop
 loop-again c =
     let at-args = c .before .before .before .before .before .before .before .before .before .before .before .before .before .before .before .args in
     let at-loop = c .before .before .before .before .before .before .before .before .before .before .before .loop in
-    let at-sort-part = c .before .before .sort-part in
-    (moved-on (at-args .entries .now) (at-loop .entries) _ (at-loop .inv .0) (at-sort-part .ensures), omega arith)
+    let at-sort-bucket = c .before .before .sort-bucket in
+    (moved-on (at-args .entries .now) (at-loop .entries) _ (at-loop .inv .0) (at-sort-bucket .ensures), omega arith)
 
 loop-less-2 : tie.Need-loop-less-2 Inv-loop μ-loop
 loop-less-2 c = search needs
@@ -95,7 +95,7 @@ sort-buckets-spec =
     mul-wide-2
     shared-slice-read-wide-2
     wide-requires-2
-    sort-part-requires
+    sort-bucket-requires
     loop-less
     loop-again
     loop-less-2

@@ -10,7 +10,7 @@ use Rattle.tallies.proofs.count.Statement.{statement}
 use Rattle.tallies.proofs.count.Tie as tie
 use Rattle.tallies.proofs.count.Reads as reads
 use Rattle.tallies.proofs.count.Lts as lts
-use Rattle.lists.proofs.bump.Reads as bump-reads
+use Rattle.tallies.proofs.bump.Reads as bump-reads
 use Rattle.terms.proofs.has.Reads as has-reads
 
 has-requires : tie.Need-has-requires

@@ -23,7 +23,7 @@ part-look-up-end c = search needs
 
 look-up-requires : tie.Need-look-up-requires
 look-up-requires c κs =
-    let at-pre = c .before .before .before .before .before .before .before .pre in
+    let at-pre = c .before .before .before .before .before .before .before .before .before .pre in
     (at-pre .0 .described, at-pre .0 .dictionary)
 
 has-requires : tie.Need-has-requires
@@ -40,7 +40,7 @@ part-places-end c = search needs
 
 places-requires : tie.Need-places-requires
 places-requires c κs =
-    let at-pre = c .before .before .before .before .before .before .before .before .before .before .pre in
+    let at-pre = c .before .before .before .before .before .before .before .before .before .before .before .before .pre in
     at-pre .0 .needed-are .table
 
 has-requires-2 : tie.Need-has-requires-2
@@ -57,14 +57,14 @@ part-places-end-2 c = search needs
 
 places-requires-2 : tie.Need-places-requires-2
 places-requires-2 c κs =
-    let at-pre = c .before .before .before .before .before .before .before .before .before .before .before .before .before .pre in
+    let at-pre = c .before .before .before .before .before .before .before .before .before .before .before .before .before .before .before .pre in
     at-pre .0 .single-are .table
 
 returns : tie.Need-returns
 returns c =
-    let at-args = c .before .before .before .before .before .before .before .before .before .before .before .before .before .before .args in
+    let at-args = c .before .before .before .before .before .before .before .before .before .before .before .before .before .before .before .before .args in
     let at-look-up = c .before .before .before .before .before .before .look-up in
-    let at-pre = c .before .before .before .before .before .before .before .before .before .before .before .before .before .before .pre in
+    let at-pre = c .before .before .before .before .before .before .before .before .before .before .before .before .before .before .before .before .pre in
     let at-places = c .before .before .before .places in
     let at-has = c .before .before .before .before .before .has in
     let at-places2 = c .places2 in

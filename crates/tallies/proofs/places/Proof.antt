@@ -7,24 +7,24 @@ use Rattle.tallies.proofs.places.Statement.{statement}
 use Rattle.tallies.proofs.places.Tie as tie
 use Rattle.tallies.proofs.places.Reads as reads
 use Rattle.tallies.proofs.places.Lts as lts
-use Rattle.terms.proofs.find.Reads as find-reads
+use Rattle.terms.proofs.find_joined.Reads as find-joined-reads
 
-find-requires : tie.Need-find-requires
-find-requires c κs =
-    let at-pre = c .before .before .before .before .before .pre in
+find-joined-requires : tie.Need-find-joined-requires
+find-joined-requires c κs =
+    let at-pre = c .before .before .before .before .before .before .pre in
     at-pre
 
 returns : tie.Need-returns
 returns c =
-    let at-args = c .before .before .before .before .before .before .args in
-    let at-find = c .find in
-    (λ ws h e. places-found (at-args .d .now) ws (at-args .entries .now) (at-args .r) h (at-args .name .now) (at-find .result) (at-find .ensures))
+    let at-args = c .before .before .before .before .before .before .before .args in
+    let at-find-joined = c .find-joined in
+    (λ ws h e. places-found (at-args .d .now) ws (at-args .entries .now) (at-args .sets .now) (at-args .r) h (at-args .name .now) (at-find-joined .result) (at-find-joined .ensures))
 
 returns-2 : tie.Need-returns-2
 returns-2 c =
-    let at-args = c .before .before .before .before .args in
+    let at-args = c .before .before .before .before .before .args in
     let at-if1 = c .if1 in
     (λ ws h e. no-places (at-args .name .now) ws (sym e ∙ at-if1 .left))
 
 pub places-spec : {M : Type 1} → statement M
-places-spec = tie.close (tie.spec find-requires returns returns-2)
+places-spec = tie.close (tie.spec find-joined-requires returns returns-2)

@@ -34,21 +34,21 @@ same-bytes-requires c κs = search needs
 
 returns : tie.Need-returns
 returns c =
-    let at-pre = c .before .before .before .before .before .before .before .before .before .pre in
-    let at-args = c .before .before .before .before .before .before .before .before .before .args in
+    let at-pre = c .before .before .before .before .before .before .before .before .before .before .before .pre in
+    let at-args = c .before .before .before .before .before .before .before .before .before .before .before .args in
     let at-same-bytes = c .before .same-bytes in
     let at-if1 = c .if1 in
     (at-pre .1 .1, same-true (span (at-args .before .at) (at-args .before .end) (at-args .s .now)) (span (at-args .at) (at-args .end) (at-args .s .now)) (sym (at-same-bytes .ensures) ∙ at-if1 .taken))
 
 look-up-requires : tie.Need-look-up-requires
 look-up-requires c κs =
-    let at-pre = c .before .before .before .before .before .before .before .before .before .pre in
+    let at-pre = c .before .before .before .before .before .before .before .before .before .before .before .pre in
     (at-pre .0, at-pre .1 .0)
 
 returns-2 : tie.Need-returns-2
 returns-2 c =
     let at-look-up = c .look-up in
-    let at-args = c .before .before .before .before .before .before .before .before .before .before .args in
+    let at-args = c .before .before .before .before .before .before .before .before .before .before .before .before .args in
     (at-look-up .ensures .0, (λ i. span (at-look-up .ensures .1 i) (at-look-up .ensures .2 i) (at-args .s .now)))
 
 pub recall-spec : {M : Type 1} → statement M

@@ -3,7 +3,7 @@ use borrow.Author.Needs.{needs}
 use Prim.Native.Nat.{_-_}
 use native.Mathlib.Omega.{arith}
 use lib.ListN.{length}
-use Rattle.dictionary.proofs.Reading.{cuts-told}
+use Rattle.lists.proofs.Splitting.{cuts-told}
 use Rattle.wordsets.proofs.Reading.{ValueLeft, value-start, value-end, value-few, value-room, value-more}
 use Rattle.wordsets.proofs.add_value.Statement.{statement}
 use Rattle.wordsets.proofs.add_value.Tie as tie

@@ -1,0 +1,7 @@
+-- Laws of kinds and of values held against them.
+pub mod Shapes
+pub mod Granted
+pub mod Ends
+pub mod Filling
+pub mod Asking
+pub mod Named

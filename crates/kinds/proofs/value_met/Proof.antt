@@ -1,0 +1,102 @@
+-- `kinds::value_met` meets its contract.
+use Prim.Native.Nat.{_-_}
+use native.Mathlib.Omega.{arith}
+use mathlib.Core.Path.{ap, _∙_}
+use Rattle.lines.specs.Value.{valueFrom}
+use Rattle.words.proofs.Decoded.{decoded-all, decoded-length}
+use Rattle.kinds.specs.Meets.{rowsMet}
+use Rattle.kinds.proofs.Asking.{all-asked}
+use borrow.Author.Needs.{needs}
+use Rattle.kinds.proofs.value_met.Statement.{statement}
+use Rattle.kinds.proofs.value_met.Tie as tie
+use Rattle.kinds.proofs.value_met.Reads as reads
+use Rattle.kinds.proofs.value_met.Lts as lts
+use Rattle.kinds.proofs.rows_met.Reads as rows-met-reads
+use Rattle.kinds.proofs.texts_with.Reads as texts-with-reads
+use Rattle.lines.proofs.copy_value.Reads as copy-value-reads
+use Rattle.readings.proofs.int_in.Reads as int-in-reads
+
+copy-value-requires : tie.Need-copy-value-requires
+copy-value-requires c κs =
+    let at-pre = c .before .before .before .before .before .pre in
+    at-pre .1 .1 .1
+
+slice-reshare-prefix-int-in : tie.Need-slice-reshare-prefix-int-in
+slice-reshare-prefix-int-in c = search needs
+
+slice-aggregate-int-in : tie.Need-slice-aggregate-int-in
+slice-aggregate-int-in c =
+    let at-args = c .before .before .before .before .before .before .before .before .before .args in
+    let at-copy-value = c .before .before .before .copy-value in
+    decoded-length (valueFrom (at-args .s .now)) (at-args .scratch .now) _ (at-copy-value .result) (at-copy-value .ensures .0) (at-copy-value .ensures .1)
+
+int-in-requires : tie.Need-int-in-requires
+int-in-requires c κs = search needs
+
+slice-aggregate-texts-with : tie.Need-slice-aggregate-texts-with
+slice-aggregate-texts-with c = search needs
+
+slice-reshare-prefix-texts-with : tie.Need-slice-reshare-prefix-texts-with
+slice-reshare-prefix-texts-with c = search needs
+
+slice-aggregate-texts-with-2 : tie.Need-slice-aggregate-texts-with-2
+slice-aggregate-texts-with-2 c =
+    let at-args = c .before .before .before .before .before .before .before .before .before .before .before .before .before .args in
+    let at-copy-value = c .before .before .before .before .before .before .before .copy-value in
+    decoded-length (valueFrom (at-args .s .now)) (at-args .scratch .now) _ (at-copy-value .result) (at-copy-value .ensures .0) (at-copy-value .ensures .1)
+
+texts-with-requires : tie.Need-texts-with-requires
+texts-with-requires c κs =
+    let at-pre = c .before .before .before .before .before .before .before .before .before .before .before .before .before .pre in
+    at-pre .1 .1 .0
+
+slice-reshare-prefix-rows-met : tie.Need-slice-reshare-prefix-rows-met
+slice-reshare-prefix-rows-met c = search needs
+
+slice-aggregate-rows-met : tie.Need-slice-aggregate-rows-met
+slice-aggregate-rows-met c =
+    let at-args = c .before .before .before .before .before .before .before .before .before .before .before .before .before .before .before .args in
+    let at-copy-value = c .before .before .before .before .before .before .before .before .before .copy-value in
+    decoded-length (valueFrom (at-args .s .now)) (at-args .scratch .now) _ (at-copy-value .result) (at-copy-value .ensures .0) (at-copy-value .ensures .1)
+
+rows-met-requires : tie.Need-rows-met-requires
+rows-met-requires c κs =
+    let at-pre = c .before .before .before .before .before .before .before .before .before .before .before .before .before .before .before .pre in
+    let at-int-in = c .before .before .before .before .before .int-in in
+    let y = at-pre .1 .1 .0 in
+    let z = at-pre .1 .0 in
+    (at-pre .0, ((omega (arith, y .begins), omega (arith, y .begins, y .within, z .1, z .0 .few), z .0 .rows-long, z .0 .texts-long), at-int-in .ensures))
+
+same-length : tie.Need-same-length
+same-length c = search needs
+
+returns : tie.Need-returns
+returns c =
+    let at-pre = c .before .before .before .before .before .before .before .before .before .before .before .before .before .before .before .before .pre in
+    let at-rows-met = c .rows-met in
+    let at-args = c .before .before .before .before .before .before .before .before .before .before .before .before .before .before .before .before .args in
+    let at-texts-with = c .before .before .texts-with in
+    let at-copy-value = c .before .before .before .before .before .before .before .before .before .before .copy-value in
+    let y = at-pre .1 .1 .0 in
+    let z = at-pre .1 .0 in
+    at-rows-met .ensures
+    ∙ all-asked (at-args .d .now) (at-args .kinds) (z .0) (at-args .from) (at-args .enums .next) (at-texts-with .result) (at-args .tags) _ (omega (arith, y .within, z .1)) (at-texts-with .ensures) (y .begins)
+    ∙ ap (rowsMet (at-args .d .now) (at-args .tags) (at-args .from) (at-args .enums .next - at-args .from)) (decoded-all (valueFrom (at-args .s .now)) (at-args .scratch .now) _ (at-copy-value .result) (at-copy-value .ensures .0) (at-copy-value .ensures .1))
+
+pub value-met-spec : {M : Type 1} → statement M
+value-met-spec =
+    tie.close
+    (tie.spec
+    copy-value-requires
+    slice-reshare-prefix-int-in
+    slice-aggregate-int-in
+    int-in-requires
+    slice-aggregate-texts-with
+    slice-reshare-prefix-texts-with
+    slice-aggregate-texts-with-2
+    texts-with-requires
+    slice-reshare-prefix-rows-met
+    slice-aggregate-rows-met
+    rows-met-requires
+    same-length
+    returns)

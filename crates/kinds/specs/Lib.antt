@@ -1,0 +1,3 @@
+-- The kinds of a descriptor's `%type` fields, and values held against them.
+pub mod Meets
+pub mod Rows

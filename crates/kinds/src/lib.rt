@@ -1,0 +1,241 @@
+// The kinds of a descriptor's `%type` fields, read once, and a value held against all of them that name its field.
+// A `%type` field is a row: its kind is that at the end of its type, which stands in its own value or in that of a typedef.
+ghost use mathlib.Core.Path.{_≡_};
+ghost use mathlib.Core.Bool.{true};
+ghost use mathlib.Core.List.{[]};
+ghost use mathlib.Core.Option.{some};
+ghost use Prim.Native.Nat.{_-_, _<_, _≤_};
+ghost use lib.ListN.{length, drop, getD};
+ghost use Rattle.format.specs.Bytes.{classTable, text, isSome};
+ghost use Rattle.format.specs.Limits.{valueBytes};
+ghost use Rattle.format.specs.Words.{trim, afterWord};
+ghost use Rattle.format.specs.Numbers.{intBounds, intOf};
+ghost use Rattle.lines.specs.Value.{valueFrom};
+ghost use Rattle.numbers.specs.Meaning.{intAnswer};
+ghost use Rattle.records.specs.Places.{isReadable};
+ghost use Rattle.types.specs.Meaning.{typedIn};
+ghost use Rattle.typedefs.specs.Walks.{valuesFrom};
+ghost use Rattle.dictionary.specs.Known.{Described};
+ghost use Rattle.symbols.specs.Enums.{typeAt};
+ghost use Rattle.symbols.specs.Rows.{IsSymbols, Found};
+ghost use Rattle.kinds.specs.Meets.{rowsMet};
+ghost use Rattle.kinds.specs.Rows.{targetsOf, TypeAt, EndAt, textOf, IsKinds, isSymbol, rowsAsk};
+use numbers::IntOf;
+use symbols::Symbols;
+use typedefs::Followed;
+use typedefs::NextValue;
+use types::Shape;
+use types::TypeOf;
+
+// The kind of a `%type` field.
+pub struct Row {
+    pub kind: Shape,
+}
+
+// The kinds of a descriptor, one row for each `%type` field, and where the text of a row stands if it is an `enum`, 65536 otherwise.
+pub struct Kinds {
+    pub rows: [Row; 32],
+    pub texts: [usize; 32],
+    pub count: usize,
+}
+
+// The type behind the first word of the value at a place.
+fn type_at(table: &[u8; 256], d: &[u8], value: usize, scratch: &mut [u8]) -> Shape
+    requires { ⌜ now table ≡ classTable ⌝ }
+    requires { ⌜ (value ≤ length (now d)) × (length (valueFrom (drop value (now d))) ≤ length (now scratch)) ⌝ }
+    requires { ⌜ isSome (typeAt (now d) value) ≡ true ⌝ }
+    ensures { λ r. ⌜ typeAt (now (d .entry)) value ≡ some (typedIn (afterWord (valueFrom (drop value (now (d .entry))))) r) ⌝ }
+{
+    let n = lines::copy_value(&d[value..], &mut *scratch);
+    let at = typedefs::behind_word(&scratch[..n]);
+    let t = types::type_of(table, &scratch[at..n]);
+    let TypeOf::Is(kind) = t else {
+        return Shape::Line;
+    };
+    kind
+}
+
+// Where the text of a kind stands that was read at a place.
+fn text_of(kind: Shape, value: usize) -> usize
+    ensures { λ r. ⌜ r ≡ textOf kind value ⌝ }
+{
+    match kind {
+        Shape::Enum { start: _, end: _ } => value,
+        _ => 65536,
+    }
+}
+
+// Where the value of a typedef stands.
+fn typedef_place(table: &[u8; 256], d: &[u8], number: usize) -> usize
+    requires { ⌜ now table ≡ classTable ⌝ }
+    requires { ⌜ isReadable (now d) ≡ true ⌝ }
+    requires { ⌜ number < length (valuesFrom (now d) (text "%typedef") 0) ⌝ }
+    ensures { λ r. ⌜ (r < length (now (d .entry))) × (valueFrom (drop r (now (d .entry))) ≡ getD (valuesFrom (now (d .entry)) (text "%typedef") 0) number []) ⌝ }
+{
+    let mut i = 0;
+    let mut k = 0;
+    loop {
+        let v = typedefs::next_value(table, d, b"%typedef", i);
+        let NextValue::At { value, end } = v else {
+            return i;
+        };
+        if k == number {
+            return value;
+        }
+        k += 1;
+        i = end;
+    }
+}
+
+// Where the value stands that holds the kind at the end of the type of the value at a place: there, or a typedef's.
+fn end_of(table: &[u8; 256], d: &[u8], targets: &[usize], value: usize, scratch: &mut [u8]) -> usize
+    requires { ⌜ now table ≡ classTable ⌝ }
+    requires { ⌜ Described (now d) × (now targets ≡ targetsOf (now d)) ⌝ }
+    requires { ⌜ TypeAt (now d) value × (valueBytes ≤ length (now scratch)) ⌝ }
+    ensures { λ r. ⌜ EndAt (now (d .entry)) value r ⌝ }
+{
+    let t = typedefs::target_of(table, d, value, d.len(), &mut *scratch);
+    if t == 33 {
+        return value;
+    }
+    let count = targets.len();
+    if count <= t {
+        return value;
+    }
+    let f = typedefs::follow(targets, t, count - 1);
+    let Followed::End(number) = f else {
+        return value;
+    };
+    typedef_place(table, d, number)
+}
+
+// The kinds of a descriptor, by the targets of its typedefs.
+fn fill(table: &[u8; 256], d: &[u8], targets: &[usize], scratch: &mut [u8]) -> Kinds
+    requires { ⌜ now table ≡ classTable ⌝ }
+    requires { ⌜ Described (now d) × (now targets ≡ targetsOf (now d)) ⌝ }
+    requires { ⌜ valueBytes ≤ length (now scratch) ⌝ }
+    ensures { λ r. ⌜ IsKinds (now (d .entry)) r ⌝ }
+{
+    let mut rows = [Row { kind: Shape::Line }; 32];
+    let mut texts = [65536; 32];
+    let mut i = 0;
+    let mut count = 0;
+    loop {
+        let v = typedefs::next_value(table, d, b"%type", i);
+        let NextValue::At { value, end } = v else {
+            return Kinds { rows, texts, count };
+        };
+        let at = end_of(table, d, targets, value, &mut *scratch);
+        let kind = type_at(table, d, at, &mut *scratch);
+        rows[count] = Row { kind };
+        texts[count] = text_of(kind, at);
+        count += 1;
+        i = end;
+    }
+}
+
+// The kinds of a descriptor.
+pub fn read(table: &[u8; 256], d: &[u8], scratch: &mut [u8]) -> Kinds
+    requires { ⌜ now table ≡ classTable ⌝ }
+    requires { ⌜ Described (now d) ⌝ }
+    requires { ⌜ valueBytes ≤ length (now scratch) ⌝ }
+    ensures { λ r. ⌜ IsKinds (now (d .entry)) r ⌝ }
+{
+    let t = typedefs::read_targets(table, d, &mut *scratch);
+    let rows = t.rows;
+    let count = t.count;
+    fill(table, d, &rows[..count], &mut *scratch)
+}
+
+// The rows of whose texts a value is a symbol, blanks and newlines around it aside.
+fn texts_with(
+    d: &[u8],
+    texts: &[usize],
+    from: usize,
+    to: usize,
+    entries: &[u32],
+    enums: Symbols,
+    v: &[u8],
+) -> u64
+    requires { ⌜ IsSymbols (now d) (now texts) from to (now entries) enums ⌝ }
+    ensures { λ x. ⌜ Found (now (d .entry)) (now (texts .entry)) from (enums .next) (trim (now (v .entry))) x ⌝ }
+{
+    let t = words::trimmed(v);
+    let a = t.start;
+    let e = t.end;
+    symbols::look_up(d, texts, from, to, entries, enums, &v[a..e])
+}
+
+// Is a value a symbol of a row, if it is known of which texts it is one?
+fn is_symbol(texts: &[usize], from: usize, row: usize, found: u64) -> bool
+    requires { ⌜ (from ≤ row) × (row < length (now texts)) × (row < 64) ⌝ }
+    ensures { λ r. ⌜ r ≡ isSymbol (now (texts .entry)) from found row ⌝ }
+{
+    if texts[row] < 65536 {
+        let first = symbols::leader(texts, from, row);
+        return terms::has(found, first as u64);
+    }
+    false
+}
+
+// Does a value meet the kinds of the rows in a set of tags, from one row on before another? x is what it is as an int, found of which texts it is a symbol.
+fn rows_met(
+    table: &[u8; 256],
+    kinds: Kinds,
+    from: usize,
+    next: usize,
+    found: u64,
+    tags: u64,
+    v: &[u8],
+    x: IntOf,
+) -> bool
+    requires { ⌜ now table ≡ classTable ⌝ }
+    requires { ⌜ (from ≤ next) × (next ≤ 32) × (length (kinds .rows) ≡ 32) × (length (kinds .texts) ≡ 32) ⌝ }
+    requires { ⌜ intAnswer x ≡ intOf intBounds (trim (now v)) ⌝ }
+    ensures { λ r. ⌜ r ≡ rowsAsk kinds from found tags (now (v .entry)) from (next - from) ⌝ }
+{
+    let texts = kinds.texts;
+    let mut k = from;
+    while k < next {
+        if terms::has(tags, k as u64) {
+            let row = kinds.rows[k];
+            let symbol = is_symbol(&texts, from, k, found);
+            let kind = row.kind;
+            if readings::shape_met(table, kind, v, x, symbol) {
+                k += 1;
+            } else {
+                return false;
+            }
+        } else {
+            k += 1;
+        }
+    }
+    true
+}
+
+// Does the value that begins where s does meet the kinds of the rows in a set of tags, from one row on before the first that is not in a table of symbols?
+pub fn value_met(
+    table: &[u8; 256],
+    d: &[u8],
+    kinds: Kinds,
+    from: usize,
+    to: usize,
+    entries: &[u32],
+    enums: Symbols,
+    tags: u64,
+    s: &[u8],
+    scratch: &mut [u8],
+) -> bool
+    requires { ⌜ now table ≡ classTable ⌝ }
+    requires { ⌜ IsKinds (now d) kinds × (to ≤ kinds .count) ⌝ }
+    requires { ⌜ IsSymbols (now d) (kinds .texts) from to (now entries) enums ⌝ }
+    requires { ⌜ length (valueFrom (now s)) ≤ length (now scratch) ⌝ }
+    ensures { λ r. ⌜ r ≡ rowsMet (now (d .entry)) tags from (enums .next - from) (valueFrom (now (s .entry))) ⌝ }
+{
+    let n = lines::copy_value(s, &mut *scratch);
+    let x = readings::int_in(&scratch[..n]);
+    let texts = kinds.texts;
+    let found = texts_with(d, &texts, from, to, entries, enums, &scratch[..n]);
+    let next = enums.next;
+    rows_met(table, kinds, from, next, found, tags, &scratch[..n], x)
+}

@@ -1,0 +1,32 @@
+-- `limits::field_fits` meets its contract: the limits ask by a bound of the value's length.
+use Prim.Native.Nat.{_+_}
+use mathlib.Core.Path.{ap, _∙_}
+use mathlib.Core.Bool.{Bool, _&&_}
+use lib.Dec.{leb}
+use Rattle.format.specs.Limits.{recordFields, nameBytes}
+use borrow.Author.Needs.{needs}
+use Rattle.limits.proofs.field_fits.Statement.{statement}
+use Rattle.limits.proofs.field_fits.Tie as tie
+use Rattle.limits.proofs.field_fits.Reads as reads
+use Rattle.limits.proofs.field_fits.Lts as lts
+use Rattle.format.proofs.Record.fits.Reads as fits-reads
+use Rattle.limits.proofs.value_bound.Reads as value-bound-reads
+
+value-bound-requires : tie.Need-value-bound-requires
+value-bound-requires c κs = search needs
+
+add-t6 : tie.Need-add-t6
+add-t6 c = search needs
+
+fits-requires : tie.Need-fits-requires
+fits-requires c κs = search needs
+
+returns : tie.Need-returns
+returns c =
+    let at-fits2 = c .fits2 in
+    let at-args = c .before .before .before .args in
+    let at-value-bound = c .before .value-bound in
+    at-fits2 .ensures ∙ ap (λ (b : Bool). leb (at-args .fields + 1) recordFields && leb (at-args .name) nameBytes && b) (at-value-bound .ensures)
+
+pub field-fits-spec : {M : Type 1} → statement M
+field-fits-spec = tie.close (tie.spec value-bound-requires add-t6 fits-requires returns)

@@ -1,0 +1,3 @@
+-- Laws of the walk over the records of a set.
+pub mod Tags
+pub mod Walking

@@ -1,6 +1,0 @@
--- Laws of values against types.
-pub mod Readiness
-pub mod Kinded
-pub mod Ruled
-pub mod Rows
-pub mod Walked
