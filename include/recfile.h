@@ -2,7 +2,7 @@
  *
  * The file is the first `used` bytes of a buffer of `len` bytes. No call allocates, keeps anything between calls, or reads or
  * writes outside the buffers it is given. Every call returns on every input; none needs another to be made first. The calls may
- * use 192 KiB of stack.
+ * use 160 KiB of stack.
  *
  * A call that is refused changes no byte of any buffer and gives the number of the first question that says no:
  *
