@@ -12,7 +12,7 @@ use Rattle.words.specs.Spans.{span}
 use Rattle.records.specs.Places.{isReadable}
 use Rattle.records.specs.Walk.{recordIn}
 
--- the next descriptor behind byte p: from a to e, and the byte n behind its block; the records between p and a are none
+-- the next descriptor from byte p on: its fields stand from a to e, and n is the byte behind its block; no record between p and a is a descriptor
 pub record HeadHere (s : Bytes) (p a e n : ℕ) : Type 0 where
   pub begins : p ≤ a
   pub filled : a < e
