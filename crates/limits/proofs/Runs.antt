@@ -8,21 +8,20 @@ use lib.ListN.{length, drop, length-append}
 use Rattle.format.specs.Bytes.{Bytes, pick}
 use Rattle.format.specs.Lines.{Line}
 use Rattle.format.specs.Pieces.{Piece, readOf}
-use Rattle.format.specs.Lists.{onto}
-use Rattle.format.specs.Records.{Field, Record, Block, countOf, fieldsOf}
+use Rattle.format.specs.Records.{Field, Record, countOf, fieldsOf}
 use Rattle.format.proofs.Grouping.{fields-append}
-use Rattle.format.proofs.Records.{close, recordsIn, records}
+use Rattle.format.proofs.Records.{close, records}
 use Rattle.format.proofs.Walking.{isHead, heads}
 use Rattle.words.specs.Spans.{span}
 use Rattle.records.specs.Places.{isReadable, sizeIn}
 use Rattle.records.specs.Walk.{recordIn, untilBlank, fromBlank}
 use Rattle.records.specs.Heads.{HeadHere}
-use Rattle.records.proofs.Walks.{run-blocks, size-append, size-piece, size-none}
+use Rattle.records.proofs.Walks.{size-append, size-piece, size-none}
 use Rattle.records.proofs.Readings.{Reads, reads-readable, reads-of, readable-reads, reads-take}
 use Rattle.records.proofs.Steps.{Passed}
 use Rattle.records.proofs.Cuts.{recordsFrom}
 use Rattle.records.proofs.Rows.{heads-plain}
-use Rattle.records.proofs.Going.{goOn, goingFrom, going-none, going-end, going-blank}
+use Rattle.records.proofs.Going.{goOn, goingFrom, going-none, going-end, going-blank, records-blank}
 
 -- the pieces from p to i
 pub record Cut (s : Bytes) (p i : ℕ) (ps : List Piece) : Type 0 where
@@ -100,15 +99,9 @@ run-records : (ps run qs : List Piece) → Quiet ps → Solid run → records (p
 run-records ps run qs a b =
     a (run ++ qs) ∙ ap (λ (rs : List Record). records ps ++ rs) (sym (going-none (run ++ qs)) ∙ b [] qs)
 
-blank-records : (l : Line) (qs : List Piece) → records (Piece.blank l ∷ qs) ≡ records qs
-unfolding records
-blank-records l qs =
-    let b = run-blocks qs in
-    ap (λ (bs : List Block). recordsIn ([] ∷ onto (Piece.blank l) bs)) (b .1) ∙ sym (ap (λ (bs : List Block). recordsIn bs) (b .1))
-
 blank-on : (l : Line) (fs : Record) (qs : List Piece) → goOn fs (Piece.blank l ∷ qs) ≡ close fs (records qs)
 unfolding goOn
-blank-on l fs qs = (λ j. close (append-nil fs j) (blank-records l qs j))
+blank-on l fs qs = (λ j. close (append-nil fs j) (records-blank l qs j))
 
 -- what was met behind byte p: fs are the fields of the record that goes on, from a to e
 pub record Pending (s : Bytes) (p i a e : ℕ) (fs : Record) : Type 0 where
@@ -185,7 +178,7 @@ module _ (ps run : List Piece) (l : Line) (quiet : Quiet ps) (solid : Solid run)
       ∙ ap (λ (rs : List Record). rs ++ records qs) (sym shut-all)
 
 quiet-blank : (l : Line) → Quiet (Piece.blank l ∷ [])
-quiet-blank l qs = blank-records l qs ∙ ap (λ (rs : List Record). rs ++ records qs) (sym (blank-records l [] ∙ records-none))
+quiet-blank l qs = records-blank l qs ∙ ap (λ (rs : List Record). rs ++ records qs) (sym (records-blank l [] ∙ records-none))
 
 heads-close : (fs : Record) → isHead fs ≡ false → heads (close fs []) ≡ []
 heads-close [] e = refl
@@ -302,7 +295,7 @@ module _ {s : Bytes} {p i a e : ℕ} where
             within = omega arith;
             quiet = quiet-blank l;
             solid = solid-none;
-            plain = ap (λ (rs : List Record). heads rs) (blank-records l [] ∙ records-none);
+            plain = ap (λ (rs : List Record). heads rs) (records-blank l [] ∙ records-none);
             filled = omega arith;
             own-fields = refl;
             run-fields = refl;
@@ -346,7 +339,7 @@ module _ {s : Bytes} {p i a e : ℕ} where
         ∙ heads-close fs h
 
 pub blank-passed : {s : Bytes} {i k : ℕ} {l : Line} → Passed s i (Piece.blank l) k → recordsFrom s i ≡ recordsFrom s (i + k)
-blank-passed {s} {i} {k} {l} q = ap (λ (x : List Piece). records x) (q .reads) ∙ blank-records l (readOf (drop (i + k) s))
+blank-passed {s} {i} {k} {l} q = ap (λ (x : List Piece). records x) (q .reads) ∙ records-blank l (readOf (drop (i + k) s))
 
 -- where a record ends
 module _ (s : Bytes) (i : ℕ) (fs : Record) where

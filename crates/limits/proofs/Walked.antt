@@ -28,7 +28,7 @@ use Rattle.records.specs.Walk.{untilBlank, fromBlank}
 use Rattle.records.specs.Heads.{HeadHere, rowFrom}
 use Rattle.records.proofs.Looks.{looks}
 use Rattle.records.proofs.Steps.{Passed, FieldAt}
-use Rattle.records.proofs.Cuts.{recordsFrom}
+use Rattle.records.proofs.Cuts.{recordsFrom, head-one}
 use Rattle.records.proofs.Rows.{row-next}
 use Rattle.records.proofs.Going.{goOn, goingFrom, going-none, going-comment}
 use Rattle.limits.specs.Opens.{notOpen, openOn, putRow}
@@ -102,13 +102,9 @@ close-once : (fs : Record) (rs : List Record) → walkOnce (close fs rs) ≡ (ha
 close-once [] rs = refl
 close-once (f ∷ fs) rs = refl
 
-heads-one : (b : Bool) (r : Record) (hs : List Record) → length (pick b (r ∷ hs) hs) ≡ pick b 1 0 + length hs
-heads-one true r hs = omega arith
-heads-one false r hs = omega arith
-
 close-heads : (fs : Record) (rs : List Record) → length (heads (close fs rs)) ≡ pick (isHead fs) 1 0 + length (heads rs)
 close-heads [] rs = omega arith
-close-heads (f ∷ fs) rs = heads-one (isHead (f ∷ fs)) (f ∷ fs) (heads rs)
+close-heads (f ∷ fs) rs = head-one (isHead (f ∷ fs)) (f ∷ fs) (heads rs)
 
 module _ {s : Bytes} {i : ℕ} {fs : Record} {count : ℕ} {once : Bool} (q : Asked s i fs count once) where
   asked-on : (j : ℕ) (gs : Record) → goingFrom fs s i ≡ goingFrom gs s j → Asked s j gs count once

@@ -66,7 +66,7 @@ module _ (s : Bytes) (i : ℕ) (e : placesAt s i ≡ []) where
   members-end = ap before records-none
 
 -- one more record, which may be a descriptor
-head-one : (b : Bool) (r : Record) (hs : List Record) → length (pick b (r ∷ hs) hs) ≡ pick b 1 0 + length hs
+pub head-one : (b : Bool) (r : Record) (hs : List Record) → length (pick b (r ∷ hs) hs) ≡ pick b 1 0 + length hs
 head-one true r hs = omega arith
 head-one false r hs = omega arith
 

@@ -30,7 +30,7 @@ going-none ps =
     ap (λ (bs : List Block). close (fieldsOf (untilBlank ps)) (recordsIn bs)) (b .2) ∙ sym (ap (λ (bs : List Block). recordsIn bs) (b .1))
 
 -- a blank line before pieces
-records-blank : (l : Line) (ps : List Piece) → records (Piece.blank l ∷ ps) ≡ records ps
+pub records-blank : (l : Line) (ps : List Piece) → records (Piece.blank l ∷ ps) ≡ records ps
 unfolding records
 records-blank l ps =
     let b = run-blocks ps in
