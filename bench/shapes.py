@@ -308,6 +308,8 @@ def joined():
         'joints in a symbol': of_types([b'enum a' + hole + b'b'], b'ab'),
         'joints in 32 symbols': of_types([b'enum a' + part + b'b'] * 32, b'ab'),
         'joints before symbols': of_types([b'enum ' + part + b'b'] * 32, b'b'),
+        'a joint behind each byte of a symbol': of_types([b'enum ' + b'\\\n'.join([b'a'] * 1300)], b'a' * 1300),
+        'a joint behind each byte of 32 symbols': of_types([b'enum ' + b'\\\n'.join([b'a'] * 300)] * 32, b'a' * 300),
         'joints in a range': of_types([b'range ' + part + b'0 9'] * 32, b'5'),
         'joints behind a typed name': of_types([part + b'int'] * 32, b'5'),
         'joints in aliases': of_types([b'T' + part + b'0'] * 32, b'5', head=chain(b'int', alias=b'T' + part)),

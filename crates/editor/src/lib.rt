@@ -11,25 +11,27 @@ ghost use Rattle.edits.specs.Splices.{refusalOf, madeBy, Sound};
 ghost use Rattle.editor.specs.Answers.{editedAnswer, editedBy};
 ghost use Rattle.editor.specs.Lists.{fewest, editsIn, ranBy, Leaves};
 use edits::Splice;
+use format::File;
 use requests::RequestOf;
 
 // The number of the text that a splice makes of s, questions 2 to 14. It is made in a copy.
-fn result_no(table: &[u8; 256], x: Splice, s: &[u8], req: &[u8]) -> u32
+fn result_no(table: &[u8; 256], x: Splice, s: &[u8], req: &[u8], copy: &mut [u8]) -> u32
     requires { ⌜ now table ≡ classTable ⌝ }
+    requires { ⌜ fileBytes ≤ length (now copy) ⌝ }
     requires { ⌜ Sound (now s) (now req) x ⌝ }
     requires { ⌜ (length (now s) ≤ fileBytes) × (length (madeBy (now s) (now req) x) ≤ fileBytes) ⌝ }
     ensures { λ r. ⌜ r ≡ textNo (madeBy (now (s .entry)) (now (req .entry)) x) ⌝ }
 {
-    let mut copy = [0u8; 65536];
     let used = s.len();
-    splices::copy_text(s, &mut copy);
-    let n = edits::carry_out(table, x, &mut copy, used, req);
-    integrity::judge(table, &copy[..n])
+    splices::copy_text(s, &mut *copy);
+    let n = edits::carry_out(table, x, &mut *copy, used, req);
+    integrity::judge_spent(table, copy, n)
 }
 
 // The number of an edit of a text that passes, in a buffer of room bytes: the first question, 21 on, that says no, else 0.
-fn edit_no(table: &[u8; 256], x: Splice, s: &[u8], req: &[u8], room: usize) -> u32
+fn edit_no(table: &[u8; 256], x: Splice, s: &[u8], req: &[u8], room: usize, copy: &mut [u8]) -> u32
     requires { ⌜ now table ≡ classTable ⌝ }
+    requires { ⌜ fileBytes ≤ length (now copy) ⌝ }
     requires { ⌜ (refusalOf x ≡ 0 → Sound (now s) (now req) x) ⌝ }
     requires { ⌜ (length (now s) ≤ room) × (length (now s) ≤ fileBytes) ⌝ }
     ensures { λ r. ⌜ r ≡ editNo room (refusalOf x) (madeBy (now (s .entry)) (now (req .entry)) x) ⌝ }
@@ -38,10 +40,10 @@ fn edit_no(table: &[u8; 256], x: Splice, s: &[u8], req: &[u8], room: usize) -> u
     if k != 0 {
         return k;
     }
-    if edits::fits(x, s, req, room) {} else {
+    if !edits::fits(x, s, req, room) {
         return 26;
     }
-    let n = result_no(table, x, s, req);
+    let n = result_no(table, x, s, req, copy);
     if n == 0 {
         return 0;
     }
@@ -58,7 +60,8 @@ pub enum Edited {
 pub fn edit(buf: &mut [u8], used: usize, req: &[u8]) -> Edited
     ensures { λ r. ⌜ editedBy r (now (buf .exit)) ≡ editAnswer (now (buf .entry)) used (now (req .entry)) ⌝ }
 {
-    let k = integrity::check(buf, used);
+    let mut copy = [0u8; File::BYTES];
+    let k = integrity::check_with(buf, used, &mut copy);
     if k != 0 {
         return Edited::Refused(k);
     }
@@ -69,7 +72,7 @@ pub fn edit(buf: &mut [u8], used: usize, req: &[u8]) -> Edited
     let table = format::classes();
     let x = edits::locate(&table, &buf[..used], req, q);
     let room = buf.len();
-    let n = edit_no(&table, x, &buf[..used], req, room);
+    let n = edit_no(&table, x, &buf[..used], req, room, &mut copy);
     if n != 0 {
         return Edited::Refused(n);
     }

@@ -33,6 +33,8 @@ pub mod Listing
 pub mod Records
 pub mod Ordinals
 pub mod Walking
+pub mod Uncounted
+pub mod Dense
 pub mod Splices
 pub mod Least
 pub mod Table

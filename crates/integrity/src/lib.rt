@@ -3,7 +3,7 @@ ghost use mathlib.Core.Path.{_≡_};
 ghost use mathlib.Core.Bool.{true, _&&_};
 ghost use Prim.Native.Nat.{_≤_};
 ghost use lib.Dec.{ltb};
-ghost use lib.ListN.{length, getD};
+ghost use lib.ListN.{length, take, getD};
 ghost use Rattle.format.specs.Pieces.{readOf};
 ghost use Rattle.format.proofs.Records.{records};
 ghost use Rattle.format.specs.Bytes.{classTable, pick, isAllowed, all};
@@ -15,7 +15,12 @@ ghost use Rattle.format.proofs.Judging.{textNo};
 ghost use Rattle.format.proofs.Walking.{walkFits, walkOnce, walkTypes, walkNo, recordsNo};
 ghost use Rattle.records.specs.Heads.{HeadRows, HeadParts};
 ghost use Rattle.integrity.specs.Stages.{Granted};
+use dense::make_dense;
+use dense::may_join;
+use format::File;
 use limits::Bounded;
+
+mod dense;
 
 // Is a byte allowed? All tests are made, so that many bytes can be asked at once.
 fn is_allowed(b: u8) -> bool
@@ -185,7 +190,7 @@ fn judge_lines(table: &[u8; 256], s: &[u8]) -> u32
 }
 
 // Questions 2 to 14 of a text: the number of the first that says no, else 0.
-pub fn judge(table: &[u8; 256], s: &[u8]) -> u32
+fn judge(table: &[u8; 256], s: &[u8]) -> u32
     requires { ⌜ now table ≡ classTable ⌝ }
     requires { ⌜ length (now s) ≤ fileBytes ⌝ }
     ensures { λ r. ⌜ r ≡ textNo (now (s .entry)) ⌝ }
@@ -196,14 +201,64 @@ pub fn judge(table: &[u8; 256], s: &[u8]) -> u32
     2
 }
 
+// The same of the text of `used` bytes at the front of a slice, which is spent: the text is made dense first.
+fn judge_dense(table: &[u8; 256], text: &mut [u8], used: usize) -> u32
+    requires { ⌜ now table ≡ classTable ⌝ }
+    requires { ⌜ (used ≤ length (now text)) × (used ≤ fileBytes) ⌝ }
+    ensures { λ r. ⌜ r ≡ textNo (take used (now (text .entry))) ⌝ }
+{
+    if !is_text(&text[..used]) {
+        return 2;
+    }
+    if !records::is_readable(table, &text[..used]) {
+        return 3;
+    }
+    let n = make_dense(text, used);
+    judge_lines(table, &text[..n])
+}
+
+// The same of a text that the caller has no further use for.
+pub fn judge_spent(table: &[u8; 256], text: &mut [u8], used: usize) -> u32
+    requires { ⌜ now table ≡ classTable ⌝ }
+    requires { ⌜ (used ≤ length (now text)) × (used ≤ fileBytes) ⌝ }
+    ensures { λ r. ⌜ r ≡ textNo (take used (now (text .entry))) ⌝ }
+{
+    if may_join(&text[..used]) {
+        return judge_dense(table, text, used);
+    }
+    judge(table, &text[..used])
+}
+
+// The same of a text that is to stay as it is, with room for a copy of it.
+fn judge_kept(table: &[u8; 256], s: &[u8], copy: &mut [u8]) -> u32
+    requires { ⌜ now table ≡ classTable ⌝ }
+    requires { ⌜ (length (now s) ≤ fileBytes) × (fileBytes ≤ length (now copy)) ⌝ }
+    ensures { λ r. ⌜ r ≡ textNo (now (s .entry)) ⌝ }
+{
+    if may_join(s) {
+        splices::copy_text(s, &mut *copy);
+        return judge_dense(table, copy, s.len());
+    }
+    judge(table, s)
+}
+
+// The number of the first question that says no of the first `used` bytes of a buffer, else 0, with room for a copy of them.
+pub fn check_with(buf: &[u8], used: usize, copy: &mut [u8]) -> u32
+    requires { ⌜ fileBytes ≤ length (now copy) ⌝ }
+    ensures { λ r. ⌜ r ≡ checkAnswer (now (buf .entry)) used ⌝ }
+{
+    let f = File::new(used);
+    if !f.fits(buf.len()) {
+        return 1;
+    }
+    let table = format::classes();
+    judge_kept(&table, &buf[0..used], copy)
+}
+
 // The number of the first question that says no of the first `used` bytes of a buffer, else 0.
 pub fn check(buf: &[u8], used: usize) -> u32
     ensures { λ r. ⌜ r ≡ checkAnswer (now (buf .entry)) used ⌝ }
 {
-    let f = format::File::new(used);
-    if f.fits(buf.len()) {} else {
-        return 1;
-    }
-    let table = format::classes();
-    judge(&table, &buf[0..used])
+    let mut copy = [0u8; File::BYTES];
+    check_with(buf, used, &mut copy)
 }

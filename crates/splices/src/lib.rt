@@ -19,7 +19,7 @@ fn move_up(buf: &mut [u8], from: usize, to: usize, n: usize)
 }
 
 // n bytes go down from `from` to `to`, the first one first.
-fn move_down(buf: &mut [u8], from: usize, to: usize, n: usize)
+pub fn move_down(buf: &mut [u8], from: usize, to: usize, n: usize)
     requires { ⌜ (to ≤ from) × (from + n ≤ length (now buf)) ⌝ }
     ensures { λ _. ⌜ now (buf .exit) ≡ paste (now (buf .entry)) to (drop from (now (buf .entry))) n ⌝ }
 {

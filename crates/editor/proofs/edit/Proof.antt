@@ -9,6 +9,7 @@ use Rattle.edits.specs.Splices.{refusalOf}
 use Rattle.edits.specs.Places.{askedBy}
 use Rattle.editor.proofs.Editing.{number-zero, file-inside, file-length, file-small, file-readable, edit-refused, edit-accepted}
 use borrow.Author.Needs.{needs}
+use borrow.Author.Needs.{needs}
 use Rattle.editor.proofs.edit.Statement.{statement}
 use Rattle.editor.proofs.edit.Tie as tie
 use Rattle.editor.proofs.edit.Reads as reads
@@ -17,11 +18,14 @@ use Rattle.editor.proofs.edit_no.Reads as edit-no-reads
 use Rattle.edits.proofs.carry_out.Reads as carry-out-reads
 use Rattle.edits.proofs.locate.Reads as locate-reads
 use Rattle.format.proofs.classes.Reads as classes-reads
-use Rattle.integrity.proofs.check.Reads as check-reads
+use Rattle.integrity.proofs.check_with.Reads as check-with-reads
 use Rattle.requests.proofs.request_of.Reads as request-of-reads
 
-check-requires : tie.Need-check-requires
-check-requires c κs = search needs
+slice-aggregate-check-with : tie.Need-slice-aggregate-check-with
+slice-aggregate-check-with c = search needs
+
+check-with-requires : tie.Need-check-with-requires
+check-with-requires c κs = search needs
 
 same-length : tie.Need-same-length
 same-length c = search needs
@@ -29,10 +33,10 @@ same-length c = search needs
 returns : tie.Need-returns
 unfolding checkAnswer
 returns c =
-    let at-args = c .before .before .before .before .before .args in
-    let at-check = c .before .check in
+    let at-args = c .before .before .before .before .before .before .before .args in
+    let at-check-with = c .before .before .check-with in
     let at-if1 = c .if1 in
-    sym (answer-file (at-args .buf .now) (at-args .used) (at-args .req .now) (at-check .result) (omega (arith, at-if1 .taken)) (sym (at-check .ensures)))
+    sym (answer-file (at-args .buf .now) (at-args .used) (at-args .req .now) (at-check-with .result) (omega (arith, at-if1 .taken)) (sym (at-check-with .ensures)))
 
 request-of-requires : tie.Need-request-of-requires
 request-of-requires c κs = search needs
@@ -49,12 +53,12 @@ same-length-2 c = search needs
 returns-2 : tie.Need-returns-2
 unfolding checkAnswer
 returns-2 c =
-    let at-args = c .before .before .before .before .before .before .before .before .args in
-    let at-check = c .before .before .before .before .check in
+    let at-args = c .before .before .before .before .before .before .before .before .before .before .args in
+    let at-check-with = c .before .before .before .before .before .check-with in
     let at-if1 = c .before .before .before .if1 in
     let at-request-of = c .before .before .request-of in
     let at-enum-told = c .enum-told in
-    sym (answer-fault (at-args .buf .now) (at-args .used) (at-args .req .now) (sym (at-check .ensures) ∙ at-if1 .left) (sym (at-request-of .ensures .0) ∙ ap (requestAnswer (at-args .req .now)) (at-enum-told .given .1)))
+    sym (answer-fault (at-args .buf .now) (at-args .used) (at-args .req .now) (sym (at-check-with .ensures) ∙ at-if1 .left) (sym (at-request-of .ensures .0) ∙ ap (requestAnswer (at-args .req .now)) (at-enum-told .given .1)))
 
 classes-requires : tie.Need-classes-requires
 classes-requires c κs = search needs
@@ -62,58 +66,61 @@ classes-requires c κs = search needs
 slice-reshare-prefix-locate : tie.Need-slice-reshare-prefix-locate
 unfolding checkAnswer
 slice-reshare-prefix-locate c =
-    let at-args = c .before .before .before .before .before .before .before .before .before .before .before .args in
-    let at-check = c .before .before .before .before .before .before .before .check in
+    let at-args = c .before .before .before .before .before .before .before .before .before .before .before .before .before .args in
+    let at-check-with = c .before .before .before .before .before .before .before .before .check-with in
     let at-if1 = c .before .before .before .before .before .before .if1 in
-    file-inside (at-args .buf .now) (at-args .used) (sym (at-check .ensures) ∙ at-if1 .left)
+    file-inside (at-args .buf .now) (at-args .used) (sym (at-check-with .ensures) ∙ at-if1 .left)
 
 slice-aggregate-locate : tie.Need-slice-aggregate-locate
 unfolding checkAnswer
 slice-aggregate-locate c =
-    let at-args = c .before .before .before .before .before .before .before .before .before .before .before .before .args in
-    let at-check = c .before .before .before .before .before .before .before .before .check in
+    let at-args = c .before .before .before .before .before .before .before .before .before .before .before .before .before .before .args in
+    let at-check-with = c .before .before .before .before .before .before .before .before .before .check-with in
     let at-if1 = c .before .before .before .before .before .before .before .if1 in
-    sym (file-length (at-args .buf .now) (at-args .used) (sym (at-check .ensures) ∙ at-if1 .left))
+    sym (file-length (at-args .buf .now) (at-args .used) (sym (at-check-with .ensures) ∙ at-if1 .left))
 
 locate-requires : tie.Need-locate-requires
 unfolding checkAnswer
 locate-requires c κs =
-    let at-check = c .before .before .before .before .before .before .before .before .check in
+    let at-check-with = c .before .before .before .before .before .before .before .before .before .check-with in
     let at-if1 = c .before .before .before .before .before .before .before .if1 in
-    let at-args = c .before .before .before .before .before .before .before .before .before .before .before .before .args in
+    let at-args = c .before .before .before .before .before .before .before .before .before .before .before .before .before .before .args in
     let at-r = c .before .before .before .before .r in
     let at-request-of = c .before .before .before .before .before .before .request-of in
     let at-classes = c .before .before .classes in
-    let v = sym (at-check .ensures) ∙ at-if1 .left in
+    let v = sym (at-check-with .ensures) ∙ at-if1 .left in
     let e = ap (requestAnswer (at-args .req .now)) (sym (at-r .given .1)) ∙ at-request-of .ensures .0 in
     (at-classes .ensures, ((file-readable (at-args .buf .now) (at-args .used) v, file-small (at-args .buf .now) (at-args .used) v, request-bytes (at-args .req .now) (at-r .given .0 .0) e), subst (Inside (at-args .req .now)) (at-r .given .1) (at-request-of .ensures .1)))
 
 slice-reshare-prefix-edit-no : tie.Need-slice-reshare-prefix-edit-no
 unfolding checkAnswer
 slice-reshare-prefix-edit-no c =
-    let at-args = c .before .before .before .before .before .before .before .before .before .before .before .before .before .before .args in
-    let at-check = c .before .before .before .before .before .before .before .before .before .before .check in
+    let at-args = c .before .before .before .before .before .before .before .before .before .before .before .before .before .before .before .before .args in
+    let at-check-with = c .before .before .before .before .before .before .before .before .before .before .before .check-with in
     let at-if1 = c .before .before .before .before .before .before .before .before .before .if1 in
-    file-inside (at-args .buf .now) (at-args .used) (sym (at-check .ensures) ∙ at-if1 .left)
+    file-inside (at-args .buf .now) (at-args .used) (sym (at-check-with .ensures) ∙ at-if1 .left)
 
 slice-aggregate-edit-no : tie.Need-slice-aggregate-edit-no
 unfolding checkAnswer
 slice-aggregate-edit-no c =
-    let at-args = c .before .before .before .before .before .before .before .before .before .before .before .before .before .before .before .args in
-    let at-check = c .before .before .before .before .before .before .before .before .before .before .before .check in
+    let at-args = c .before .before .before .before .before .before .before .before .before .before .before .before .before .before .before .before .before .args in
+    let at-check-with = c .before .before .before .before .before .before .before .before .before .before .before .before .check-with in
     let at-if1 = c .before .before .before .before .before .before .before .before .before .before .if1 in
-    sym (file-length (at-args .buf .now) (at-args .used) (sym (at-check .ensures) ∙ at-if1 .left))
+    sym (file-length (at-args .buf .now) (at-args .used) (sym (at-check-with .ensures) ∙ at-if1 .left))
+
+slice-aggregate-edit-no-2 : tie.Need-slice-aggregate-edit-no-2
+slice-aggregate-edit-no-2 c = search needs
 
 edit-no-requires : tie.Need-edit-no-requires
 unfolding checkAnswer
 edit-no-requires c κs =
-    let at-check = c .before .before .before .before .before .before .before .before .before .before .before .check in
-    let at-if1 = c .before .before .before .before .before .before .before .before .before .before .if1 in
-    let at-classes = c .before .before .before .before .before .classes in
-    let at-locate = c .before .before .locate in
-    let at-args = c .before .before .before .before .before .before .before .before .before .before .before .before .before .before .before .args in
-    let v = sym (at-check .ensures) ∙ at-if1 .left in
-    (at-classes .ensures, (λ z. at-locate .ensures .1 z .1, (omega (arith, file-inside (at-args .buf .now) (at-args .used) v, file-length (at-args .buf .now) (at-args .used) v), file-small (at-args .buf .now) (at-args .used) v)))
+    let at-check-with = c .before .before .before .before .before .before .before .before .before .before .before .before .before .check-with in
+    let at-if1 = c .before .before .before .before .before .before .before .before .before .before .before .if1 in
+    let at-classes = c .before .before .before .before .before .before .classes in
+    let at-locate = c .before .before .before .locate in
+    let at-args = c .before .before .before .before .before .before .before .before .before .before .before .before .before .before .before .before .before .before .args in
+    let v = sym (at-check-with .ensures) ∙ at-if1 .left in
+    (at-classes .ensures, (omega arith, (λ z. at-locate .ensures .1 z .1, (omega (arith, file-inside (at-args .buf .now) (at-args .used) v, file-length (at-args .buf .now) (at-args .used) v), file-small (at-args .buf .now) (at-args .used) v))))
 
 same-length-3 : tie.Need-same-length-3
 same-length-3 c = search needs
@@ -121,29 +128,29 @@ same-length-3 c = search needs
 returns-3 : tie.Need-returns-3
 unfolding checkAnswer
 returns-3 c =
-    let at-check = c .before .before .before .before .before .before .before .before .before .before .before .before .before .check in
-    let at-if1 = c .before .before .before .before .before .before .before .before .before .before .before .before .if1 in
-    let at-args = c .before .before .before .before .before .before .before .before .before .before .before .before .before .before .before .before .before .args in
-    let at-r = c .before .before .before .before .before .before .before .before .before .r in
-    let at-request-of = c .before .before .before .before .before .before .before .before .before .before .before .request-of in
-    let at-locate = c .before .before .before .before .locate in
-    let at-edit-no = c .before .edit-no in
+    let at-check-with = c .before .before .before .before .before .before .before .before .before .before .before .before .before .before .before .before .check-with in
+    let at-if1 = c .before .before .before .before .before .before .before .before .before .before .before .before .before .before .if1 in
+    let at-args = c .before .before .before .before .before .before .before .before .before .before .before .before .before .before .before .before .before .before .before .before .before .args in
+    let at-r = c .before .before .before .before .before .before .before .before .before .before .before .r in
+    let at-request-of = c .before .before .before .before .before .before .before .before .before .before .before .before .before .request-of in
+    let at-locate = c .before .before .before .before .before .before .locate in
+    let at-edit-no = c .before .before .edit-no in
     let at-if2 = c .if2 in
-    let v = sym (at-check .ensures) ∙ at-if1 .left in
+    let v = sym (at-check-with .ensures) ∙ at-if1 .left in
     let e = ap (requestAnswer (at-args .req .now)) (sym (at-r .given .1)) ∙ at-request-of .ensures .0 in
     edit-refused (at-args .buf .now) (at-args .used) v (at-args .req .now) (askedBy (at-args .req .now) (at-r .given .0 .0)) (sym e) (at-locate .result) (at-locate .ensures) (at-edit-no .result) (at-if2 .taken) (at-edit-no .ensures)
 
 carry-out-requires : tie.Need-carry-out-requires
 unfolding checkAnswer
 carry-out-requires c κs =
-    let at-check = c .before .before .before .before .before .before .before .before .before .before .before .before .before .before .before .check in
-    let at-if1 = c .before .before .before .before .before .before .before .before .before .before .before .before .before .before .if1 in
-    let at-locate = c .before .before .before .before .before .before .locate in
-    let at-edit-no = c .before .before .before .edit-no in
+    let at-check-with = c .before .before .before .before .before .before .before .before .before .before .before .before .before .before .before .before .before .before .check-with in
+    let at-if1 = c .before .before .before .before .before .before .before .before .before .before .before .before .before .before .before .before .if1 in
+    let at-locate = c .before .before .before .before .before .before .before .before .locate in
+    let at-edit-no = c .before .before .before .before .edit-no in
     let at-if2 = c .before .before .if2 in
-    let at-classes = c .before .before .before .before .before .before .before .before .before .classes in
-    let at-args = c .before .before .before .before .before .before .before .before .before .before .before .before .before .before .before .before .before .before .before .args in
-    let v = sym (at-check .ensures) ∙ at-if1 .left in
+    let at-classes = c .before .before .before .before .before .before .before .before .before .before .before .classes in
+    let at-args = c .before .before .before .before .before .before .before .before .before .before .before .before .before .before .before .before .before .before .before .before .before .before .before .args in
+    let v = sym (at-check-with .ensures) ∙ at-if1 .left in
     let z = number-zero _ (refusalOf (at-locate .result)) _ (sym (at-edit-no .ensures) ∙ at-if2 .left) in
     (at-classes .ensures, ((file-inside (at-args .buf .now) (at-args .used) v, at-locate .ensures .1 (z .0) .1), z .1))
 
@@ -153,16 +160,16 @@ same-length-4 c = search needs
 returns-4 : tie.Need-returns-4
 unfolding checkAnswer
 returns-4 c =
-    let at-check = c .before .before .before .before .before .before .before .before .before .before .before .before .before .before .before .before .before .before .check in
-    let at-if1 = c .before .before .before .before .before .before .before .before .before .before .before .before .before .before .before .before .before .if1 in
-    let at-args = c .before .before .before .before .before .before .before .before .before .before .before .before .before .before .before .before .before .before .before .before .before .before .args in
-    let at-r = c .before .before .before .before .before .before .before .before .before .before .before .before .before .before .r in
-    let at-request-of = c .before .before .before .before .before .before .before .before .before .before .before .before .before .before .before .before .request-of in
-    let at-locate = c .before .before .before .before .before .before .before .before .before .locate in
+    let at-check-with = c .before .before .before .before .before .before .before .before .before .before .before .before .before .before .before .before .before .before .before .before .before .check-with in
+    let at-if1 = c .before .before .before .before .before .before .before .before .before .before .before .before .before .before .before .before .before .before .before .if1 in
+    let at-args = c .before .before .before .before .before .before .before .before .before .before .before .before .before .before .before .before .before .before .before .before .before .before .before .before .before .before .args in
+    let at-r = c .before .before .before .before .before .before .before .before .before .before .before .before .before .before .before .before .r in
+    let at-request-of = c .before .before .before .before .before .before .before .before .before .before .before .before .before .before .before .before .before .before .request-of in
+    let at-locate = c .before .before .before .before .before .before .before .before .before .before .before .locate in
     let at-if2 = c .before .before .before .before .before .if2 in
-    let at-edit-no = c .before .before .before .before .before .before .edit-no in
+    let at-edit-no = c .before .before .before .before .before .before .before .edit-no in
     let at-carry-out = c .before .before .carry-out in
-    let v = sym (at-check .ensures) ∙ at-if1 .left in
+    let v = sym (at-check-with .ensures) ∙ at-if1 .left in
     let e = ap (requestAnswer (at-args .req .now)) (sym (at-r .given .1)) ∙ at-request-of .ensures .0 in
     edit-accepted (at-args .buf .now) (at-args .used) v (at-args .req .now) (askedBy (at-args .req .now) (at-r .given .0 .0)) (sym e) (at-locate .result) (at-locate .ensures) (sym (at-if2 .left) ∙ at-edit-no .ensures) (at-carry-out .result) (at-carry-out .last .1 .1 .0) (at-carry-out .ensures .0) (at-carry-out .ensures .1)
 
@@ -170,7 +177,8 @@ pub edit-spec : {M : Type 1} → statement M
 edit-spec =
     tie.close
     (tie.spec
-    check-requires
+    slice-aggregate-check-with
+    check-with-requires
     same-length
     returns
     request-of-requires
@@ -184,6 +192,7 @@ edit-spec =
     locate-requires
     slice-reshare-prefix-edit-no
     slice-aggregate-edit-no
+    slice-aggregate-edit-no-2
     edit-no-requires
     same-length-3
     returns-3
