@@ -1,4 +1,4 @@
-"""The input of the test programs: frames, as crates/frames reads them."""
+"""The input of the test programs: frames, as crates/test_frames reads them."""
 
 
 def two(n):

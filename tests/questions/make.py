@@ -1,8 +1,8 @@
 #!/usr/bin/env python3
-"""The input and the expected output of the test program `questions`: what tests/model/recfile.py answers of files at each question and each limit,
+"""The input and the expected output of the test program `test_questions`: what tests/model/recfile.py answers of files at each question and each limit,
 and what GNU recfix said of the files of tests/recfix.
 
-Usage: tests/questions/make.py       (writes crates/questions/stdin and crates/questions/stdout)
+Usage: tests/questions/make.py       (writes crates/test_questions/stdin and crates/test_questions/stdout)
 """
 import collections
 import os
@@ -235,7 +235,7 @@ with open(os.path.join(judged, 'cases'), 'rb') as f:
     stdin += f.read()
 with open(os.path.join(judged, 'verdicts')) as f:
     verdicts = f.read()
-folder = os.path.join(ROOT, 'crates', 'questions')
+folder = os.path.join(ROOT, 'crates', 'test_questions')
 with open(os.path.join(folder, 'stdin'), 'wb') as f:
     f.write(stdin)
 with open(os.path.join(folder, 'stdout'), 'w') as f:

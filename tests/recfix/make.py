@@ -1,5 +1,5 @@
 #!/usr/bin/env python3
-"""What GNU recfix says of files on which its reading and document 01's coincide, for the test program `questions`.
+"""What GNU recfix says of files on which its reading and document 01's coincide, for the test program `test_questions`.
 
 Usage: tests/recfix/make.py       (needs recfix of GNU recutils; writes tests/recfix/cases and tests/recfix/verdicts, which tests/questions/make.py takes in)
 

@@ -1,7 +1,7 @@
 #!/usr/bin/env python3
-"""The input and the expected output of the test program `replay`: what tests/model/recfile.py answers to edits, lists of edits and the other calls.
+"""The input and the expected output of the test program `test_replay`: what tests/model/recfile.py answers to edits, lists of edits and the other calls.
 
-Usage: tests/replay/make.py       (writes crates/replay/stdin and crates/replay/stdout)
+Usage: tests/replay/make.py       (writes crates/test_replay/stdin and crates/test_replay/stdout)
 """
 import collections
 import os
@@ -322,7 +322,7 @@ for make in (marked, numbers, comments, writing, names, lists):
 random_lists(r, 200)
 
 stdin = b''.join(r.frames)
-folder = os.path.join(ROOT, 'crates', 'replay')
+folder = os.path.join(ROOT, 'crates', 'test_replay')
 with open(os.path.join(folder, 'stdin'), 'wb') as f:
     f.write(stdin)
 with open(os.path.join(folder, 'stdout'), 'w') as f:
