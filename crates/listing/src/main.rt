@@ -1,6 +1,6 @@
 // Checks the recfile on standard input and, where it passes, lists its sets in file order, each with its number of records.
-use fetching::Counted;
-use fetching::Fetched;
+use lookup::Counted;
+use lookup::Fetched;
 
 fn main() {
     let mut file = [0u8; 65537];

@@ -15,9 +15,9 @@ use Rattle.format.specs.Plain.{Sought, soughtMembers, soughtRecord, foundRows}
 use Rattle.format.specs.Calls.{Answer, answer, numberIn, thenNo, checkAnswer, setsIn, soughtSet, countAnswer, filled, soughtField, fetchAnswer, soughtOrder, nameAnswer, Viewed, viewedAt, soughtRow, viewAnswer}
 use Rattle.format.proofs.Passing.{Passes, verdict-reads, verdict-passes}
 use Rattle.records.specs.Places.{isReadable}
-use Rattle.fetching.specs.declared.Seen.{Seen}
-use Rattle.fetching.specs.Answers.{seenAnswer, SeenInside, countIn, fetchIn, viewIn, nameIn}
-use Rattle.fetching.proofs.Looking.{part-part}
+use Rattle.lookup.specs.declared.inside.Seen.{Seen}
+use Rattle.lookup.specs.Answers.{seenAnswer, SeenInside, countIn, fetchIn, viewIn, nameIn}
+use Rattle.lookup.proofs.Looking.{part-part}
 
 -- two that agree on every number of a no
 on-numbers : {A : Type 0} (f g : ℕ → A) → ((j : ℕ) → f (suc j) ≡ g (suc j)) → (k : ℕ) → (k ≡ 0 → ⊥) → f k ≡ g k

@@ -1,2 +1,4 @@
--- The lookups of a buffer from those of its text.
+-- Count, fetch, view and the sets' names: of a text that is known to be readable, and of a buffer.
+pub mod Looking
+pub mod Naming
 pub mod Buffers

@@ -2,10 +2,13 @@
 ghost use mathlib.Core.Path.{_≡_};
 ghost use lib.ListN.{take};
 ghost use Rattle.format.specs.Calls.{numberIn, countAnswer, fetchAnswer, nameAnswer, viewAnswer};
-ghost use Rattle.fetching.specs.Answers.{countedAnswer, fetchedAnswer, seenAnswer, SeenInside};
-use fetching::Counted;
-use fetching::Fetched;
-use fetching::Seen;
+ghost use Rattle.lookup.specs.Answers.{countedAnswer, fetchedAnswer, seenAnswer, SeenInside};
+
+mod inside;
+
+pub use inside::Counted;
+pub use inside::Fetched;
+pub use inside::Seen;
 
 // The number of records of a set of the file at the front of a buffer.
 pub fn count(buf: &[u8], used: usize, set: &[u8]) -> Counted
@@ -16,7 +19,7 @@ pub fn count(buf: &[u8], used: usize, set: &[u8]) -> Counted
         return Counted::Refused(n);
     }
     let table = format::classes();
-    fetching::count_in(&table, &buf[0..used], set)
+    inside::count_in(&table, &buf[0..used], set)
 }
 
 // The value of an occurrence of a name in a record of a set, put into out; what stands behind it there stays.
@@ -36,7 +39,7 @@ pub fn fetch(
         return Fetched::Refused(n);
     }
     let table = format::classes();
-    fetching::fetch_in(&table, &buf[0..used], set, row, name, occurrence, &mut *out)
+    inside::fetch_in(&table, &buf[0..used], set, row, name, occurrence, &mut *out)
 }
 
 // Where a record of a set stands in the file: from its first field's first byte to the byte behind its last field.
@@ -48,7 +51,7 @@ pub fn view_place(buf: &[u8], used: usize, set: &[u8], row: usize) -> Seen
         return Seen::Refused(n);
     }
     let table = format::classes();
-    fetching::view_in(&table, &buf[0..used], set, row)
+    inside::view_in(&table, &buf[0..used], set, row)
 }
 
 // The part of the file that a record of a set stands in, the empty part where it is refused; the number, 0 if accepted, goes into `number`.
@@ -77,5 +80,5 @@ pub fn set_name(buf: &[u8], used: usize, k: usize, out: &mut [u8]) -> Fetched
         return Fetched::Refused(n);
     }
     let table = format::classes();
-    fetching::name_in(&table, &buf[0..used], k, &mut *out)
+    inside::name_in(&table, &buf[0..used], k, &mut *out)
 }

@@ -6,10 +6,10 @@ use lib.ListN.{length, take, drop, length-drop}
 use lib.Seq.{length-take-le}
 use Rattle.format.specs.Bytes.{Bytes}
 use Rattle.format.specs.Calls.{Answer, numberIn, valueOr, Filled, Viewed}
-use Rattle.fetching.specs.declared.Counted.{Counted}
-use Rattle.fetching.specs.declared.Fetched.{Fetched}
-use Rattle.fetching.specs.declared.Seen.{Seen}
-use Rattle.fetching.specs.Answers.{countedAnswer, fetchedAnswer, seenAnswer, SeenInside}
+use Rattle.lookup.specs.declared.inside.Counted.{Counted}
+use Rattle.lookup.specs.declared.inside.Fetched.{Fetched}
+use Rattle.lookup.specs.declared.inside.Seen.{Seen}
+use Rattle.lookup.specs.Answers.{countedAnswer, fetchedAnswer, seenAnswer, SeenInside}
 use Rattle.requests.specs.declared.Written.{Written}
 use Rattle.requests.specs.Writes.{writtenAnswer, filledBy}
 use Rattle.editor.specs.declared.Edited.{Edited}

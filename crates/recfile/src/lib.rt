@@ -3,9 +3,9 @@ ghost use mathlib.Core.Path.{_≡_};
 ghost use lib.ListN.{length};
 ghost use Rattle.format.specs.Calls.{numberIn, valueOr, checkAnswer, countAnswer, fetchAnswer, viewAnswer, writeAnswer, editAnswer};
 use editor::Edited;
-use fetching::Counted;
-use fetching::Fetched;
-use fetching::Seen;
+use lookup::Counted;
+use lookup::Fetched;
+use lookup::Seen;
 use requests::Written;
 
 // The number of the first question that says no of the file in the first `used` bytes of a buffer, else 0.

@@ -8,8 +8,8 @@
 ghost use mathlib.Core.Path.{_≡_};
 ghost use lib.ListN.{length};
 use editor::Edited;
-use fetching::Counted;
-use fetching::Fetched;
+use lookup::Counted;
+use lookup::Fetched;
 use requests::Written;
 
 // What the buffer holds; more says that there was a frame.

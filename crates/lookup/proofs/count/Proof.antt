@@ -6,7 +6,7 @@ use mathlib.Core.Bool.{true}
 use lib.ListN.{length, take}
 use Rattle.format.specs.Bytes.{Bytes}
 use Rattle.records.specs.Places.{isReadable}
-use Rattle.fetching.specs.Answers.{countIn}
+use Rattle.lookup.specs.Answers.{countIn}
 use Rattle.lookup.proofs.Buffers.{count-refused, used-fits, used-readable, count-text}
 use borrow.Author.Needs.{needs}
 use Rattle.lookup.proofs.count.Statement.{statement}
@@ -15,7 +15,7 @@ use Rattle.lookup.proofs.count.Reads as reads
 use Rattle.lookup.proofs.count.Lts as lts
 use Rattle.format.proofs.classes.Reads as classes-reads
 use Rattle.integrity.proofs.check.Reads as check-reads
-use Rattle.fetching.proofs.count_in.Reads as count-in-reads
+use Rattle.lookup.proofs.inside.count_in.Reads as count-in-reads
 
 check-requires : tie.Need-check-requires
 check-requires c κs = search needs

@@ -6,7 +6,7 @@ use mathlib.Core.Bool.{true}
 use lib.ListN.{length, take}
 use Rattle.format.specs.Bytes.{Bytes}
 use Rattle.records.specs.Places.{isReadable}
-use Rattle.fetching.specs.Answers.{fetchIn}
+use Rattle.lookup.specs.Answers.{fetchIn}
 use Rattle.lookup.proofs.Buffers.{fetch-refused, used-fits, used-readable, fetch-text}
 use borrow.Author.Needs.{needs}
 use Rattle.lookup.proofs.fetch.Statement.{statement}
@@ -15,7 +15,7 @@ use Rattle.lookup.proofs.fetch.Reads as reads
 use Rattle.lookup.proofs.fetch.Lts as lts
 use Rattle.format.proofs.classes.Reads as classes-reads
 use Rattle.integrity.proofs.check.Reads as check-reads
-use Rattle.fetching.proofs.fetch_in.Reads as fetch-in-reads
+use Rattle.lookup.proofs.inside.fetch_in.Reads as fetch-in-reads
 
 check-requires : tie.Need-check-requires
 check-requires c κs = search needs

@@ -6,7 +6,7 @@ use mathlib.Core.Bool.{true}
 use lib.ListN.{take}
 use Rattle.format.specs.Bytes.{Bytes}
 use Rattle.records.specs.Places.{isReadable}
-use Rattle.fetching.specs.Answers.{nameIn}
+use Rattle.lookup.specs.Answers.{nameIn}
 use Rattle.lookup.proofs.Buffers.{name-refused, used-fits, used-readable, name-text}
 use borrow.Author.Needs.{needs}
 use Rattle.lookup.proofs.set_name.Statement.{statement}
@@ -15,7 +15,7 @@ use Rattle.lookup.proofs.set_name.Reads as reads
 use Rattle.lookup.proofs.set_name.Lts as lts
 use Rattle.format.proofs.classes.Reads as classes-reads
 use Rattle.integrity.proofs.check.Reads as check-reads
-use Rattle.fetching.proofs.name_in.Reads as name-in-reads
+use Rattle.lookup.proofs.inside.name_in.Reads as name-in-reads
 
 check-requires : tie.Need-check-requires
 check-requires c κs = search needs

@@ -6,7 +6,7 @@ use mathlib.Core.Bool.{true}
 use lib.ListN.{length, take}
 use Rattle.format.specs.Bytes.{Bytes}
 use Rattle.records.specs.Places.{isReadable}
-use Rattle.fetching.specs.Answers.{seenAnswer, SeenInside, viewIn}
+use Rattle.lookup.specs.Answers.{seenAnswer, SeenInside, viewIn}
 use Rattle.lookup.proofs.Buffers.{view-refused, used-fits, used-readable, view-text}
 use borrow.Author.Needs.{needs}
 use Rattle.lookup.proofs.view_place.Statement.{statement}
@@ -15,7 +15,7 @@ use Rattle.lookup.proofs.view_place.Reads as reads
 use Rattle.lookup.proofs.view_place.Lts as lts
 use Rattle.format.proofs.classes.Reads as classes-reads
 use Rattle.integrity.proofs.check.Reads as check-reads
-use Rattle.fetching.proofs.view_in.Reads as view-in-reads
+use Rattle.lookup.proofs.inside.view_in.Reads as view-in-reads
 
 check-requires : tie.Need-check-requires
 check-requires c κs = search needs

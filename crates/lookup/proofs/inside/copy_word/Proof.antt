@@ -1,4 +1,4 @@
--- `fetching::copy_word` meets its contract. The invariant: n and the length of the word from at on make up the whole length, and writing that word
+-- `lookup::inside::copy_word` meets its contract. The invariant: n and the length of the word from at on make up the whole length, and writing that word
 -- at n gives what writing the whole one at the front of out gives. The measure is what is left of the text.
 use borrow.Author.Needs.{needs}
 use Prim.Native.Nat.{_+_, _-_}
@@ -14,10 +14,10 @@ use Rattle.lines.specs.Value.{valueFrom}
 use Rattle.lines.proofs.Over.{over-sets}
 use Rattle.lines.proofs.Decoding.{ended, goes-on}
 use Rattle.records.proofs.Words.{word-ended, word-on}
-use Rattle.fetching.proofs.copy_word.Statement.{statement}
-use Rattle.fetching.proofs.copy_word.Tie as tie
-use Rattle.fetching.proofs.copy_word.Reads as reads
-use Rattle.fetching.proofs.copy_word.Lts as lts
+use Rattle.lookup.proofs.inside.copy_word.Statement.{statement}
+use Rattle.lookup.proofs.inside.copy_word.Tie as tie
+use Rattle.lookup.proofs.inside.copy_word.Reads as reads
+use Rattle.lookup.proofs.inside.copy_word.Lts as lts
 use Rattle.lines.proofs.value_byte.Reads as value-byte-reads
 use Rattle.words.proofs.is_gap.Reads as is-gap-reads
 

@@ -1,16 +1,16 @@
--- `fetching::name_in` meets its contract: the default set has no name, and set k of the others is that of descriptor k - 1.
+-- `lookup::inside::name_in` meets its contract: the default set has no name, and set k of the others is that of descriptor k - 1.
 use native.Mathlib.Omega.{arith}
 use Prim.Native.Nat.{_-_}
 use mathlib.Core.Path.{_∙_}
 use Rattle.records.proofs.Readings.{reads-readable}
-use Rattle.fetching.proofs.Naming.{descriptor-told, name-default, name-missing, name-found}
+use Rattle.lookup.proofs.Naming.{descriptor-told, name-default, name-missing, name-found}
 use borrow.Author.Needs.{needs}
-use Rattle.fetching.proofs.name_in.Statement.{statement}
-use Rattle.fetching.proofs.name_in.Tie as tie
-use Rattle.fetching.proofs.name_in.Reads as reads
-use Rattle.fetching.proofs.name_in.Lts as lts
-use Rattle.fetching.proofs.descriptor_name.Reads as descriptor-name-reads
-use Rattle.fetching.proofs.find_descriptor.Reads as find-descriptor-reads
+use Rattle.lookup.proofs.inside.name_in.Statement.{statement}
+use Rattle.lookup.proofs.inside.name_in.Tie as tie
+use Rattle.lookup.proofs.inside.name_in.Reads as reads
+use Rattle.lookup.proofs.inside.name_in.Lts as lts
+use Rattle.lookup.proofs.inside.descriptor_name.Reads as descriptor-name-reads
+use Rattle.lookup.proofs.inside.find_descriptor.Reads as find-descriptor-reads
 
 returns : tie.Need-returns
 returns c =

@@ -1,4 +1,4 @@
--- `fetching::word_len` meets its contract. The invariant: n and the length of the word from at on make up the whole length.
+-- `lookup::inside::word_len` meets its contract. The invariant: n and the length of the word from at on make up the whole length.
 -- The measure is what is left of the text.
 use borrow.Author.Needs.{needs}
 use Prim.Native.Nat.{_+_, _-_}
@@ -12,11 +12,11 @@ use Rattle.format.specs.Words.{notGap}
 use Rattle.lines.specs.Value.{valueFrom}
 use Rattle.lines.proofs.Decoding.{ended, goes-on}
 use Rattle.records.proofs.Words.{word-ended, word-on}
-use Rattle.fetching.proofs.Naming.{word-length}
-use Rattle.fetching.proofs.word_len.Statement.{statement}
-use Rattle.fetching.proofs.word_len.Tie as tie
-use Rattle.fetching.proofs.word_len.Reads as reads
-use Rattle.fetching.proofs.word_len.Lts as lts
+use Rattle.lookup.proofs.Naming.{word-length}
+use Rattle.lookup.proofs.inside.word_len.Statement.{statement}
+use Rattle.lookup.proofs.inside.word_len.Tie as tie
+use Rattle.lookup.proofs.inside.word_len.Reads as reads
+use Rattle.lookup.proofs.inside.word_len.Lts as lts
 use Rattle.lines.proofs.value_byte.Reads as value-byte-reads
 use Rattle.words.proofs.is_gap.Reads as is-gap-reads
 

@@ -1,4 +1,4 @@
--- `fetching::find_descriptor` meets its contract. The invariant: the part from i on is readable, and the search goes on there with the descriptors left to be passed.
+-- `lookup::inside::find_descriptor` meets its contract. The invariant: the part from i on is readable, and the search goes on there with the descriptors left to be passed.
 -- The measure is what is left of the length.
 use borrow.Author.Needs.{needs}
 use Prim.Native.Nat.{_-_, _≤_}
@@ -9,12 +9,12 @@ use lib.ListN.{length, drop}
 use Rattle.records.specs.Places.{isReadable, placesOf}
 use Rattle.records.proofs.Readings.{part-readable}
 use Rattle.records.proofs.Searches.{placesAt, places-all, meets}
-use Rattle.fetching.specs.Names.{descriptorAt}
-use Rattle.fetching.proofs.Naming.{descriptor-end, descriptor-passed, descriptor-here, descriptor-later}
-use Rattle.fetching.proofs.find_descriptor.Statement.{statement}
-use Rattle.fetching.proofs.find_descriptor.Tie as tie
-use Rattle.fetching.proofs.find_descriptor.Reads as reads
-use Rattle.fetching.proofs.find_descriptor.Lts as lts
+use Rattle.lookup.specs.Names.{descriptorAt}
+use Rattle.lookup.proofs.Naming.{descriptor-end, descriptor-passed, descriptor-here, descriptor-later}
+use Rattle.lookup.proofs.inside.find_descriptor.Statement.{statement}
+use Rattle.lookup.proofs.inside.find_descriptor.Tie as tie
+use Rattle.lookup.proofs.inside.find_descriptor.Reads as reads
+use Rattle.lookup.proofs.inside.find_descriptor.Lts as lts
 use Rattle.records.proofs.next_record.Reads as next-record-reads
 
 abbrev Inv-loop : tie.InvT-loop

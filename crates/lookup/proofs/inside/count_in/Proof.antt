@@ -1,16 +1,16 @@
--- `fetching::count_in` meets its contract: what the search for the set tells is what question 21 asks.
+-- `lookup::inside::count_in` meets its contract: what the search for the set tells is what question 21 asks.
 use native.Mathlib.Omega.{arith}
 use mathlib.Core.Path.{sym, ap, _∙_}
 use Rattle.records.proofs.Readings.{part-readable}
 use Rattle.records.proofs.Members.{set-told}
 use Rattle.records.specs.Places.{placesOf, countBefore}
 use Rattle.lines.proofs.Cuts.{rest}
-use Rattle.fetching.proofs.Looking.{count-missing, count-found}
+use Rattle.lookup.proofs.Looking.{count-missing, count-found}
 use borrow.Author.Needs.{needs}
-use Rattle.fetching.proofs.count_in.Statement.{statement}
-use Rattle.fetching.proofs.count_in.Tie as tie
-use Rattle.fetching.proofs.count_in.Reads as reads
-use Rattle.fetching.proofs.count_in.Lts as lts
+use Rattle.lookup.proofs.inside.count_in.Statement.{statement}
+use Rattle.lookup.proofs.inside.count_in.Tie as tie
+use Rattle.lookup.proofs.inside.count_in.Reads as reads
+use Rattle.lookup.proofs.inside.count_in.Lts as lts
 use Rattle.records.proofs.count_records.Reads as count-records-reads
 use Rattle.records.proofs.find_set.Reads as find-set-reads
 

@@ -8,9 +8,9 @@ use Rattle.format.specs.Sets.{valuesOf, groups, RecSet, setsOf}
 use Rattle.format.specs.Questions.{firstNo, nameOf}
 use Rattle.format.specs.Plain.{Sought, soughtMembers, soughtRecord, foundRows}
 use Rattle.format.specs.Calls.{Answer, answer, soughtSet, Filled, filled, soughtField, soughtOrder, Viewed, viewedAt, soughtRow}
-use Rattle.fetching.specs.declared.Counted.{Counted}
-use Rattle.fetching.specs.declared.Fetched.{Fetched}
-use Rattle.fetching.specs.declared.Seen.{Seen}
+use Rattle.lookup.specs.declared.inside.Counted.{Counted}
+use Rattle.lookup.specs.declared.inside.Fetched.{Fetched}
+use Rattle.lookup.specs.declared.inside.Seen.{Seen}
 
 abbrev pub countedAnswer : Counted → Answer
 countedAnswer (Counted.Records n) = Answer.value n

@@ -1,4 +1,4 @@
--- `fetching::descriptor_name` meets its contract: the first word of the first `%rec` value is measured and copied.
+-- `lookup::inside::descriptor_name` meets its contract: the first word of the first `%rec` value is measured and copied.
 use native.Mathlib.Omega.{arith}
 use Prim.Native.Nat.{_-_}
 use mathlib.Core.Path.{sym, ap, _∙_}
@@ -11,14 +11,14 @@ use Rattle.format.specs.Words.{notGap}
 use Rattle.lines.specs.Value.{valueFrom}
 use Rattle.records.specs.Walk.{recordIn}
 use Rattle.records.proofs.Fields.{field-told}
-use Rattle.fetching.proofs.Naming.{titled-none, titled-long, titled-first}
+use Rattle.lookup.proofs.Naming.{titled-none, titled-long, titled-first}
 use borrow.Author.Needs.{needs}
-use Rattle.fetching.proofs.descriptor_name.Statement.{statement}
-use Rattle.fetching.proofs.descriptor_name.Tie as tie
-use Rattle.fetching.proofs.descriptor_name.Reads as reads
-use Rattle.fetching.proofs.descriptor_name.Lts as lts
-use Rattle.fetching.proofs.copy_word.Reads as copy-word-reads
-use Rattle.fetching.proofs.word_len.Reads as word-len-reads
+use Rattle.lookup.proofs.inside.descriptor_name.Statement.{statement}
+use Rattle.lookup.proofs.inside.descriptor_name.Tie as tie
+use Rattle.lookup.proofs.inside.descriptor_name.Reads as reads
+use Rattle.lookup.proofs.inside.descriptor_name.Lts as lts
+use Rattle.lookup.proofs.inside.copy_word.Reads as copy-word-reads
+use Rattle.lookup.proofs.inside.word_len.Reads as word-len-reads
 use Rattle.records.proofs.find_field.Reads as find-field-reads
 use Rattle.records.proofs.word_start.Reads as word-start-reads
 

@@ -1,4 +1,4 @@
--- `fetching::fetch_in` meets its contract: what the searches tell is what questions 21, 22, 23 and 27 ask, and the value is decoded from its part of the text.
+-- `lookup::inside::fetch_in` meets its contract: what the searches tell is what questions 21, 22, 23 and 27 ask, and the value is decoded from its part of the text.
 use Prim.Native.Nat.{_+_, _-_}
 use native.Mathlib.Omega.{arith}
 use mathlib.Core.Path.{sym, ap, _∙_}
@@ -10,12 +10,12 @@ use Rattle.records.proofs.Members.{set-told, record-told}
 use Rattle.records.proofs.Fields.{field-told}
 use Rattle.records.specs.Places.{placesOf, recordPlace}
 use Rattle.lines.proofs.Cuts.{rest}
-use Rattle.fetching.proofs.Looking.{span-part, record-readable, fetch-missing, fetch-past, fetch-none, fetch-long, fetch-found}
+use Rattle.lookup.proofs.Looking.{span-part, record-readable, fetch-missing, fetch-past, fetch-none, fetch-long, fetch-found}
 use borrow.Author.Needs.{needs}
-use Rattle.fetching.proofs.fetch_in.Statement.{statement}
-use Rattle.fetching.proofs.fetch_in.Tie as tie
-use Rattle.fetching.proofs.fetch_in.Reads as reads
-use Rattle.fetching.proofs.fetch_in.Lts as lts
+use Rattle.lookup.proofs.inside.fetch_in.Statement.{statement}
+use Rattle.lookup.proofs.inside.fetch_in.Tie as tie
+use Rattle.lookup.proofs.inside.fetch_in.Reads as reads
+use Rattle.lookup.proofs.inside.fetch_in.Lts as lts
 use Rattle.lines.proofs.copy_value.Reads as copy-value-reads
 use Rattle.lines.proofs.value_len.Reads as value-len-reads
 use Rattle.records.proofs.find_field.Reads as find-field-reads

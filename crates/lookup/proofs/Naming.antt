@@ -28,10 +28,10 @@ use Rattle.records.proofs.Readings.{reads-of}
 use Rattle.records.proofs.Searches.{placesAt, Stand, Met}
 use Rattle.records.proofs.Members.{sets-places, Stands, stands, others, othersBy, others-enter}
 use Rattle.records.proofs.Fields.{FieldFound}
-use Rattle.fetching.specs.declared.Fetched.{Fetched}
-use Rattle.fetching.specs.Answers.{fetchedAnswer, setsFrom, nameIn}
-use Rattle.fetching.proofs.Looking.{filled-long, filled-fits}
-use Rattle.fetching.specs.Names.{titled, descriptorBy, descriptorAt}
+use Rattle.lookup.specs.declared.inside.Fetched.{Fetched}
+use Rattle.lookup.specs.Answers.{fetchedAnswer, setsFrom, nameIn}
+use Rattle.lookup.proofs.Looking.{filled-long, filled-fits}
+use Rattle.lookup.specs.Names.{titled, descriptorBy, descriptorAt}
 
 -- the search for descriptor k, record by record
 module _ (s : Bytes) (i : ℕ) where

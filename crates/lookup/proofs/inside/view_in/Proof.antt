@@ -1,4 +1,4 @@
--- `fetching::view_in` meets its contract: what the searches for the set and the record tell is what questions 21 and 22 ask.
+-- `lookup::inside::view_in` meets its contract: what the searches for the set and the record tell is what questions 21 and 22 ask.
 use native.Mathlib.Omega.{arith}
 use mathlib.Core.Path.{sym, ap, _∙_}
 use lib.ListN.{length, take, drop, length-drop}
@@ -7,12 +7,12 @@ use Rattle.records.proofs.Readings.{part-readable}
 use Rattle.records.proofs.Members.{set-told, record-told}
 use Rattle.records.specs.Places.{placesOf, recordPlace}
 use Rattle.lines.proofs.Cuts.{rest}
-use Rattle.fetching.proofs.Looking.{view-missing, view-past, view-found}
+use Rattle.lookup.proofs.Looking.{view-missing, view-past, view-found}
 use borrow.Author.Needs.{needs}
-use Rattle.fetching.proofs.view_in.Statement.{statement}
-use Rattle.fetching.proofs.view_in.Tie as tie
-use Rattle.fetching.proofs.view_in.Reads as reads
-use Rattle.fetching.proofs.view_in.Lts as lts
+use Rattle.lookup.proofs.inside.view_in.Statement.{statement}
+use Rattle.lookup.proofs.inside.view_in.Tie as tie
+use Rattle.lookup.proofs.inside.view_in.Reads as reads
+use Rattle.lookup.proofs.inside.view_in.Lts as lts
 use Rattle.records.proofs.find_record.Reads as find-record-reads
 use Rattle.records.proofs.find_set.Reads as find-set-reads
 

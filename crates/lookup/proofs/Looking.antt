@@ -24,7 +24,7 @@ use Rattle.records.proofs.Readings.{reads-of, reads-readable}
 use Rattle.records.proofs.Members.{membersOf, recordOf, hasRecord, hasOccurrence, SetFound, RecordFound, count-sets}
 use Rattle.records.proofs.Fields.{FieldFound}
 use Rattle.records.proofs.Views.{partOf, view-part}
-use Rattle.fetching.specs.Answers.{setsFrom, countIn, fetchIn, viewIn}
+use Rattle.lookup.specs.Answers.{setsFrom, countIn, fetchIn, viewIn}
 
 -- a part of a part
 pub part-part : (j k m : ℕ) (l : Bytes) → j + k ≤ m → take k (drop j (take m l)) ≡ take k (drop j l)

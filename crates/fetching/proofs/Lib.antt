@@ -1,3 +1,0 @@
--- Laws of the lookups in a readable text.
-pub mod Looking
-pub mod Naming
