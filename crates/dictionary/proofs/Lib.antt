@@ -1,4 +1,9 @@
 -- Laws of a descriptor's terms.
+pub mod Numbering
+pub mod Places
+pub mod Finding
+pub mod Splitting
+pub mod Naming
 pub mod Names
 pub mod Rows
 pub mod Listing

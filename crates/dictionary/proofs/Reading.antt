@@ -18,9 +18,9 @@ use Rattle.words.specs.Spans.{span}
 use Rattle.records.specs.Places.{isReadable}
 use Rattle.records.specs.Walk.{recordIn}
 use Rattle.records.specs.Fields.{fieldsFrom, fieldBetween, FieldHere}
-use Rattle.lists.specs.declared.NextWord.{NextWord}
-use Rattle.lists.specs.Words.{wordFrom, Cuts, isComma, nameFrom, othersFrom, Behind}
-use Rattle.lists.specs.declared.Part.{Part}
+use Rattle.dictionary.specs.declared.lists.NextWord.{NextWord}
+use Rattle.dictionary.specs.Words.{wordFrom, Cuts, isComma, nameFrom, othersFrom, Behind}
+use Rattle.dictionary.specs.declared.lists.Part.{Part}
 use Rattle.sorting.specs.Texts.{textAt}
 use Rattle.terms.specs.Sets.{Term, termOf}
 use Rattle.terms.specs.Entries.{termAt, IsEntry}

@@ -24,6 +24,9 @@ use records::NextField;
 use terms::Table;
 use typedefs::NextValue;
 
+pub mod lists;
+pub mod wordsets;
+
 // The tag of the words that a field of this name lists, 64 where it lists none.
 fn list_tag(name: &[u8]) -> u32
     ensures { λ r. ⌜ r ≡ listTag (now (name .entry)) ⌝ }

@@ -25,7 +25,7 @@ use Rattle.records.specs.Walk.{recordIn}
 use Rattle.records.specs.Heads.{HeadHere, HeadRows, HeadParts, rowFrom}
 use Rattle.records.proofs.Cuts.{recordsFrom}
 use Rattle.records.proofs.Rows.{plain-by, heads-asked, MembersAt, row-next, row-heads, row-members, row-rest}
-use Rattle.tallies.proofs.Leasts.{least-none, least-assoc}
+use Rattle.rules.proofs.Leasts.{least-none, least-assoc}
 use Rattle.rules.specs.Described.{IsRules, AllFit}
 use Rattle.integrity.specs.Stages.{Granted}
 

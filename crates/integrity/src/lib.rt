@@ -19,6 +19,7 @@ use dense::make_dense;
 use dense::may_join;
 use format::File;
 use limits::Bounded;
+use rules::tallies;
 
 mod dense;
 

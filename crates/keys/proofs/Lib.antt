@@ -4,3 +4,4 @@ pub mod Order
 pub mod Apart
 pub mod Moves
 pub mod Pairs
+pub mod Gathering

@@ -1,3 +1,4 @@
 -- Keys, their entries, and the order that they are sorted by.
 pub mod Keys
 pub mod Order
+pub mod Gathered

@@ -1,12 +1,19 @@
-// Are the keys of a set distinct? Their entries are sorted and neighbours compared, so no file takes quadratic time.
+// Question 13: are the keys of a set distinct? The values of the fields that its key names are gathered as entries, the entries are sorted and neighbours compared, so no file takes
+// quadratic time.
 ghost use mathlib.Core.Path.{_≡_};
+ghost use mathlib.Core.Bool.{true};
 ghost use Prim.Native.Nat.{_<_, _≤_};
 ghost use lib.ListN.{length, take, drop};
-ghost use Rattle.format.specs.Bytes.{among};
+ghost use Rattle.format.specs.Bytes.{classTable, among};
 ghost use Rattle.format.specs.Rules.{distinct};
+ghost use Rattle.format.specs.Sets.{valuesOf};
 ghost use Rattle.lines.specs.Value.{valueFrom};
+ghost use Rattle.records.specs.Places.{isReadable};
+ghost use Rattle.records.specs.Walk.{recordIn};
 ghost use Rattle.keys.specs.Keys.{entryOf, keyAt, keysOf, IsEntry, Entries};
 ghost use Rattle.keys.specs.Order.{ranked, Tells};
+ghost use Rattle.keys.specs.Gathered.{Gathered};
+use records::NextField;
 use sorting::Compared;
 
 fn narrow(x: usize) -> u32
@@ -17,7 +24,7 @@ fn narrow(x: usize) -> u32
 }
 
 // The entry of the key that begins at a place.
-pub fn entry(s: &[u8], at: usize) -> u32
+fn entry(s: &[u8], at: usize) -> u32
     requires { ⌜ (at < 65536) × (at ≤ length (now s)) ⌝ }
     ensures { λ r. ⌜ r ≡ entryOf at (valueFrom (drop at (now (s .entry)))) ⌝ }
 {
@@ -113,10 +120,51 @@ fn distinct_entries(s: &[u8], entries: &mut [u32]) -> bool
 }
 
 // Are the keys of the first n entries distinct? The entries' order afterwards is free.
-pub fn distinct_keys(s: &[u8], entries: &mut [u32], n: usize) -> bool
+fn distinct_keys(s: &[u8], entries: &mut [u32], n: usize) -> bool
     requires { ⌜ n ≤ length (now entries) ⌝ }
     requires { ⌜ Entries (now s) n (now entries) ⌝ }
     ensures { λ r. ⌜ r ≡ distinct (keysOf (now (s .entry)) (take n (now (entries .entry)))) ⌝ }
 {
     distinct_entries(s, &mut entries[..n])
+}
+
+// The entries of the values in s of the fields of a name; how many there are.
+fn gather(table: &[u8; 256], name: &[u8], s: &[u8], entries: &mut [u32]) -> usize
+    requires { ⌜ now table ≡ classTable ⌝ }
+    requires { ⌜ (isReadable (now s) ≡ true) × (length (now s) ≤ 65536) ⌝ }
+    requires { ⌜ length (valuesOf (now name) (recordIn (now s))) ≤ length (now entries) ⌝ }
+    ensures { λ n. ⌜ Gathered (now (name .entry)) (now (s .entry)) (now (entries .exit)) n ⌝ }
+{
+    let mut i = 0;
+    let mut n = 0;
+    loop {
+        let f = records::next_field(table, s, i);
+        let NextField::At {
+            start,
+            named,
+            value,
+            end,
+        } = f
+        else {
+            return n;
+        };
+        if lines::same_bytes(name, &s[start..named]) {
+            entries[n] = entry(s, value);
+            n += 1;
+            i = end;
+        } else {
+            i = end;
+        }
+    }
+}
+
+// Are the values in s of the fields of a name distinct?
+pub fn keys_distinct(table: &[u8; 256], name: &[u8], s: &[u8], entries: &mut [u32]) -> bool
+    requires { ⌜ now table ≡ classTable ⌝ }
+    requires { ⌜ (isReadable (now s) ≡ true) × (length (now s) ≤ 65536) ⌝ }
+    requires { ⌜ length (valuesOf (now name) (recordIn (now s))) ≤ length (now entries) ⌝ }
+    ensures { λ r. ⌜ r ≡ distinct (valuesOf (now (name .entry)) (recordIn (now (s .entry)))) ⌝ }
+{
+    let n = gather(table, name, s, &mut *entries);
+    distinct_keys(s, &mut *entries, n)
 }

@@ -18,9 +18,9 @@ use Rattle.format.proofs.Judging.{recordRows, recordNo}
 use Rattle.records.specs.Walk.{recordIn}
 use Rattle.typedefs.specs.Walks.{valuesFrom}
 use Rattle.kinds.proofs.Named.{between-split, typed-rows}
-use Rattle.tallies.proofs.Leasts.{least-assoc}
-use Rattle.members.specs.Members.{namesNo, isMet, partNo}
-use Rattle.members.specs.declared.Asked.{Asked}
+use Rattle.rules.proofs.Leasts.{least-assoc}
+use Rattle.rules.specs.Members.{namesNo, isMet, partNo}
+use Rattle.rules.specs.declared.members.Asked.{Asked}
 use Rattle.rules.specs.Chunks.{Chunked, SetAsked}
 use Rattle.rules.specs.declared.Chunk.{Chunk}
 

@@ -31,8 +31,8 @@ use Rattle.dictionary.specs.Known.{Described}
 use Rattle.dictionary.proofs.Listing.{lists-names}
 use Rattle.dictionary.proofs.Typing.{all-shaped}
 use Rattle.dictionary.proofs.Counting.{key-length}
-use Rattle.members.specs.Members.{fitsIn}
-use Rattle.members.proofs.Walking.{all-join}
+use Rattle.rules.specs.Members.{fitsIn}
+use Rattle.rules.proofs.Walking.{all-join}
 use Rattle.rules.specs.Described.{IsRules, AllFit}
 
 pub described-by : (d : Bytes) → IsRules d → length d ≤ 65536 → Described d

@@ -16,8 +16,8 @@ use Rattle.symbols.specs.declared.Symbols.{Symbols}
 use Rattle.kinds.specs.Rows.{IsKinds}
 use Rattle.kinds.specs.declared.Kinds.{Kinds}
 use Rattle.kinds.proofs.Named.{kinds-texts}
-use Rattle.members.specs.Members.{IsRulebook, partNo}
-use Rattle.members.specs.declared.Rulebook.{Rulebook}
+use Rattle.rules.specs.Members.{IsRulebook, partNo}
+use Rattle.rules.specs.declared.members.Rulebook.{Rulebook}
 use Rattle.rules.specs.Chunks.{IsBook, Chunked}
 use Rattle.rules.specs.declared.Book.{Book}
 use Rattle.rules.specs.declared.Chunk.{Chunk}

@@ -1,4 +1,11 @@
 -- What a descriptor's granted questions mean for the walks, and a set's number from its records'.
+pub mod Sets
+pub mod Numbers
+pub mod Fields
+pub mod Asking
+pub mod Leasts
+pub mod Tags
+pub mod Walking
 pub mod Granted
 pub mod Room
 pub mod Chunks

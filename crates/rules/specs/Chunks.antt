@@ -17,10 +17,10 @@ use Rattle.format.proofs.Least.{leasts}
 use Rattle.format.proofs.Judging.{recordNo}
 use Rattle.records.specs.Walk.{recordIn}
 use Rattle.dictionary.specs.Known.{Described}
-use Rattle.wordsets.specs.Numbered.{IsWords}
+use Rattle.dictionary.specs.Numbered.{IsWords}
 use Rattle.kinds.specs.Rows.{IsKinds}
-use Rattle.members.specs.Members.{partNo}
-use Rattle.members.specs.declared.Asked.{Asked}
+use Rattle.rules.specs.Members.{partNo}
+use Rattle.rules.specs.declared.members.Asked.{Asked}
 use Rattle.rules.specs.declared.Book.{Book}
 use Rattle.rules.specs.declared.Chunk.{Chunk}
 

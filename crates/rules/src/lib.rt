@@ -17,16 +17,20 @@ ghost use Rattle.format.proofs.Walking.{ruled};
 ghost use Rattle.records.specs.Places.{isReadable};
 ghost use Rattle.records.specs.Walk.{recordIn};
 ghost use Rattle.dictionary.specs.Known.{Described};
-ghost use Rattle.members.specs.Members.{IsRulebook, fitsIn, partNo};
+ghost use Rattle.rules.specs.Members.{IsRulebook, fitsIn, partNo};
 ghost use Rattle.rules.specs.Described.{IsRules, AllFit};
 ghost use Rattle.rules.specs.Chunks.{IsBook, HaveKeys, Chunked, SetAsked};
+use dictionary::wordsets;
+use dictionary::wordsets::Words;
 use kinds::Kinds;
 use members::Asked;
 use members::Rulebook;
 use tallies::Tables;
 use typedefs::NextValue;
 use words::Word;
-use wordsets::Words;
+
+pub mod members;
+pub mod tallies;
 
 // What is read of a descriptor once: its mandatory and unique words, the kinds of its types, whether only allowed names may occur, and whether there is a key.
 struct Book {
@@ -264,7 +268,7 @@ fn keys_apart(
     let Word::At { start, end: e } = w else {
         return true;
     };
-    setkeys::keys_distinct(table, &scratch[start..e], part, &mut *entries)
+    keys::keys_distinct(table, &scratch[start..e], part, &mut *entries)
 }
 
 // Questions 13 and 14 of a set whose records have its key; so many they are. The number of the first that says no, else 0.

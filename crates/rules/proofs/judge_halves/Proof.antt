@@ -8,13 +8,13 @@ use lib.ListN.{length, take, drop}
 use lib.Seq.{length-take-le}
 use mathlib.Core.Path.{subst}
 use Rattle.lines.proofs.Cuts.{rest}
-use Rattle.members.specs.Members.{IsRulebook}
+use Rattle.rules.specs.Members.{IsRulebook}
 use borrow.Author.Needs.{needs}
 use Rattle.rules.proofs.judge_halves.Statement.{statement}
 use Rattle.rules.proofs.judge_halves.Tie as tie
 use Rattle.rules.proofs.judge_halves.Reads as reads
 use Rattle.rules.proofs.judge_halves.Lts as lts
-use Rattle.members.proofs.judge_part.Reads as judge-part-reads
+use Rattle.rules.proofs.members.judge_part.Reads as judge-part-reads
 
 slice-aggregate-judge-part : tie.Need-slice-aggregate-judge-part
 slice-aggregate-judge-part c =

@@ -7,7 +7,7 @@ use mathlib.Core.Bool.{true}
 use lib.ListN.{length}
 use Rattle.format.specs.Bytes.{all}
 use Rattle.records.specs.Walk.{recordIn}
-use Rattle.members.specs.Members.{fitsIn}
+use Rattle.rules.specs.Members.{fitsIn}
 use Rattle.rules.proofs.Granted.{mandatory-names, unique-names, mandatory-few, unique-few, key-there}
 use borrow.Author.Needs.{needs}
 use Rattle.rules.proofs.judge_members.Statement.{statement}
@@ -17,7 +17,7 @@ use Rattle.rules.proofs.judge_members.Lts as lts
 use Rattle.kinds.proofs.read.Reads as read-reads
 use Rattle.rules.proofs.has_field.Reads as has-field-reads
 use Rattle.rules.proofs.judge_records.Reads as judge-records-reads
-use Rattle.wordsets.proofs.read.Reads as read-reads′
+use Rattle.dictionary.proofs.wordsets.read.Reads as read-reads′
 
 read-requires : tie.Need-read-requires
 read-requires c κs = search needs

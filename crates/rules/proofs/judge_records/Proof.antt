@@ -10,14 +10,14 @@ use Rattle.format.specs.Pieces.{readOf}
 use Rattle.format.proofs.Least.{least}
 use Rattle.format.proofs.Records.{records}
 use Rattle.records.specs.Walk.{recordIn}
-use Rattle.members.specs.Members.{fitsIn, partNo}
+use Rattle.rules.specs.Members.{fitsIn, partNo}
 use Rattle.rules.proofs.Chunks.{chunk-more, chunk-last, part-all}
 use Rattle.rules.proofs.judge_records.Statement.{statement}
 use Rattle.rules.proofs.judge_records.Tie as tie
 use Rattle.rules.proofs.judge_records.Reads as reads
 use Rattle.rules.proofs.judge_records.Lts as lts
 use Rattle.rules.proofs.judge_rows.Reads as judge-rows-reads
-use Rattle.tallies.proofs.lesser.Reads as lesser-reads
+use Rattle.rules.proofs.tallies.lesser.Reads as lesser-reads
 
 abbrev Inv-loop : tie.InvT-loop
 Inv-loop table d needed needsets single singlesets b part scratch₀ entries₀ count from₀ worst₀ scratch entries from worst =

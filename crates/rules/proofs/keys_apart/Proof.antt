@@ -13,7 +13,7 @@ use Rattle.words.proofs.Decoded.{decoded-all, decoded-length, decoded-inside}
 use Rattle.words.proofs.Finding.{found, not-found}
 use Rattle.typedefs.proofs.Walking.{value-told}
 use Rattle.kinds.proofs.Granted.{fits-at}
-use Rattle.members.proofs.Walking.{key-few}
+use Rattle.rules.proofs.Walking.{key-few}
 use Rattle.rules.proofs.Granted.{described-by}
 use Rattle.rules.proofs.Keys.{no-key, no-word, key-room, key-values, key-once-named, word-span}
 use borrow.Author.Needs.{needs}
@@ -22,7 +22,7 @@ use Rattle.rules.proofs.keys_apart.Tie as tie
 use Rattle.rules.proofs.keys_apart.Reads as reads
 use Rattle.rules.proofs.keys_apart.Lts as lts
 use Rattle.lines.proofs.copy_value.Reads as copy-value-reads
-use Rattle.setkeys.proofs.keys_distinct.Reads as keys-distinct-reads
+use Rattle.keys.proofs.keys_distinct.Reads as keys-distinct-reads
 use Rattle.typedefs.proofs.next_value.Reads as next-value-reads
 use Rattle.words.proofs.next_word.Reads as next-word-reads
 

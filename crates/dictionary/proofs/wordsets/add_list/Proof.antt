@@ -1,0 +1,98 @@
+-- `dictionary::wordsets::add_list` meets its contract. The invariant: what is left are the words of the fields from a byte on. The measure is what is left of the text.
+use borrow.Author.Needs.{needs}
+use Prim.Native.Nat.{_-_}
+use native.Mathlib.Omega.{arith}
+use lib.ListN.{length}
+use Rattle.typedefs.proofs.Walking.{value-told}
+use Rattle.dictionary.proofs.Places.{ListLeft, list-start, list-end, list-names, list-few, list-room, list-more}
+use Rattle.dictionary.proofs.wordsets.add_list.Statement.{statement}
+use Rattle.dictionary.proofs.wordsets.add_list.Tie as tie
+use Rattle.dictionary.proofs.wordsets.add_list.Reads as reads
+use Rattle.dictionary.proofs.wordsets.add_list.Lts as lts
+use Rattle.typedefs.proofs.next_value.Reads as next-value-reads
+use Rattle.dictionary.proofs.wordsets.add_value.Reads as add-value-reads
+
+abbrev Inv-loop : tie.InvT-loop
+Inv-loop table d name entries₀ n₀ i₀ entries n i = ListLeft d name entries₀ entries n i
+
+abbrev μ-loop : tie.MeasureT-loop
+μ-loop table d name entries₀ n₀ i₀ entries n i = length d - i
+
+loop-holds : tie.Need-loop-holds Inv-loop μ-loop
+loop-holds c =
+    let at-args = c .before .before .before .args in
+    let at-pre = c .before .before .before .pre in
+    list-start (at-args .d .now) (at-args .name .now) (at-args .entries .now) (at-pre .1 .0 .0) (at-pre .1 .1 .0 .0) (at-pre .1 .1 .0 .1) (at-pre .1 .1 .1)
+
+next-value-requires : tie.Need-next-value-requires Inv-loop μ-loop
+next-value-requires c κs =
+    let at-pre = c .before .before .before .before .pre in
+    let at-loop = c .loop in
+    (at-pre .0, (at-loop .inv .inside, at-loop .inv .readable))
+
+enum-known-v : tie.Need-enum-known-v Inv-loop μ-loop
+enum-known-v c = search needs
+
+enum-told : tie.Need-enum-told Inv-loop μ-loop
+enum-told c = search needs
+
+same-length : tie.Need-same-length Inv-loop μ-loop
+same-length c =
+    let at-loop = c .before .before .before .loop in
+    at-loop .inv .adding .long
+
+returns : tie.Need-returns Inv-loop μ-loop
+returns c =
+    let at-args = c .before .before .before .before .before .before .before .args in
+    let at-loop = c .before .before .before .loop in
+    let at-next-value = c .before .before .next-value in
+    let at-enum-told = c .enum-told in
+    let e = value-told (at-args .d .now) (at-args .name .now) (at-loop .i) (at-next-value .result) (at-next-value .ensures) (at-enum-told .given .1) in
+    list-end (at-args .d .now) (at-args .name .now) (at-args .entries .now) (at-loop .entries) (at-loop .n) (at-loop .i) (at-loop .inv) e
+
+add-value-requires : tie.Need-add-value-requires Inv-loop μ-loop
+add-value-requires c κs =
+    let at-args = c .before .before .before .before .before .before .before .before .before .args in
+    let at-loop = c .before .before .before .before .before .loop in
+    let at-next-value = c .before .before .before .before .next-value in
+    let at-v = c .before .before .v in
+    let at-pre = c .before .before .before .before .before .before .before .before .before .pre in
+    let h = value-told (at-args .d .now) (at-args .name .now) (at-loop .i) (at-next-value .result) (at-next-value .ensures) (at-v .given .1) in
+    let g = at-v .given .0 in
+    ((omega (arith, h .value-there), at-pre .1 .0 .1), ((list-few (at-args .d .now) (at-args .name .now) (at-args .entries .now) (at-loop .entries) (at-loop .n) (at-loop .i) (at-loop .inv) (g .0) (g .1 .0) h, list-room (at-args .d .now) (at-args .name .now) (at-args .entries .now) (at-loop .entries) (at-loop .n) (at-loop .i) (at-loop .inv) (g .0) (g .1 .0) h), list-names (at-args .d .now) (at-args .name .now) (at-args .entries .now) (at-loop .entries) (at-loop .n) (at-loop .i) (at-loop .inv) (g .0) (g .1 .0) h))
+
+loop-less : tie.Need-loop-less Inv-loop μ-loop
+loop-less c =
+    let at-args = c .before .before .before .before .before .before .before .before .before .before .before .before .args in
+    let at-loop = c .before .before .before .before .before .before .before .before .loop in
+    let at-next-value = c .before .before .before .before .before .before .before .next-value in
+    let at-v = c .before .before .before .before .before .v in
+    let h = value-told (at-args .d .now) (at-args .name .now) (at-loop .i) (at-next-value .result) (at-next-value .ensures) (at-v .given .1) in
+    omega (arith, h .moves, h .inside)
+
+loop-again : tie.Need-loop-again Inv-loop μ-loop
+loop-again c =
+    let at-args = c .before .before .before .before .before .before .before .before .before .before .before .before .args in
+    let at-loop = c .before .before .before .before .before .before .before .before .loop in
+    let at-next-value = c .before .before .before .before .before .before .before .next-value in
+    let at-v = c .before .before .before .before .before .v in
+    let at-add-value = c .before .before .add-value in
+    let h = value-told (at-args .d .now) (at-args .name .now) (at-loop .i) (at-next-value .result) (at-next-value .ensures) (at-v .given .1) in
+    let g = at-v .given .0 in
+    list-more (at-args .d .now) (at-args .name .now) (at-args .entries .now) (at-loop .entries) (at-loop .n) (at-loop .i) (at-loop .inv) (g .0) (g .1 .0) h _ _ (at-add-value .ensures)
+
+pub add-list-spec : {M : Type 1} → statement M
+add-list-spec =
+    tie.close
+    (tie.spec
+    Inv-loop
+    μ-loop
+    loop-holds
+    next-value-requires
+    enum-known-v
+    enum-told
+    same-length
+    returns
+    add-value-requires
+    loop-less
+    loop-again)

@@ -1,0 +1,28 @@
+-- The words of a list, each with its place there as tag; sets of such places.
+use Prim.Native.Nat.{ℕ, suc, _≤_}
+use mathlib.Core.Path.{_≡_}
+use mathlib.Core.Bool.{_&&_}
+use mathlib.Core.List.{List, [], _∷_}
+use lib.Dec.{ltb}
+use lib.ListN.{length, getD, take}
+use Rattle.format.specs.Bytes.{Bytes, same}
+use Rattle.terms.specs.Sets.{Term, termOf, inSet, tagged}
+use Rattle.terms.specs.Entries.{termsOf}
+use Rattle.terms.specs.Joined.{IsJoined}
+use Rattle.dictionary.specs.declared.wordsets.Words.{Words}
+
+-- numbered from k on
+abbrev pub numbered : ℕ → List Bytes → List Term
+numbered k [] = []
+numbered k (w ∷ ws) = termOf k w ∷ numbered (suc k) ws
+
+-- a table of the words ws, at most 64, with their sets
+pub record IsWords (d : Bytes) (ws : List Bytes) (l sets : List ℕ) (r : Words) : Type 0 where
+  pub few : length ws ≤ 64
+  pub count : r .count ≡ length ws
+  pub table : IsJoined d l sets (r .table)
+  pub terms : (w : Bytes) (k : ℕ) → tagged w k (termsOf d (take (r .table .count) l)) ≡ tagged w k (numbered 0 ws)
+
+-- x is the set of the places at which w stands in ws
+abbrev pub Places : List Bytes → Bytes → ℕ → Type 0
+Places ws w x = (k : ℕ) → inSet k x ≡ (ltb k (length ws) && same w (getD ws k []))

@@ -1,0 +1,85 @@
+// The words of one of a descriptor's lists, at most 64, each with its place in the list as tag: what a record has of them is a set in one number.
+ghost use mathlib.Core.Path.{_≡_};
+ghost use mathlib.Core.Bool.{true};
+ghost use mathlib.Core.List.{[]};
+ghost use Prim.Native.Nat.{_+_, _≤_};
+ghost use lib.ListN.{length, drop};
+ghost use Rattle.format.specs.Bytes.{classTable, all};
+ghost use Rattle.format.specs.Lines.{isName};
+ghost use Rattle.format.specs.Words.{words};
+ghost use Rattle.format.specs.Rules.{listed};
+ghost use Rattle.lines.specs.Value.{valueFrom};
+ghost use Rattle.records.specs.Places.{isReadable};
+ghost use Rattle.records.specs.Walk.{recordIn};
+ghost use Rattle.terms.specs.Adding.{Adding};
+ghost use Rattle.dictionary.specs.Numbered.{numbered, IsWords};
+use super::lists;
+use super::lists::NextWord;
+use terms::Table;
+use typedefs::NextValue;
+
+// The words of the value at i, which are names, put behind the first n entries; how many entries there are then.
+fn add_value(d: &[u8], i: usize, entries: &mut [u32], n: usize) -> usize
+    requires { ⌜ (i ≤ length (now d)) × (length (now d) ≤ 65536) ⌝ }
+    requires { ⌜ (n + length (words (valueFrom (drop i (now d)))) ≤ 64) × (64 ≤ length (now entries)) ⌝ }
+    requires { ⌜ all isName (words (valueFrom (drop i (now d)))) ≡ true ⌝ }
+    ensures { λ r. ⌜ Adding (now (d .entry)) (now (entries .entry)) n (numbered n (words (valueFrom (drop i (now (d .entry)))))) [] (now (entries .exit)) r ⌝ }
+{
+    let mut k = n;
+    let mut from = i;
+    loop {
+        let w = lists::next_word(d, from);
+        let NextWord::At { start, rest } = w else {
+            return k;
+        };
+        entries[k] = terms::entry(d, start, k as u32);
+        k += 1;
+        from = rest;
+    }
+}
+
+// The same of all fields of a name.
+fn add_list(table: &[u8; 256], d: &[u8], name: &[u8], entries: &mut [u32]) -> usize
+    requires { ⌜ now table ≡ classTable ⌝ }
+    requires { ⌜ (isReadable (now d) ≡ true) × (length (now d) ≤ 65536) ⌝ }
+    requires { ⌜ (length (listed (now name) (recordIn (now d))) ≤ 64) × (64 ≤ length (now entries)) ⌝ }
+    requires { ⌜ all isName (listed (now name) (recordIn (now d))) ≡ true ⌝ }
+    ensures { λ r. ⌜ Adding (now (d .entry)) (now (entries .entry)) 0 (numbered 0 (listed (now (name .entry)) (recordIn (now (d .entry))))) [] (now (entries .exit)) r ⌝ }
+{
+    let mut n = 0;
+    let mut i = 0;
+    loop {
+        let v = typedefs::next_value(table, d, name, i);
+        let NextValue::At { value, end } = v else {
+            return n;
+        };
+        n = add_value(d, value, &mut *entries, n);
+        i = end;
+    }
+}
+
+// A table of words, and how many the list has.
+pub struct Words {
+    pub table: Table,
+    pub count: usize,
+}
+
+// The table of the words that the fields of a name list, and their sets, in lent arrays: `terms::find_joined` tells the places at which a word stands in the list.
+pub fn read(
+    table: &[u8; 256],
+    d: &[u8],
+    name: &[u8],
+    entries: &mut [u32],
+    sets: &mut [u64],
+) -> Words
+    requires { ⌜ now table ≡ classTable ⌝ }
+    requires { ⌜ (isReadable (now d) ≡ true) × (length (now d) ≤ 65536) ⌝ }
+    requires { ⌜ (length (listed (now name) (recordIn (now d))) ≤ 64) × (64 ≤ length (now entries)) × (64 ≤ length (now sets)) ⌝ }
+    requires { ⌜ all isName (listed (now name) (recordIn (now d))) ≡ true ⌝ }
+    ensures { λ r. ⌜ IsWords (now (d .entry)) (listed (now (name .entry)) (recordIn (now (d .entry)))) (now (entries .exit)) (now (sets .exit)) r ⌝ }
+{
+    let n = add_list(table, d, name, &mut *entries);
+    let t = terms::build(d, &mut entries[..n]);
+    terms::join(d, &*entries, t, &mut *sets);
+    Words { table: t, count: n }
+}

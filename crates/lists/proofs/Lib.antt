@@ -1,3 +1,0 @@
--- Laws of listed words and names.
-pub mod Splitting
-pub mod Naming

@@ -1,2 +1,0 @@
--- The words of a value, and names between commas.
-pub mod Words

@@ -1,3 +1,0 @@
--- Laws of the walk over the records of a set.
-pub mod Tags
-pub mod Walking

@@ -1,0 +1,209 @@
+// Questions 8 to 12 of the records of a set, in one walk over their bytes. Each field's name is looked up once in the tables of the descriptor, and its value
+// is held against all types that name it.
+ghost use mathlib.Core.Path.{_≡_};
+ghost use mathlib.Core.Bool.{true};
+ghost use Prim.Native.Nat.{_+_, _-_, _≤_};
+ghost use lib.Dec.{eqb};
+ghost use lib.ListN.{length};
+ghost use Rattle.format.specs.Bytes.{classTable, pick, all};
+ghost use Rattle.format.specs.Pieces.{readOf};
+ghost use Rattle.format.proofs.Least.{least};
+ghost use Rattle.format.proofs.Records.{records};
+ghost use Rattle.lines.specs.Value.{valueFrom};
+ghost use Rattle.records.specs.Places.{isReadable};
+ghost use Rattle.records.specs.Walk.{recordIn};
+ghost use Rattle.symbols.specs.Rows.{IsSymbols};
+ghost use Rattle.rules.specs.Tallies.{tallyNo};
+ghost use Rattle.kinds.specs.Meets.{rowsMet};
+ghost use Rattle.kinds.specs.Rows.{IsKinds};
+ghost use Rattle.rules.specs.Members.{IsRulebook, fitsIn, partNo};
+use super::tallies;
+use super::tallies::Tables;
+use super::tallies::Tally;
+use kinds::Kinds;
+use lines::Next;
+use symbols::Symbols;
+
+// The rules of a descriptor, from one of its `%type` fields on: the tables of its names, the kinds of its types and the symbols of those; whether only
+// allowed names may occur, and whether there is a key.
+pub struct Rulebook {
+    pub tables: Tables,
+    pub kinds: Kinds,
+    pub enums: Symbols,
+    pub limited: bool,
+    pub keyed: bool,
+}
+
+// The least number of some records, and how many they are.
+pub struct Asked {
+    pub number: u32,
+    pub count: usize,
+}
+
+// One record more, which has so many fields and this tally; without fields it is none.
+fn closed(a: Asked, fields: usize, t: Tally, limited: bool, keyed: bool, mandatory: usize) -> Asked
+    requires { ⌜ (mandatory ≤ 64) × (a .count ≤ 65536) ⌝ }
+    ensures { λ r. ⌜ (r .number ≡ pick (eqb fields 0) (a .number) (least (a .number) (tallyNo t limited keyed mandatory))) × (r .count ≡ pick (eqb fields 0) (a .count) (a .count + 1)) ⌝ }
+{
+    if fields == 0 {
+        return a;
+    }
+    let k = tallies::number(t, limited, keyed, mandatory);
+    Asked {
+        number: tallies::lesser(a.number, k),
+        count: a.count + 1,
+    }
+}
+
+// The least number with that of question 12.
+fn with_types(worst: u32, typed: bool) -> u32
+    ensures { λ n. ⌜ n ≡ least worst (pick typed 0 12) ⌝ }
+{
+    if typed {
+        return worst;
+    }
+    tallies::lesser(worst, 12)
+}
+
+// Does the value that begins where s does meet the kinds of the rows in a set of tags? Most names have no type, and their values are not looked at.
+fn value_met(
+    table: &[u8; 256],
+    d: &[u8],
+    kinds: Kinds,
+    from: usize,
+    to: usize,
+    marks: &[u32],
+    enums: Symbols,
+    tags: u64,
+    s: &[u8],
+    scratch: &mut [u8],
+) -> bool
+    requires { ⌜ now table ≡ classTable ⌝ }
+    requires { ⌜ IsKinds (now d) kinds × (to ≤ kinds .count) ⌝ }
+    requires { ⌜ IsSymbols (now d) (kinds .texts) from to (now marks) enums ⌝ }
+    requires { ⌜ length (valueFrom (now s)) ≤ length (now scratch) ⌝ }
+    ensures { λ r. ⌜ r ≡ rowsMet (now (d .entry)) tags from (enums .next - from) (valueFrom (now (s .entry))) ⌝ }
+{
+    if tags % 4294967296 == 0 {
+        return true;
+    }
+    kinds::value_met(
+        table,
+        d,
+        kinds,
+        from,
+        to,
+        marks,
+        enums,
+        tags,
+        s,
+        &mut *scratch,
+    )
+}
+
+// The least number of the records of a part and how many they are, from the `%type` field on at which the tables begin. What was seen of a name is kept by the number of its field,
+// since records of a set are often alike.
+pub fn judge_part(
+    table: &[u8; 256],
+    d: &[u8],
+    names: &[u32],
+    needed: &[u32],
+    needsets: &[u64],
+    single: &[u32],
+    singlesets: &[u64],
+    marks: &[u32],
+    r: Rulebook,
+    s: &[u8],
+    scratch: &mut [u8],
+) -> Asked
+    requires { ⌜ now table ≡ classTable ⌝ }
+    requires { ⌜ IsRulebook (now d) (now names) (now needed) (now needsets) (now single) (now singlesets) (now marks) r ⌝ }
+    requires { ⌜ (isReadable (now s) ≡ true) × (length (now s) ≤ 65536) × (all (fitsIn (length (now scratch))) (recordIn (now s)) ≡ true) ⌝ }
+    ensures { λ a. ⌜ (a .number ≡ partNo (now (d .entry)) (r .tables .from) (r .enums .next - r .tables .from) (records (readOf (now (s .entry))))) × (a .count ≡ length (records (readOf (now (s .entry))))) ⌝ }
+{
+    let tables = r.tables;
+    let from = tables.from;
+    let to = tables.names.next;
+    let mandatory = tables.mandatory.count;
+    let first = tallies::look_up(
+        d,
+        names,
+        needed,
+        needsets,
+        single,
+        singlesets,
+        tables,
+        s,
+        0,
+        0,
+    );
+    let mut seen = [first; 16];
+    let mut t = tallies::start();
+    let mut fields = 0;
+    let mut typed = true;
+    let mut a = Asked {
+        number: 0,
+        count: 0,
+    };
+    let mut i = 0;
+    loop {
+        let p = lines::read_piece(&s[i..]);
+        match p {
+            Next::Comment { size } => {
+                i += size;
+            }
+            Next::Blank { size } => {
+                a = closed(a, fields, t, r.limited, r.keyed, mandatory);
+                t = tallies::start();
+                fields = 0;
+                i += size;
+            }
+            Next::Field { name, value, size } => {
+                let slot = fields % 16;
+                let before = seen[slot];
+                let x = tallies::recall(
+                    d,
+                    names,
+                    needed,
+                    needsets,
+                    single,
+                    singlesets,
+                    tables,
+                    s,
+                    i,
+                    i + name,
+                    before,
+                );
+                seen[slot] = x;
+                t = tallies::count(t, x.known, x.mandatory, x.unique);
+                let v = i + value;
+                let e = i + size;
+                let met = value_met(
+                    table,
+                    d,
+                    r.kinds,
+                    from,
+                    to,
+                    marks,
+                    r.enums,
+                    x.known,
+                    &s[v..e],
+                    &mut *scratch,
+                );
+                typed = typed & met;
+                fields += 1;
+                i = e;
+            }
+            Next::End => {
+                let b = closed(a, fields, t, r.limited, r.keyed, mandatory);
+                return Asked {
+                    number: with_types(b.number, typed),
+                    count: b.count,
+                };
+            }
+            Next::Fault => {
+                return a;
+            }
+        }
+    }
+}

@@ -1,2 +1,0 @@
--- Laws of the keys of a set.
-pub mod Gathering

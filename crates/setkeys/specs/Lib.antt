@@ -1,2 +1,0 @@
--- The keys of a set's members.
-pub mod Keyed

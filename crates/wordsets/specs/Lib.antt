@@ -1,2 +1,0 @@
--- Words with their places in a list as tags.
-pub mod Numbered
