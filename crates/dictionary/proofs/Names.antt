@@ -1,15 +1,14 @@
--- A name that is listed ends at the first byte of no word, so it is the text at its place.
-use Prim.Native.Nat.{ℕ, _≤_, _<_}
-use native.Mathlib.Omega.{arith}
+-- A name between commas ends at the first byte of no word, so it is the text at its place.
+use Prim.Native.Nat.{ℕ, _<_}
 use mathlib.Core.Path.{_≡_, refl, sym, ap, _∙_, subst}
-use mathlib.Core.Bool.{Bool, true, false, _||_, not, and-eq-true-iff, false≢true}
+use mathlib.Core.Bool.{true, false, not, and-eq-true-iff, false≢true}
 use mathlib.Core.List.{[], _∷_}
-use borrow.Author.Tests.{eqb-true, eqb-false, ltb-true, lt-leb, lt-ltb, ne-eqb}
-use lib.Dec.{ltb, eqb}
+use borrow.Author.Tests.{eqb-true}
+use lib.Dec.{eqb}
 use lib.ListN.{length, drop}
 use Rattle.format.specs.Lists.{front}
 use Rattle.format.specs.Bytes.{Bytes, all}
-use Rattle.format.specs.Lines.{isFirst, isLater, isName}
+use Rattle.format.specs.Lines.{isName}
 use Rattle.format.specs.Words.{isGap, notGap}
 use Rattle.lines.specs.Value.{valueFrom}
 use Rattle.lines.proofs.Decoding.{nothing-at}
@@ -17,48 +16,8 @@ use Rattle.dictionary.specs.Words.{wordFrom, nameOf, nameFrom}
 use Rattle.dictionary.proofs.Naming.{parts-none, parts-comma, parts-on}
 use Rattle.sorting.specs.Texts.{isWordByte, textAt}
 use Rattle.sorting.proofs.Tests.{by-bool, dec-lt}
-use Rattle.sorting.proofs.Texts.{front-stop, front-on, front-narrow}
-
--- bytes of words
-low-later : (c : ℕ) → c ≤ 44 → isLater c ≡ false
-low-later c h = rw (lt-leb 65 c (omega arith), lt-leb 97 c (omega arith), lt-leb 48 c (omega arith), ne-eqb c 95 (λ e. omega arith))
-
-pub high-word : (c : ℕ) → 44 < c → isWordByte c ≡ true
-high-word c h = ap (λ (t : Bool). t || eqb c 37) (lt-ltb 44 c h)
-
-later-word : (c : ℕ) → isLater c ≡ true → isWordByte c ≡ true
-later-word c e = dec-lt 44 c (high-word c) (λ h. absurd (false≢true (sym (low-later c h) ∙ e)))
-
-low-first : (c : ℕ) → c ≤ 44 → (c ≡ 37 → ⊥) → isFirst c ≡ false
-low-first c h n = rw (lt-leb 65 c (omega arith), lt-leb 97 c (omega arith), ne-eqb c 37 n)
-
-first-word : (c : ℕ) → isFirst c ≡ true → isWordByte c ≡ true
-first-word c e =
-    dec-lt 44 c (high-word c)
-    (λ h. by-bool (eqb c 37) (λ q. subst (λ (b : ℕ). isWordByte b ≡ true) (sym (eqb-true c 37 q)) refl) (λ q. absurd (false≢true (sym (low-first c h (eqb-false c 37 q)) ∙ e))))
-
-laters-word : (w : Bytes) → all isLater w ≡ true → all isWordByte w ≡ true
-laters-word [] e = refl
-laters-word (c ∷ w) e =
-    let h = and-eq-true-iff (isLater c) (all isLater w) .0 e in
-    and-eq-true-iff (isWordByte c) (all isWordByte w) .1 (later-word c (h .0), laters-word w (h .1))
-
-name-word : (w : Bytes) → isName w ≡ true → all isWordByte w ≡ true
-name-word [] e = absurd (false≢true e)
-name-word (c ∷ w) e =
-    let h = and-eq-true-iff (isFirst c) (all isLater w) .0 e in
-    and-eq-true-iff (isWordByte c) (all isWordByte w) .1 (first-word c (h .0), laters-word w (h .1))
-
-word-no-gap : (c : ℕ) → isWordByte c ≡ true → isGap c ≡ false
-word-no-gap c e =
-    dec-lt 44 c (λ h. rw (ne-eqb c 32 (λ q. omega arith), ne-eqb c 9 (λ q. omega arith), ne-eqb c 10 (λ q. omega arith)))
-    (λ h. by-bool (eqb c 37) (λ q. ap isGap (eqb-true c 37 q)) (λ q. absurd (false≢true (sym (low c h q) ∙ e))))
-  where
-    low : (c : ℕ) → c ≤ 44 → eqb c 37 ≡ false → isWordByte c ≡ false
-    low c h q = by-bool (ltb 44 c) (λ t. absurd (let z = ltb-true 44 c t in omega arith)) (λ t. ap (λ (b : Bool). b || eqb c 37) t ∙ q)
-
-pub gap-no-word : (c : ℕ) → isGap c ≡ true → isWordByte c ≡ false
-gap-no-word c e = by-bool (isWordByte c) (λ q. absurd (false≢true (sym (word-no-gap c q) ∙ e))) (λ q. q)
+use Rattle.sorting.proofs.Texts.{front-stop, front-on}
+use Rattle.typedefs.proofs.Texts.{name-word, gap-no-word}
 
 -- a word as far as its gap, and as far as its bytes are those of words
 module _ (c : ℕ) (v : Bytes) where
@@ -74,17 +33,7 @@ module _ (c : ℕ) (v : Bytes) where
   word-byte : isWordByte c ≡ true → front isWordByte (c ∷ v) ≡ c ∷ front isWordByte v
   word-byte g = front-on isWordByte (c ∷ v) v c refl g
 
-not-gap : (c : ℕ) → notGap c ≡ false → isWordByte c ≡ false
-not-gap c e = gap-no-word c (flip (isGap c) e)
-  where
-    flip : (t : Bool) → not t ≡ false → t ≡ true
-    flip true q = refl
-    flip false q = sym q
-
-front-words : (v : Bytes) → all isWordByte (front notGap v) ≡ true → front isWordByte v ≡ front notGap v
-front-words = front-narrow isWordByte notGap not-gap
-
--- the same of a word's first part
+-- a word's first part, as far as its bytes are those of words
 abbrev part : Bytes → Bytes
 part v = nameOf (front notGap v)
 
@@ -101,12 +50,8 @@ part-words (c ∷ v) e =
     let h = and-eq-true-iff (isWordByte c) (all isWordByte (part v)) .0 (sym (ap (all isWordByte) f) ∙ e) in
     word-byte c v (h .0) ∙ ap {B = Bytes} (λ x. c ∷ x) (part-words v (h .1)) ∙ sym f))
 
--- so a listed word, and a name between commas, is the text at its place
+-- so it is the text at its place
 module _ (d : Bytes) (i : ℕ) where
-  pub text-word : isName (front notGap (valueFrom (drop i d))) ≡ true → textAt true d i ≡ front notGap (valueFrom (drop i d))
-  unfolding textAt
-  text-word e = front-words (valueFrom (drop i d)) (name-word (front notGap (valueFrom (drop i d))) e)
-
   pub text-name : isName (nameFrom d i) ≡ true → textAt true d i ≡ nameFrom d i
   unfolding textAt
   text-name e = part-words (valueFrom (drop i d)) (name-word (nameFrom d i) e)

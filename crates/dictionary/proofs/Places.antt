@@ -27,7 +27,7 @@ use Rattle.terms.specs.declared.Table.{Table}
 use Rattle.terms.proofs.Adding.{adding-start, adding-rest, adding-one, adding-many}
 use Rattle.terms.proofs.Prints.{entries-front}
 use Rattle.terms.proofs.Tables.{table-front, front-terms}
-use Rattle.dictionary.proofs.Names.{text-word}
+use Rattle.typedefs.proofs.Texts.{text-word}
 use Rattle.dictionary.proofs.Reading.{Stands}
 use Rattle.dictionary.specs.Numbered.{numbered, IsWords}
 use Rattle.dictionary.proofs.Numbering.{numbered-length, numbered-append}

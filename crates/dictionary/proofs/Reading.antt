@@ -28,7 +28,8 @@ use Rattle.dictionary.specs.Tags.{listTag}
 use Rattle.terms.specs.Adding.{Adding}
 use Rattle.dictionary.specs.Terms.{termsBy, listTerms, areNames}
 use Rattle.terms.proofs.Adding.{adding-start, adding-rest, adding-one, adding-many}
-use Rattle.dictionary.proofs.Names.{text-word, text-name, name-there}
+use Rattle.typedefs.proofs.Texts.{text-word}
+use Rattle.dictionary.proofs.Names.{text-name, name-there}
 use Rattle.dictionary.proofs.Listing.{list-none, list-cons, tag-most}
 
 -- what an entry says of itself

@@ -75,7 +75,7 @@ fn types_defined(
     scratch: &mut [u8],
 ) -> bool
     requires { ⌜ now table ≡ classTable ⌝ }
-    requires { ⌜ HeadParts (now s) (now starts) (now ends) count ⌝ }
+    requires { ⌜ HeadParts (now s) (now starts) (now ends) count × (length (now s) ≤ fileBytes) ⌝ }
     requires { ⌜ walkFits (records (readOf (now s))) ≡ true ⌝ }
     requires { ⌜ valueBytes ≤ length (now scratch) ⌝ }
     ensures { λ r. ⌜ r ≡ walkTypes intBounds (records (readOf (now (s .entry)))) ⌝ }
@@ -84,7 +84,7 @@ fn types_defined(
     while k < count {
         let a = starts[k];
         let e = ends[k];
-        if typing::types_well(table, &s[a..e], &mut *scratch) {} else {
+        if typedefs::types_well(table, &s[a..e], &mut *scratch) {} else {
             return false;
         }
         k += 1;

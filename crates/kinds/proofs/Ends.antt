@@ -1,5 +1,5 @@
 -- Where the type of a value ends: in its own text, or in that of the typedef to which its names lead.
-use Prim.Native.Nat.{ℕ, zero, suc, _+_, _-_, _≤_, _<_}
+use Prim.Native.Nat.{ℕ, zero, suc, _-_, _≤_, _<_}
 use native.Mathlib.Omega.{arith}
 use mathlib.Core.Path.{_≡_, refl, sym, ap, _∙_}
 use mathlib.Core.Bool.{true, false, false≢true}
@@ -7,16 +7,14 @@ use mathlib.Core.List.{List, [], _∷_, map}
 use mathlib.Core.Option.{Option, none, some}
 use borrow.Author.Tests.{le-leb, ne-eqb}
 use denote.Enum.Declared.{tagOf}
-use lib.ListN.{length, drop, getD}
-use lib.Seq.{getD-drop}
+use lib.ListN.{length, getD}
 use types.Run.{OneOf, miss}
 use Rattle.format.specs.Lists.{onward}
 use Rattle.format.specs.Bytes.{Bytes, text, all, isSome}
 use Rattle.format.specs.Words.{firstWord, afterWord}
 use Rattle.format.specs.Numbers.{intBounds}
 use Rattle.format.specs.Types.{Typed, Typedef, typeOf, kindOf as lastKind}
-use Rattle.lines.specs.Value.{valueFrom}
-use Rattle.typedefs.specs.Walks.{valuesFrom, ValueHere}
+use Rattle.typedefs.specs.Walks.{valuesFrom}
 use Rattle.typedefs.specs.Targets.{targetBy, targetIn, followOf, leads}
 use Rattle.typedefs.specs.declared.Followed.{Followed}
 use Rattle.typedefs.proofs.Followed.{the-type}
@@ -27,12 +25,6 @@ use Rattle.dictionary.specs.Known.{Described}
 use Rattle.kinds.specs.Meets.{kindOf}
 use Rattle.kinds.specs.Rows.{targetsOf}
 use Rattle.kinds.proofs.Granted.{typedefs-few, typedefs-end}
-
--- the value of number k, if k have been passed
-pub value-at : (d n : Bytes) (i k j v e : ℕ) → valuesFrom d n i ≡ drop k (valuesFrom d n 0) → ValueHere d n i v e → k ≡ j → valueFrom (drop v d) ≡ getD (valuesFrom d n 0) j []
-value-at d n i k j v e b h q =
-    let z : k + 0 ≡ j = omega arith in
-    h .ends-itself ∙ ap (λ (vs : List Bytes). getD vs 0 []) (sym (h .values) ∙ b) ∙ getD-drop k (valuesFrom d n 0) 0 [] ∙ ap (λ (m : ℕ). getD (valuesFrom d n 0) m []) z
 
 -- a typedef that has a kind, by its number
 number-type : (vs : List Bytes) → all isTyped vs ≡ true → (j : ℕ) → isSome (kindOnly (typeAt (defsOf vs) j)) ≡ true → (j < length vs) × (typeAt (defsOf vs) j ≡ typeOf intBounds (afterWord (getD vs j [])))

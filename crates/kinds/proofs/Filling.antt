@@ -19,6 +19,7 @@ use Rattle.types.specs.Meaning.{typedIn}
 use Rattle.types.specs.declared.Shape.{Shape}
 use Rattle.typedefs.specs.Walks.{ValueHere}
 use Rattle.typedefs.proofs.Following.{kindOnly}
+use Rattle.typedefs.proofs.Placing.{passed-value}
 use Rattle.dictionary.specs.Known.{Described, typeValue}
 use Rattle.dictionary.proofs.Typing.{Behind, row-inside}
 use Rattle.symbols.specs.Enums.{typeAt}
@@ -27,7 +28,6 @@ use Rattle.kinds.specs.Rows.{TypeAt, EndAt, textOf, IsKind, anyRow}
 use Rattle.kinds.specs.declared.Row.{Row}
 use Rattle.kinds.proofs.Shapes.{kind-is}
 use Rattle.kinds.proofs.Granted.{fits-at, type-ends}
-use Rattle.kinds.proofs.Ends.{value-at}
 
 -- a kind is a type
 kind-typed : (x : Option Typed) → isSome (kindOnly x) ≡ true → isSome x ≡ true
@@ -37,7 +37,7 @@ kind-typed (some t) e = refl
 -- the `%type` field behind `count` others
 module _ (d : Bytes) (h : Described d) (count i v e : ℕ) (b : Behind d count i) (f : ValueHere d (text "%type") i v e) where
   value-is : valueFrom (drop v d) ≡ typeValue (recordIn d) count
-  value-is = value-at d (text "%type") i count count v e (b .values) f refl
+  value-is = passed-value d (text "%type") count i (record { inside = b .inside; readable = b .readable; values = b .values }) v e f
 
   ends : isSome (kindOf d (typeValue (recordIn d) count)) ≡ true
   ends = type-ends d h count (row-inside d count i v e b f)

@@ -9,7 +9,7 @@ use lib.Dec.{leb}
 use lib.ListN.{length, getD}
 use Rattle.format.specs.Bytes.{Bytes, text, pick, all, same, isSome}
 use Rattle.format.specs.Lines.{isName}
-use Rattle.format.specs.Words.{firstWord}
+use Rattle.format.specs.Words.{firstWord, isTypeName}
 use Rattle.format.specs.Records.{Record}
 use Rattle.format.specs.Sets.{valuesOf}
 use Rattle.format.specs.Limits.{nameBytes, valueBytes, recordFields, typedefs, typeFields, listWords}
@@ -17,7 +17,8 @@ use Rattle.format.specs.Rules.{mandatory, prohibited, allowed, unique, typedNam
 use Rattle.format.specs.Questions.{fitsField}
 use Rattle.records.specs.Walk.{recordIn}
 use Rattle.sorting.proofs.Tests.{by-bool}
-use Rattle.typedefs.specs.Walks.{valuesFrom, fits, fitFrom}
+use Rattle.typedefs.specs.Walks.{valuesFrom, namesFrom, fits, fitFrom}
+use Rattle.typedefs.proofs.Deciding.{all-words, type-names}
 use Rattle.dictionary.specs.Known.{Described}
 use Rattle.kinds.specs.Meets.{kindOf}
 
@@ -69,16 +70,22 @@ module _ (d : Bytes) (h : Described d) where
       && leb (length (allowed rules)) listWords && leb (length (unique rules)) listWords in
       by-bool (leb (length defs) typedefs) (λ e. leb-true (length defs) 32 e) (λ e. absurd (false≢true (sym (ap with e) ∙ h .few)))
 
-  -- all end in a kind
-  ended : (areKinds defs ≡ true) × (areKinds types ≡ true)
+  -- all have good names and end in a kind
+  abbrev good : Bool
+  good = all (λ (v : Bytes). isTypedefName (firstWord v)) defs
+
+  ended : (areKinds defs ≡ true) × (areKinds types ≡ true) × (good ≡ true)
   ended =
-      let good : Bool = all (λ (v : Bytes). isTypedefName (firstWord v)) defs in
       let apart : Bool = distinct (map firstWord defs) in
       let named : Bool = all (λ (v : Bytes). all isName (typedNames v)) types in
       let all-kinds = and-eq-true-iff (good && areKinds defs && apart && named) (areKinds types) .0 (h .typed) in
       let names = and-eq-true-iff (good && areKinds defs && apart) named .0 (all-kinds .0) in
       let two = and-eq-true-iff (good && areKinds defs) apart .0 (names .0) in
-      (and-eq-true-iff good (areKinds defs) .0 (two .0) .1, all-kinds .1)
+      let one = and-eq-true-iff good (areKinds defs) .0 (two .0) in
+      (one .1, all-kinds .1, one .0)
+
+  pub typedefs-named : all isTypeName (namesFrom d 0) ≡ true
+  typedefs-named = type-names (namesFrom d 0) (sym (all-words isTypedefName defs) ∙ ended .2)
 
   pub typedefs-end : areKinds defs ≡ true
   typedefs-end = ended .0

@@ -2,19 +2,17 @@
 // A `%type` field is a row: its kind is that at the end of its type, which stands in its own value or in that of a typedef.
 ghost use mathlib.Core.Path.{_≡_};
 ghost use mathlib.Core.Bool.{true};
-ghost use mathlib.Core.List.{[]};
 ghost use mathlib.Core.Option.{some};
 ghost use Prim.Native.Nat.{_-_, _<_, _≤_};
-ghost use lib.ListN.{length, drop, getD};
-ghost use Rattle.format.specs.Bytes.{classTable, text, isSome};
+ghost use lib.ListN.{length, drop};
+ghost use Rattle.format.specs.Bytes.{classTable, isSome};
 ghost use Rattle.format.specs.Limits.{valueBytes};
 ghost use Rattle.format.specs.Words.{trim, afterWord};
 ghost use Rattle.format.specs.Numbers.{intBounds, intOf};
 ghost use Rattle.lines.specs.Value.{valueFrom};
 ghost use Rattle.numbers.specs.Meaning.{intAnswer};
-ghost use Rattle.records.specs.Places.{isReadable};
 ghost use Rattle.types.specs.Meaning.{typedIn};
-ghost use Rattle.typedefs.specs.Walks.{valuesFrom};
+ghost use Rattle.typedefs.specs.Names.{AreNames};
 ghost use Rattle.dictionary.specs.Known.{Described};
 ghost use Rattle.symbols.specs.Enums.{typeAt};
 ghost use Rattle.symbols.specs.Rows.{IsSymbols, Found};
@@ -23,6 +21,7 @@ ghost use Rattle.kinds.specs.Rows.{targetsOf, TypeAt, EndAt, textOf, IsK
 use numbers::IntOf;
 use symbols::Symbols;
 use typedefs::Followed;
+use typedefs::Names;
 use typedefs::NextValue;
 use types::Shape;
 use types::TypeOf;
@@ -65,36 +64,21 @@ fn text_of(kind: Shape, value: usize) -> usize
     }
 }
 
-// Where the value of a typedef stands.
-fn typedef_place(table: &[u8; 256], d: &[u8], number: usize) -> usize
-    requires { ⌜ now table ≡ classTable ⌝ }
-    requires { ⌜ isReadable (now d) ≡ true ⌝ }
-    requires { ⌜ number < length (valuesFrom (now d) (text "%typedef") 0) ⌝ }
-    ensures { λ r. ⌜ (r < length (now (d .entry))) × (valueFrom (drop r (now (d .entry))) ≡ getD (valuesFrom (now (d .entry)) (text "%typedef") 0) number []) ⌝ }
-{
-    let mut i = 0;
-    let mut k = 0;
-    loop {
-        let v = typedefs::next_value(table, d, b"%typedef", i);
-        let NextValue::At { value, end } = v else {
-            return i;
-        };
-        if k == number {
-            return value;
-        }
-        k += 1;
-        i = end;
-    }
-}
-
 // Where the value stands that holds the kind at the end of the type of the value at a place: there, or a typedef's.
-fn end_of(table: &[u8; 256], d: &[u8], targets: &[usize], value: usize, scratch: &mut [u8]) -> usize
+fn end_of(
+    table: &[u8; 256],
+    d: &[u8],
+    names: Names,
+    targets: &[usize],
+    value: usize,
+    scratch: &mut [u8],
+) -> usize
     requires { ⌜ now table ≡ classTable ⌝ }
-    requires { ⌜ Described (now d) × (now targets ≡ targetsOf (now d)) ⌝ }
+    requires { ⌜ Described (now d) × AreNames (now d) names × (now targets ≡ targetsOf (now d)) ⌝ }
     requires { ⌜ TypeAt (now d) value × (valueBytes ≤ length (now scratch)) ⌝ }
     ensures { λ r. ⌜ EndAt (now (d .entry)) value r ⌝ }
 {
-    let t = typedefs::target_of(table, d, value, d.len(), &mut *scratch);
+    let t = typedefs::target_of(table, d, names, value, &mut *scratch);
     if t == 33 {
         return value;
     }
@@ -106,13 +90,14 @@ fn end_of(table: &[u8; 256], d: &[u8], targets: &[usize], value: usize, scratch:
     let Followed::End(number) = f else {
         return value;
     };
-    typedef_place(table, d, number)
+    let places = names.places;
+    places[number]
 }
 
-// The kinds of a descriptor, by the targets of its typedefs.
-fn fill(table: &[u8; 256], d: &[u8], targets: &[usize], scratch: &mut [u8]) -> Kinds
+// The kinds of a descriptor, by the names and the targets of its typedefs.
+fn fill(table: &[u8; 256], d: &[u8], names: Names, targets: &[usize], scratch: &mut [u8]) -> Kinds
     requires { ⌜ now table ≡ classTable ⌝ }
-    requires { ⌜ Described (now d) × (now targets ≡ targetsOf (now d)) ⌝ }
+    requires { ⌜ Described (now d) × AreNames (now d) names × (now targets ≡ targetsOf (now d)) ⌝ }
     requires { ⌜ valueBytes ≤ length (now scratch) ⌝ }
     ensures { λ r. ⌜ IsKinds (now (d .entry)) r ⌝ }
 {
@@ -125,7 +110,7 @@ fn fill(table: &[u8; 256], d: &[u8], targets: &[usize], scratch: &mut [u8]) -> K
         let NextValue::At { value, end } = v else {
             return Kinds { rows, texts, count };
         };
-        let at = end_of(table, d, targets, value, &mut *scratch);
+        let at = end_of(table, d, names, targets, value, &mut *scratch);
         let kind = type_at(table, d, at, &mut *scratch);
         rows[count] = Row { kind };
         texts[count] = text_of(kind, at);
@@ -141,10 +126,11 @@ pub fn read(table: &[u8; 256], d: &[u8], scratch: &mut [u8]) -> Kinds
     requires { ⌜ valueBytes ≤ length (now scratch) ⌝ }
     ensures { λ r. ⌜ IsKinds (now (d .entry)) r ⌝ }
 {
-    let t = typedefs::read_targets(table, d, &mut *scratch);
+    let names = typedefs::read_names(table, d);
+    let t = typedefs::read_targets(table, d, names, &mut *scratch);
     let rows = t.rows;
     let count = t.count;
-    fill(table, d, &rows[..count], &mut *scratch)
+    fill(table, d, names, &rows[..count], &mut *scratch)
 }
 
 // The rows of whose texts a value is a symbol, blanks and newlines around it aside.

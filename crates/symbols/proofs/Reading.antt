@@ -25,7 +25,7 @@ use Rattle.terms.specs.Sets.{Term, termOf}
 use Rattle.terms.specs.Entries.{termAt, IsEntry}
 use Rattle.terms.specs.Adding.{Adding}
 use Rattle.terms.proofs.Adding.{adding-start, adding-rest, adding-one}
-use Rattle.dictionary.proofs.Names.{gap-no-word, high-word}
+use Rattle.typedefs.proofs.Texts.{gap-no-word, high-word}
 use Rattle.symbols.specs.Enums.{listed, isEnumAt, enumIn, symbolsFrom, Starts}
 use Rattle.symbols.proofs.Enums.{body, enum-body}
 

@@ -3,7 +3,7 @@
 use Prim.Native.Nat.{ℕ, zero, suc, _-_, _≤_, _<_}
 use native.Mathlib.Omega.{arith}
 use mathlib.Core.Path.{_≡_, refl, sym, ap, _∙_}
-use mathlib.Core.Bool.{Bool, true, false, _&&_, not, and-false}
+use mathlib.Core.Bool.{Bool, true, false, _&&_, and-false}
 use mathlib.Core.List.{List, [], _∷_, map}
 use mathlib.Core.Option.{Option, none, some, Option·map}
 use borrow.Author.Tests.{leb-true, le-leb, ne-eqb}
@@ -11,12 +11,12 @@ use lib.Dec.{leb}
 use lib.ListN.{length, drop, getD}
 use lib.Seq.{drop-nil}
 use Rattle.format.specs.Lists.{onward, keep, kept}
-use Rattle.format.specs.Bytes.{Bytes, pick, all, among, upFrom, isSome}
+use Rattle.format.specs.Bytes.{Bytes, pick, all, upFrom, isSome}
 use Rattle.format.specs.Words.{firstWord, afterWord}
 use Rattle.format.specs.Numbers.{intBounds}
 use Rattle.format.specs.Types.{Kind, Typed, Typedef, typeOf, follow, kindOf}
 use Rattle.format.specs.Rules.{typedefOf, endKind, isTypedefName, distinct}
-use Rattle.typedefs.specs.Targets.{indexFrom, targetBy, targetIn, followOf, isEnd, endsIn, leads, goodNames, areDefined}
+use Rattle.typedefs.specs.Targets.{indexFrom, targetBy, targetIn, followOf, isEnd, endsIn, leads, areDefined}
 use Rattle.typedefs.proofs.Chains.{chain-missing, chain-loop, chain-on}
 use Rattle.typedefs.proofs.Following.{typeAt, namesIn, targetsBy, index-most, lookup-index, follow-of, follows-end}
 use Rattle.typedefs.proofs.Good.{words-length}
@@ -27,13 +27,6 @@ swap true true p q = refl
 swap true false true q = refl
 swap true false false q = refl
 swap false b p q = refl
-
-pub good-split : (vs : List Bytes) → goodNames (map firstWord vs) ≡ (all (λ (v : Bytes). isTypedefName (firstWord v)) vs && distinct (map firstWord vs))
-good-split [] = refl
-good-split (v ∷ vs) =
-    let ns : List Bytes = map firstWord vs in
-    ap (λ (t : Bool). (isTypedefName (firstWord v) && not (among (firstWord v) ns)) && t) (good-split vs)
-    ∙ swap (isTypedefName (firstWord v)) (not (among (firstWord v) ns)) (all (λ (w : Bytes). isTypedefName (firstWord w)) vs) (distinct ns)
 
 -- has a value a type
 abbrev pub isTyped : Bytes → Bool
@@ -161,11 +154,11 @@ all-defined vs few = go (all isTyped vs) refl
         ∙ sym (untyped-right ns ts (omega (arith, size)) vs 0 refl h)
         ∙ ap (λ (m : ℕ). all (endsIn ts) (upFrom m 0)) size
 
-pub well-split : (vs : List Bytes) → length vs ≤ 32
-    → areDefined vs ≡ (goodNames (map firstWord vs) && all (endsIn (map (targetIn (map firstWord vs)) vs)) (upFrom (length (map (targetIn (map firstWord vs)) vs)) 0))
-well-split vs few =
-    ap (λ (b : Bool). b && all (λ (v : Bytes). isSome (endKind intBounds (defsOf vs) v)) vs) (sym (good-split vs))
-    ∙ ap (λ (b : Bool). goodNames (map firstWord vs) && b) (all-defined vs few)
+pub defined-by : (vs : List Bytes) → length vs ≤ 32 → (a b c : Bool) → a ≡ all isTypedefName (map firstWord vs) → b ≡ distinct (map firstWord vs)
+    → c ≡ all (endsIn (map (targetIn (map firstWord vs)) vs)) (upFrom (length (map (targetIn (map firstWord vs)) vs)) 0) → areDefined vs ≡ ((a && b) && c)
+defined-by vs few a b c p q r =
+    ap (λ (t : Bool). (all isTypedefName (map firstWord vs) && distinct (map firstWord vs)) && t) (all-defined vs few ∙ sym r)
+    ∙ ap (λ (t : Bool). (all isTypedefName (map firstWord vs) && t) && c) (sym q) ∙ ap (λ (t : Bool). (t && b) && c) (sym p)
 
 -- What a type leads to, where every typedef has one: its kind by the definitions is there if its target ends, and only then.
 leads-on : (ts : List ℕ) (j l : ℕ) → (j ≡ 33 → ⊥) → length ts ≡ suc l → leads ts j ≡ isEnd (followOf l ts j)

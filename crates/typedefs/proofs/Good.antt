@@ -7,16 +7,18 @@ use mathlib.Core.Bool.{Bool, true, false, _&&_, _||_, not}
 use mathlib.Core.List.{List, [], _∷_, map}
 use borrow.Author.Tests.{ne-eqb}
 use lib.Dec.{eqb}
-use lib.ListN.{length}
+use lib.ListN.{length, drop, getD, drop-of-length-le}
+use lib.Seq.{drop-cons}
 use Rattle.format.specs.Bytes.{Bytes, text, pick, same, among, all, upFrom}
-use Rattle.format.specs.Words.{firstWord, isTypeName}
-use Rattle.format.specs.Rules.{reserved, isTypedefName}
+use Rattle.format.specs.Lists.{front}
+use Rattle.format.specs.Words.{isGap, notGap, firstWord}
+use Rattle.format.specs.Rules.{isTypedefName, distinct}
 use Rattle.lines.specs.Value.{valueFrom}
-use Rattle.words.specs.Spans.{span, wordAt}
+use Rattle.words.specs.Spans.{span, runEnd, wordAt}
 use Rattle.words.specs.declared.Word.{Word}
-use Rattle.words.proofs.Finding.{firstBy, first-at}
+use Rattle.words.proofs.Finding.{firstBy, first-at, front-at, behind-at}
 use Rattle.typedefs.specs.Walks.{namesFrom, ValueHere}
-use Rattle.typedefs.specs.Targets.{indexFrom, followOf, isEnd, endsIn, goodNames}
+use Rattle.typedefs.specs.Targets.{indexFrom, followOf, isEnd, endsIn}
 use Rattle.typedefs.specs.declared.Followed.{Followed}
 
 pub words-length : (vs : List Bytes) → length (map firstWord vs) ≡ length vs
@@ -40,25 +42,22 @@ first-found s w a e p q = first-at s 0 ∙ ap (firstBy s) (sym p ∙ q)
 pub first-none : (s : Bytes) (w : Word) → w ≡ wordAt s 0 → w ≡ Word.Nothing → firstWord s ≡ []
 first-none s w p q = first-at s 0 ∙ ap (firstBy s) (sym p ∙ q)
 
--- is a name good before others
-abbrev pub goodBefore : List Bytes → Bytes → Bool
-goodBefore ns n = isTypedefName n && not (among n ns)
+pub first-run : (s : Bytes) (a e : ℕ) → a ≡ runEnd isGap s 0 → e ≡ runEnd notGap s a → span a e s ≡ firstWord s
+first-run s a e p q =
+    ap (λ (k : ℕ). span a k s) q ∙ sym (front-at notGap s a) ∙ ap (λ (k : ℕ). front notGap (drop k s)) p ∙ sym (ap (front notGap) (behind-at isGap s 0))
 
-module _ (ns : List Bytes) (n : Bytes) where
-  pub no-type-name : isTypeName n ≡ false → goodBefore ns n ≡ false
-  no-type-name e = ap (λ (t : Bool). (t && not (among n reserved)) && not (among n ns)) e
+-- the names from byte i on, and from name k on
+pub good-cut : (d : Bytes) (i v e : ℕ) (t : Bool) → ValueHere d (text "%typedef") i v e → t ≡ isTypedefName (firstWord (valueFrom (span v e d))) → all isTypedefName (namesFrom d i) ≡ (t && all isTypedefName (namesFrom d e))
+good-cut d i v e t h q = ap (λ (vs : List Bytes). all isTypedefName (map firstWord vs)) (h .values) ∙ ap (λ (b : Bool). b && all isTypedefName (namesFrom d e)) (sym q)
 
-  name-by : (t : Bool) → isTypeName n ≡ true → among n reserved ≡ t → goodBefore ns n ≡ (not t && not (among n ns))
-  name-by t e q = ap (λ (b : Bool). (b && not (among n reserved)) && not (among n ns)) e ∙ ap (λ (b : Bool). not b && not (among n ns)) q
+module _ (ns : List Bytes) (k : ℕ) where
+  pub apart-done : length ns ≤ k → distinct (drop k ns) ≡ true
+  apart-done h = ap distinct (drop-of-length-le ns h)
 
-  pub name-taken : isTypeName n ≡ true → among n reserved ≡ true → goodBefore ns n ≡ false
-  name-taken e q = name-by true e q
-
-  pub name-free : isTypeName n ≡ true → among n reserved ≡ false → length ns ≤ 32 → goodBefore ns n ≡ eqb (indexFrom 0 n ns) 32
-  name-free e q h = name-by false e q ∙ sym (among-index 0 n ns (omega arith))
-
-pub good-cut : (d : Bytes) (i v e : ℕ) (t : Bool) → ValueHere d (text "%typedef") i v e → t ≡ goodBefore (namesFrom d e) (firstWord (valueFrom (span v e d))) → goodNames (namesFrom d i) ≡ (t && goodNames (namesFrom d e))
-good-cut d i v e t h q = ap (λ (vs : List Bytes). goodNames (map firstWord vs)) (h .values) ∙ ap (λ (b : Bool). b && goodNames (namesFrom d e)) (sym q)
+  pub apart-cut : (t : Bool) → k < length ns → t ≡ not (among (getD ns k []) (drop (k + 1) ns)) → distinct (drop k ns) ≡ (t && distinct (drop (k + 1) ns))
+  apart-cut t h q =
+      ap distinct (drop-cons ns k [] h ∙ ap (λ (j : ℕ). getD ns k [] ∷ drop j ns) (sym (add-one k)))
+      ∙ ap (λ (b : Bool). b && distinct (drop (k + 1) ns)) (sym q)
 
 -- the chains from typedef i on
 module _ (ts : List ℕ) (i : ℕ) where

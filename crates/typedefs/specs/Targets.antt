@@ -1,16 +1,17 @@
 -- Typedefs by their numbers: which one a type names, and where a chain of names ends.
 use Prim.Native.Nat.{ℕ, zero, suc, _+_, _-_}
-use mathlib.Core.Bool.{Bool, true, false, _&&_, not}
+use mathlib.Core.Bool.{Bool, true, false, _&&_}
 use mathlib.Core.List.{List, [], _∷_, map}
 use mathlib.Core.Option.{Option, none, some}
 use lib.Dec.{leb, eqb}
 use lib.ListN.{length, getD}
 use Rattle.format.specs.Lists.{kept}
-use Rattle.format.specs.Bytes.{Bytes, pick, same, among, all, isSome}
+use Rattle.format.specs.Bytes.{Bytes, pick, same, all, isSome}
+use Rattle.format.specs.Lines.{isName}
 use Rattle.format.specs.Words.{firstWord, afterWord}
 use Rattle.format.specs.Numbers.{intBounds}
 use Rattle.format.specs.Types.{Typed, typeOf}
-use Rattle.format.specs.Rules.{typedefOf, endKind, isTypedefName, distinct}
+use Rattle.format.specs.Rules.{typedefOf, typedNames, endKind, isTypedefName, distinct}
 use Rattle.typedefs.specs.declared.Followed.{Followed}
 
 -- the number of the first of a name, 32 where there is none
@@ -50,13 +51,12 @@ endsIn ts i = isEnd (followOf (length ts) ts i)
 abbrev pub leads : List ℕ → ℕ → Bool
 leads ts t = pick (eqb t 33) true (pick (leb (length ts) t) false (isEnd (followOf (length ts - 1) ts t)))
 
--- is each name one for a typedef, and none of those behind it
-abbrev pub goodNames : List Bytes → Bool
-goodNames [] = true
-goodNames (n ∷ ns) = (isTypedefName n && not (among n ns)) && goodNames ns
-
 -- question 7 of the typedefs, by their values
 abbrev pub areDefined : List Bytes → Bool
 areDefined vs =
-    (all (λ (v : Bytes). isTypedefName (firstWord v)) vs && distinct (map firstWord vs))
+    (all isTypedefName (map firstWord vs) && distinct (map firstWord vs))
     && all (λ (v : Bytes). isSome (endKind intBounds (kept (typedefOf intBounds) vs) v)) vs
+
+-- and of a `%type` value, by the targets of the typedefs: its names are names, and its type ends in a kind
+abbrev pub wellBy : List Bytes → List ℕ → Bytes → Bool
+wellBy ns ts v = all isName (typedNames v) && leads ts (targetIn ns v)

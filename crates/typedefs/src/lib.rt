@@ -1,20 +1,26 @@
-// Typedefs of a descriptor: the values of one name among its fields, the typedef that each type names, and the end of a chain of names.
+// Typedefs of a descriptor and question 7: the values of one name among its fields, the typedef that each type names, the end of a chain of names, and are all well formed?
 ghost use mathlib.Core.Path.{_≡_};
-ghost use mathlib.Core.Bool.{true, _&&_, not};
-ghost use mathlib.Core.List.{map};
-ghost use Prim.Native.Nat.{_≤_, _<_};
-ghost use lib.ListN.{length, take, drop};
+ghost use mathlib.Core.Bool.{true, not};
+ghost use mathlib.Core.List.{[], map};
+ghost use Prim.Native.Nat.{_+_, _-_, _≤_, _<_};
+ghost use lib.ListN.{length, take, drop, getD};
+ghost use Rattle.format.specs.Pieces.{readOf};
+ghost use Rattle.format.specs.Records.{fieldsOf};
+ghost use Rattle.format.specs.Lines.{isName};
 ghost use Rattle.format.specs.Bytes.{classTable, text, all, among, upFrom};
-ghost use Rattle.format.specs.Words.{firstWord, afterWord};
+ghost use Rattle.format.specs.Limits.{fileBytes};
+ghost use Rattle.format.specs.Words.{firstWord, afterWord, split, isTypeName};
 ghost use Rattle.format.specs.Numbers.{intBounds};
 ghost use Rattle.format.specs.Types.{typeOf};
-ghost use Rattle.format.specs.Rules.{reserved, isTypedefName};
+ghost use Rattle.format.specs.Rules.{reserved, isTypedefName, distinct, typedNames, isTypedWell};
 ghost use Rattle.lines.specs.Value.{valueFrom};
 ghost use Rattle.records.specs.Places.{isReadable};
-ghost use Rattle.words.specs.Spans.{span};
+ghost use Rattle.terms.specs.Adding.{Adding};
 ghost use Rattle.typedefs.specs.Walks.{ValueNext, valuesFrom, namesFrom, fitFrom};
-ghost use Rattle.typedefs.specs.Targets.{indexFrom, targetBy, targetIn, followOf, endsIn, goodNames, areDefined};
+ghost use Rattle.typedefs.specs.Names.{numbered, ArePlaces, AreNames, tagFrom};
+ghost use Rattle.typedefs.specs.Targets.{indexFrom, targetBy, targetIn, followOf, endsIn, leads, wellBy};
 use records::NextField;
+use terms::Table;
 use types::Shape;
 use types::TypeOf;
 use words::Word;
@@ -50,27 +56,6 @@ pub fn next_value(table: &[u8; 256], s: &[u8], name: &[u8], i: usize) -> NextVal
     }
 }
 
-// The number of the first typedef of a name, 32 where there is none.
-pub fn typedef_index(table: &[u8; 256], d: &[u8], from: usize, name: &[u8]) -> usize
-    requires { ⌜ now table ≡ classTable ⌝ }
-    requires { ⌜ (from ≤ length (now d)) × (isReadable (drop from (now d)) ≡ true) ⌝ }
-    ensures { λ r. ⌜ r ≡ indexFrom 0 (now (name .entry)) (namesFrom (now (d .entry)) from) ⌝ }
-{
-    let mut i = from;
-    let mut k = 0;
-    loop {
-        let v = next_value(table, d, b"%typedef", i);
-        let NextValue::At { value, end } = v else {
-            return 32;
-        };
-        if records::word_is(&d[value..end], name) {
-            return k;
-        }
-        k += 1;
-        i = end;
-    }
-}
-
 // The place behind the first word of a text.
 pub fn behind_word(s: &[u8]) -> usize
     ensures { λ r. ⌜ (r ≤ length (now (s .entry))) × (drop r (now (s .entry)) ≡ afterWord (now (s .entry))) ⌝ }
@@ -82,10 +67,93 @@ pub fn behind_word(s: &[u8]) -> usize
     end
 }
 
-// The number of the typedef that a type's text names: 32 where no typedef has the name, 33 of a kind, 34 of no type.
-pub fn target_in(table: &[u8; 256], d: &[u8], s: &[u8]) -> usize
+// Where the values of a descriptor's typedefs stand.
+struct Places {
+    rows: [usize; 32],
+    count: usize,
+}
+
+// The places, and the names put into entries, each with the number of its typedef.
+fn add_names(table: &[u8; 256], d: &[u8], entries: &mut [u32]) -> Places
     requires { ⌜ now table ≡ classTable ⌝ }
-    requires { ⌜ isReadable (now d) ≡ true ⌝ }
+    requires { ⌜ (isReadable (now d) ≡ true) × (length (now d) ≤ fileBytes) ⌝ }
+    requires { ⌜ (length (valuesFrom (now d) (text "%typedef") 0) ≤ 32) × (all isTypeName (namesFrom (now d) 0) ≡ true) × (32 ≤ length (now entries)) ⌝ }
+    ensures { λ r. ⌜ ArePlaces (now (d .entry)) (r .rows) (r .count) × Adding (now (d .entry)) (now (entries .entry)) 0 (numbered 0 (namesFrom (now (d .entry)) 0)) [] (now (entries .exit)) (r .count) ⌝ }
+{
+    let mut rows = [0usize; 32];
+    let mut i = 0;
+    let mut count = 0;
+    loop {
+        let v = next_value(table, d, b"%typedef", i);
+        let NextValue::At { value, end } = v else {
+            return Places { rows, count };
+        };
+        let at = records::pass(d, value, true);
+        rows[count] = value;
+        entries[count] = terms::entry(d, at, count as u32);
+        count += 1;
+        i = end;
+    }
+}
+
+// The typedefs of a descriptor, to be looked up by name: where their values stand, and their names with their numbers in a table.
+pub struct Names {
+    pub places: [usize; 32],
+    pub entries: [u32; 32],
+    pub table: Table,
+    pub count: usize,
+}
+
+pub fn read_names(table: &[u8; 256], d: &[u8]) -> Names
+    requires { ⌜ now table ≡ classTable ⌝ }
+    requires { ⌜ (isReadable (now d) ≡ true) × (length (now d) ≤ fileBytes) ⌝ }
+    requires { ⌜ (length (valuesFrom (now d) (text "%typedef") 0) ≤ 32) × (all isTypeName (namesFrom (now d) 0) ≡ true) ⌝ }
+    ensures { λ r. ⌜ AreNames (now (d .entry)) r ⌝ }
+{
+    let mut entries = [0u32; 32];
+    let p = add_names(table, d, &mut entries);
+    let places = p.rows;
+    let count = p.count;
+    let t = terms::build(d, &mut entries[..count]);
+    Names {
+        places,
+        entries,
+        table: t,
+        count,
+    }
+}
+
+// The first tag of a set from one on and below count, 32 where there is none.
+fn first_tag(set: u64, from: usize, count: usize) -> usize
+    requires { ⌜ (from ≤ count) × (count ≤ 32) ⌝ }
+    ensures { λ r. ⌜ r ≡ tagFrom set from (count - from) ⌝ }
+{
+    let mut k = from;
+    while k < count {
+        if terms::has(set, k as u64) {
+            return k;
+        }
+        k += 1;
+    }
+    32
+}
+
+// The number of the first typedef of a name from one on, 32 where there is none.
+fn index_from(d: &[u8], names: Names, from: usize, name: &[u8]) -> usize
+    requires { ⌜ AreNames (now d) names × (from ≤ names .count) ⌝ }
+    ensures { λ r. ⌜ r ≡ indexFrom from (now (name .entry)) (drop from (namesFrom (now (d .entry)) 0)) ⌝ }
+{
+    let entries = names.entries;
+    let t = names.table;
+    let count = names.count;
+    let set = terms::find(d, &entries, t, name);
+    first_tag(set, from, count)
+}
+
+// The number of the typedef that a type's text names: 32 where no typedef has the name, 33 of a kind, 34 of no type.
+pub fn target_in(table: &[u8; 256], d: &[u8], names: Names, s: &[u8]) -> usize
+    requires { ⌜ now table ≡ classTable ⌝ }
+    requires { ⌜ AreNames (now d) names ⌝ }
     ensures { λ r. ⌜ r ≡ targetBy (namesFrom (now (d .entry)) 0) (typeOf intBounds (now (s .entry))) ⌝ }
 {
     let t = types::type_of(table, s);
@@ -93,21 +161,27 @@ pub fn target_in(table: &[u8; 256], d: &[u8], s: &[u8]) -> usize
         return 34;
     };
     match k {
-        Shape::Alias { start, end } => typedef_index(table, d, 0, &s[start..end]),
+        Shape::Alias { start, end } => index_from(d, names, 0, &s[start..end]),
         _ => 33,
     }
 }
 
-// The same of the value from one place to another, whose type stands behind its first word.
-pub fn target_of(table: &[u8; 256], d: &[u8], value: usize, end: usize, scratch: &mut [u8]) -> usize
+// The same of the value at a place, whose type stands behind its first word.
+pub fn target_of(
+    table: &[u8; 256],
+    d: &[u8],
+    names: Names,
+    value: usize,
+    scratch: &mut [u8],
+) -> usize
     requires { ⌜ now table ≡ classTable ⌝ }
-    requires { ⌜ isReadable (now d) ≡ true ⌝ }
-    requires { ⌜ (value ≤ end) × (end ≤ length (now d)) × (length (valueFrom (span value end (now d))) ≤ length (now scratch)) ⌝ }
-    ensures { λ r. ⌜ r ≡ targetIn (namesFrom (now (d .entry)) 0) (valueFrom (span value end (now (d .entry)))) ⌝ }
+    requires { ⌜ AreNames (now d) names ⌝ }
+    requires { ⌜ (value ≤ length (now d)) × (length (valueFrom (drop value (now d))) ≤ length (now scratch)) ⌝ }
+    ensures { λ r. ⌜ r ≡ targetIn (namesFrom (now (d .entry)) 0) (valueFrom (drop value (now (d .entry)))) ⌝ }
 {
-    let n = lines::copy_value(&d[value..end], &mut *scratch);
+    let n = lines::copy_value(&d[value..], &mut *scratch);
     let at = behind_word(&scratch[..n]);
-    target_in(table, d, &scratch[at..n])
+    target_in(table, d, names, &scratch[at..n])
 }
 
 // The targets of the typedefs of a descriptor, in order.
@@ -116,25 +190,22 @@ pub struct Targets {
     pub count: usize,
 }
 
-pub fn read_targets(table: &[u8; 256], d: &[u8], scratch: &mut [u8]) -> Targets
+pub fn read_targets(table: &[u8; 256], d: &[u8], names: Names, scratch: &mut [u8]) -> Targets
     requires { ⌜ now table ≡ classTable ⌝ }
-    requires { ⌜ isReadable (now d) ≡ true ⌝ }
-    requires { ⌜ (length (valuesFrom (now d) (text "%typedef") 0) ≤ 32) × (fitFrom (length (now scratch)) (now d) (text "%typedef") 0 ≡ true) ⌝ }
-    ensures { λ r. ⌜ (r .count ≤ 32) × (length (r .rows) ≡ 32) × (r .count ≡ length (valuesFrom (now (d .entry)) (text "%typedef") 0)) × (take (r .count) (r .rows) ≡ map (targetIn (namesFrom (now (d .entry)) 0)) (valuesFrom (now (d .entry)) (text "%typedef") 0)) ⌝ }
+    requires { ⌜ AreNames (now d) names ⌝ }
+    requires { ⌜ fitFrom (length (now scratch)) (now d) (text "%typedef") 0 ≡ true ⌝ }
+    ensures { λ r. ⌜ (r .count ≤ 32) × (length (r .rows) ≡ 32) × (take (r .count) (r .rows) ≡ map (targetIn (namesFrom (now (d .entry)) 0)) (valuesFrom (now (d .entry)) (text "%typedef") 0)) ⌝ }
 {
+    let places = names.places;
+    let count = names.count;
     let mut rows = [33; 32];
-    let mut i = 0;
-    let mut count = 0;
-    loop {
-        let v = next_value(table, d, b"%typedef", i);
-        let NextValue::At { value, end } = v else {
-            return Targets { rows, count };
-        };
-        let t = target_of(table, d, value, end, &mut *scratch);
-        rows[count] = t;
-        count += 1;
-        i = end;
+    let mut k = 0;
+    while k < count {
+        let t = target_of(table, d, names, places[k], &mut *scratch);
+        rows[k] = t;
+        k += 1;
     }
+    Targets { rows, count }
 }
 
 // Where a chain of names ends.
@@ -226,43 +297,27 @@ pub fn is_reserved(s: &[u8]) -> bool
     lines::same_bytes(s, b"rec")
 }
 
-// Is the first word of a typedef's text a name that it may have, and that no typedef from a byte on has?
-fn name_good(table: &[u8; 256], d: &[u8], from: usize, s: &[u8]) -> bool
+// Is the first word of a typedef's text a name that it may have?
+fn name_good(table: &[u8; 256], s: &[u8]) -> bool
     requires { ⌜ now table ≡ classTable ⌝ }
-    requires { ⌜ (from ≤ length (now d)) × (isReadable (drop from (now d)) ≡ true) ⌝ }
-    requires { ⌜ length (namesFrom (now d) from) ≤ 32 ⌝ }
-    ensures { λ r. ⌜ r ≡ (isTypedefName (firstWord (now (s .entry))) && not (among (firstWord (now (s .entry))) (namesFrom (now (d .entry)) from))) ⌝ }
+    ensures { λ r. ⌜ r ≡ isTypedefName (firstWord (now (s .entry))) ⌝ }
 {
     let w = words::next_word(s, 0);
     let Word::At { start, end } = w else {
         return false;
     };
-    if words::is_type_name(table, &s[start..end]) {} else {
+    if !words::is_type_name(table, &s[start..end]) {
         return false;
     }
-    if is_reserved(&s[start..end]) {
-        return false;
-    }
-    typedef_index(table, d, from, &s[start..end]) == 32
+    !is_reserved(&s[start..end])
 }
 
-// The same of the value from one place to another, before the typedefs behind it.
-fn name_at(table: &[u8; 256], d: &[u8], value: usize, end: usize, scratch: &mut [u8]) -> bool
-    requires { ⌜ now table ≡ classTable ⌝ }
-    requires { ⌜ (end ≤ length (now d)) × (isReadable (drop end (now d)) ≡ true) ⌝ }
-    requires { ⌜ (length (namesFrom (now d) end) ≤ 32) × (value ≤ end) × (length (valueFrom (span value end (now d))) ≤ length (now scratch)) ⌝ }
-    ensures { λ r. ⌜ r ≡ (isTypedefName (firstWord (valueFrom (span value end (now (d .entry))))) && not (among (firstWord (valueFrom (span value end (now (d .entry))))) (namesFrom (now (d .entry)) end))) ⌝ }
-{
-    let n = lines::copy_value(&d[value..end], &mut *scratch);
-    name_good(table, d, end, &scratch[..n])
-}
-
-// Has every typedef a name that it may have and that no other has?
-pub fn names_good(table: &[u8; 256], d: &[u8], scratch: &mut [u8]) -> bool
+// Has every typedef a name that it may have?
+fn names_good(table: &[u8; 256], d: &[u8], scratch: &mut [u8]) -> bool
     requires { ⌜ now table ≡ classTable ⌝ }
     requires { ⌜ isReadable (now d) ≡ true ⌝ }
-    requires { ⌜ (length (valuesFrom (now d) (text "%typedef") 0) ≤ 32) × (fitFrom (length (now scratch)) (now d) (text "%typedef") 0 ≡ true) ⌝ }
-    ensures { λ r. ⌜ r ≡ goodNames (namesFrom (now (d .entry)) 0) ⌝ }
+    requires { ⌜ fitFrom (length (now scratch)) (now d) (text "%typedef") 0 ≡ true ⌝ }
+    ensures { λ r. ⌜ r ≡ all isTypedefName (namesFrom (now (d .entry)) 0) ⌝ }
 {
     let mut i = 0;
     loop {
@@ -270,25 +325,171 @@ pub fn names_good(table: &[u8; 256], d: &[u8], scratch: &mut [u8]) -> bool
         let NextValue::At { value, end } = v else {
             return true;
         };
-        if name_at(table, d, value, end, &mut *scratch) {} else {
+        let n = lines::copy_value(&d[value..end], &mut *scratch);
+        if !name_good(table, &scratch[..n]) {
             return false;
         }
         i = end;
     }
 }
 
-// Are the typedefs of a descriptor well formed: their names good, and a kind at the end of each?
-pub fn typedefs_well(table: &[u8; 256], d: &[u8], scratch: &mut [u8]) -> bool
-    requires { ⌜ now table ≡ classTable ⌝ }
-    requires { ⌜ isReadable (now d) ≡ true ⌝ }
-    requires { ⌜ (length (valuesFrom (now d) (text "%typedef") 0) ≤ 32) × (fitFrom (length (now scratch)) (now d) (text "%typedef") 0 ≡ true) ⌝ }
-    ensures { λ r. ⌜ r ≡ areDefined (valuesFrom (now (d .entry)) (text "%typedef") 0) ⌝ }
+// The number of the first typedef from one on whose name is the first word of a text, 32 where there is none.
+fn first_index(d: &[u8], names: Names, from: usize, s: &[u8]) -> usize
+    requires { ⌜ AreNames (now d) names × (from ≤ names .count) ⌝ }
+    ensures { λ r. ⌜ r ≡ indexFrom from (firstWord (now (s .entry))) (drop from (namesFrom (now (d .entry)) 0)) ⌝ }
 {
-    if names_good(table, d, &mut *scratch) {} else {
+    let a = words::gap_end(s, 0);
+    let e = words::word_end(s, a);
+    index_from(d, names, from, &s[a..e])
+}
+
+// Has no typedef behind typedef k its name?
+fn name_alone(d: &[u8], names: Names, k: usize, scratch: &mut [u8]) -> bool
+    requires { ⌜ AreNames (now d) names × (k < names .count) ⌝ }
+    requires { ⌜ fitFrom (length (now scratch)) (now d) (text "%typedef") 0 ≡ true ⌝ }
+    ensures { λ r. ⌜ r ≡ not (among (getD (namesFrom (now (d .entry)) 0) k []) (drop (k + 1) (namesFrom (now (d .entry)) 0))) ⌝ }
+{
+    let places = names.places;
+    let value = places[k];
+    let n = lines::copy_value(&d[value..], &mut *scratch);
+    first_index(d, names, k + 1, &scratch[..n]) == 32
+}
+
+// Are the names of all typedefs distinct?
+fn names_apart(d: &[u8], names: Names, scratch: &mut [u8]) -> bool
+    requires { ⌜ AreNames (now d) names ⌝ }
+    requires { ⌜ fitFrom (length (now scratch)) (now d) (text "%typedef") 0 ≡ true ⌝ }
+    ensures { λ r. ⌜ r ≡ distinct (namesFrom (now (d .entry)) 0) ⌝ }
+{
+    let count = names.count;
+    let mut k = 0;
+    while k < count {
+        if !name_alone(d, names, k, &mut *scratch) {
+            return false;
+        }
+        k += 1;
+    }
+    true
+}
+
+// Is every part, between commas, of a word a name?
+fn parts_named(table: &[u8; 256], s: &[u8]) -> bool
+    requires { ⌜ now table ≡ classTable ⌝ }
+    ensures { λ r. ⌜ r ≡ all isName (split 44 (now (s .entry))) ⌝ }
+{
+    let mut i = 0;
+    loop {
+        let e = words::part_end(s, i, 44);
+        if !words::is_name(table, &s[i..e]) {
+            return false;
+        }
+        if e == s.len() {
+            return true;
+        }
+        i = e + 1;
+    }
+}
+
+// Are the names of a `%type` field's text names?
+fn names_well(table: &[u8; 256], s: &[u8]) -> bool
+    requires { ⌜ now table ≡ classTable ⌝ }
+    ensures { λ r. ⌜ r ≡ all isName (typedNames (now (s .entry))) ⌝ }
+{
+    let w = words::next_word(s, 0);
+    let Word::At { start, end } = w else {
+        return false;
+    };
+    parts_named(table, &s[start..end])
+}
+
+// Does what a type's text leads to end in a kind?
+fn target_ends(targets: &[usize], t: usize) -> bool
+    ensures { λ r. ⌜ r ≡ leads (now (targets .entry)) t ⌝ }
+{
+    if t == 33 {
+        return true;
+    }
+    let count = targets.len();
+    if count <= t {
         return false;
     }
-    let t = read_targets(table, d, &mut *scratch);
+    let f = follow(targets, t, count - 1);
+    match f {
+        Followed::End(_) => true,
+        Followed::Missing => false,
+        Followed::Loop => false,
+    }
+}
+
+// Is the `%type` field whose value stands at a place well formed?
+fn type_well(
+    table: &[u8; 256],
+    d: &[u8],
+    names: Names,
+    targets: &[usize],
+    value: usize,
+    scratch: &mut [u8],
+) -> bool
+    requires { ⌜ now table ≡ classTable ⌝ }
+    requires { ⌜ AreNames (now d) names ⌝ }
+    requires { ⌜ (value ≤ length (now d)) × (length (valueFrom (drop value (now d))) ≤ length (now scratch)) ⌝ }
+    ensures { λ r. ⌜ r ≡ wellBy (namesFrom (now (d .entry)) 0) (now (targets .entry)) (valueFrom (drop value (now (d .entry)))) ⌝ }
+{
+    let n = lines::copy_value(&d[value..], &mut *scratch);
+    if !names_well(table, &scratch[..n]) {
+        return false;
+    }
+    let t = target_of(table, d, names, value, &mut *scratch);
+    target_ends(targets, t)
+}
+
+// Are all of them?
+fn all_well(
+    table: &[u8; 256],
+    d: &[u8],
+    names: Names,
+    targets: &[usize],
+    scratch: &mut [u8],
+) -> bool
+    requires { ⌜ now table ≡ classTable ⌝ }
+    requires { ⌜ (isReadable (now d) ≡ true) × AreNames (now d) names ⌝ }
+    requires { ⌜ fitFrom (length (now scratch)) (now d) (text "%type") 0 ≡ true ⌝ }
+    ensures { λ r. ⌜ r ≡ all (wellBy (namesFrom (now (d .entry)) 0) (now (targets .entry))) (valuesFrom (now (d .entry)) (text "%type") 0) ⌝ }
+{
+    let mut i = 0;
+    loop {
+        let v = next_value(table, d, b"%type", i);
+        let NextValue::At { value, end } = v else {
+            return true;
+        };
+        if !type_well(table, d, names, targets, value, &mut *scratch) {
+            return false;
+        }
+        i = end;
+    }
+}
+
+// Question 7 of a descriptor: are its typedefs and types well formed?
+pub fn types_well(table: &[u8; 256], d: &[u8], scratch: &mut [u8]) -> bool
+    requires { ⌜ now table ≡ classTable ⌝ }
+    requires { ⌜ (isReadable (now d) ≡ true) × (length (now d) ≤ fileBytes) ⌝ }
+    requires { ⌜ (length (valuesFrom (now d) (text "%typedef") 0) ≤ 32) × (fitFrom (length (now scratch)) (now d) (text "%typedef") 0 ≡ true) ⌝ }
+    requires { ⌜ fitFrom (length (now scratch)) (now d) (text "%type") 0 ≡ true ⌝ }
+    ensures { λ r. ⌜ r ≡ isTypedWell intBounds (fieldsOf (readOf (now (d .entry)))) ⌝ }
+{
+    if !names_good(table, d, &mut *scratch) {
+        return false;
+    }
+    let names = read_names(table, d);
+    if !names_apart(d, names, &mut *scratch) {
+        return false;
+    }
+    let t = read_targets(table, d, names, &mut *scratch);
     let rows = t.rows;
     let count = t.count;
-    all_end(&rows[..count])
+    let targets = &rows[..count];
+    if !all_end(targets) {
+        return false;
+    }
+    all_well(table, d, names, targets, &mut *scratch)
 }

@@ -7,6 +7,7 @@ use lib.ListN.{length, getD}
 use Rattle.format.specs.Bytes.{text}
 use Rattle.format.specs.Limits.{valueBytes}
 use Rattle.words.specs.Spans.{span}
+use Rattle.words.proofs.Spans.{span-length}
 use Rattle.records.specs.Walk.{recordIn}
 use Rattle.integrity.proofs.Holding.{few-typedefs, values-fit}
 use Rattle.integrity.proofs.Granting.{TypesAt, types-start, types-end, types-row, types-fit, types-stop, types-on}
@@ -14,7 +15,7 @@ use Rattle.integrity.proofs.types_defined.Statement.{statement}
 use Rattle.integrity.proofs.types_defined.Tie as tie
 use Rattle.integrity.proofs.types_defined.Reads as reads
 use Rattle.integrity.proofs.types_defined.Lts as lts
-use Rattle.typing.proofs.types_well.Reads as types-well-reads
+use Rattle.typedefs.proofs.types_well.Reads as types-well-reads
 
 abbrev Inv-loop : tie.InvT-loop
 Inv-loop table s starts ends count scratch₀ k₀ scratch k = TypesAt s starts ends count k × (length scratch ≡ length scratch₀)
@@ -26,7 +27,7 @@ loop-holds : tie.Need-loop-holds Inv-loop μ-loop
 loop-holds c =
     let at-args = c .before .before .before .before .args in
     let at-pre = c .before .before .before .before .pre in
-    (types-start (at-args .s .now) (at-args .starts .now) (at-args .ends .now) (at-args .count) (at-pre .1 .0) (at-pre .1 .1 .0), refl)
+    (types-start (at-args .s .now) (at-args .starts .now) (at-args .ends .now) (at-args .count) (at-pre .1 .0 .0) (at-pre .1 .1 .0), refl)
 
 mul-a : tie.Need-mul-a Inv-loop μ-loop
 mul-a c = search needs
@@ -70,9 +71,14 @@ types-well-requires c κs =
     let at-loop-test = c .before .before .before .before .loop-test in
     let at-args = c .before .before .before .before .before .before .before .before .before .before .args in
     let at-pre = c .before .before .before .before .before .before .before .before .before .before .pre in
-    let r = types-row (at-loop .inv .0) (at-loop-test .taken) in let f = types-fit (at-loop .inv .0) (at-loop-test .taken) in let d = recordIn (span (getD (at-args .starts .now) (at-loop .k) 0) (getD (at-args .ends .now) (at-loop .k) 0) (at-args .s .now)) in
+    let r = types-row (at-loop .inv .0) (at-loop-test .taken) in
+    let f = types-fit (at-loop .inv .0) (at-loop-test .taken) in
+    let a = getD (at-args .starts .now) (at-loop .k) 0 in
+    let e = getD (at-args .ends .now) (at-loop .k) 0 in
+    let d = recordIn (span a e (at-args .s .now)) in
+    let short = span-length (at-args .s .now) a e (omega (arith, r .filled)) (omega (arith, r .within, r .inside)) in
     let room : valueBytes ≤ length (at-loop .scratch) = omega (arith, at-pre .1 .1 .1, at-loop .inv .1) in
-    (at-pre .0, (r .own, ((few-typedefs d (f .few (r .head)), values-fit (length (at-loop .scratch)) room (text "%typedef") d (f .fits)), values-fit (length (at-loop .scratch)) room (text "%type") d (f .fits))))
+    (at-pre .0, ((r .own, omega (arith, short, at-pre .1 .0 .1, r .within, r .inside)), ((few-typedefs d (f .few (r .head)), values-fit (length (at-loop .scratch)) room (text "%typedef") d (f .fits)), values-fit (length (at-loop .scratch)) room (text "%type") d (f .fits))))
 
 same-length : tie.Need-same-length Inv-loop μ-loop
 same-length c =

@@ -7,9 +7,6 @@ use Rattle.format.specs.Words.{afterWord}
 use Rattle.format.specs.Numbers.{intBounds}
 use Rattle.format.specs.Types.{typeOf}
 use Rattle.lines.specs.Value.{valueFrom}
-use Rattle.lines.proofs.Cuts.{rest}
-use Rattle.typedefs.specs.Walks.{namesFrom}
-use Rattle.typedefs.specs.Targets.{targetIn}
 use Rattle.typedefs.proofs.Following.{kindOnly}
 use Rattle.kinds.proofs.Granted.{fits-at}
 use Rattle.kinds.proofs.Ends.{own-kind, not-lost, not-open, end-kind}
@@ -18,16 +15,13 @@ use Rattle.kinds.proofs.end_of.Statement.{statement}
 use Rattle.kinds.proofs.end_of.Tie as tie
 use Rattle.kinds.proofs.end_of.Reads as reads
 use Rattle.kinds.proofs.end_of.Lts as lts
-use Rattle.kinds.proofs.typedef_place.Reads as typedef-place-reads
 use Rattle.typedefs.proofs.follow.Reads as follow-reads
 use Rattle.typedefs.proofs.target_of.Reads as target-of-reads
 
 target-of-requires : tie.Need-target-of-requires
 target-of-requires c κs =
-    let at-args = c .before .before .before .before .args in
     let at-pre = c .before .before .before .before .pre in
-    let l = ap (λ (x : Bytes). length (valueFrom x)) (rest (at-args .d .now) (at-args .value)) in
-    (at-pre .0, (at-pre .1 .0 .0 .reads, (omega (arith, at-pre .1 .1 .0 .there), omega arith, omega (arith, l, at-pre .1 .1 .0 .fits, at-pre .1 .1 .1))))
+    (at-pre .0, (at-pre .1 .0 .1, (omega (arith, at-pre .1 .1 .0 .there), omega (arith, at-pre .1 .1 .0 .fits, at-pre .1 .1 .1))))
 
 same-length : tie.Need-same-length
 same-length c = search needs
@@ -40,8 +34,8 @@ returns c =
     let at-if1 = c .if1 in
     let d = at-args .d .now in
     let y = at-pre .1 .1 .0 in
-    let e = at-target-of .ensures ∙ ap (λ (x : Bytes). targetIn (namesFrom d 0) (valueFrom x)) (rest d (at-args .value)) in
-    record { there = y .there; fits = y .fits; ends = own-kind d (at-pre .1 .0 .0) (at-args .targets .now) (at-pre .1 .0 .1) (valueFrom (drop (at-args .value) d)) (at-target-of .result) e (y .ends) (at-if1 .taken) }
+    let e = at-target-of .ensures in
+    record { there = y .there; fits = y .fits; ends = own-kind d (at-pre .1 .0 .0) (at-args .targets .now) (at-pre .1 .0 .2) (valueFrom (drop (at-args .value) d)) (at-target-of .result) e (y .ends) (at-if1 .taken) }
 
 same-length-2 : tie.Need-same-length-2
 same-length-2 c = search needs
@@ -55,8 +49,8 @@ returns-2 c =
     let at-if2 = c .if2 in
     let d = at-args .d .now in
     let y = at-pre .1 .1 .0 in
-    let e = at-target-of .ensures ∙ ap (λ (x : Bytes). targetIn (namesFrom d 0) (valueFrom x)) (rest d (at-args .value)) in
-    absurd (not-lost d (at-pre .1 .0 .0) (at-args .targets .now) (at-pre .1 .0 .1) (valueFrom (drop (at-args .value) d)) (at-target-of .result) e (y .ends) (at-if1 .left) (at-if2 .taken))
+    let e = at-target-of .ensures in
+    absurd (not-lost d (at-pre .1 .0 .0) (at-args .targets .now) (at-pre .1 .0 .2) (valueFrom (drop (at-args .value) d)) (at-target-of .result) e (y .ends) (at-if1 .left) (at-if2 .taken))
 
 sub-follow : tie.Need-sub-follow
 sub-follow c = search needs
@@ -81,22 +75,40 @@ returns-3 c =
     let at-match = c .match in
     let d = at-args .d .now in
     let y = at-pre .1 .1 .0 in
-    let e = at-target-of .ensures ∙ ap (λ (x : Bytes). targetIn (namesFrom d 0) (valueFrom x)) (rest d (at-args .value)) in
-    absurd (not-open d (at-pre .1 .0 .0) (at-args .targets .now) (at-pre .1 .0 .1) (valueFrom (drop (at-args .value) d)) (at-target-of .result) e (y .ends) (at-if1 .left) (at-if2 .left) (at-follow .result) (at-follow .ensures) (at-match .keys2))
+    let e = at-target-of .ensures in
+    absurd (not-open d (at-pre .1 .0 .0) (at-args .targets .now) (at-pre .1 .0 .2) (valueFrom (drop (at-args .value) d)) (at-target-of .result) e (y .ends) (at-if1 .left) (at-if2 .left) (at-follow .result) (at-follow .ensures) (at-match .keys2))
 
-typedef-place-requires : tie.Need-typedef-place-requires
-typedef-place-requires c κs =
-    let at-args = c .before .before .before .before .before .before .before .before .before .before .before .before .before .args in
-    let at-pre = c .before .before .before .before .before .before .before .before .before .before .before .before .before .pre in
-    let at-target-of = c .before .before .before .before .before .before .before .before .target-of in
-    let at-if1 = c .before .before .before .before .before .if1 in
-    let at-if2 = c .before .before .before .before .if2 in
-    let at-follow = c .before .before .before .follow in
-    let at-f = c .before .f in
+mul-result : tie.Need-mul-result
+mul-result c =
+    let at-args = c .before .before .before .before .before .before .before .before .before .before .before .before .before .before .args in
+    let at-pre = c .before .before .before .before .before .before .before .before .before .before .before .before .before .before .pre in
+    let at-target-of = c .before .before .before .before .before .before .before .before .before .target-of in
+    let at-if1 = c .before .before .before .before .before .before .if1 in
+    let at-if2 = c .before .before .before .before .before .if2 in
+    let at-follow = c .before .before .before .before .follow in
+    let at-f = c .before .before .f in
     let d = at-args .d .now in
     let y = at-pre .1 .1 .0 in
-    let e = at-target-of .ensures ∙ ap (λ (x : Bytes). targetIn (namesFrom d 0) (valueFrom x)) (rest d (at-args .value)) in
-    (at-pre .0, (at-pre .1 .0 .0 .reads, end-kind d (at-pre .1 .0 .0) (at-args .targets .now) (at-pre .1 .0 .1) (valueFrom (drop (at-args .value) d)) (at-target-of .result) e (y .ends) (at-if1 .left) (at-if2 .left) (at-follow .result) (at-follow .ensures) (at-f .given .0 .0) (at-f .given .1) .0))
+    let e = at-target-of .ensures in
+    let r = end-kind d (at-pre .1 .0 .0) (at-args .targets .now) (at-pre .1 .0 .2) (valueFrom (drop (at-args .value) d)) (at-target-of .result) e (y .ends) (at-if1 .left) (at-if2 .left) (at-follow .result) (at-follow .ensures) (at-f .given .0 .0) (at-f .given .1) in
+    let h = at-pre .1 .0 .1 .values in
+    omega (arith, r .0, h .count, h .few)
+
+array-read-result : tie.Need-array-read-result
+array-read-result c =
+    let at-args = c .before .before .before .before .before .before .before .before .before .before .before .before .before .before .args in
+    let at-pre = c .before .before .before .before .before .before .before .before .before .before .before .before .before .before .pre in
+    let at-target-of = c .before .before .before .before .before .before .before .before .before .target-of in
+    let at-if1 = c .before .before .before .before .before .before .if1 in
+    let at-if2 = c .before .before .before .before .before .if2 in
+    let at-follow = c .before .before .before .before .follow in
+    let at-f = c .before .before .f in
+    let d = at-args .d .now in
+    let y = at-pre .1 .1 .0 in
+    let e = at-target-of .ensures in
+    let r = end-kind d (at-pre .1 .0 .0) (at-args .targets .now) (at-pre .1 .0 .2) (valueFrom (drop (at-args .value) d)) (at-target-of .result) e (y .ends) (at-if1 .left) (at-if2 .left) (at-follow .result) (at-follow .ensures) (at-f .given .0 .0) (at-f .given .1) in
+    let h = at-pre .1 .0 .1 .values in
+    omega (arith, r .0, h .count, h .few, h .long)
 
 same-length-4 : tie.Need-same-length-4
 same-length-4 c = search needs
@@ -110,12 +122,12 @@ returns-4 c =
     let at-if2 = c .before .before .before .before .before .if2 in
     let at-follow = c .before .before .before .before .follow in
     let at-f = c .before .before .f in
-    let at-typedef-place = c .typedef-place in
     let d = at-args .d .now in
     let y = at-pre .1 .1 .0 in
-    let e = at-target-of .ensures ∙ ap (λ (x : Bytes). targetIn (namesFrom d 0) (valueFrom x)) (rest d (at-args .value)) in
-    let r = end-kind d (at-pre .1 .0 .0) (at-args .targets .now) (at-pre .1 .0 .1) (valueFrom (drop (at-args .value) d)) (at-target-of .result) e (y .ends) (at-if1 .left) (at-if2 .left) (at-follow .result) (at-follow .ensures) (at-f .given .0 .0) (at-f .given .1) in
-    let p = at-typedef-place .ensures in
+    let e = at-target-of .ensures in
+    let r = end-kind d (at-pre .1 .0 .0) (at-args .targets .now) (at-pre .1 .0 .2) (valueFrom (drop (at-args .value) d)) (at-target-of .result) e (y .ends) (at-if1 .left) (at-if2 .left) (at-follow .result) (at-follow .ensures) (at-f .given .0 .0) (at-f .given .1) in
+    let h = at-pre .1 .0 .1 .values in
+    let p = h .places (at-f .given .0 .0) (omega (arith, r .0, h .count)) in
     record {
       there = p .0;
       fits = omega (arith, ap length (p .1), fits-at d (at-pre .1 .0 .0) (text "%typedef") (at-f .given .0 .0));
@@ -136,6 +148,7 @@ end-of-spec =
     enum-known-f
     same-length-3
     returns-3
-    typedef-place-requires
+    mul-result
+    array-read-result
     same-length-4
     returns-4)

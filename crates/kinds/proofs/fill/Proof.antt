@@ -19,10 +19,10 @@ use Rattle.kinds.proofs.type_at.Reads as type-at-reads
 use Rattle.typedefs.proofs.next_value.Reads as next-value-reads
 
 abbrev Inv-loop : tie.InvT-loop
-Inv-loop table d targets scratch₀ rows₀ texts₀ i₀ count₀ t14 scratch rows texts i count = Behind d count i × (count ≤ length (valuesFrom d (text "%type") 0)) × (length scratch ≡ length scratch₀) × (length rows ≡ 32) × (length texts ≡ 32) × Filled d rows texts count
+Inv-loop table d names targets scratch₀ rows₀ texts₀ i₀ count₀ t15 scratch rows texts i count = Behind d count i × (count ≤ length (valuesFrom d (text "%type") 0)) × (length scratch ≡ length scratch₀) × (length rows ≡ 32) × (length texts ≡ 32) × Filled d rows texts count
 
 abbrev μ-loop : tie.MeasureT-loop
-μ-loop table d targets scratch₀ rows₀ texts₀ i₀ count₀ t14 scratch rows texts i count = length d - i
+μ-loop table d names targets scratch₀ rows₀ texts₀ i₀ count₀ t15 scratch rows texts i count = length d - i
 
 loop-holds : tie.Need-loop-holds Inv-loop μ-loop
 loop-holds c =

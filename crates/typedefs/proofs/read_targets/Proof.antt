@@ -1,145 +1,93 @@
--- `typedefs::read_targets` meets its contract. The invariant: the rows so far are the targets of the values passed, and the values from i on are left.
--- The measure is what is left of the length.
+-- `typedefs::read_targets` meets its contract. The invariant: the first k rows are the targets of the first k typedefs. The measure is what is left of them.
 use borrow.Author.Needs.{needs}
-use Prim.Native.Nat.{_+_, _-_, _≤_}
-use native.Mathlib.Nat.{zero-add}
+use Prim.Native.Nat.{ℕ, _-_, _≤_}
 use native.Mathlib.Omega.{arith}
 use mathlib.Core.Path.{_≡_, refl, sym, ap, _∙_}
 use mathlib.Core.Bool.{true}
-use mathlib.Core.List.{map, _++_}
-use lib.ListN.{length, take, drop, length-set}
-use Rattle.format.specs.Bytes.{text}
-use Rattle.lines.specs.Value.{valueFrom}
-use Rattle.words.specs.Spans.{span}
-use Rattle.records.specs.Places.{isReadable}
+use mathlib.Core.List.{List, map}
+use lib.ListN.{length, take, getD, length-set}
+use lib.Seq.{take-all}
+use Rattle.format.specs.Bytes.{Bytes, text}
 use Rattle.typedefs.specs.Walks.{valuesFrom, namesFrom, fitFrom}
 use Rattle.typedefs.specs.Targets.{targetIn}
-use Rattle.typedefs.proofs.Walking.{value-told}
-use Rattle.typedefs.proofs.Filling.{fit-here, rows-done, rows-more}
+use Rattle.typedefs.proofs.Placing.{place-fits}
+use Rattle.typedefs.proofs.Filling.{rows-more}
 use Rattle.typedefs.proofs.read_targets.Statement.{statement}
 use Rattle.typedefs.proofs.read_targets.Tie as tie
 use Rattle.typedefs.proofs.read_targets.Reads as reads
 use Rattle.typedefs.proofs.read_targets.Lts as lts
-use Rattle.typedefs.proofs.next_value.Reads as next-value-reads
 use Rattle.typedefs.proofs.target_of.Reads as target-of-reads
 
 abbrev Inv-loop : tie.InvT-loop
-Inv-loop table d scratch₀ rows₀ i₀ count₀ t11 scratch rows i count = (i ≤ length d) × (isReadable (drop i d) ≡ true) × (count + length (valuesFrom d (text "%typedef") i) ≡ length (valuesFrom d (text "%typedef") 0)) × (length rows ≡ 32) × (length scratch ≡ length scratch₀) × (fitFrom (length scratch₀) d (text "%typedef") i ≡ true) × (map (targetIn (namesFrom d 0)) (valuesFrom d (text "%typedef") 0) ≡ take count rows ++ map (targetIn (namesFrom d 0)) (valuesFrom d (text "%typedef") i))
+Inv-loop table d names scratch₀ places count rows₀ k₀ scratch rows k = (k ≤ names .count) × (length scratch ≡ length scratch₀) × (length rows ≡ 32) × (take k rows ≡ map (targetIn (namesFrom d 0)) (take k (valuesFrom d (text "%typedef") 0)))
 
 abbrev μ-loop : tie.MeasureT-loop
-μ-loop table d scratch₀ rows₀ i₀ count₀ t11 scratch rows i count = length d - i
+μ-loop table d names scratch₀ places count rows₀ k₀ scratch rows k = names .count - k
 
 loop-holds : tie.Need-loop-holds Inv-loop μ-loop
-loop-holds c =
-    let at-pre = c .before .before .pre in
-    let at-args = c .before .before .args in
-    (omega arith, at-pre .1 .0, zero-add (length (valuesFrom (at-args .d .now) (text "%typedef") 0)), refl, refl, at-pre .1 .1 .1, refl)
+loop-holds c = (omega arith, refl, refl, refl)
 
-slice-aggregate-next-value : tie.Need-slice-aggregate-next-value Inv-loop μ-loop
-slice-aggregate-next-value c = search needs
+mul-target-of : tie.Need-mul-target-of Inv-loop μ-loop
+mul-target-of c =
+    let at-pre = c .before .before .before .before .before .pre in
+    omega (arith, at-pre .1 .0 .values .few)
 
-next-value-requires : tie.Need-next-value-requires Inv-loop μ-loop
-next-value-requires c κs =
-    let at-pre = c .before .before .before .before .pre in
-    let at-loop = c .before .loop in
-    (at-pre .0, (at-loop .inv .0, at-loop .inv .1))
-
-enum-known-v : tie.Need-enum-known-v Inv-loop μ-loop
-enum-known-v c = search needs
-
-enum-told : tie.Need-enum-told Inv-loop μ-loop
-enum-told c = search needs
-
-same-length : tie.Need-same-length Inv-loop μ-loop
-same-length c = search needs
-
-returns : tie.Need-returns Inv-loop μ-loop
-returns c =
-    let at-args = c .before .before .before .before .before .before .before .args in
-    let at-loop = c .before .before .before .before .loop in
-    let at-next-value = c .before .before .next-value in
-    let at-enum-told = c .enum-told in
-    let at-pre = c .before .before .before .before .before .before .before .pre in
-    let d = at-args .d .now in
-    let h = value-told d (text "%typedef") (at-loop .i) (at-next-value .result) (at-next-value .ensures) (at-enum-told .given .1) in
-    let z = ap length h in
-    (omega (arith, z, at-loop .inv .2, at-pre .1 .1 .0), at-loop .inv .3, omega (arith, z, at-loop .inv .2), sym (at-loop .inv .6 ∙ rows-done (targetIn (namesFrom d 0)) (at-loop .rows) (at-loop .count) (valuesFrom d (text "%typedef") (at-loop .i)) h))
+array-read-target-of : tie.Need-array-read-target-of Inv-loop μ-loop
+array-read-target-of c =
+    let at-pre = c .before .before .before .before .before .pre in
+    omega (arith, at-pre .1 .0 .values .few, at-pre .1 .0 .values .long)
 
 target-of-requires : tie.Need-target-of-requires Inv-loop μ-loop
 target-of-requires c κs =
-    let at-args = c .before .before .before .before .before .before .before .before .before .args in
-    let at-v = c .before .before .v in
-    let at-loop = c .before .before .before .before .before .before .loop in
-    let at-next-value = c .before .before .before .before .next-value in
-    let at-pre = c .before .before .before .before .before .before .before .before .before .pre in
-    let d = at-args .d .now in
-    let g = at-v .given in
-    let h = value-told d (text "%typedef") (at-loop .i) (at-next-value .result) (at-next-value .ensures) (g .1) in
-    let f = fit-here (length (at-args .scratch .now)) (valuesFrom d (text "%typedef") (at-loop .i)) (valueFrom (span (g .0 .0) (g .0 .1 .0) d)) (valuesFrom d (text "%typedef") (g .0 .1 .0)) (at-loop .inv .5) (h .values) in
-    (at-pre .0, (at-pre .1 .0, (h .within, h .inside, omega (arith, f .0, at-loop .inv .4))))
+    let at-pre = c .before .before .before .before .before .before .pre in
+    let at-loop = c .before .before .loop in
+    let at-loop-test = c .before .loop-test in
+    let at-args = c .before .before .before .before .before .before .args in
+    let h = at-pre .1 .0 in
+    (at-pre .0, (h, (omega (arith, h .values .places (at-loop .k) (at-loop-test .taken) .0), omega (arith, place-fits (at-args .d .now) (at-args .names) h (at-loop .k) (at-loop-test .taken) (length (at-args .scratch .now)) (at-pre .1 .1), at-loop .inv .1))))
 
 mul-rows : tie.Need-mul-rows Inv-loop μ-loop
 mul-rows c =
-    let at-args = c .before .before .before .before .before .before .before .before .before .before .before .before .args in
-    let at-loop = c .before .before .before .before .before .before .before .before .before .loop in
-    let at-next-value = c .before .before .before .before .before .before .before .next-value in
-    let at-v = c .before .before .before .before .before .v in
-    let at-pre = c .before .before .before .before .before .before .before .before .before .before .before .before .pre in
-    let d = at-args .d .now in
-    let h = value-told d (text "%typedef") (at-loop .i) (at-next-value .result) (at-next-value .ensures) (at-v .given .1) in
-    let z = ap length (h .values) in
-    omega (arith, z, at-loop .inv .2, at-pre .1 .1 .0)
+    let at-pre = c .before .before .before .before .before .before .before .before .before .pre in
+    omega (arith, at-pre .1 .0 .values .few)
 
 array-write-rows : tie.Need-array-write-rows Inv-loop μ-loop
 array-write-rows c =
-    let at-args = c .before .before .before .before .before .before .before .before .before .before .before .before .args in
-    let at-loop = c .before .before .before .before .before .before .before .before .before .loop in
-    let at-next-value = c .before .before .before .before .before .before .before .next-value in
-    let at-v = c .before .before .before .before .before .v in
-    let at-pre = c .before .before .before .before .before .before .before .before .before .before .before .before .pre in
-    let d = at-args .d .now in
-    let h = value-told d (text "%typedef") (at-loop .i) (at-next-value .result) (at-next-value .ensures) (at-v .given .1) in
-    let z = ap length (h .values) in
-    omega (arith, z, at-loop .inv .2, at-pre .1 .1 .0)
+    let at-pre = c .before .before .before .before .before .before .before .before .before .pre in
+    omega (arith, at-pre .1 .0 .values .few)
 
-add-count : tie.Need-add-count Inv-loop μ-loop
-add-count c =
-    let at-args = c .before .before .before .before .before .before .before .before .before .before .before .before .args in
-    let at-loop = c .before .before .before .before .before .before .before .before .before .loop in
-    let at-next-value = c .before .before .before .before .before .before .before .next-value in
-    let at-v = c .before .before .before .before .before .v in
-    let at-pre = c .before .before .before .before .before .before .before .before .before .before .before .before .pre in
-    let d = at-args .d .now in
-    let h = value-told d (text "%typedef") (at-loop .i) (at-next-value .result) (at-next-value .ensures) (at-v .given .1) in
-    let z = ap length (h .values) in
-    omega (arith, z, at-loop .inv .2, at-pre .1 .1 .0)
+add-k : tie.Need-add-k Inv-loop μ-loop
+add-k c = search needs
 
 loop-less : tie.Need-loop-less Inv-loop μ-loop
-loop-less c =
-    let at-args = c .before .before .before .before .before .before .before .before .before .before .before .before .args in
-    let at-loop = c .before .before .before .before .before .before .before .before .before .loop in
-    let at-next-value = c .before .before .before .before .before .before .before .next-value in
-    let at-v = c .before .before .before .before .before .v in
-    let h = value-told (at-args .d .now) (text "%typedef") (at-loop .i) (at-next-value .result) (at-next-value .ensures) (at-v .given .1) in
-    omega (arith, h .moves, h .inside)
+loop-less c = search needs
 
 loop-again : tie.Need-loop-again Inv-loop μ-loop
 loop-again c =
-    let at-args = c .before .before .before .before .before .before .before .before .before .before .before .before .args in
-    let at-v = c .before .before .before .before .before .v in
-    let at-loop = c .before .before .before .before .before .before .before .before .before .loop in
-    let at-next-value = c .before .before .before .before .before .before .before .next-value in
+    let at-pre = c .before .before .before .before .before .before .before .before .before .pre in
     let at-scratch = c .before .scratch in
+    let at-loop = c .before .before .before .before .before .loop in
+    let at-args = c .before .before .before .before .before .before .before .before .before .args in
     let at-target-of = c .before .before .target-of in
-    let at-pre = c .before .before .before .before .before .before .before .before .before .before .before .before .pre in
-    let d = at-args .d .now in
-    let g = at-v .given in
-    let h = value-told d (text "%typedef") (at-loop .i) (at-next-value .result) (at-next-value .ensures) (g .1) in
-    let v = valueFrom (span (g .0 .0) (g .0 .1 .0) d) in
-    let vs = valuesFrom d (text "%typedef") (g .0 .1 .0) in
-    let f = fit-here (length (at-args .scratch .now)) (valuesFrom d (text "%typedef") (at-loop .i)) v vs (at-loop .inv .5) (h .values) in
-    let z = ap length (h .values) in
-    (h .inside, h .readable, omega (arith, z, at-loop .inv .2), simp length-set (at-loop .inv .3), omega (arith, at-scratch .given, at-loop .inv .4), f .1, at-loop .inv .6 ∙ rows-more (targetIn (namesFrom d 0)) (at-loop .rows) (at-loop .count) (valuesFrom d (text "%typedef") (at-loop .i)) v vs (at-target-of .result) (omega (arith, z, at-loop .inv .2, at-loop .inv .3, at-pre .1 .1 .0)) (h .values) (at-target-of .ensures))
+    let at-loop-test = c .before .before .before .before .loop-test in
+    let h = at-pre .1 .0 in
+    (omega arith, omega (arith, at-scratch .given, at-loop .inv .1), simp length-set (at-loop .inv .2), rows-more (targetIn (namesFrom (at-args .d .now) 0)) (valuesFrom (at-args .d .now) (text "%typedef") 0) (at-loop .rows) (at-loop .k) (at-target-of .result) (omega (arith, at-loop .inv .2, h .values .few)) (omega (arith, h .values .count)) (at-target-of .ensures ∙ ap (targetIn (namesFrom (at-args .d .now) 0)) (h .values .places (at-loop .k) (at-loop-test .taken) .1)) (at-loop .inv .3))
+
+same-length : tie.Need-same-length Inv-loop μ-loop
+same-length c =
+    let at-loop = c .before .loop in
+    at-loop .inv .1
+
+returns : tie.Need-returns Inv-loop μ-loop
+returns c =
+    let at-pre = c .before .before .before .before .before .pre in
+    let at-loop = c .before .loop in
+    let at-args = c .before .before .before .before .before .args in
+    let at-loop-test = c .loop-test in
+    let h = at-pre .1 .0 in
+    let z : at-loop .k ≡ at-args .names .count = omega (arith, at-loop .inv .0, at-loop-test .left) in
+    let vs = valuesFrom (at-args .d .now) (text "%typedef") 0 in
+    (h .values .few, at-loop .inv .2, sym (ap (λ (j : ℕ). take j (at-loop .rows)) z) ∙ at-loop .inv .3 ∙ ap (map (targetIn (namesFrom (at-args .d .now) 0))) (take-all (at-loop .k) vs (omega (arith, h .values .count))))
 
 pub read-targets-spec : {M : Type 1} → statement M
 read-targets-spec =
@@ -148,15 +96,13 @@ read-targets-spec =
     Inv-loop
     μ-loop
     loop-holds
-    slice-aggregate-next-value
-    next-value-requires
-    enum-known-v
-    enum-told
-    same-length
-    returns
+    mul-target-of
+    array-read-target-of
     target-of-requires
     mul-rows
     array-write-rows
-    add-count
+    add-k
     loop-less
-    loop-again)
+    loop-again
+    same-length
+    returns)

@@ -15,7 +15,7 @@ use Rattle.typedefs.proofs.target_in.Statement.{statement}
 use Rattle.typedefs.proofs.target_in.Tie as tie
 use Rattle.typedefs.proofs.target_in.Reads as reads
 use Rattle.typedefs.proofs.target_in.Lts as lts
-use Rattle.typedefs.proofs.typedef_index.Reads as typedef-index-reads
+use Rattle.typedefs.proofs.index_from.Reads as index-from-reads
 use Rattle.types.proofs.type_of.Reads as type-of-reads
 
 type-of-requires : tie.Need-type-of-requires
@@ -39,47 +39,44 @@ returns c =
 enum-known-k : tie.Need-enum-known-k
 enum-known-k c = search needs
 
-sub-typedef-index : tie.Need-sub-typedef-index
-sub-typedef-index c =
+sub-index-from : tie.Need-sub-index-from
+sub-index-from c =
     let at-args = c .before .before .before .before .before .before .before .before .before .args in
     let at-k = c .before .k in
     let at-type-of = c .before .before .before .before .before .before .type-of in
     let at-t = c .before .before .before .before .t in
-    let h = sound-shape (at-args .s .now) (at-k .given .1) (told-sound (at-args .s .now) (typeOf intBounds (at-args .s .now)) (at-type-of .result) (at-t .given .0 .0) (at-type-of .ensures) (at-t .given .1)) in
-    omega (arith, h .0, h .1)
+    let h = sound-shape (at-args .s .now) (at-k .given .1) (told-sound (at-args .s .now) (typeOf intBounds (at-args .s .now)) (at-type-of .result) (at-t .given .0 .0) (at-type-of .ensures) (at-t .given .1)) in omega (arith, h .0, h .1)
 
-part-typedef-index-start : tie.Need-part-typedef-index-start
-part-typedef-index-start c =
+part-index-from-start : tie.Need-part-index-from-start
+part-index-from-start c =
     let at-args = c .before .before .before .before .before .before .before .before .before .args in
     let at-k = c .before .k in
     let at-type-of = c .before .before .before .before .before .before .type-of in
     let at-t = c .before .before .before .before .t in
-    let h = sound-shape (at-args .s .now) (at-k .given .1) (told-sound (at-args .s .now) (typeOf intBounds (at-args .s .now)) (at-type-of .result) (at-t .given .0 .0) (at-type-of .ensures) (at-t .given .1)) in
-    omega (arith, h .0, h .1)
+    let h = sound-shape (at-args .s .now) (at-k .given .1) (told-sound (at-args .s .now) (typeOf intBounds (at-args .s .now)) (at-type-of .result) (at-t .given .0 .0) (at-type-of .ensures) (at-t .given .1)) in omega (arith, h .0, h .1)
 
-part-typedef-index-end : tie.Need-part-typedef-index-end
-part-typedef-index-end c =
+part-index-from-end : tie.Need-part-index-from-end
+part-index-from-end c =
     let at-args = c .before .before .before .before .before .before .before .before .before .args in
     let at-k = c .before .k in
     let at-type-of = c .before .before .before .before .before .before .type-of in
     let at-t = c .before .before .before .before .t in
-    let h = sound-shape (at-args .s .now) (at-k .given .1) (told-sound (at-args .s .now) (typeOf intBounds (at-args .s .now)) (at-type-of .result) (at-t .given .0 .0) (at-type-of .ensures) (at-t .given .1)) in
-    omega (arith, h .0, h .1)
+    let h = sound-shape (at-args .s .now) (at-k .given .1) (told-sound (at-args .s .now) (typeOf intBounds (at-args .s .now)) (at-type-of .result) (at-t .given .0 .0) (at-type-of .ensures) (at-t .given .1)) in omega (arith, h .0, h .1)
 
-typedef-index-requires : tie.Need-typedef-index-requires
-typedef-index-requires c κs =
+index-from-requires : tie.Need-index-from-requires
+index-from-requires c κs =
     let at-pre = c .before .before .before .before .before .before .before .before .before .before .pre in
-    (at-pre .0, (omega arith, at-pre .1))
+    (at-pre .1, omega arith)
 
 returns-2 : tie.Need-returns-2
 returns-2 c =
     let at-args = c .before .before .before .before .before .before .before .before .before .before .before .args in
     let at-type-of = c .before .before .before .before .before .before .before .before .type-of in
     let at-t = c .before .before .before .before .before .before .t in
-    let at-typedef-index = c .typedef-index in
+    let at-index-from = c .index-from in
     let at-k = c .before .before .before .k in
     let e = told-some (at-args .s .now) (typeOf intBounds (at-args .s .now)) (at-type-of .result) (at-t .given .0 .0) (at-type-of .ensures) (at-t .given .1) in
-    at-typedef-index .ensures ∙ sym (ap (targetBy (namesFrom (at-args .d .now) 0)) (e ∙ ap (λ (k : Shape). some (typedIn (at-args .s .now) k)) (at-k .given .1)))
+    at-index-from .ensures ∙ sym (ap (targetBy (namesFrom (at-args .d .now) 0)) (e ∙ ap (λ (k : Shape). some (typedIn (at-args .s .now) k)) (at-k .given .1)))
 
 returns-3 : tie.Need-returns-3
 returns-3 c =
@@ -99,9 +96,9 @@ target-in-spec =
     enum-told
     returns
     enum-known-k
-    sub-typedef-index
-    part-typedef-index-start
-    part-typedef-index-end
-    typedef-index-requires
+    sub-index-from
+    part-index-from-start
+    part-index-from-end
+    index-from-requires
     returns-2
     returns-3)

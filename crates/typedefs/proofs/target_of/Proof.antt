@@ -1,14 +1,18 @@
 -- `typedefs::target_of` meets its contract.
-use mathlib.Core.Path.{ap, _∙_}
+use Prim.Native.Nat.{_≤_}
+use mathlib.Core.Path.{sym, ap, _∙_, subst}
 use native.Mathlib.Omega.{arith}
+use lib.ListN.{length, drop}
 use Rattle.format.specs.Bytes.{Bytes}
+use Rattle.format.specs.Words.{afterWord}
 use Rattle.format.specs.Numbers.{intBounds}
 use Rattle.format.specs.Types.{typeOf}
 use Rattle.lines.specs.Value.{valueFrom}
+use Rattle.lines.proofs.Cuts.{rest}
 use Rattle.words.specs.Spans.{span}
+use Rattle.words.proofs.Decoded.{decoded-length, decoded-after, decoded-inside}
 use Rattle.typedefs.specs.Walks.{namesFrom}
 use Rattle.typedefs.specs.Targets.{targetBy}
-use Rattle.words.proofs.Decoded.{decoded-length, decoded-after}
 use borrow.Author.Needs.{needs}
 use Rattle.typedefs.proofs.target_of.Statement.{statement}
 use Rattle.typedefs.proofs.target_of.Tie as tie
@@ -29,17 +33,22 @@ part-copy-value-end c = search needs
 
 copy-value-requires : tie.Need-copy-value-requires
 copy-value-requires c κs =
+    let at-args = c .before .before .before .before .args in
     let at-pre = c .before .before .before .before .pre in
-    at-pre .1 .1 .2
+    subst (λ (x : Bytes). length (valueFrom x) ≤ length (at-args .scratch .now)) (sym (rest (at-args .d .now) (at-args .value))) (at-pre .1 .1 .1)
 
 slice-reshare-prefix-behind-word : tie.Need-slice-reshare-prefix-behind-word
-slice-reshare-prefix-behind-word c = search needs
+slice-reshare-prefix-behind-word c =
+    let at-args = c .before .before .before .before .before .before .before .args in
+    let at-copy-value = c .before .before .copy-value in
+    let at-pre = c .before .before .before .before .before .before .before .pre in
+    decoded-inside (valueFrom (span (at-args .value) (length (at-args .d .now)) (at-args .d .now))) (at-args .scratch .now) _ (at-copy-value .result) (at-copy-value .ensures .0) (at-copy-value .ensures .1) (subst (λ (x : Bytes). length (valueFrom x) ≤ length (at-args .scratch .now)) (sym (rest (at-args .d .now) (at-args .value))) (at-pre .1 .1 .1))
 
 slice-aggregate-behind-word : tie.Need-slice-aggregate-behind-word
 slice-aggregate-behind-word c =
     let at-args = c .before .before .before .before .before .before .before .before .args in
     let at-copy-value = c .before .before .before .copy-value in
-    decoded-length (valueFrom (span (at-args .value) (at-args .end) (at-args .d .now))) (at-args .scratch .now) _ (at-copy-value .result) (at-copy-value .ensures .0) (at-copy-value .ensures .1)
+    decoded-length (valueFrom (span (at-args .value) (length (at-args .d .now)) (at-args .d .now))) (at-args .scratch .now) _ (at-copy-value .result) (at-copy-value .ensures .0) (at-copy-value .ensures .1)
 
 behind-word-requires : tie.Need-behind-word-requires
 behind-word-requires c κs = search needs
@@ -49,7 +58,7 @@ sub-target-in c =
     let at-args = c .before .before .before .before .before .before .before .before .before .args in
     let at-copy-value = c .before .before .before .before .copy-value in
     let at-behind-word = c .behind-word in
-    let l = decoded-length (valueFrom (span (at-args .value) (at-args .end) (at-args .d .now))) (at-args .scratch .now) _ (at-copy-value .result) (at-copy-value .ensures .0) (at-copy-value .ensures .1) in
+    let l = decoded-length (valueFrom (span (at-args .value) (length (at-args .d .now)) (at-args .d .now))) (at-args .scratch .now) _ (at-copy-value .result) (at-copy-value .ensures .0) (at-copy-value .ensures .1) in
     omega (arith, l, at-behind-word .ensures .0)
 
 part-target-in-start : tie.Need-part-target-in-start
@@ -57,11 +66,15 @@ part-target-in-start c =
     let at-args = c .before .before .before .before .before .before .before .before .before .before .args in
     let at-copy-value = c .before .before .before .before .before .copy-value in
     let at-behind-word = c .before .behind-word in
-    let l = decoded-length (valueFrom (span (at-args .value) (at-args .end) (at-args .d .now))) (at-args .scratch .now) _ (at-copy-value .result) (at-copy-value .ensures .0) (at-copy-value .ensures .1) in
+    let l = decoded-length (valueFrom (span (at-args .value) (length (at-args .d .now)) (at-args .d .now))) (at-args .scratch .now) _ (at-copy-value .result) (at-copy-value .ensures .0) (at-copy-value .ensures .1) in
     omega (arith, l, at-behind-word .ensures .0)
 
 part-target-in-end : tie.Need-part-target-in-end
-part-target-in-end c = search needs
+part-target-in-end c =
+    let at-args = c .before .before .before .before .before .before .before .before .before .before .args in
+    let at-copy-value = c .before .before .before .before .before .copy-value in
+    let at-pre = c .before .before .before .before .before .before .before .before .before .before .pre in
+    decoded-inside (valueFrom (span (at-args .value) (length (at-args .d .now)) (at-args .d .now))) (at-args .scratch .now) _ (at-copy-value .result) (at-copy-value .ensures .0) (at-copy-value .ensures .1) (subst (λ (x : Bytes). length (valueFrom x) ≤ length (at-args .scratch .now)) (sym (rest (at-args .d .now) (at-args .value))) (at-pre .1 .1 .1))
 
 target-in-requires : tie.Need-target-in-requires
 target-in-requires c κs =
@@ -77,9 +90,9 @@ returns c =
     let at-copy-value = c .before .before .before .before .before .before .before .copy-value in
     let at-behind-word = c .before .before .before .behind-word in
     let at-target-in = c .target-in in
-    let v = valueFrom (span (at-args .value) (at-args .end) (at-args .d .now)) in
+    let v = valueFrom (span (at-args .value) (length (at-args .d .now)) (at-args .d .now)) in
     let l = decoded-length v (at-args .scratch .now) _ (at-copy-value .result) (at-copy-value .ensures .0) (at-copy-value .ensures .1) in
-    let g = decoded-after v (at-args .scratch .now) _ (at-copy-value .result) (at-copy-value .ensures .0) (at-copy-value .ensures .1) (at-behind-word .result) (omega (arith, l, at-behind-word .ensures .0)) (at-behind-word .ensures .1) in
+    let g = decoded-after v (at-args .scratch .now) _ (at-copy-value .result) (at-copy-value .ensures .0) (at-copy-value .ensures .1) (at-behind-word .result) (omega (arith, l, at-behind-word .ensures .0)) (at-behind-word .ensures .1) ∙ ap (λ (x : Bytes). afterWord (valueFrom x)) (rest (at-args .d .now) (at-args .value)) in
     at-target-in .ensures ∙ ap (λ (u : Bytes). targetBy (namesFrom (at-args .d .now) 0) (typeOf intBounds u)) g
 
 pub target-of-spec : {M : Type 1} → statement M

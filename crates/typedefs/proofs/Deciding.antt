@@ -2,29 +2,28 @@
 use Prim.Native.Nat.{ℕ, zero, suc, _+_, _-_, _≤_, _<_}
 use native.Mathlib.Omega.{arith}
 use mathlib.Core.Path.{_≡_, refl, sym, ap, _∙_}
-use mathlib.Core.Bool.{Bool, true, false, _&&_}
+use mathlib.Core.Bool.{Bool, true, false, _&&_, not, and-eq-true-iff}
 use mathlib.Core.List.{List, [], _∷_, map}
 use borrow.Author.Tests.{le-leb, lt-leb, eq-eqb, ne-eqb}
 use lib.Dec.{leb, eqb}
 use lib.ListN.{length, take, drop, drop-of-length-le}
 use Rattle.format.specs.Lists.{flat}
-use Rattle.format.specs.Bytes.{Bytes, text, pick, all, isSome}
+use Rattle.format.specs.Bytes.{Bytes, text, pick, all, among, isSome}
 use Rattle.format.specs.Lines.{isName}
-use Rattle.format.specs.Words.{firstWord, split}
+use Rattle.format.specs.Words.{firstWord, split, isTypeName}
 use Rattle.format.specs.Numbers.{intBounds}
 use Rattle.format.specs.Records.{Record}
 use Rattle.format.specs.Sets.{valuesOf}
-use Rattle.format.specs.Rules.{typedefOf, typedNames, endKind, isTypedefName, distinct, isTypedWell}
+use Rattle.format.specs.Rules.{typedNames, endKind, reserved, isTypedefName, distinct, isTypedWell}
 use Rattle.lines.specs.Value.{valueFrom}
 use Rattle.lines.proofs.Cuts.{at-cons}
-use Rattle.words.specs.Spans.{span, runEnd, notByte, wordAt}
+use Rattle.words.specs.Spans.{span, runEnd, notByte}
 use Rattle.words.proofs.Splitting.{splitBehind, split-at}
 use Rattle.typedefs.specs.Walks.{valuesFrom, ValueHere}
-use Rattle.typedefs.specs.Targets.{targetIn, followOf, isEnd, leads, areDefined}
+use Rattle.typedefs.specs.Targets.{targetIn, followOf, isEnd, endsIn, leads, areDefined, wellBy}
 use Rattle.typedefs.specs.declared.Followed.{Followed}
 use Rattle.typedefs.proofs.Filling.{both-true}
 use Rattle.typedefs.proofs.Defined.{swap, defsOf, type-leads}
-use Rattle.typing.specs.Ends.{wellBy}
 
 -- five tests, the first three apart
 five : (a b c d e : Bool) → (a && b && c && d && e) ≡ (((a && c) && b) && (d && e))
@@ -41,6 +40,18 @@ both-all p q f h (v ∷ vs) =
     swap (p v) (all p vs) (q v) (all q vs) ∙ ap (λ (t : Bool). (p v && q v) && t) (both-all p q f h vs)
     ∙ ap (λ (t : Bool). (p v && t) && all (λ (w : Bytes). p w && f w) vs) (h v)
 
+-- a test of each first word
+pub all-words : (p : Bytes → Bool) (vs : List Bytes) → all (λ (v : Bytes). p (firstWord v)) vs ≡ all p (map firstWord vs)
+all-words p [] = refl
+all-words p (v ∷ vs) = ap (λ (t : Bool). p (firstWord v) && t) (all-words p vs)
+
+-- a name that a typedef may have is a type name
+pub type-names : (ns : List Bytes) → all isTypedefName ns ≡ true → all isTypeName ns ≡ true
+type-names [] e = refl
+type-names (n ∷ ns) e =
+    let h = and-eq-true-iff (isTypedefName n) (all isTypedefName ns) .0 e in
+    and-eq-true-iff (isTypeName n) (all isTypeName ns) .1 (and-eq-true-iff (isTypeName n) (not (among n reserved)) .0 (h .0) .0, type-names ns (h .1))
+
 module _ (r : Record) where
   abbrev defs : List Bytes
   defs = valuesOf (text "%typedef") r
@@ -48,19 +59,22 @@ module _ (r : Record) where
   abbrev uses : List Bytes
   uses = valuesOf (text "%type") r
 
-  well-by : isTypedWell intBounds r
-      ≡ (areDefined defs && (all (λ (v : Bytes). all isName (typedNames v)) uses && all (λ (v : Bytes). isSome (endKind intBounds (defsOf defs) v)) uses))
+  abbrev rest : Bool
+  rest = all (λ (v : Bytes). all isName (typedNames v)) uses && all (λ (v : Bytes). isSome (endKind intBounds (defsOf defs) v)) uses
+
+  well-by : isTypedWell intBounds r ≡ (areDefined defs && rest)
   well-by =
       five (all (λ (v : Bytes). isTypedefName (firstWord v)) defs) (all (λ (v : Bytes). isSome (endKind intBounds (defsOf defs) v)) defs) (distinct (map firstWord defs))
       (all (λ (v : Bytes). all isName (typedNames v)) uses) (all (λ (v : Bytes). isSome (endKind intBounds (defsOf defs) v)) uses)
+      ∙ ap (λ (t : Bool). ((t && distinct (map firstWord defs)) && all (λ (v : Bytes). isSome (endKind intBounds (defsOf defs) v)) defs) && rest) (all-words isTypedefName defs)
 
   pub not-defined : areDefined defs ≡ false → isTypedWell intBounds r ≡ false
-  not-defined e = well-by ∙ ap (λ (t : Bool). t && (all (λ (v : Bytes). all isName (typedNames v)) uses && all (λ (v : Bytes). isSome (endKind intBounds (defsOf defs) v)) uses)) e
+  not-defined e = well-by ∙ ap (λ (t : Bool). t && rest) e
 
   pub well-types : length defs ≤ 32 → areDefined defs ≡ true → isTypedWell intBounds r ≡ all (wellBy (map firstWord defs) (map (targetIn (map firstWord defs)) defs)) uses
   well-types few e =
-      let b = both-true (all (λ (v : Bytes). isTypedefName (firstWord v)) defs && distinct (map firstWord defs)) (all (λ (v : Bytes). isSome (endKind intBounds (defsOf defs) v)) defs) e in
-      well-by ∙ ap (λ (t : Bool). t && (all (λ (v : Bytes). all isName (typedNames v)) uses && all (λ (v : Bytes). isSome (endKind intBounds (defsOf defs) v)) uses)) e
+      let b = both-true (all isTypedefName (map firstWord defs) && distinct (map firstWord defs)) (all (λ (v : Bytes). isSome (endKind intBounds (defsOf defs) v)) defs) e in
+      well-by ∙ ap (λ (t : Bool). t && rest) e
       ∙ both-all (λ (v : Bytes). all isName (typedNames v)) (λ (v : Bytes). isSome (endKind intBounds (defsOf defs) v))
       (λ (v : Bytes). leads (map (targetIn (map firstWord defs)) defs) (targetIn (map firstWord defs) v)) (type-leads defs few (b .1)) uses
 
@@ -76,8 +90,8 @@ module _ (ts : List ℕ) (t : ℕ) where
   leads-there f n h q = rw (ne-eqb t 33 n, lt-leb (length ts) t h, q)
 
 -- one field more
-pub all-cut : (p : Bytes → Bool) (d name : Bytes) (i v e : ℕ) (t : Bool) → ValueHere d name i v e → t ≡ p (valueFrom (span v e d)) → all p (valuesFrom d name i) ≡ (t && all p (valuesFrom d name e))
-all-cut p d name i v e t h q = ap (all p) (h .values) ∙ ap (λ (b : Bool). b && all p (valuesFrom d name e)) (sym q)
+pub all-cut : (p : Bytes → Bool) (d name : Bytes) (i v e : ℕ) (t : Bool) → ValueHere d name i v e → t ≡ p (valueFrom (drop v d)) → all p (valuesFrom d name i) ≡ (t && all p (valuesFrom d name e))
+all-cut p d name i v e t h q = ap (all p) (h .values) ∙ ap (λ (b : Bool). b && all p (valuesFrom d name e)) (sym (q ∙ ap p (h .ends-itself)))
 
 -- the parts of a word from i on
 module _ (s : Bytes) (i e : ℕ) (q : e ≡ runEnd (notByte 44) s i) where

@@ -1,17 +1,17 @@
--- `typing::names_well` meets its contract.
+-- `typedefs::names_well` meets its contract.
 use native.Mathlib.Omega.{arith}
 use mathlib.Core.Path.{sym, ap, _∙_}
 use Rattle.format.specs.Bytes.{Bytes, all}
 use Rattle.format.specs.Lines.{isName}
 use Rattle.format.specs.Words.{split}
 use Rattle.words.proofs.Finding.{found}
 use Rattle.typedefs.proofs.Good.{first-found, first-none}
 use borrow.Author.Needs.{needs}
-use Rattle.typing.proofs.names_well.Statement.{statement}
-use Rattle.typing.proofs.names_well.Tie as tie
-use Rattle.typing.proofs.names_well.Reads as reads
-use Rattle.typing.proofs.names_well.Lts as lts
-use Rattle.typing.proofs.parts_named.Reads as parts-named-reads
+use Rattle.typedefs.proofs.names_well.Statement.{statement}
+use Rattle.typedefs.proofs.names_well.Tie as tie
+use Rattle.typedefs.proofs.names_well.Reads as reads
+use Rattle.typedefs.proofs.names_well.Lts as lts
+use Rattle.typedefs.proofs.parts_named.Reads as parts-named-reads
 use Rattle.words.proofs.next_word.Reads as next-word-reads
 
 next-word-requires : tie.Need-next-word-requires

@@ -1,19 +1,20 @@
--- `typing::parts_named` meets its contract. The invariant: all parts are names if those from i on are, and only then. The measure is what is left of the length.
+-- `typedefs::parts_named` meets its contract. The invariant: all parts are names if those from i on are, and only then. The measure is what is left of the length.
 use borrow.Author.Needs.{needs}
 use Prim.Native.Nat.{_-_, _≤_}
 use native.Mathlib.Omega.{arith}
 use mathlib.Core.Path.{_≡_, refl, sym, _∙_}
+use borrow.Author.Tests.{not-true, not-false}
 use lib.ListN.{length, drop}
 use Rattle.format.specs.Bytes.{all}
 use Rattle.format.specs.Lines.{isName}
 use Rattle.format.specs.Words.{split}
 use Rattle.words.specs.Spans.{notByte}
 use Rattle.words.proofs.Finding.{run-end-le}
-use Rattle.typing.proofs.Deciding.{part-bad, part-last, part-more}
-use Rattle.typing.proofs.parts_named.Statement.{statement}
-use Rattle.typing.proofs.parts_named.Tie as tie
-use Rattle.typing.proofs.parts_named.Reads as reads
-use Rattle.typing.proofs.parts_named.Lts as lts
+use Rattle.typedefs.proofs.Deciding.{part-bad, part-last, part-more}
+use Rattle.typedefs.proofs.parts_named.Statement.{statement}
+use Rattle.typedefs.proofs.parts_named.Tie as tie
+use Rattle.typedefs.proofs.parts_named.Reads as reads
+use Rattle.typedefs.proofs.parts_named.Lts as lts
 use Rattle.words.proofs.is_name.Reads as is-name-reads
 use Rattle.words.proofs.part_end.Reads as part-end-reads
 
@@ -62,7 +63,7 @@ returns c =
     let at-part-end = c .before .before .before .part-end in
     let at-is-name = c .before .is-name in
     let at-if1 = c .if1 in
-    sym (at-loop .inv .1 ∙ part-bad (at-args .s .now) (at-loop .i) (at-part-end .result) (at-part-end .ensures) (sym (at-is-name .ensures) ∙ at-if1 .left))
+    sym (at-loop .inv .1 ∙ part-bad (at-args .s .now) (at-loop .i) (at-part-end .result) (at-part-end .ensures) (sym (at-is-name .ensures) ∙ not-true (at-is-name .result) (at-if1 .taken)))
 
 returns-2 : tie.Need-returns-2 Inv-loop μ-loop
 returns-2 c =
@@ -72,7 +73,7 @@ returns-2 c =
     let at-is-name = c .before .before .is-name in
     let at-if1 = c .before .if1 in
     let at-if2 = c .if2 in
-    sym (at-loop .inv .1 ∙ part-last (at-args .s .now) (at-loop .i) (at-part-end .result) (at-part-end .ensures) (sym (at-is-name .ensures) ∙ at-if1 .taken) (at-if2 .taken))
+    sym (at-loop .inv .1 ∙ part-last (at-args .s .now) (at-loop .i) (at-part-end .result) (at-part-end .ensures) (sym (at-is-name .ensures) ∙ not-false (at-is-name .result) (at-if1 .left)) (at-if2 .taken))
 
 add-i : tie.Need-add-i Inv-loop μ-loop
 add-i c =
@@ -98,7 +99,7 @@ loop-again c =
     let at-loop = c .before .before .before .before .before .loop in
     let at-is-name = c .before .before .is-name in
     let at-if1 = c .before .if1 in
-    (omega (arith, at-part-end .ensures, at-if2 .left, run-end-le (notByte 44) (at-args .s .now) (at-loop .i) (at-loop .inv .0)), at-loop .inv .1 ∙ part-more (at-args .s .now) (at-loop .i) (at-part-end .result) (at-part-end .ensures) (sym (at-is-name .ensures) ∙ at-if1 .taken) (omega (arith, at-part-end .ensures, at-if2 .left, run-end-le (notByte 44) (at-args .s .now) (at-loop .i) (at-loop .inv .0))))
+    (omega (arith, at-part-end .ensures, at-if2 .left, run-end-le (notByte 44) (at-args .s .now) (at-loop .i) (at-loop .inv .0)), at-loop .inv .1 ∙ part-more (at-args .s .now) (at-loop .i) (at-part-end .result) (at-part-end .ensures) (sym (at-is-name .ensures) ∙ not-false (at-is-name .result) (at-if1 .left)) (omega (arith, at-part-end .ensures, at-if2 .left, run-end-le (notByte 44) (at-args .s .now) (at-loop .i) (at-loop .inv .0))))
 
 pub parts-named-spec : {M : Type 1} → statement M
 parts-named-spec =

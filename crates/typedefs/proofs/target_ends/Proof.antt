@@ -1,14 +1,14 @@
--- `typing::target_ends` meets its contract.
+-- `typedefs::target_ends` meets its contract.
 use native.Mathlib.Omega.{arith}
 use mathlib.Core.Path.{sym, ap, _∙_}
 use Rattle.typedefs.specs.Targets.{isEnd}
-use Rattle.typing.proofs.Deciding.{leads-kind, leads-nowhere, leads-there}
+use Rattle.typedefs.proofs.Deciding.{leads-kind, leads-nowhere, leads-there}
 use borrow.Author.Needs.{needs}
-use Rattle.typing.proofs.target_ends.Statement.{statement}
-use Rattle.typing.proofs.target_ends.Tie as tie
-use Rattle.typing.proofs.target_ends.Reads as reads
-use Rattle.typing.proofs.target_ends.Lts as lts
+use Rattle.typedefs.proofs.target_ends.Statement.{statement}
+use Rattle.typedefs.proofs.target_ends.Tie as tie
+use Rattle.typedefs.proofs.target_ends.Reads as reads
+use Rattle.typedefs.proofs.target_ends.Lts as lts
 use Rattle.typedefs.proofs.follow.Reads as follow-reads
 
 returns : tie.Need-returns
 returns c =

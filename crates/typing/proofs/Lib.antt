@@ -1,2 +1,0 @@
--- Laws of question 7.
-pub mod Deciding
