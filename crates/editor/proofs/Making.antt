@@ -1,6 +1,5 @@
 -- The text that a splice makes of another, in a copy of it.
 use Prim.Native.Nat.{ℕ, zero, suc, _+_, _≤_}
-use native.Mathlib.Omega.{arith}
 use mathlib.Core.Path.{_≡_, refl, sym, ap, _∙_, subst}
 use mathlib.Core.Logic.{_≢_}
 use mathlib.Core.Bool.{Bool, true, _&&_, and-eq-true-iff}
@@ -33,15 +32,10 @@ module _ (s d b req : Bytes) (x : Splice) (e : b ≡ over s d) where
   copied-judged n after h k =
       (λ i. take (h i) (k i)) ∙ placed-take (madeBy (take (length s) b) req x) (length s) b ∙ copied-made
 
--- an edit's number, as the questions are asked: n is that of questions 21 to 25, b says whether the made text is within the room
+-- an edit's number, as the questions are asked: b says whether the made text is within the room
 
-pub number-refused : (room n k : ℕ) (t : Bytes) → n ≡ k → n ≢ 0 → n ≡ editNo room k t
-number-refused room n zero t e h = absurd (h e)
-number-refused room n (suc k) t e h = e
-
-pub number-asked : (room n k : ℕ) (t : Bytes) (b : Bool) → n ≡ k → n ≡ 0 → b ≡ (leb (length t) room && leb (length t) fileBytes) → editNo room k t ≡ pick b (raisedNo (textNo t)) 26
-number-asked room n zero t b e h w = ap (λ (x : Bool). pick x (raisedNo (textNo t)) 26) (sym w)
-number-asked room n (suc k) t b e h w = absurd (omega arith)
+pub number-asked : (room : ℕ) (t : Bytes) (b : Bool) → b ≡ (leb (length t) room && leb (length t) fileBytes) → editNo room 0 t ≡ pick b (raisedNo (textNo t)) 26
+number-asked room t b w = ap (λ (x : Bool). pick x (raisedNo (textNo t)) 26) (sym w)
 
 pub number-raised : (n : ℕ) → n ≢ 0 → 100 + n ≡ raisedNo n
 number-raised zero h = absurd (h refl)

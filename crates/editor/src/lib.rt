@@ -7,11 +7,13 @@ ghost use Rattle.format.specs.Limits.{fileBytes};
 ghost use Rattle.format.specs.Calls.{numberIn, valueOr, editAnswer};
 ghost use Rattle.format.proofs.Judging.{textNo};
 ghost use Rattle.format.proofs.Results.{editNo};
-ghost use Rattle.edits.specs.Splices.{refusalOf, madeBy, Sound};
+ghost use Rattle.edits.specs.Splices.{madeBy, Sound};
 ghost use Rattle.editor.specs.Answers.{editedAnswer, editedBy};
 ghost use Rattle.editor.specs.Lists.{fewest, editsIn, ranBy, Leaves};
+use edits::Located;
 use edits::Splice;
 use format::File;
+use requests::Refusal;
 use requests::RequestOf;
 
 // The number of the text that a splice makes of s, questions 2 to 14. It is made in a copy.
@@ -23,31 +25,27 @@ fn result_no(table: &[u8; 256], x: Splice, s: &[u8], req: &[u8], copy: &mut [u8]
     ensures { λ r. ⌜ r ≡ textNo (madeBy (now (s .entry)) (now (req .entry)) x) ⌝ }
 {
     let used = s.len();
-    splices::copy_text(s, &mut *copy);
-    let n = edits::carry_out(table, x, &mut *copy, used, req);
+    writing::put_bytes(&mut *copy, s);
+    let n = edits::carry_out(x, &mut *copy, used, req);
     integrity::judge_spent(table, copy, n)
 }
 
-// The number of an edit of a text that passes, in a buffer of room bytes: the first question, 21 on, that says no, else 0.
+// The number of a splice of a text that passes, in a buffer of room bytes: the first question, 26 on, that says no, else 0.
 fn edit_no(table: &[u8; 256], x: Splice, s: &[u8], req: &[u8], room: usize, copy: &mut [u8]) -> u32
     requires { ⌜ now table ≡ classTable ⌝ }
     requires { ⌜ fileBytes ≤ length (now copy) ⌝ }
-    requires { ⌜ (refusalOf x ≡ 0 → Sound (now s) (now req) x) ⌝ }
+    requires { ⌜ Sound (now s) (now req) x ⌝ }
     requires { ⌜ (length (now s) ≤ room) × (length (now s) ≤ fileBytes) ⌝ }
-    ensures { λ r. ⌜ r ≡ editNo room (refusalOf x) (madeBy (now (s .entry)) (now (req .entry)) x) ⌝ }
+    ensures { λ r. ⌜ r ≡ editNo room 0 (madeBy (now (s .entry)) (now (req .entry)) x) ⌝ }
 {
-    let k = edits::refusal(x);
-    if k != 0 {
-        return k;
-    }
     if !edits::fits(x, s, req, room) {
-        return 26;
+        return Refusal::LARGE;
     }
     let n = result_no(table, x, s, req, copy);
     if n == 0 {
         return 0;
     }
-    100 + n
+    Refusal::RESULT + n
 }
 
 // The new length, or a refusal's number.
@@ -67,17 +65,24 @@ pub fn edit(buf: &mut [u8], used: usize, req: &[u8]) -> Edited
     }
     let r = requests::request_of(req);
     let RequestOf::Is(q) = r else {
-        return Edited::Refused(20);
+        return Edited::Refused(Refusal::FORM);
     };
     let table = format::classes();
-    let x = edits::locate(&table, &buf[..used], req, q);
-    let room = buf.len();
-    let n = edit_no(&table, x, &buf[..used], req, room, &mut copy);
-    if n != 0 {
-        return Edited::Refused(n);
+    let l = edits::locate(&table, &buf[..used], req, q);
+    match l {
+        Located::Refused(k) => {
+            return Edited::Refused(k);
+        }
+        Located::At(x) => {
+            let room = buf.len();
+            let n = edit_no(&table, x, &buf[..used], req, room, &mut copy);
+            if n != 0 {
+                return Edited::Refused(n);
+            }
+            let new = edits::carry_out(x, buf, used, req);
+            return Edited::Length(new);
+        }
     }
-    let new = edits::carry_out(&table, x, buf, used, req);
-    Edited::Length(new)
 }
 
 // The number that an edit tells, 0 if accepted.

@@ -4,8 +4,6 @@ use native.Mathlib.Omega.{arith}
 use mathlib.Core.Path.{_≡_, refl, sym, ap, _∙_, subst}
 use mathlib.Core.Bool.{Bool, true, false, _&&_}
 use mathlib.Core.List.{List, [], _∷_, append-nil}
-use types.Run.{OneOf, miss}
-use denote.Enum.Declared.{tagOf}
 use lib.Dec.{leb}
 use lib.ListN.{length, drop, length-append, length-drop}
 use lib.Seq.{length-take-le}
@@ -15,22 +13,12 @@ use Rattle.format.specs.Limits.{fileBytes}
 use Rattle.format.specs.Written.{Pair, writtenAll}
 use Rattle.format.specs.Calls.{placed}
 use Rattle.format.proofs.Splices.{spliced-length}
+use Rattle.words.specs.Spans.{span}
 use Rattle.records.specs.Places.{isReadable}
 use Rattle.records.proofs.Unfielding.{leftOf, left-le}
-use Rattle.splices.specs.Space.{spliced}
-use Rattle.changes.specs.Texts.{part, inserted}
+use Rattle.splices.specs.Space.{spliced, inserted}
 use Rattle.edits.specs.declared.Splice.{Splice}
-use Rattle.edits.proofs.Splice.{the-type}
-use Rattle.edits.specs.Splices.{refusalOf, madeBy, Sound, isWithin}
-
--- what is no refusal has no number
-pub no-refusal : (x : Splice) → OneOf (0 ∷ 1 ∷ 2 ∷ 3 ∷ 4 ∷ []) (tagOf the-type x) → refusalOf x ≡ 0
-no-refusal (Splice.Record at from len) h = refl
-no-refusal (Splice.Field at old n v) h = refl
-no-refusal (Splice.Name at old n) h = refl
-no-refusal (Splice.Cut at old) h = refl
-no-refusal (Splice.Unfield start end) h = refl
-no-refusal (Splice.Refused k) h = absurd (miss (0 ∷ 1 ∷ 2 ∷ 3 ∷ 4 ∷ []) 5 tt h)
+use Rattle.edits.specs.Splices.{madeBy, Sound, isWithin}
 
 -- a length by the two tests
 module _ (room n : ℕ) where
@@ -72,10 +60,10 @@ inserted-least [] at ps k = omega (arith, alone-length [] at ps refl k)
 inserted-least (c ∷ s) at ps k = omega (arith, inserted-length (c ∷ s) at ps (omega arith) k)
 
 -- a text without the fields of a part
-pub unfielded-length : (s : Bytes) (start end : ℕ) → start ≤ end → end ≤ length s → isReadable (part s start end) ≡ true → length (spliced s start (end - start) (leftOf (part s start end))) ≤ length s
+pub unfielded-length : (s : Bytes) (start end : ℕ) → start ≤ end → end ≤ length s → isReadable (span start end s) ≡ true → length (spliced s start (end - start) (leftOf (span start end s))) ≤ length s
 unfielded-length s start end h k r =
-    let l : length (part s start end) ≡ end - start = length-take-le (end - start) (drop start s) (omega (arith, length-drop start s)) in
-    omega (arith, exchanged-length s start (end - start) (leftOf (part s start end)) (omega arith), left-le (part s start end) r)
+    let l : length (span start end s) ≡ end - start = length-take-le (end - start) (drop start s) (omega (arith, length-drop start s)) in
+    omega (arith, exchanged-length s start (end - start) (leftOf (span start end s)) (omega arith), left-le (span start end s) r)
 
 -- The same of a splice, once its form is known.
 module _ (s req : Bytes) {x y : Splice} (e : x ≡ y) where

@@ -2,14 +2,13 @@
 ghost use mathlib.Core.Path.{_≡_};
 ghost use Prim.Native.Nat.{_≤_};
 ghost use lib.ListN.{length, take};
-ghost use Rattle.format.specs.Bytes.{classTable};
 ghost use Rattle.format.specs.Calls.{placed};
-ghost use Rattle.edits.specs.Splices.{refusalOf, madeBy, Sound};
-use requests::Span;
+ghost use Rattle.edits.specs.Splices.{madeBy, Sound};
+use words::Span;
 
+mod acts;
 mod places;
 mod room;
-mod targets;
 
 pub use places::locate;
 pub use room::fits;
@@ -45,20 +44,16 @@ pub enum Splice {
         start: usize,
         end: usize,
     },
-    // Nothing is done: the number of the question, 21 to 25, that says no.
+}
+
+// What a request does, or the number of the first of questions 21 to 25 that says no.
+pub enum Located {
+    At(Splice),
     Refused(u32),
 }
 
-// The number of the refusal, 0 where there is none.
-pub fn refusal(x: Splice) -> u32
-    ensures { λ r. ⌜ r ≡ refusalOf x ⌝ }
-{
-    if let Splice::Refused(k) = x { k } else { 0 }
-}
-
 // The splice carried out on the text of `used` bytes at the front of buf: the new text's length.
-pub fn carry_out(table: &[u8; 256], x: Splice, buf: &mut [u8], used: usize, req: &[u8]) -> usize
-    requires { ⌜ now table ≡ classTable ⌝ }
+pub fn carry_out(x: Splice, buf: &mut [u8], used: usize, req: &[u8]) -> usize
     requires { ⌜ (used ≤ length (now buf)) × Sound (take used (now buf)) (now req) x ⌝ }
     requires { ⌜ length (madeBy (take used (now buf)) (now req) x) ≤ length (now buf) ⌝ }
     ensures { λ r. ⌜ (r ≡ length (madeBy (take used (now (buf .entry))) (now (req .entry)) x))
@@ -66,7 +61,7 @@ pub fn carry_out(table: &[u8; 256], x: Splice, buf: &mut [u8], used: usize, req:
 {
     match x {
         Splice::Record { at, from, len } => {
-            return changes::put_record(buf, used, at, req, from, len);
+            return splices::put_record(buf, used, at, req, from, len);
         }
         Splice::Field {
             at,
@@ -78,21 +73,18 @@ pub fn carry_out(table: &[u8; 256], x: Splice, buf: &mut [u8], used: usize, req:
             let b = name.end;
             let c = value.start;
             let d = value.end;
-            return changes::put_text(buf, used, at, old, &req[a..b], &req[c..d]);
+            return splices::put_text(buf, used, at, old, &req[a..b], &req[c..d]);
         }
         Splice::Name { at, old, name } => {
             let a = name.start;
             let b = name.end;
-            return changes::put_name(buf, used, at, old, &req[a..b]);
+            return splices::splice(buf, used, at, old, &req[a..b]);
         }
         Splice::Cut { at, old } => {
-            return changes::cut_text(buf, used, at, old);
+            return splices::cut_text(buf, used, at, old);
         }
         Splice::Unfield { start, end } => {
-            return changes::cut_fields(table, buf, used, start, end);
-        }
-        Splice::Refused(_) => {
-            return used;
+            return splices::cut_fields(buf, used, start, end);
         }
     }
 }

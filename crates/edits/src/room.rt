@@ -6,16 +6,6 @@ ghost use Rattle.format.specs.Limits.{fileBytes};
 ghost use Rattle.edits.specs.Splices.{madeBy, Sound, isWithin};
 use super::Splice;
 
-// Is a length at most the room and a file's limit?
-fn is_within(n: usize, room: usize) -> bool
-    ensures { λ r. ⌜ r ≡ isWithin room n ⌝ }
-{
-    if n > room {
-        return false;
-    }
-    n <= format::File::BYTES
-}
-
 // Is the text that a splice makes of s at most room bytes long, and no longer than a file may be?
 pub fn fits(x: Splice, s: &[u8], req: &[u8], room: usize) -> bool
     requires { ⌜ Sound (now s) (now req) x ⌝ }
@@ -33,9 +23,11 @@ pub fn fits(x: Splice, s: &[u8], req: &[u8], room: usize) -> bool
                 return false;
             }
             if used == 0 {
-                return is_within(len, room);
+                let f = format::File::new(len);
+                return f.fits(room);
             }
-            return is_within(used + len + 1, room);
+            let f = format::File::new(used + len + 1);
+            return f.fits(room);
         }
         Splice::Field {
             at: _,
@@ -48,19 +40,18 @@ pub fn fits(x: Splice, s: &[u8], req: &[u8], room: usize) -> bool
             let c = value.start;
             let d = value.end;
             let new = writing::written_len(&req[a..b], &req[c..d]);
-            return is_within(used - old + new, room);
+            let f = format::File::new(used - old + new);
+            return f.fits(room);
         }
         Splice::Name { at: _, old, name } => {
             let new = name.end - name.start;
-            return is_within(used - old + new, room);
+            let f = format::File::new(used - old + new);
+            return f.fits(room);
         }
         Splice::Cut { at: _, old: _ } => {
             return true;
         }
         Splice::Unfield { start: _, end: _ } => {
-            return true;
-        }
-        Splice::Refused(_) => {
             return true;
         }
     }

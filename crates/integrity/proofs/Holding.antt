@@ -14,7 +14,7 @@ use Rattle.format.specs.Limits.{valueBytes, typedefs, typeFields, listWords}
 use Rattle.format.specs.Rules.{mandatory, prohibited, allowed, unique}
 use Rattle.format.specs.Questions.{fitsField, fitsRecord, fitsRules}
 use Rattle.format.proofs.Elements.{Each, all-each}
-use Rattle.sizes.proofs.Limits.{fits-fields, fits-value}
+use Rattle.descriptors.proofs.Limits.{fits-fields, fits-value}
 use Rattle.typedefs.specs.Walks.{fits}
 
 module _ (m : ℕ) (room : valueBytes ≤ m) where

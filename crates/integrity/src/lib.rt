@@ -152,7 +152,7 @@ fn judge_described(
     ensures { λ r. ⌜ r ≡ recordsNo intBounds (records (readOf (now (s .entry)))) ⌝ }
 {
     let mut scratch = [0u8; 4096];
-    if shapes::described_well(table, s, starts, ends, count, &mut scratch) {} else {
+    if descriptors::described_well(table, s, starts, ends, count, &mut scratch) {} else {
         return 6;
     }
     if types_defined(table, s, starts, ends, count, &mut scratch) {} else {
@@ -237,7 +237,7 @@ fn judge_kept(table: &[u8; 256], s: &[u8], copy: &mut [u8]) -> u32
     ensures { λ r. ⌜ r ≡ textNo (now (s .entry)) ⌝ }
 {
     if may_join(s) {
-        splices::copy_text(s, &mut *copy);
+        writing::put_bytes(&mut *copy, s);
         return judge_dense(table, copy, s.len());
     }
     judge(table, s)

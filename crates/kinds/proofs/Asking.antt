@@ -60,7 +60,7 @@ row-said r from x v k other b symbol h q e =
 module _ (d : Bytes) (r : Kinds) (h : IsKinds d r) (from next x tags : ℕ) (v : Bytes) (few : next ≤ r .count) (f : Found d (r .texts) from next (trim v) x) where
   symbol-is : (k : ℕ) → from ≤ k → k < next → getD (r .texts) k 0 < 65536 → isSymbol (r .texts) from x k ≡ among (trim v) (enumIn d (getD (r .texts) k 0))
   unfolding isSymbol
-  symbol-is k b l low = ap (λ (t : Bool). t && inSet (leaderOf (r .texts) from k) x) (lt-ltb (getD (r .texts) k 0) 65536 low) ∙ f k b l low
+  symbol-is k b l low = ap (λ (t : Bool). t && inSet (leaderOf (r .texts) from k) x) (lt-ltb (getD (r .texts) k 0) 65536 low) ∙ f .tells k b l low
 
   row-is : (k : ℕ) → from ≤ k → k < next → rowAsks r from x v k ≡ rowMet d k v
   row-is k b l = h .row k (omega arith) .asks v (isSymbol (r .texts) from x k) (symbol-is k b l)

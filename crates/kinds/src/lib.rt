@@ -15,14 +15,18 @@ ghost use Rattle.types.specs.Meaning.{typedIn};
 ghost use Rattle.typedefs.specs.Names.{AreNames};
 ghost use Rattle.dictionary.specs.Known.{Described};
 ghost use Rattle.symbols.specs.Enums.{typeAt};
-ghost use Rattle.symbols.specs.Rows.{IsSymbols, Found};
+ghost use Rattle.terms.specs.Sets.{inSet};
+ghost use Rattle.symbols.specs.Rows.{leaderOf, Leads, IsSymbols, Found};
 ghost use Rattle.kinds.specs.Meets.{rowsMet};
 ghost use Rattle.kinds.specs.Rows.{targetsOf, TypeAt, EndAt, textOf, IsKinds, isSymbol, rowsAsk};
+use format::Descriptor;
+use format::File;
 use numbers::IntOf;
 use symbols::Symbols;
 use typedefs::Followed;
 use typedefs::Names;
 use typedefs::NextValue;
+use typedefs::Targets;
 use types::Shape;
 use types::TypeOf;
 
@@ -31,10 +35,10 @@ pub struct Row {
     pub kind: Shape,
 }
 
-// The kinds of a descriptor, one row for each `%type` field, and where the text of a row stands if it is an `enum`, 65536 otherwise.
+// The kinds of a descriptor, one row for each `%type` field, and where the text of a row stands if it is an `enum`, the end of any file otherwise.
 pub struct Kinds {
-    pub rows: [Row; 32],
-    pub texts: [usize; 32],
+    pub rows: [Row; Descriptor::TYPES],
+    pub texts: [usize; Descriptor::TYPES],
     pub count: usize,
 }
 
@@ -60,7 +64,7 @@ fn text_of(kind: Shape, value: usize) -> usize
 {
     match kind {
         Shape::Enum { start: _, end: _ } => value,
-        _ => 65536,
+        _ => File::BYTES,
     }
 }
 
@@ -79,7 +83,7 @@ fn end_of(
     ensures { λ r. ⌜ EndAt (now (d .entry)) value r ⌝ }
 {
     let t = typedefs::target_of(table, d, names, value, &mut *scratch);
-    if t == 33 {
+    if t == Targets::KIND {
         return value;
     }
     let count = targets.len();
@@ -101,8 +105,8 @@ fn fill(table: &[u8; 256], d: &[u8], names: Names, targets: &[usize], scratch: &
     requires { ⌜ valueBytes ≤ length (now scratch) ⌝ }
     ensures { λ r. ⌜ IsKinds (now (d .entry)) r ⌝ }
 {
-    let mut rows = [Row { kind: Shape::Line }; 32];
-    let mut texts = [65536; 32];
+    let mut rows = [Row { kind: Shape::Line }; Descriptor::TYPES];
+    let mut texts = [File::BYTES; Descriptor::TYPES];
     let mut i = 0;
     let mut count = 0;
     loop {
@@ -155,9 +159,13 @@ fn texts_with(
 // Is a value a symbol of a row, if it is known of which texts it is one?
 fn is_symbol(texts: &[usize], from: usize, row: usize, found: u64) -> bool
     requires { ⌜ (from ≤ row) × (row < length (now texts)) × (row < 64) ⌝ }
+    requires { ⌜ (inSet row found ≡ true → leaderOf (now texts) from row ≡ row) ⌝ }
     ensures { λ r. ⌜ r ≡ isSymbol (now (texts .entry)) from found row ⌝ }
 {
-    if texts[row] < 65536 {
+    if texts[row] < File::BYTES {
+        if terms::has(found, row as u64) {
+            return true;
+        }
         let first = symbols::leader(texts, from, row);
         return terms::has(found, first as u64);
     }
@@ -178,6 +186,7 @@ fn rows_met(
     requires { ⌜ now table ≡ classTable ⌝ }
     requires { ⌜ (from ≤ next) × (next ≤ 32) × (length (kinds .rows) ≡ 32) × (length (kinds .texts) ≡ 32) ⌝ }
     requires { ⌜ intAnswer x ≡ intOf intBounds (trim (now v)) ⌝ }
+    requires { ⌜ Leads (kinds .texts) from next found ⌝ }
     ensures { λ r. ⌜ r ≡ rowsAsk kinds from found tags (now (v .entry)) from (next - from) ⌝ }
 {
     let texts = kinds.texts;

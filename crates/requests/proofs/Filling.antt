@@ -23,13 +23,13 @@ use Rattle.format.specs.Edits.{Edit}
 use Rattle.format.specs.Calls.{Answer, answer, Filled, leaves, over, filled, insertOf, writtenBy, writeAnswer}
 use Rattle.format.proofs.Grouping.{HasPairs, setBy}
 use Rattle.format.proofs.Requested.{request-pairs}
-use Rattle.requests.proofs.kinds.Action.{the-type}
-use Rattle.requests.specs.declared.kinds.Action.{Action}
+use Rattle.requests.proofs.kinds.Edit.{the-type}
+use Rattle.requests.specs.declared.kinds.Edit.{Edit as ReadEdit}
 use Rattle.requests.specs.declared.kinds.Request.{Request}
 use Rattle.requests.specs.declared.kinds.RequestOf.{RequestOf}
 use Rattle.requests.specs.declared.Written.{Written}
 use Rattle.requests.specs.Pairs.{pairsAt}
-use Rattle.requests.specs.Kinds.{editOf, requestAnswer, InAction, Inside}
+use Rattle.requests.specs.Kinds.{editOf, requestAnswer, InEdit, Inside}
 use Rattle.requests.proofs.Kinding.{request-long}
 use Rattle.requests.proofs.Weighing.{asked-illegal}
 use Rattle.requests.specs.Writes.{filledBy, writeNo}
@@ -55,23 +55,19 @@ module _ (s out : Bytes) where
   write-fault e = ap answered e
 
   module _ (q : Request) (e : requestAnswer s (RequestOf.Is q) ≡ requestOf s) where
-    by-action : writtenBy (insertOf (editOf s (q .row) (q .action))) out ≡ writeAnswer s out
+    by-asked : writtenBy (insertOf (editOf s (q .edit))) out ≡ writeAnswer s out
     unfolding writeAnswer
-    by-action = ap answered e
+    by-asked = ap answered e
 
-    pub write-other : OneOf (1 ∷ 2 ∷ 3 ∷ 4 ∷ 5 ∷ []) (tagOf the-type (q .action)) → filledBy (Written.Refused 20) out ≡ writeAnswer s out
-    write-other h = go (q .action) h ∙ by-action
+    pub write-other : OneOf (1 ∷ []) (tagOf the-type (q .edit)) → filledBy (Written.Refused 20) out ≡ writeAnswer s out
+    write-other h = go (q .edit) h ∙ by-asked
       where
-        go : (a : Action) → OneOf (1 ∷ 2 ∷ 3 ∷ 4 ∷ 5 ∷ []) (tagOf the-type a) → filledBy (Written.Refused 20) out ≡ writtenBy (insertOf (editOf s (q .row) a)) out
-        go (Action.Insert i) k = absurd (miss (1 ∷ 2 ∷ 3 ∷ 4 ∷ 5 ∷ []) 0 tt k)
-        go Action.Delete k = refl
-        go (Action.Add n v) k = refl
-        go (Action.Set n o v) k = refl
-        go (Action.Drop n o) k = refl
-        go (Action.Rename n o m) k = refl
+        go : (a : ReadEdit) → OneOf (1 ∷ []) (tagOf the-type a) → filledBy (Written.Refused 20) out ≡ writtenBy (insertOf (editOf s a)) out
+        go (ReadEdit.Insert i) k = absurd (miss (1 ∷ []) 0 tt k)
+        go (ReadEdit.On r a) k = refl
 
-    pub write-insert : (i : ℕ) → q .action ≡ Action.Insert i → filledAs (writeNo (pairsAt s i) (length out)) (writtenAll (pairsAt s i)) out ≡ writeAnswer s out
-    write-insert i a = ap (λ (x : Action). writtenBy (insertOf (editOf s (q .row) x)) out) (sym a) ∙ by-action
+    pub write-insert : (i : ℕ) → q .edit ≡ ReadEdit.Insert i → filledAs (writeNo (pairsAt s i) (length out)) (writtenAll (pairsAt s i)) out ≡ writeAnswer s out
+    write-insert i a = ap (λ (x : ReadEdit). writtenBy (insertOf (editOf s x)) out) (sym a) ∙ by-asked
 
 -- a request that was read, and the pairs of an insert
 pub request-found : (s : Bytes) (r : RequestOf) (q : Request) → requestAnswer s r ≡ requestOf s → r ≡ RequestOf.Is q → requestAnswer s (RequestOf.Is q) ≡ requestOf s
@@ -80,8 +76,8 @@ request-found s r q h e = subst (λ (x : RequestOf). requestAnswer s x ≡ reque
 pub request-missed : (s : Bytes) (r : RequestOf) → requestAnswer s r ≡ requestOf s → r ≡ RequestOf.Fault → requestAnswer s RequestOf.Fault ≡ requestOf s
 request-missed s r h e = subst (λ (x : RequestOf). requestAnswer s x ≡ requestOf s) e h
 
-pub insert-inside : (s : Bytes) (r : RequestOf) (q : Request) (i : ℕ) → Inside s r → r ≡ RequestOf.Is q → q .action ≡ Action.Insert i → InAction s (Action.Insert i)
-insert-inside s r q i h e a = subst (InAction s) a (subst (Inside s) e h .1)
+pub insert-inside : (s : Bytes) (r : RequestOf) (q : Request) (i : ℕ) → Inside s r → r ≡ RequestOf.Is q → q .edit ≡ ReadEdit.Insert i → InEdit s (ReadEdit.Insert i)
+insert-inside s r q i h e a = subst (InEdit s) a (subst (Inside s) e h .1)
 
 -- it is not too long
 pub request-bytes : (s : Bytes) (q : Request) → requestAnswer s (RequestOf.Is q) ≡ requestOf s → length s ≤ fileBytes

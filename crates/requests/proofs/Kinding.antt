@@ -1,29 +1,33 @@
 -- The six kinds: what their fields come to, one after the other.
 use Prim.Native.Nat.{ℕ, _-_, _≤_, _<_}
 use native.Mathlib.Omega.{arith}
-use mathlib.Core.Path.{_≡_, refl, sym, ap, _∙_}
+use mathlib.Core.Path.{_≡_, refl, sym, ap, _∙_, subst}
 use mathlib.Core.Bool.{Bool, true, false, _&&_, and-false, false≢true}
 use mathlib.Core.List.{List, [], _∷_}
 use mathlib.Core.Option.{Option, none, some}
 use lib.Dec.{eqb}
 use lib.ListN.{length, getD}
-use borrow.Author.Tests.{ne-eqb, lt-leb, le-leb}
+use borrow.Author.Tests.{eqb-true, eqb-false, ne-eqb, lt-leb, le-leb}
 use Rattle.format.specs.Lists.{onward}
 use Rattle.format.specs.Bytes.{Bytes, pick, same, isSome}
 use Rattle.format.specs.Limits.{fileBytes}
-use Rattle.format.specs.Requests.{Tagged, tagged, Request as Asked, withText, ends, pairsOf, inserts, byKind, asksFor, requestOf}
+use Rattle.format.specs.Requests.{Tagged, tagged, Request as Asked, withText, ends, pairsOf, inserts, changes, byKind, asksFor, requestOf}
 use Rattle.format.specs.Written.{Pair as Written}
 use Rattle.format.specs.Edits.{Change, Act, Edit}
-use Rattle.requests.specs.declared.fields.Span.{Span}
+use Rattle.words.specs.declared.Span.{Span}
 use Rattle.requests.specs.declared.fields.Text.{Text}
 use Rattle.requests.specs.declared.fields.Number.{Number}
 use Rattle.requests.specs.declared.pairs.Pair.{Pair}
 use Rattle.requests.specs.declared.fields.Place.{Place}
-use Rattle.requests.specs.declared.kinds.Action.{Action}
+use Rattle.requests.specs.declared.kinds.Change.{Change as ReadChange}
+use Rattle.requests.specs.declared.kinds.Act.{Act as ReadAct}
+use Rattle.requests.specs.declared.kinds.Edit.{Edit as ReadEdit}
+use Rattle.requests.specs.declared.kinds.ChangeOf.{ChangeOf}
+use Rattle.requests.specs.declared.kinds.EditOf.{EditOf}
 use Rattle.requests.specs.declared.kinds.RequestOf.{RequestOf}
 use Rattle.requests.specs.Fields.{bytesOf, InSpan, fieldsFrom, NoText, TextAt, NumberAt, inField, PlaceAt}
 use Rattle.requests.specs.Pairs.{pairsFrom, listOf, onto, withPair, PairAt}
-use Rattle.requests.specs.Kinds.{Kind, insertKind, deletes, deleteKind, adds, addKind, sets, setKind, drops, dropKind, renames, renameKind, editOf, requestAnswer, InAction, Inside, ofSet, Reads, Ends}
+use Rattle.requests.specs.Kinds.{Kind, insertKind, deletes, deleteKind, adds, addKind, sets, renames, changeKind, changeOf, editOf, requestAnswer, InEdit, Inside, ChangeAt, ofSet, Reads, Ends}
 use Rattle.requests.proofs.Tagging.{Ample, fields-ample, fields-end}
 use Rattle.requests.proofs.Reading.{span-length, span-first, onward-none, onward-onward, text-then, text-none, ends-here, ends-more}
 
@@ -47,113 +51,131 @@ no-fields (some fs) e = go (pairsOf fs) e
     go none q = refl
     go (some ps) q = absurd (false≢true (sym q))
 
--- the last text of a change, and what the change ends with
-module _ (s : Bytes) (k t : ℕ) (f : Bytes → Change) where
-  abbrev lastly : Bytes → List Tagged → Option Change
-  lastly v = ends (f v)
+-- functions of fields that are the same
+onward-same : {A : Type 0} (f g : List Tagged → Option A) (x : Option (List Tagged)) → ((fs : List Tagged) → f fs ≡ g fs) → onward f x ≡ onward g x
+onward-same f g none e = refl
+onward-same f g (some fs) e = e fs
 
-  last-none : NoText t (fieldsFrom s k) → onward (withText t lastly) (fieldsFrom s k) ≡ none
-  last-none h = text-none t lastly (fieldsFrom s k) h
+-- an edit that ends where its last field does, or goes on
+module _ (s : Bytes) (a : ReadEdit) (k : ℕ) where
+  pub goes-on : k < length s → Ends s a k EditOf.Fault
+  goes-on l = (sym (ends-more (editOf s a) s k l), tt)
 
-  last-text : (p : Span) → TextAt s k t (Text.At p) → onward (withText t lastly) (fieldsFrom s k) ≡ onward (ends (f (bytesOf s p))) (fieldsFrom s (p .end))
-  last-text p h = ap (onward (withText t lastly)) (h .0) ∙ text-then t lastly (bytesOf s p) (fieldsFrom s (p .end))
+  pub ends-there : InEdit s a → length s ≤ k → Ends s a k (EditOf.Is a)
+  ends-there q l = (sym (ends-here (editOf s a) s k l), q)
+
+-- the change of a kind: nothing more, or one last text
+module _ (s : Bytes) (kind i : ℕ) where
+  abbrev at : (List Tagged → Option Change) → Option Change
+  at f = onward f (fieldsFrom s i)
+
+  pub change-drops : kind ≡ 5 → ChangeAt kind s i (ChangeOf.Is ReadChange.Dropped i)
+  change-drops e = (ap (λ (k : ℕ). at (changeKind k)) e, tt)
+
+  as-sets : kind ≡ 4 → at (changeKind kind) ≡ at sets
+  as-sets e = ap (λ (k : ℕ). at (changeKind k)) e
+
+  as-renames : (kind ≡ 5 → ⊥) → (kind ≡ 4 → ⊥) → at (changeKind kind) ≡ at renames
+  as-renames d e = onward-same (changeKind kind) renames (fieldsFrom s i) (λ fs. rw (ne-eqb kind 5 d, ne-eqb kind 4 e))
+
+  module _ (t : ℕ) (f : Bytes → Change) (e : at (changeKind kind) ≡ at (withText t (λ (v : Bytes). ends (f v)))) where
+    no-last : NoText t (fieldsFrom s i) → ChangeAt kind s i ChangeOf.Fault
+    no-last h = e ∙ text-none t (λ (v : Bytes). ends (f v)) (fieldsFrom s i) h
+
+    last-text : (p : Span) → TextAt s i t (Text.At p) → at (changeKind kind) ≡ onward (ends (f (bytesOf s p))) (fieldsFrom s (p .end))
+    last-text p h = e ∙ ap (onward (withText t (λ (v : Bytes). ends (f v)))) (h .0) ∙ text-then t (λ (v : Bytes). ends (f v)) (bytesOf s p) (fieldsFrom s (p .end))
+
+  pub change-no-value : kind ≡ 4 → NoText 6 (fieldsFrom s i) → ChangeAt kind s i ChangeOf.Fault
+  change-no-value e h = no-last 6 Change.value (as-sets e) h
+
+  pub change-sets : kind ≡ 4 → (v : Span) → TextAt s i 6 (Text.At v) → ChangeAt kind s i (ChangeOf.Is (ReadChange.Value v) (v .end))
+  change-sets e v h = (last-text 6 Change.value (as-sets e) v h, h .2)
+
+  pub change-no-name : (kind ≡ 5 → ⊥) → (kind ≡ 4 → ⊥) → NoText 7 (fieldsFrom s i) → ChangeAt kind s i ChangeOf.Fault
+  change-no-name d e h = no-last 7 Change.name (as-renames d e) h
+
+  pub change-renames : (kind ≡ 5 → ⊥) → (kind ≡ 4 → ⊥) → (m : Span) → TextAt s i 7 (Text.At m) → ChangeAt kind s i (ChangeOf.Is (ReadChange.Name m) (m .end))
+  change-renames d e m h = (last-text 7 Change.name (as-renames d e) m h, h .2)
+
+-- what an answer about a change says, once its form is known
+pub change-told : (kind : ℕ) (s : Bytes) (i : ℕ) (x : ChangeOf) {y : ChangeOf} → ChangeAt kind s i x → x ≡ y → ChangeAt kind s i y
+change-told kind s i x h e = subst (ChangeAt kind s i) e h
 
 field-ends : (r : ℕ) (n : Bytes) (o : ℕ) (c : Change) (x : Option (List Tagged)) → onward (ends (Edit.on r (Act.change n o c))) x ≡ inField r n o (onward (ends c) x)
 field-ends r n o c none = refl
 field-ends r n o c (some []) = refl
 field-ends r n o c (some (f ∷ fs)) = refl
 
--- a request that ends where its last field does, or goes on
-module _ (s : Bytes) (set : Span) (r : ℕ) (a : Action) (k : ℕ) where
-  pub goes-on : k < length s → Ends s set r a k RequestOf.Fault
-  goes-on l = (sym (ap (ofSet (bytesOf s set)) (ends-more (editOf s r a) s k l)), tt)
-
-  pub ends-there : InSpan s set → InAction s a → length s ≤ k → Ends s set r a k (RequestOf.Is (record { set = set; row = r; action = a }))
-  ends-there h q l = (sym (ap (ofSet (bytesOf s set)) (ends-here (editOf s r a) s k l)), (h, q))
-
-module _ (s : Bytes) (set : Span) (i : ℕ) where
-  abbrev in-set : Option Edit → Option Asked
-  in-set = ofSet (bytesOf s set)
-
-  abbrev of : ℕ → Action → RequestOf
-  of r a = RequestOf.Is (record { set = set; row = r; action = a })
-
+module _ (s : Bytes) (i : ℕ) where
   -- a kind's fields that are none, and those that come to what the last of them ends with
-  faulty : (K : Kind) → onward K (fieldsFrom s i) ≡ none → Reads K s set i RequestOf.Fault
-  faulty K e = (sym (ap in-set e), tt)
+  faulty : (K : Kind) → onward K (fieldsFrom s i) ≡ none → Reads K s i EditOf.Fault
+  faulty K e = (sym e, tt)
 
-  ending : (K : Kind) (r : ℕ) (a : Action) (k : ℕ) (x : RequestOf) → onward K (fieldsFrom s i) ≡ onward (ends (editOf s r a)) (fieldsFrom s k) → Ends s set r a k x → Reads K s set i x
-  ending K r a k x e h = (h .0 ∙ ap in-set (sym e), h .1)
+  ending : (K : Kind) (a : ReadEdit) (k : ℕ) (x : EditOf) → onward K (fieldsFrom s i) ≡ onward (ends (editOf s a)) (fieldsFrom s k) → Ends s a k x → Reads K s i x
+  ending K a k x e h = (h .0 ∙ sym e, h .1)
 
-  pub insert-nothing : length s ≤ i → Reads insertKind s set i RequestOf.Fault
+  pub insert-nothing : length s ≤ i → Reads insertKind s i EditOf.Fault
   insert-nothing h = faulty insertKind (ap (onward insertKind) (fields-end s i h))
 
-  pub insert-fault : isSome (pairsFrom s i) ≡ false → Reads insertKind s set i RequestOf.Fault
+  pub insert-fault : isSome (pairsFrom s i) ≡ false → Reads insertKind s i EditOf.Fault
   insert-fault e = faulty insertKind (no-fields (fieldsFrom s i) e)
 
-  pub insert-reads : InSpan s set → i < length s → isSome (pairsFrom s i) ≡ true → Reads insertKind s set i (of 0 (Action.Insert i))
-  insert-reads h l e = (sym (ap in-set (some-fields (fieldsFrom s i) (fields-ample s i l) e)), (h, (l, e)))
+  pub insert-reads : i < length s → isSome (pairsFrom s i) ≡ true → Reads insertKind s i (EditOf.Is (ReadEdit.Insert i))
+  insert-reads l e = (sym (some-fields (fieldsFrom s i) (fields-ample s i l) e), (l, e))
 
-  pub delete-fault : NumberAt s i 3 Number.Fault → Reads deleteKind s set i RequestOf.Fault
+  pub delete-fault : NumberAt s i 3 Number.Fault → Reads deleteKind s i EditOf.Fault
   delete-fault h = faulty deleteKind (h deletes)
 
   abbrev addsTo : ℕ → List Tagged → Option Edit
   addsTo r = withPair (adds r)
 
-  pub add-fault : NumberAt s i 3 Number.Fault → Reads addKind s set i RequestOf.Fault
+  pub add-fault : NumberAt s i 3 Number.Fault → Reads addKind s i EditOf.Fault
   add-fault h = faulty addKind (h addsTo)
 
   module _ (r k : ℕ) (h : NumberAt s i 3 (Number.Is r k)) where
-    pub delete-reads : (x : RequestOf) → Ends s set r Action.Delete k x → Reads deleteKind s set i x
-    delete-reads x e = ending deleteKind r Action.Delete k x (h .0 deletes) e
+    pub delete-reads : (x : EditOf) → Ends s (ReadEdit.On r ReadAct.Delete) k x → Reads deleteKind s i x
+    delete-reads x e = ending deleteKind (ReadEdit.On r ReadAct.Delete) k x (h .0 deletes) e
 
-    pub add-no-pair : PairAt s k Pair.End → Reads addKind s set i RequestOf.Fault
+    pub add-no-pair : PairAt s k Pair.End → Reads addKind s i EditOf.Fault
     add-no-pair p = faulty addKind (h .0 addsTo ∙ p .1 (adds r))
 
-    pub add-reads : (n v : Span) (j : ℕ) → PairAt s k (Pair.At n v j) → (x : RequestOf) → Ends s set r (Action.Add n v) j x → Reads addKind s set i x
-    add-reads n v j p x e = ending addKind r (Action.Add n v) j x (h .0 addsTo ∙ p .1 (adds r)) e
+    pub add-reads : (n v : Span) (j : ℕ) → PairAt s k (Pair.At n v j) → (x : EditOf) → Ends s (ReadEdit.On r (ReadAct.Add n v)) j x → Reads addKind s i x
+    add-reads n v j p x e = ending addKind (ReadEdit.On r (ReadAct.Add n v)) j x (h .0 addsTo ∙ p .1 (adds r)) e
 
-  pub set-fault : PlaceAt s i Place.Fault → Reads setKind s set i RequestOf.Fault
-  set-fault h = faulty setKind (h sets)
+  -- a field's place and its change
+  module _ (kind : ℕ) where
+    pub change-no-place : PlaceAt s i Place.Fault → Reads (changes (changeKind kind)) s i EditOf.Fault
+    change-no-place h = faulty (changes (changeKind kind)) (h (changeKind kind))
 
-  pub drop-fault : PlaceAt s i Place.Fault → Reads dropKind s set i RequestOf.Fault
-  drop-fault h = faulty dropKind (h drops)
+    module _ (r : ℕ) (n : Span) (o k : ℕ) (h : PlaceAt s i (Place.At r n o k)) where
+      pub change-fault : ChangeAt kind s k ChangeOf.Fault → Reads (changes (changeKind kind)) s i EditOf.Fault
+      change-fault x = faulty (changes (changeKind kind)) (h .0 (changeKind kind) ∙ ap (inField r (bytesOf s n) o) x)
 
-  pub rename-fault : PlaceAt s i Place.Fault → Reads renameKind s set i RequestOf.Fault
-  rename-fault h = faulty renameKind (h renames)
-
-  module _ (r : ℕ) (n : Span) (o k : ℕ) (h : PlaceAt s i (Place.At r n o k)) where
-    abbrev in-field : Option Change → Option Edit
-    in-field = inField r (bytesOf s n) o
-
-    pub drop-reads : (x : RequestOf) → Ends s set r (Action.Drop n o) k x → Reads dropKind s set i x
-    drop-reads x e = ending dropKind r (Action.Drop n o) k x (h .0 drops ∙ sym (field-ends r (bytesOf s n) o Change.dropped (fieldsFrom s k))) e
-
-    pub set-no-value : NoText 6 (fieldsFrom s k) → Reads setKind s set i RequestOf.Fault
-    set-no-value x = faulty setKind (h .0 sets ∙ ap in-field (last-none s k 6 Change.value x))
-
-    pub rename-no-name : NoText 7 (fieldsFrom s k) → Reads renameKind s set i RequestOf.Fault
-    rename-no-name x = faulty renameKind (h .0 renames ∙ ap in-field (last-none s k 7 Change.name x))
-
-    pub set-reads : (v : Span) → TextAt s k 6 (Text.At v) → (x : RequestOf) → Ends s set r (Action.Set n o v) (v .end) x → Reads setKind s set i x
-    set-reads v h6 x e = ending setKind r (Action.Set n o v) (v .end) x (h .0 sets ∙ ap in-field (last-text s k 6 Change.value v h6) ∙ sym (field-ends r (bytesOf s n) o (Change.value (bytesOf s v)) (fieldsFrom s (v .end)))) e
-
-    pub rename-reads : (m : Span) → TextAt s k 7 (Text.At m) → (x : RequestOf) → Ends s set r (Action.Rename n o m) (m .end) x → Reads renameKind s set i x
-    rename-reads m h7 x e = ending renameKind r (Action.Rename n o m) (m .end) x (h .0 renames ∙ ap in-field (last-text s k 7 Change.name m h7) ∙ sym (field-ends r (bytesOf s n) o (Change.name (bytesOf s m)) (fieldsFrom s (m .end)))) e
+      pub change-reads : (c : ReadChange) (e : ℕ) → ChangeAt kind s k (ChangeOf.Is c e) → (x : EditOf) → Ends s (ReadEdit.On r (ReadAct.Change n o c)) e x → Reads (changes (changeKind kind)) s i x
+      change-reads c e d x q =
+          ending (changes (changeKind kind)) (ReadEdit.On r (ReadAct.Change n o c)) e x
+          (h .0 (changeKind kind) ∙ ap (inField r (bytesOf s n) o) (d .0) ∙ sym (field-ends r (bytesOf s n) o (changeOf s c) (fieldsFrom s e))) q
 
 -- one kind by its number
-onward-same : (f g : Kind) (x : Option (List Tagged)) → ((fs : List Tagged) → f fs ≡ g fs) → onward f x ≡ onward g x
-onward-same f g none e = refl
-onward-same f g (some fs) e = e fs
+module _ (s : Bytes) (kind i : ℕ) where
+  pub kind-reads : (K : Kind) (r : EditOf) → ((fs : List Tagged) → byKind (kind ∷ []) fs ≡ K fs) → Reads K s i r → Reads (byKind (kind ∷ [])) s i r
+  kind-reads K r same h = (h .0 ∙ sym (onward-same (byKind (kind ∷ [])) K (fieldsFrom s i) same), h .1)
 
-module _ (s : Bytes) (kind : ℕ) (set : Span) (i : ℕ) where
-  pub kind-reads : (k : ℕ) (K : Kind) (r : RequestOf) → kind ≡ k → ((fs : List Tagged) → byKind (k ∷ []) fs ≡ K fs) → Reads K s set i r → Reads (byKind (kind ∷ [])) s set i r
-  kind-reads k K r e same h =
-      (h .0 ∙ ap (ofSet (bytesOf s set)) (sym (ap (λ (x : ℕ). onward (byKind (x ∷ [])) (fieldsFrom s i)) e ∙ onward-same (byKind (k ∷ [])) K (fieldsFrom s i) same)), h .1)
-
-  pub kind-unknown : (kind ≡ 1 → ⊥) → (kind ≡ 2 → ⊥) → (kind ≡ 3 → ⊥) → (kind ≡ 4 → ⊥) → (kind ≡ 5 → ⊥) → (kind ≡ 6 → ⊥) → Reads (byKind (kind ∷ [])) s set i RequestOf.Fault
+  pub kind-unknown : (kind ≡ 1 → ⊥) → (kind ≡ 2 → ⊥) → (kind ≡ 3 → ⊥) → (kind ≡ 4 → ⊥) → (kind ≡ 5 → ⊥) → (kind ≡ 6 → ⊥) → Reads (byKind (kind ∷ [])) s i EditOf.Fault
   kind-unknown a b c d e f =
-      faulty s set i (byKind (kind ∷ [])) (onward-same (byKind (kind ∷ [])) (λ (fs : List Tagged). none) (fieldsFrom s i) (λ fs. rw (ne-eqb kind 1 a, ne-eqb kind 2 b, ne-eqb kind 3 c, ne-eqb kind 4 d, ne-eqb kind 5 e, ne-eqb kind 6 f)) ∙ onward-none (fieldsFrom s i))
+      kind-reads (λ (fs : List Tagged). none) EditOf.Fault (λ fs. rw (ne-eqb kind 1 a, ne-eqb kind 2 b, ne-eqb kind 3 c, ne-eqb kind 4 d, ne-eqb kind 5 e, ne-eqb kind 6 f)) (sym (onward-none (fieldsFrom s i)), tt)
+
+-- the kinds of changes
+pub kind-changes : (kind : ℕ) → 4 ≤ kind → kind ≤ 6 → (fs : List Tagged) → byKind (kind ∷ []) fs ≡ changes (changeKind kind) fs
+kind-changes kind low high fs = go (eqb kind 4) (eqb kind 5) refl refl
+  where
+    is : (n : ℕ) → kind ≡ n → byKind (n ∷ []) fs ≡ changes (changeKind n) fs → byKind (kind ∷ []) fs ≡ changes (changeKind kind) fs
+    is n e h = subst (λ (k : ℕ). byKind (k ∷ []) fs ≡ changes (changeKind k) fs) (sym e) h
+
+    go : (x y : Bool) → eqb kind 4 ≡ x → eqb kind 5 ≡ y → byKind (kind ∷ []) fs ≡ changes (changeKind kind) fs
+    go true y p q = is 4 (eqb-true kind 4 p) refl
+    go false true p q = is 5 (eqb-true kind 5 q) refl
+    go false false p q = is 6 (omega (arith, eqb-false kind 4 p, eqb-false kind 5 q)) refl
 
 -- a kind that is not one byte
 unlike : (n : ℕ) (k : Bytes) → (length k ≡ 1 → ⊥) → same k (n ∷ []) ≡ false
@@ -217,7 +239,14 @@ module _ (s : Bytes) where
             let long : onward (byKind (bytesOf s p)) (fieldsFrom s (q .end)) ≡ none = onward-same (byKind (bytesOf s p)) (λ (fs : List Tagged). none) (fieldsFrom s (q .end)) (λ fs. kind-long (bytesOf s p) fs (λ x. e (sym (span-length s p (k .2)) ∙ x))) ∙ onward-none (fieldsFrom s (q .end)) in
             (sym (to-kind ∙ ap (ofSet (bytesOf s q)) long), tt)
 
-        pub right-kind : (c : ℕ) (r : RequestOf) → c ≡ getD s (p .start) 0 → p .end - p .start ≡ 1 → Reads (byKind (c ∷ [])) s q (q .end) r → Answers s r
-        right-kind c r e l x =
-            let b : c ∷ [] ≡ bytesOf s p = ap {B = Bytes} (λ y. y ∷ []) e ∙ sym (one-byte s p (k .2) l) in
-            (x .0 ∙ ap (λ (y : Bytes). ofSet (bytesOf s q) (onward (byKind y) (fieldsFrom s (q .end)))) b ∙ sym to-kind, x .1)
+        module _ (c : ℕ) (e : c ≡ getD s (p .start) 0) (l : p .end - p .start ≡ 1) where
+          right-kind : (x : Option Edit) → x ≡ onward (byKind (c ∷ [])) (fieldsFrom s (q .end)) → ofSet (bytesOf s q) x ≡ requestOf s
+          right-kind x h =
+              let b : c ∷ [] ≡ bytesOf s p = ap {B = Bytes} (λ y. y ∷ []) e ∙ sym (one-byte s p (k .2) l) in
+              ap (ofSet (bytesOf s q)) (h ∙ ap (λ (y : Bytes). onward (byKind y) (fieldsFrom s (q .end))) b) ∙ sym to-kind
+
+          pub no-edit : (x : EditOf) → Reads (byKind (c ∷ [])) s (q .end) x → x ≡ EditOf.Fault → Answers s RequestOf.Fault
+          no-edit x h f = (right-kind none (subst (Reads (byKind (c ∷ [])) s (q .end)) f h .0), tt)
+
+          pub an-edit : (x : EditOf) (a : ReadEdit) → Reads (byKind (c ∷ [])) s (q .end) x → x ≡ EditOf.Is a → Answers s (RequestOf.Is (record { set = q; edit = a }))
+          an-edit x a h f = let r = subst (Reads (byKind (c ∷ [])) s (q .end)) f h in (right-kind (some (editOf s a)) (r .0), (m .2, r .1))

@@ -13,7 +13,7 @@ use Rattle.format.specs.Bytes.{Bytes, pick, isSome}
 use Rattle.format.specs.Requests.{Tagged, withText, pairsOf}
 use Rattle.format.specs.Edits.{Edit}
 use Rattle.format.specs.Written.{Pair as Written}
-use Rattle.requests.specs.declared.fields.Span.{Span}
+use Rattle.words.specs.declared.Span.{Span}
 use Rattle.requests.specs.declared.fields.Text.{Text}
 use Rattle.requests.specs.declared.pairs.Pair.{Pair}
 use Rattle.requests.specs.Fields.{bytesOf, fieldsFrom, inFront, NoText, TextAt}

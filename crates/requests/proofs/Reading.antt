@@ -16,13 +16,14 @@ use Rattle.format.specs.Lists.{onward}
 use Rattle.format.specs.Bytes.{Bytes, pick}
 use Rattle.format.specs.Requests.{Tagged, shortAt, withText, withNumber, ends}
 use Rattle.format.specs.Edits.{Change, Act, Edit}
-use Rattle.requests.specs.declared.fields.Span.{Span}
+use Rattle.words.specs.declared.Span.{Span}
 use Rattle.requests.proofs.fields.Tagged.{the-type}
+use Rattle.words.specs.Spans.{span}
 use Rattle.requests.specs.declared.fields.Tagged.{Tagged as Read}
 use Rattle.requests.specs.declared.fields.Text.{Text}
 use Rattle.requests.specs.declared.fields.Number.{Number}
 use Rattle.requests.specs.declared.fields.Place.{Place}
-use Rattle.requests.specs.Fields.{part, bytesOf, InSpan, fieldsFrom, inFront, FieldAt, NoText, TextAt, NumberAt, inField, PlaceAt}
+use Rattle.requests.specs.Fields.{bytesOf, InSpan, fieldsFrom, inFront, FieldAt, NoText, TextAt, NumberAt, inField, PlaceAt}
 use Rattle.requests.proofs.Tagging.{Ample, fields-ample, fields-end}
 
 -- the bytes of a part
@@ -87,12 +88,12 @@ module _ (s : Bytes) (i tag : ℕ) where
   pub other-tag : (t a b : ℕ) → FieldAt s i (Read.At t a b) → (t ≡ tag → ⊥) → NoText tag (fieldsFrom s i)
   other-tag t a b h e = subst (NoText tag) (sym (h .0)) (go (fieldsFrom s b))
     where
-      go : (x : Option (List Tagged)) → NoText tag (inFront t (part s a b) x)
+      go : (x : Option (List Tagged)) → NoText tag (inFront t (span a b s) x)
       go none = tt
       go (some fs) = ne-eqb tag t (λ q. e (sym q))
 
   pub same-tag : (t a b : ℕ) → FieldAt s i (Read.At t a b) → t ≡ tag → TextAt s i tag (Text.At (record { start = a; end = b }))
-  same-tag t a b h e = (h .0 ∙ ap (λ (x : ℕ). inFront x (part s a b) (fieldsFrom s b)) e, h .1, (h .2, h .3))
+  same-tag t a b h e = (h .0 ∙ ap (λ (x : ℕ). inFront x (span a b s) (fieldsFrom s b)) e, h .1, (h .2, h .3))
 
   -- a text that was read, or that there is none
   pub text-found : (r : Text) (p : Span) → TextAt s i tag r → r ≡ Text.At p → TextAt s i tag (Text.At p)

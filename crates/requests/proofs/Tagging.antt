@@ -11,7 +11,8 @@ use lib.Seq.{drop-cons, drop-drop}
 use Rattle.format.specs.Bytes.{Bytes}
 use Rattle.format.specs.Requests.{Tagged, shortAt, taggedFrom, tagged}
 use Rattle.format.proofs.Encoding.{tagged-behind, tagged-cut-off}
-use Rattle.requests.specs.Fields.{part, fieldsFrom, inFront}
+use Rattle.words.specs.Spans.{span}
+use Rattle.requests.specs.Fields.{fieldsFrom, inFront}
 
 -- its contents are so many bytes behind its head
 tag-cut : (c d e : ℕ) (s : Bytes) → d * 256 + e ≤ length s → tagged (c ∷ d ∷ e ∷ s) ≡ inFront c (take (d * 256 + e) s) (tagged (drop (d * 256 + e) s))
@@ -61,7 +62,7 @@ module _ (s : Bytes) (i : ℕ) where
   three h = rw (add-one i, add-two i, add-three i, drop-cons s i 0 (omega arith), drop-cons s (suc i) 0 (omega arith), drop-cons s (suc (suc i)) 0 (omega arith))
 
   module _ (len : ℕ) (h : i + 3 ≤ length s) (e : len ≡ getD s (i + 1) 0 * 256 + getD s (i + 2) 0) where
-    pub field-cut : len ≤ length s - (i + 3) → fieldsFrom s i ≡ inFront (getD s i 0) (part s (i + 3) (i + 3 + len)) (fieldsFrom s (i + 3 + len))
+    pub field-cut : len ≤ length s - (i + 3) → fieldsFrom s i ≡ inFront (getD s i 0) (span (i + 3) (i + 3 + len) s) (fieldsFrom s (i + 3 + len))
     field-cut k =
         let m : i + 3 + len - (i + 3) ≡ len = omega arith in
         rw (three h, m, e) (tag-cut (getD s i 0) (getD s (i + 1) 0) (getD s (i + 2) 0) (drop (i + 3) s) (simp length-drop (omega arith)) ∙ rw drop-drop)

@@ -14,7 +14,7 @@ use Rattle.format.specs.Questions.{firstNo}
 use Rattle.format.specs.Written.{written, Pair as Written, writtenAll, isLegalName, isLegalValue, isLegalPair}
 use Rattle.format.specs.Calls.{thenNo, writeRows}
 use Rattle.writing.proofs.Texts.{indent-length, written-length, sets-append}
-use Rattle.requests.specs.declared.fields.Span.{Span}
+use Rattle.words.specs.declared.Span.{Span}
 use Rattle.requests.specs.declared.pairs.Pair.{Pair}
 use Rattle.requests.specs.declared.pairs.Weighed.{Weighed}
 use Rattle.requests.specs.Fields.{bytesOf}

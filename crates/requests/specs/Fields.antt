@@ -1,27 +1,24 @@
 -- Tagged fields from a place of a request on.
-use Prim.Native.Nat.{ℕ, _-_, _≤_, _<_}
+use Prim.Native.Nat.{ℕ, _≤_, _<_}
 use mathlib.Core.Path.{_≡_}
 use mathlib.Core.Bool.{false}
 use mathlib.Core.List.{List, [], _∷_}
 use mathlib.Core.Option.{Option, none, some}
 use lib.Dec.{eqb}
-use lib.ListN.{length, take, drop}
+use lib.ListN.{length, drop}
 use Rattle.format.specs.Lists.{onward}
 use Rattle.format.specs.Bytes.{Bytes}
 use Rattle.format.specs.Requests.{Tagged as Field, tagged, withNumber, changes}
 use Rattle.format.specs.Edits.{Change, Act, Edit}
-use Rattle.requests.specs.declared.fields.Span.{Span}
+use Rattle.words.specs.Spans.{span}
+use Rattle.words.specs.declared.Span.{Span}
 use Rattle.requests.specs.declared.fields.Tagged.{Tagged}
 use Rattle.requests.specs.declared.fields.Text.{Text}
 use Rattle.requests.specs.declared.fields.Number.{Number}
 use Rattle.requests.specs.declared.fields.Place.{Place}
 
--- the bytes from one place to another
-abbrev pub part : Bytes → ℕ → ℕ → Bytes
-part s a b = take (b - a) (drop a s)
-
 abbrev pub bytesOf : Bytes → Span → Bytes
-bytesOf s p = part s (p .start) (p .end)
+bytesOf s p = span (p .start) (p .end) s
 
 abbrev pub InSpan : Bytes → Span → Type 0
 InSpan s p = (p .start ≤ p .end) × (p .end ≤ length s)
@@ -35,7 +32,7 @@ inFront t c x = onward (λ (fs : List Field). some (record { tag = t; contents =
 
 -- what the field at i says of the fields from i on
 abbrev pub FieldAt : Bytes → ℕ → Tagged → Type 0
-FieldAt s i (Tagged.At t a b) = (fieldsFrom s i ≡ inFront t (part s a b) (fieldsFrom s b)) × (i < a) × (a ≤ b) × (b ≤ length s)
+FieldAt s i (Tagged.At t a b) = (fieldsFrom s i ≡ inFront t (span a b s) (fieldsFrom s b)) × (i < a) × (a ≤ b) × (b ≤ length s)
 FieldAt s i Tagged.End = (fieldsFrom s i ≡ some []) × (length s ≤ i)
 FieldAt s i Tagged.Fault = (fieldsFrom s i ≡ none) × (i < length s)
 

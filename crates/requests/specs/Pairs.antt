@@ -11,7 +11,7 @@ use Rattle.format.specs.Bytes.{Bytes, all}
 use Rattle.format.specs.Requests.{Tagged, withText, pairsOf}
 use Rattle.format.specs.Edits.{Edit}
 use Rattle.format.specs.Written.{Pair as Written, writtenAll, isLegalPair}
-use Rattle.requests.specs.declared.fields.Span.{Span}
+use Rattle.words.specs.declared.Span.{Span}
 use Rattle.requests.specs.declared.pairs.Pair.{Pair}
 use Rattle.requests.specs.declared.pairs.Weighed.{Weighed}
 use Rattle.requests.specs.Fields.{bytesOf, InSpan, fieldsFrom}

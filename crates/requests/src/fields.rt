@@ -1,10 +1,24 @@
 // Tagged fields, read from a slice: their contents, the number of two bytes, and the place of a changed field.
 ghost use Rattle.requests.specs.Fields.{FieldAt, TextAt, NumberAt, PlaceAt};
+use words::Span;
 
-// A part of a request: its bytes stand from start to end.
-pub struct Span {
-    pub start: usize,
-    pub end: usize,
+// The tag of each field.
+pub(crate) struct Tag {}
+
+impl Tag {
+    pub(crate) const KIND: u8 = 1;
+
+    pub(crate) const SET: u8 = 2;
+
+    pub(crate) const RECORD: u8 = 3;
+
+    pub(crate) const NAME: u8 = 4;
+
+    pub(crate) const OCCURRENCE: u8 = 5;
+
+    pub(crate) const VALUE: u8 = 6;
+
+    pub(crate) const NEW_NAME: u8 = 7;
 }
 
 // The tagged field at a place: its contents stand from start to end. End is the slice's end; Fault, that the head is cut off or the length runs past the end.
@@ -94,7 +108,7 @@ pub(crate) enum Place {
 pub(crate) fn place_at(req: &[u8], i: usize) -> Place
     ensures { λ r. ⌜ PlaceAt (now (req .entry)) i r ⌝ }
 {
-    let a = number_at(req, i, 3);
+    let a = number_at(req, i, Tag::RECORD);
     let Number::Is {
         value: row,
         next: j,
@@ -102,11 +116,11 @@ pub(crate) fn place_at(req: &[u8], i: usize) -> Place
     else {
         return Place::Fault;
     };
-    let n = text_at(req, j, 4);
+    let n = text_at(req, j, Tag::NAME);
     let Text::At(name) = n else {
         return Place::Fault;
     };
-    let o = number_at(req, name.end, 5);
+    let o = number_at(req, name.end, Tag::OCCURRENCE);
     let Number::Is {
         value: occurrence,
         next,

@@ -1,12 +1,11 @@
 // The six kinds of an edit: which fields each has, and what it asks for.
 ghost use mathlib.Core.Path.{_≡_};
 ghost use mathlib.Core.List.{[], _∷_};
-ghost use Rattle.format.specs.Requests.{byKind, requestOf};
-ghost use Rattle.requests.specs.Fields.{InSpan};
-ghost use Rattle.requests.specs.Kinds.{insertKind, deleteKind, addKind, setKind, dropKind, renameKind, requestAnswer, InAction, Inside, Reads, Ends};
+ghost use Rattle.format.specs.Requests.{byKind, changes, requestOf};
+ghost use Rattle.requests.specs.Kinds.{insertKind, deleteKind, addKind, changeKind, requestAnswer, InEdit, Inside, ChangeAt, Reads, Ends};
 use super::fields::Number;
 use super::fields::Place;
-use super::fields::Span;
+use super::fields::Tag;
 use super::fields::Text;
 use super::fields::number_at;
 use super::fields::place_at;
@@ -14,91 +13,104 @@ use super::fields::text_at;
 use super::pairs::Pair;
 use super::pairs::are_pairs;
 use super::pairs::pair_at;
+use words::Span;
 
-// What an edit does. An insert's pairs begin at start.
-pub enum Action {
-    Insert {
-        start: usize,
-    },
+// The number of each kind.
+struct Kind {}
+
+impl Kind {
+    const INSERT: u8 = 1;
+
+    const DELETE: u8 = 2;
+
+    const ADD: u8 = 3;
+
+    const SET: u8 = 4;
+
+    const DROP: u8 = 5;
+
+    const RENAME: u8 = 6;
+}
+
+// What becomes of one field: a new value, nothing, a new name.
+pub enum Change {
+    Value(Span),
+    Dropped,
+    Name(Span),
+}
+
+// What becomes of one record; a change is of one occurrence of a name.
+pub enum Act {
     Delete,
     Add {
         name: Span,
         value: Span,
     },
-    Set {
+    Change {
         name: Span,
         occurrence: usize,
-        value: Span,
-    },
-    Drop {
-        name: Span,
-        occurrence: usize,
-    },
-    Rename {
-        name: Span,
-        occurrence: usize,
-        new: Span,
+        change: Change,
     },
 }
 
-// A set, a record of it, and what becomes of it.
+// An edit of one set: a record of the pairs from start on, or an act on the record of a number.
+pub enum Edit {
+    Insert { start: usize },
+    On { row: usize, act: Act },
+}
+
+// An edit of the set of a name.
 pub struct Request {
     pub set: Span,
-    pub row: usize,
-    pub action: Action,
+    pub edit: Edit,
 }
 
-pub enum RequestOf {
-    Is(Request),
+enum EditOf {
+    Is(Edit),
     Fault,
 }
 
-fn insert_at(req: &[u8], set: Span, i: usize) -> RequestOf
-    requires { ⌜ InSpan (now req) set ⌝ }
-    ensures { λ r. ⌜ Reads insertKind (now (req .entry)) set i r ⌝ }
+fn insert_at(req: &[u8], i: usize) -> EditOf
+    ensures { λ r. ⌜ Reads insertKind (now (req .entry)) i r ⌝ }
 {
     if req.len() <= i {
-        return RequestOf::Fault;
+        return EditOf::Fault;
     }
-    if are_pairs(req, i) {
-        return RequestOf::Is(Request {
-            set,
-            row: 0,
-            action: Action::Insert { start: i },
-        });
+    if !are_pairs(req, i) {
+        return EditOf::Fault;
     }
-    RequestOf::Fault
+    EditOf::Is(Edit::Insert { start: i })
 }
 
-// A request whose last field ends at `end`: nothing may stand behind it.
-fn ending(req: &[u8], set: Span, row: usize, action: Action, end: usize) -> RequestOf
-    requires { ⌜ InSpan (now req) set × InAction (now req) action ⌝ }
-    ensures { λ r. ⌜ Ends (now (req .entry)) set row action end r ⌝ }
+// An edit whose last field ends at `end`: nothing may stand behind it.
+fn ending(req: &[u8], edit: Edit, end: usize) -> EditOf
+    requires { ⌜ InEdit (now req) edit ⌝ }
+    ensures { λ r. ⌜ Ends (now (req .entry)) edit end r ⌝ }
 {
     if end < req.len() {
-        return RequestOf::Fault;
+        return EditOf::Fault;
     }
-    RequestOf::Is(Request { set, row, action })
+    EditOf::Is(edit)
 }
 
-fn delete_at(req: &[u8], set: Span, i: usize) -> RequestOf
-    requires { ⌜ InSpan (now req) set ⌝ }
-    ensures { λ r. ⌜ Reads deleteKind (now (req .entry)) set i r ⌝ }
+fn delete_at(req: &[u8], i: usize) -> EditOf
+    ensures { λ r. ⌜ Reads deleteKind (now (req .entry)) i r ⌝ }
 {
-    let a = number_at(req, i, 3);
+    let a = number_at(req, i, Tag::RECORD);
     let Number::Is { value: row, next } = a else {
-        return RequestOf::Fault;
+        return EditOf::Fault;
     };
-    ending(req, set, row, Action::Delete, next)
+    let act = Act::Delete;
+    let edit = Edit::On { row, act };
+    ending(req, edit, next)
 }
 
-fn add_at(req: &[u8], set: Span, i: usize) -> RequestOf
-    requires { ⌜ InSpan (now req) set ⌝ }
-    ensures { λ r. ⌜ Reads addKind (now (req .entry)) set i r ⌝ }
+fn add_at(req: &[u8], i: usize) -> EditOf
+    ensures { λ r. ⌜ Reads addKind (now (req .entry)) i r ⌝ }
 {
-    let a = number_at(req, i, 3);
+    let a = number_at(req, i, Tag::RECORD);
     let Number::Is { value: row, next } = a else {
-        return RequestOf::Fault;
+        return EditOf::Fault;
     };
     let p = pair_at(req, next);
     let Pair::At {
@@ -107,15 +119,48 @@ fn add_at(req: &[u8], set: Span, i: usize) -> RequestOf
         next: end,
     } = p
     else {
-        return RequestOf::Fault;
+        return EditOf::Fault;
     };
-    let action = Action::Add { name, value };
-    ending(req, set, row, action, end)
+    let act = Act::Add { name, value };
+    let edit = Edit::On { row, act };
+    ending(req, edit, end)
 }
 
-fn set_at(req: &[u8], set: Span, i: usize) -> RequestOf
-    requires { ⌜ InSpan (now req) set ⌝ }
-    ensures { λ r. ⌜ Reads setKind (now (req .entry)) set i r ⌝ }
+// A change, and where its last field ends.
+enum ChangeOf {
+    Is { change: Change, end: usize },
+    Fault,
+}
+
+// The change of a kind, behind the place of the field.
+fn change_of(req: &[u8], kind: u8, i: usize) -> ChangeOf
+    ensures { λ r. ⌜ ChangeAt kind (now (req .entry)) i r ⌝ }
+{
+    if kind == Kind::DROP {
+        let change = Change::Dropped;
+        return ChangeOf::Is { change, end: i };
+    }
+    if kind == Kind::SET {
+        let v = text_at(req, i, Tag::VALUE);
+        let Text::At(value) = v else {
+            return ChangeOf::Fault;
+        };
+        let change = Change::Value(value);
+        let end = value.end;
+        return ChangeOf::Is { change, end };
+    }
+    let n = text_at(req, i, Tag::NEW_NAME);
+    let Text::At(name) = n else {
+        return ChangeOf::Fault;
+    };
+    let change = Change::Name(name);
+    let end = name.end;
+    ChangeOf::Is { change, end }
+}
+
+// Set, drop and rename: the place of a field, and its change.
+fn change_at(req: &[u8], kind: u8, i: usize) -> EditOf
+    ensures { λ r. ⌜ Reads (changes (changeKind kind)) (now (req .entry)) i r ⌝ }
 {
     let p = place_at(req, i);
     let Place::At {
@@ -125,88 +170,46 @@ fn set_at(req: &[u8], set: Span, i: usize) -> RequestOf
         next,
     } = p
     else {
-        return RequestOf::Fault;
+        return EditOf::Fault;
     };
-    let v = text_at(req, next, 6);
-    let Text::At(value) = v else {
-        return RequestOf::Fault;
+    let c = change_of(req, kind, next);
+    let ChangeOf::Is { change, end } = c else {
+        return EditOf::Fault;
     };
-    let action = Action::Set {
+    let act = Act::Change {
         name,
         occurrence,
-        value,
+        change,
     };
-    ending(req, set, row, action, value.end)
-}
-
-fn drop_at(req: &[u8], set: Span, i: usize) -> RequestOf
-    requires { ⌜ InSpan (now req) set ⌝ }
-    ensures { λ r. ⌜ Reads dropKind (now (req .entry)) set i r ⌝ }
-{
-    let p = place_at(req, i);
-    let Place::At {
-        row,
-        name,
-        occurrence,
-        next,
-    } = p
-    else {
-        return RequestOf::Fault;
-    };
-    let action = Action::Drop { name, occurrence };
-    ending(req, set, row, action, next)
-}
-
-fn rename_at(req: &[u8], set: Span, i: usize) -> RequestOf
-    requires { ⌜ InSpan (now req) set ⌝ }
-    ensures { λ r. ⌜ Reads renameKind (now (req .entry)) set i r ⌝ }
-{
-    let p = place_at(req, i);
-    let Place::At {
-        row,
-        name,
-        occurrence,
-        next,
-    } = p
-    else {
-        return RequestOf::Fault;
-    };
-    let n = text_at(req, next, 7);
-    let Text::At(new) = n else {
-        return RequestOf::Fault;
-    };
-    let action = Action::Rename {
-        name,
-        occurrence,
-        new,
-    };
-    ending(req, set, row, action, new.end)
+    let edit = Edit::On { row, act };
+    ending(req, edit, end)
 }
 
 // The fields behind the kind and the set.
-fn kind_at(req: &[u8], kind: u8, set: Span, i: usize) -> RequestOf
-    requires { ⌜ InSpan (now req) set ⌝ }
-    ensures { λ r. ⌜ Reads (byKind (kind ∷ [])) (now (req .entry)) set i r ⌝ }
+fn edit_at(req: &[u8], kind: u8, i: usize) -> EditOf
+    ensures { λ r. ⌜ Reads (byKind (kind ∷ [])) (now (req .entry)) i r ⌝ }
 {
-    if kind == 1 {
-        return insert_at(req, set, i);
+    if kind == Kind::INSERT {
+        return insert_at(req, i);
     }
-    if kind == 2 {
-        return delete_at(req, set, i);
+    if kind == Kind::DELETE {
+        return delete_at(req, i);
     }
-    if kind == 3 {
-        return add_at(req, set, i);
+    if kind == Kind::ADD {
+        return add_at(req, i);
     }
-    if kind == 4 {
-        return set_at(req, set, i);
+    if kind < Kind::SET {
+        return EditOf::Fault;
     }
-    if kind == 5 {
-        return drop_at(req, set, i);
+    if Kind::RENAME < kind {
+        return EditOf::Fault;
     }
-    if kind == 6 {
-        return rename_at(req, set, i);
-    }
-    RequestOf::Fault
+    change_at(req, kind, i)
+}
+
+pub enum RequestOf {
+    Is(Request),
+    Fault,
 }
 
 // What a request asks for. Whatever is malformed is Fault.
@@ -216,11 +219,11 @@ pub fn request_of(req: &[u8]) -> RequestOf
     if req.len() > format::File::BYTES {
         return RequestOf::Fault;
     }
-    let k = text_at(req, 0, 1);
+    let k = text_at(req, 0, Tag::KIND);
     let Text::At(kind) = k else {
         return RequestOf::Fault;
     };
-    let s = text_at(req, kind.end, 2);
+    let s = text_at(req, kind.end, Tag::SET);
     let Text::At(set) = s else {
         return RequestOf::Fault;
     };
@@ -228,5 +231,9 @@ pub fn request_of(req: &[u8]) -> RequestOf
         return RequestOf::Fault;
     }
     let number = lines::byte(req, kind.start);
-    kind_at(req, number, set, set.end)
+    let e = edit_at(req, number, set.end);
+    let EditOf::Is(edit) = e else {
+        return RequestOf::Fault;
+    };
+    RequestOf::Is(Request { set, edit })
 }

@@ -12,15 +12,19 @@ ghost use Rattle.requests.specs.Writes.{filledBy, writeNo};
 mod fields;
 mod kinds;
 mod pairs;
+mod refusals;
 
-pub use fields::Span;
-pub use kinds::Action;
+pub use kinds::Act;
+pub use kinds::Change;
+pub use kinds::Edit;
 pub use kinds::Request;
 pub use kinds::RequestOf;
 pub use kinds::request_of;
 pub use pairs::Weighed;
+pub use pairs::is_legal_pair;
 pub use pairs::put_pairs;
 pub use pairs::weigh;
+pub use refusals::Refusal;
 
 // A length, or a refusal's number.
 pub enum Written {
@@ -29,7 +33,7 @@ pub enum Written {
 }
 
 // The number of the first question about pairs that says no, else 0.
-fn refusal(table: &[u8; 256], req: &[u8], from: usize, room: usize) -> u32
+fn write_no(table: &[u8; 256], req: &[u8], from: usize, room: usize) -> u32
     requires { ⌜ now table ≡ classTable ⌝ }
     requires { ⌜ (length (now req) ≤ fileBytes) × (from ≤ length (now req)) ⌝ }
     requires { ⌜ isSome (pairsFrom (now req) from) ≡ true ⌝ }
@@ -37,16 +41,16 @@ fn refusal(table: &[u8; 256], req: &[u8], from: usize, room: usize) -> u32
 {
     let w = weigh(table, req, from);
     let Weighed::Sums { len, count } = w else {
-        return 25;
+        return Refusal::ILLEGAL;
     };
     if len > format::File::BYTES {
-        return 26;
+        return Refusal::LARGE;
     }
     if count > format::Record::FIELDS {
-        return 104;
+        return Refusal::FIELDS;
     }
     if len > room {
-        return 27;
+        return Refusal::ROOM;
     }
     0
 }
@@ -57,14 +61,14 @@ pub fn write_record(req: &[u8], out: &mut [u8]) -> Written
 {
     let q = request_of(req);
     let RequestOf::Is(request) = q else {
-        return Written::Refused(20);
+        return Written::Refused(Refusal::FORM);
     };
-    let action = request.action;
-    let Action::Insert { start } = action else {
-        return Written::Refused(20);
+    let edit = request.edit;
+    let Edit::Insert { start } = edit else {
+        return Written::Refused(Refusal::FORM);
     };
     let table = format::classes();
-    let n = refusal(&table, req, start, out.len());
+    let n = write_no(&table, req, start, out.len());
     if n != 0 {
         return Written::Refused(n);
     }

@@ -10,9 +10,10 @@ ghost use Rattle.format.specs.Written.{written, isLegalPair, writtenAll};
 ghost use Rattle.format.specs.Calls.{over};
 ghost use Rattle.requests.specs.Fields.{bytesOf, InSpan};
 ghost use Rattle.requests.specs.Pairs.{pairsFrom, pairsAt, pairOf, PairAt, Weighs};
-use super::fields::Span;
+use super::fields::Tag;
 use super::fields::Text;
 use super::fields::text_at;
+use words::Span;
 
 // A pair of an insert: its name, its value, and where the next one is looked for. End: there is none, since nothing is left or what is left is no pair.
 pub(crate) enum Pair {
@@ -27,11 +28,11 @@ pub(crate) enum Pair {
 pub(crate) fn pair_at(req: &[u8], i: usize) -> Pair
     ensures { λ r. ⌜ PairAt (now (req .entry)) i r ⌝ }
 {
-    let n = text_at(req, i, 4);
+    let n = text_at(req, i, Tag::NAME);
     let Text::At(name) = n else {
         return Pair::End;
     };
-    let v = text_at(req, name.end, 6);
+    let v = text_at(req, name.end, Tag::VALUE);
     let Text::At(value) = v else {
         return Pair::End;
     };
@@ -62,7 +63,7 @@ pub(crate) fn are_pairs(req: &[u8], from: usize) -> bool
 }
 
 // Are a pair's name and value legal?
-fn is_legal_pair(table: &[u8; 256], req: &[u8], name: Span, value: Span) -> bool
+pub fn is_legal_pair(table: &[u8; 256], req: &[u8], name: Span, value: Span) -> bool
     requires { ⌜ now table ≡ classTable ⌝ }
     requires { ⌜ InSpan (now req) name × InSpan (now req) value ⌝ }
     ensures { λ r. ⌜ r ≡ isLegalPair (pairOf (now (req .entry)) name value) ⌝ }
@@ -71,10 +72,10 @@ fn is_legal_pair(table: &[u8; 256], req: &[u8], name: Span, value: Span) -> bool
     let b = name.end;
     let c = value.start;
     let d = value.end;
-    if writing::is_legal_name(table, &req[a..b]) {
-        return writing::is_legal_value(table, &req[c..d]);
+    if !writing::is_legal_name(table, &req[a..b]) {
+        return false;
     }
-    false
+    writing::is_legal_value(table, &req[c..d])
 }
 
 // The length of a pair's text.

@@ -24,7 +24,7 @@ use Rattle.format.proofs.Listing.{same-true, listed-cons}
 use Rattle.format.proofs.Records.{records}
 use Rattle.records.specs.Walk.{recordIn}
 use Rattle.records.proofs.Cuts.{fields-records}
-use Rattle.sizes.proofs.Limits.{fits-fields, fits-value}
+use Rattle.descriptors.proofs.Limits.{fits-fields, fits-value}
 use Rattle.dictionary.specs.Tags.{listTag}
 use Rattle.dictionary.specs.Terms.{areNames}
 use Rattle.dictionary.specs.Known.{Described}

@@ -289,7 +289,7 @@ fn judge_whole(
     if keys_apart(table, d, part, &mut *scratch, &mut *entries) {} else {
         return 13;
     }
-    if sizes::size_met(table, d, count, &mut *scratch) {} else {
+    if descriptors::size_met(table, d, count, &mut *scratch) {} else {
         return 14;
     }
     0

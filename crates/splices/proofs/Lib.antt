@@ -1,4 +1,5 @@
--- Laws of moving, of laying a text over another, and of the two together.
+-- Laws of moving, of a text laid into the room that was made, and of what edits leave.
 pub mod Moving
-pub mod Laying
 pub mod Opening
+pub mod Inserted
+pub mod Left

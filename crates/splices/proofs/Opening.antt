@@ -1,14 +1,15 @@
 -- What the two ways through `open_space` leave has room, and a text laid into the room makes the buffer that holds the changed text.
 use Prim.Native.Nat.{ℕ, _+_, _-_, _≤_, _<_, max}
 use native.Mathlib.Omega.{arith}
-use mathlib.Core.Path.{_≡_, ap, _∙_}
-use mathlib.Core.List.{_++_, append-assoc}
-use lib.ListN.{length, take, drop, replicate, length-drop, length-replicate}
-use lib.Seq.{paste, take-paste, drop-paste, length-paste, take-take, take-add, take-append-le, drop-at, drop-drop, length-take-le}
-use borrow.Rule.Slice.PartMut.{putMid, midOf, same-len-mid, mid-len}
+use mathlib.Core.Path.{_≡_, refl, sym, ap, _∙_}
+use mathlib.Core.List.{[], _++_, append-assoc, append-nil}
+use lib.ListN.{length, take, drop, replicate, length-drop, length-replicate, take-append-drop, drop-of-length-le}
+use lib.Seq.{paste, take-paste, drop-paste, length-paste, take-take, take-append-le, take-all, drop-at, drop-drop, length-take-le}
+use borrow.Rule.Slice.PartMut.{putMid, midOf, postOf, same-len-mid, mid-len}
 use Rattle.format.specs.Bytes.{Bytes}
 use Rattle.format.specs.Calls.{over, placed}
 use Rattle.format.proofs.Splices.{spliced-length as replaced-length}
+use Rattle.records.proofs.Steps.{drop-take}
 use Rattle.splices.specs.Space.{spliced, behind, Opened}
 
 -- the buffer by its parts: the first bytes as they were, then all that stands behind the room
@@ -57,11 +58,12 @@ module _ (b : Bytes) (used at old new : ℕ) (inside : at + old ≤ used) (fits 
       opened b used at old new (putMid e (used - e) s zeros) (omega arith) (same-len-mid e (used - e) s zeros l ∙ shifted-length)
       (rw (t, d, z, drop-drop, m) (append-assoc (take (at + new) b) tail _))
 
--- a front of the text, cut
-pub drop-take : (i j : ℕ) (l : Bytes) → i ≤ j → i ≤ length l → drop i (take j l) ≡ take (j - i) (drop i l)
-drop-take i j l h k =
-    let e : j ≡ i + (j - i) = omega arith in
-    ap (λ (n : ℕ). drop i (take n l)) e ∙ ap (drop i) (take-add i (j - i) l) ∙ drop-at (take i l) (take (j - i) (drop i l)) i (length-take-le i l k)
+-- what a callee laid over the lent part `&mut b[at..]`
+pub over-part : (b t : Bytes) (at k : ℕ) → at ≤ length b → k ≡ length b - at → putMid at k b (over t (midOf at k b)) ≡ take at b ++ over t (drop at b)
+over-part b t at k h e =
+    let m : midOf at k b ≡ drop at b = take-all k (drop at b) (simp length-drop (omega arith)) in
+    let p : postOf at k b ≡ [] = drop-of-length-le (drop at b) {i = k} (simp length-drop (omega arith)) in
+    rw (m, p, append-nil)
 
 pub spliced-length : (b : Bytes) (used at old : ℕ) (t : Bytes) → at + old ≤ used → used ≤ length b → length (spliced (take used b) at old t) ≡ (used - old) + length t
 spliced-length b used at old t inside fits =
@@ -76,7 +78,11 @@ placed-spliced b used at old new b′ t inside fits l o =
     let tail : Bytes = take (used - (at + old)) (drop (at + old) b) in
     let rest : Bytes = replicate (old - new) 0 ++ drop (max used ((used - old) + new)) b in
     let f : take at s ≡ take at b = take-take at used b (omega arith) in
-    let k : drop (at + old) s ≡ tail = drop-take (at + old) used b inside (omega arith) in
+    let k : drop (at + old) s ≡ tail = drop-take (at + old) used b in
     let n : length (spliced s at old t) ≡ (used - old) + new = spliced-length b used at old t inside fits ∙ omega arith in
     let z : used - ((used - old) + new) ≡ old - new = omega arith in
     rw (n, z, f, k, o .before, drop-drop, l, o .after, append-assoc (take at b)) (rw (append-assoc t tail rest))
+
+-- a room of no bytes is closed: the buffer holds the text without what stood there
+pub placed-cut : (b : Bytes) (used at old : ℕ) (b′ : Bytes) → at + old ≤ used → used ≤ length b → Opened b used at old 0 b′ → b′ ≡ placed (spliced (take used b) at old []) used b
+placed-cut b used at old b′ h k o = sym (take-append-drop at b′) ∙ placed-spliced b used at old 0 b′ [] h k refl o

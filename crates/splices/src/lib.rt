@@ -1,75 +1,21 @@
 // One change of a text that stands at the front of a lent buffer: a part of it makes room for another, and what lies behind moves.
 ghost use mathlib.Core.Path.{_≡_};
+ghost use mathlib.Core.List.{[]};
 ghost use Prim.Native.Nat.{_+_, _-_, _≤_};
-ghost use lib.ListN.{length, take, drop, replicate};
-ghost use lib.Seq.{paste};
-ghost use Rattle.format.specs.Calls.{over, placed};
-ghost use Rattle.splices.specs.Space.{Opened, spliced};
+ghost use lib.ListN.{length, take};
+ghost use Rattle.format.specs.Limits.{fileBytes};
+ghost use Rattle.format.specs.Written.{written};
+ghost use Rattle.format.specs.Calls.{placed};
+ghost use Rattle.splices.specs.Space.{spliced};
 
-// n bytes go up from `from` to `to`, the last one first.
-fn move_up(buf: &mut [u8], from: usize, to: usize, n: usize)
-    requires { ⌜ (from ≤ to) × (to + n ≤ length (now buf)) ⌝ }
-    ensures { λ _. ⌜ now (buf .exit) ≡ paste (now (buf .entry)) to (drop from (now (buf .entry))) n ⌝ }
-{
-    let mut i = n;
-    while 0 < i {
-        i -= 1;
-        buf[to + i] = buf[from + i];
-    }
-}
+mod cuts;
+mod inserts;
+mod moves;
 
-// n bytes go down from `from` to `to`, the first one first.
-pub fn move_down(buf: &mut [u8], from: usize, to: usize, n: usize)
-    requires { ⌜ (to ≤ from) × (from + n ≤ length (now buf)) ⌝ }
-    ensures { λ _. ⌜ now (buf .exit) ≡ paste (now (buf .entry)) to (drop from (now (buf .entry))) n ⌝ }
-{
-    let mut i = 0;
-    while i < n {
-        buf[to + i] = buf[from + i];
-        i += 1;
-    }
-}
-
-// Every byte becomes 0.
-fn clear(part: &mut [u8])
-    ensures { λ _. ⌜ now (part .exit) ≡ replicate (length (now (part .entry))) 0 ⌝ }
-{
-    let mut i = 0;
-    while i < part.len() {
-        part[i] = 0;
-        i += 1;
-    }
-}
-
-// Room for `new` bytes at `at` in place of `old`, in a text of `used` bytes: what lies behind them moves, and bytes that the text gives up become 0.
-// What stands in the room is left open.
-pub fn open_space(buf: &mut [u8], used: usize, at: usize, old: usize, new: usize)
-    requires { ⌜ (at + old ≤ used) × (used ≤ length (now buf)) × ((used - old) + new ≤ length (now buf)) ⌝ }
-    ensures { λ _. ⌜ Opened (now (buf .entry)) used at old new (now (buf .exit)) ⌝ }
-{
-    let from = at + old;
-    let to = at + new;
-    let n = used - from;
-    if from < to {
-        move_up(buf, from, to, n);
-    } else {
-        move_down(buf, from, to, n);
-        let end = to + n;
-        clear(&mut buf[end..used]);
-    }
-}
-
-// The text at the front of another slice.
-pub fn copy_text(src: &[u8], dst: &mut [u8])
-    requires { ⌜ length (now src) ≤ length (now dst) ⌝ }
-    ensures { λ _. ⌜ now (dst .exit) ≡ over (now (src .entry)) (now (dst .entry)) ⌝ }
-{
-    let mut i = 0;
-    while i < src.len() {
-        dst[i] = src[i];
-        i += 1;
-    }
-}
+pub use cuts::cut_fields;
+pub use inserts::put_record;
+pub use moves::move_down;
+use moves::open_space;
 
 // `text` in place of `old` bytes at `at`, in a text of `used` bytes: the length of the new one, which the buffer then holds.
 pub fn splice(buf: &mut [u8], used: usize, at: usize, old: usize, text: &[u8]) -> usize
@@ -79,6 +25,36 @@ pub fn splice(buf: &mut [u8], used: usize, at: usize, old: usize, text: &[u8]) -
 {
     let new = text.len();
     open_space(buf, used, at, old, new);
-    copy_text(text, &mut buf[at..]);
+    writing::put_bytes(&mut buf[at..], text);
     used - old + new
+}
+
+// A field's text in place of `old` bytes at `at`, in a text of `used` bytes: the length of the new text, which the buffer then holds.
+pub fn put_text(
+    buf: &mut [u8],
+    used: usize,
+    at: usize,
+    old: usize,
+    name: &[u8],
+    value: &[u8],
+) -> usize
+    requires { ⌜ (at + old ≤ used) × (used ≤ length (now buf)) × ((used - old) + length (written (now name) (now value)) ≤ length (now buf)) ⌝ }
+    requires { ⌜ (length (now name) ≤ fileBytes) × (length (now value) ≤ fileBytes) ⌝ }
+    ensures { λ r. ⌜ (r ≡ length (spliced (take used (now (buf .entry))) at old (written (now (name .entry)) (now (value .entry)))))
+        × (now (buf .exit) ≡ placed (spliced (take used (now (buf .entry))) at old (written (now (name .entry)) (now (value .entry)))) used (now (buf .entry))) ⌝ }
+{
+    let new = writing::written_len(name, value);
+    open_space(buf, used, at, old, new);
+    writing::put_field(&mut buf[at..], name, value);
+    used - old + new
+}
+
+// `old` bytes at `at` go.
+pub fn cut_text(buf: &mut [u8], used: usize, at: usize, old: usize) -> usize
+    requires { ⌜ (at + old ≤ used) × (used ≤ length (now buf)) ⌝ }
+    ensures { λ r. ⌜ (r ≡ length (spliced (take used (now (buf .entry))) at old []))
+        × (now (buf .exit) ≡ placed (spliced (take used (now (buf .entry))) at old []) used (now (buf .entry))) ⌝ }
+{
+    open_space(buf, used, at, old, 0);
+    used - old
 }

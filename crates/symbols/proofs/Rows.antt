@@ -3,7 +3,7 @@ use Prim.Native.Nat.{ℕ, zero, suc, _+_, _-_, _≤_, _<_}
 use native.Mathlib.Numerals.{add-one}
 use native.Mathlib.Omega.{arith}
 use mathlib.Core.Path.{_≡_, refl, sym, ap, ap₂, _∙_}
-use mathlib.Core.Bool.{Bool, true, false, _&&_, _||_, and-eq-true-iff}
+use mathlib.Core.Bool.{Bool, true, false, _&&_, _||_, and-eq-true-iff, false≢true}
 use mathlib.Core.List.{List, [], _∷_, _++_, map}
 use borrow.Author.Tests.{eqb-true, eq-eqb, ne-eqb, lt-ltb, le-ltb}
 use lib.Dec.{ltb, eqb}
@@ -12,7 +12,7 @@ use lib.Seq.{getD-drop}
 use Rattle.format.specs.Bytes.{Bytes, pick, among}
 use Rattle.lines.proofs.Cuts.{at-cons}
 use Rattle.sorting.proofs.Tests.{by-bool, dec-lt}
-use Rattle.terms.specs.Sets.{Term, termOf, tagged, Answers}
+use Rattle.terms.specs.Sets.{Term, termOf, inSet, tagged, Answers}
 use Rattle.terms.specs.Adding.{Adding}
 use Rattle.terms.proofs.Tests.{or-none, tagged-append}
 use Rattle.terms.proofs.Adding.{adding-rest, adding-many}
@@ -104,13 +104,21 @@ module _ (d : Bytes) (texts : List ℕ) (from : ℕ) (w : Bytes) where
         ∙ f k
         ∙ row-at k from (to - from) h (omega arith)
 
-    pub finds : (x : ℕ) → Answers w ts x → Found d texts from next w x
-    finds x q k h g low =
+    tells-by : (x : ℕ) → Answers w ts x → (k : ℕ) → from ≤ k → k < next → getD texts k 0 < 65536 → inSet (leaderOf texts from k) x ≡ among w (enumIn d (getD texts k 0))
+    tells-by x q k h g low =
         let r : ℕ = leaderOf texts from k in
         let l = leader-most texts from k h (omega arith) in
         let t = leader-text texts from k h (omega arith) in
         let e : isFirst texts from r ≡ true = and-eq-true-iff (ltb (getD texts r 0) 65536) (eqb (leaderOf texts from r) r) .1 (lt-ltb (getD texts r 0) 65536 (omega arith), eq-eqb (leaderOf texts from r) r (leader-self texts from k h (omega arith))) in
         q r ∙ in-row r (leader-least texts from k h (omega arith)) (omega arith) ∙ own r e ∙ ap (λ (v : ℕ). among w (enumIn d v)) t
+
+    -- a row that is not the first with its text has no symbols of its own
+    first-by : (k : ℕ) (t : Bool) → isFirst texts from k ≡ t → tagged w k (symbolRow d texts from k) ≡ true → leaderOf texts from k ≡ k
+    first-by k true e h = eqb-true (leaderOf texts from k) k (and-eq-true-iff (ltb (getD texts k 0) 65536) (eqb (leaderOf texts from k) k) .0 e .1)
+    first-by k false e h = absurd (false≢true (ap (λ (t : Bool). tagged w k (pick t (map (termOf k) (enumIn d (getD texts k 0))) [])) (sym e) ∙ h))
+
+    pub finds : (x : ℕ) → Answers w ts x → Found d texts from next w x
+    finds x q = record { tells = tells-by x q; leads = λ k h g i. first-by k (isFirst texts from k) refl (sym (in-row k h g) ∙ sym (q k) ∙ i) }
 
 -- one row further
 module _ (d : Bytes) (texts : List ℕ) (from to row : ℕ) (h : row < to) where

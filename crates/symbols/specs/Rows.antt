@@ -54,10 +54,14 @@ pub record RowsAdded (d : Bytes) (texts : List ℕ) (from to : ℕ) (l m : List 
   pub some : 4097 ≤ length l → from < to → from < r .next
   pub adding : Adding d l 0 (rowsLeft d texts from to from) (rowsLeft d texts from to (r .next)) m (r .count)
 
--- x tells of a value w of which rows, from one on up to another, it is a symbol: those of one text under the number of the first
-abbrev pub Found : Bytes → List ℕ → ℕ → ℕ → Bytes → ℕ → Type 0
-Found d texts from next w x =
-    (k : ℕ) → from ≤ k → k < next → getD texts k 0 < 65536 → inSet (leaderOf texts from k) x ≡ among w (enumIn d (getD texts k 0))
+-- the rows of a set, from one on up to another, are each the first with its text
+abbrev pub Leads : List ℕ → ℕ → ℕ → ℕ → Type 0
+Leads texts from next x = (k : ℕ) → from ≤ k → k < next → inSet k x ≡ true → leaderOf texts from k ≡ k
+
+-- x tells of a value w of which rows, from one on up to another, it is a symbol: those of one text under the number of the first, and no others
+pub record Found (d : Bytes) (texts : List ℕ) (from next : ℕ) (w : Bytes) (x : ℕ) : Type 0 where
+  pub tells : (k : ℕ) → from ≤ k → k < next → getD texts k 0 < 65536 → inSet (leaderOf texts from k) x ≡ among w (enumIn d (getD texts k 0))
+  pub leads : Leads texts from next x
 
 pub record IsSymbols (d : Bytes) (texts : List ℕ) (from to : ℕ) (l : List ℕ) (r : Symbols) : Type 0 where
   pub table : IsTable d l (r .table)

@@ -8,7 +8,7 @@ ghost use Rattle.format.specs.Pieces.{readOf};
 ghost use Rattle.format.specs.Records.{fieldsOf};
 ghost use Rattle.format.specs.Lines.{isName};
 ghost use Rattle.format.specs.Bytes.{classTable, text, all, among, upFrom};
-ghost use Rattle.format.specs.Limits.{fileBytes};
+ghost use Rattle.format.specs.Limits.{fileBytes, typedefs};
 ghost use Rattle.format.specs.Words.{firstWord, afterWord, split, isTypeName};
 ghost use Rattle.format.specs.Numbers.{intBounds};
 ghost use Rattle.format.specs.Types.{typeOf};
@@ -19,6 +19,7 @@ ghost use Rattle.terms.specs.Adding.{Adding};
 ghost use Rattle.typedefs.specs.Walks.{ValueNext, valuesFrom, namesFrom, fitFrom};
 ghost use Rattle.typedefs.specs.Names.{numbered, ArePlaces, AreNames, tagFrom};
 ghost use Rattle.typedefs.specs.Targets.{indexFrom, targetBy, targetIn, followOf, endsIn, leads, wellBy};
+use format::Descriptor;
 use records::NextField;
 use terms::Table;
 use types::Shape;
@@ -69,7 +70,7 @@ pub fn behind_word(s: &[u8]) -> usize
 
 // Where the values of a descriptor's typedefs stand.
 struct Places {
-    rows: [usize; 32],
+    rows: [usize; Descriptor::TYPEDEFS],
     count: usize,
 }
 
@@ -77,10 +78,10 @@ struct Places {
 fn add_names(table: &[u8; 256], d: &[u8], entries: &mut [u32]) -> Places
     requires { ⌜ now table ≡ classTable ⌝ }
     requires { ⌜ (isReadable (now d) ≡ true) × (length (now d) ≤ fileBytes) ⌝ }
-    requires { ⌜ (length (valuesFrom (now d) (text "%typedef") 0) ≤ 32) × (all isTypeName (namesFrom (now d) 0) ≡ true) × (32 ≤ length (now entries)) ⌝ }
+    requires { ⌜ (length (valuesFrom (now d) (text "%typedef") 0) ≤ typedefs) × (all isTypeName (namesFrom (now d) 0) ≡ true) × (typedefs ≤ length (now entries)) ⌝ }
     ensures { λ r. ⌜ ArePlaces (now (d .entry)) (r .rows) (r .count) × Adding (now (d .entry)) (now (entries .entry)) 0 (numbered 0 (namesFrom (now (d .entry)) 0)) [] (now (entries .exit)) (r .count) ⌝ }
 {
-    let mut rows = [0usize; 32];
+    let mut rows = [0usize; Descriptor::TYPEDEFS];
     let mut i = 0;
     let mut count = 0;
     loop {
@@ -98,8 +99,8 @@ fn add_names(table: &[u8; 256], d: &[u8], entries: &mut [u32]) -> Places
 
 // The typedefs of a descriptor, to be looked up by name: where their values stand, and their names with their numbers in a table.
 pub struct Names {
-    pub places: [usize; 32],
-    pub entries: [u32; 32],
+    pub places: [usize; Descriptor::TYPEDEFS],
+    pub entries: [u32; Descriptor::TYPEDEFS],
     pub table: Table,
     pub count: usize,
 }
@@ -107,10 +108,10 @@ pub struct Names {
 pub fn read_names(table: &[u8; 256], d: &[u8]) -> Names
     requires { ⌜ now table ≡ classTable ⌝ }
     requires { ⌜ (isReadable (now d) ≡ true) × (length (now d) ≤ fileBytes) ⌝ }
-    requires { ⌜ (length (valuesFrom (now d) (text "%typedef") 0) ≤ 32) × (all isTypeName (namesFrom (now d) 0) ≡ true) ⌝ }
+    requires { ⌜ (length (valuesFrom (now d) (text "%typedef") 0) ≤ typedefs) × (all isTypeName (namesFrom (now d) 0) ≡ true) ⌝ }
     ensures { λ r. ⌜ AreNames (now (d .entry)) r ⌝ }
 {
-    let mut entries = [0u32; 32];
+    let mut entries = [0u32; Descriptor::TYPEDEFS];
     let p = add_names(table, d, &mut entries);
     let places = p.rows;
     let count = p.count;
@@ -123,9 +124,9 @@ pub fn read_names(table: &[u8; 256], d: &[u8]) -> Names
     }
 }
 
-// The first tag of a set from one on and below count, 32 where there is none.
+// The first tag of a set from one on and below count, or that there is none.
 fn first_tag(set: u64, from: usize, count: usize) -> usize
-    requires { ⌜ (from ≤ count) × (count ≤ 32) ⌝ }
+    requires { ⌜ (from ≤ count) × (count ≤ typedefs) ⌝ }
     ensures { λ r. ⌜ r ≡ tagFrom set from (count - from) ⌝ }
 {
     let mut k = from;
@@ -135,10 +136,10 @@ fn first_tag(set: u64, from: usize, count: usize) -> usize
         }
         k += 1;
     }
-    32
+    Targets::MISSING
 }
 
-// The number of the first typedef of a name from one on, 32 where there is none.
+// The number of the first typedef of a name from one on, or that there is none.
 fn index_from(d: &[u8], names: Names, from: usize, name: &[u8]) -> usize
     requires { ⌜ AreNames (now d) names × (from ≤ names .count) ⌝ }
     ensures { λ r. ⌜ r ≡ indexFrom from (now (name .entry)) (drop from (namesFrom (now (d .entry)) 0)) ⌝ }
@@ -150,7 +151,7 @@ fn index_from(d: &[u8], names: Names, from: usize, name: &[u8]) -> usize
     first_tag(set, from, count)
 }
 
-// The number of the typedef that a type's text names: 32 where no typedef has the name, 33 of a kind, 34 of no type.
+// The target of a type's text.
 pub fn target_in(table: &[u8; 256], d: &[u8], names: Names, s: &[u8]) -> usize
     requires { ⌜ now table ≡ classTable ⌝ }
     requires { ⌜ AreNames (now d) names ⌝ }
@@ -158,11 +159,11 @@ pub fn target_in(table: &[u8; 256], d: &[u8], names: Names, s: &[u8]) -> usize
 {
     let t = types::type_of(table, s);
     let TypeOf::Is(k) = t else {
-        return 34;
+        return Targets::FAULT;
     };
     match k {
         Shape::Alias { start, end } => index_from(d, names, 0, &s[start..end]),
-        _ => 33,
+        _ => Targets::KIND,
     }
 }
 
@@ -184,21 +185,32 @@ pub fn target_of(
     target_in(table, d, names, &scratch[at..n])
 }
 
-// The targets of the typedefs of a descriptor, in order.
+// The targets of the typedefs of a descriptor, in order: the number of the typedef that is named, or one of three above all numbers.
 pub struct Targets {
-    pub rows: [usize; 32],
+    pub rows: [usize; Descriptor::TYPEDEFS],
     pub count: usize,
+}
+
+impl Targets {
+    // No typedef has the name.
+    pub const MISSING: usize = 32;
+
+    // The type is a kind.
+    pub const KIND: usize = 33;
+
+    // The text is no type.
+    pub const FAULT: usize = 34;
 }
 
 pub fn read_targets(table: &[u8; 256], d: &[u8], names: Names, scratch: &mut [u8]) -> Targets
     requires { ⌜ now table ≡ classTable ⌝ }
     requires { ⌜ AreNames (now d) names ⌝ }
     requires { ⌜ fitFrom (length (now scratch)) (now d) (text "%typedef") 0 ≡ true ⌝ }
-    ensures { λ r. ⌜ (r .count ≤ 32) × (length (r .rows) ≡ 32) × (take (r .count) (r .rows) ≡ map (targetIn (namesFrom (now (d .entry)) 0)) (valuesFrom (now (d .entry)) (text "%typedef") 0)) ⌝ }
+    ensures { λ r. ⌜ (r .count ≤ typedefs) × (length (r .rows) ≡ typedefs) × (take (r .count) (r .rows) ≡ map (targetIn (namesFrom (now (d .entry)) 0)) (valuesFrom (now (d .entry)) (text "%typedef") 0)) ⌝ }
 {
     let places = names.places;
     let count = names.count;
-    let mut rows = [33; 32];
+    let mut rows = [Targets::KIND; Descriptor::TYPEDEFS];
     let mut k = 0;
     while k < count {
         let t = target_of(table, d, names, places[k], &mut *scratch);
@@ -223,7 +235,7 @@ pub fn follow(targets: &[usize], i: usize, left: usize) -> Followed
         return Followed::Missing;
     }
     let t = targets[i];
-    if t == 33 {
+    if t == Targets::KIND {
         return Followed::End(i);
     }
     if left == 0 {
@@ -255,46 +267,13 @@ pub fn all_end(targets: &[usize]) -> bool
 }
 
 // May no typedef have this name?
-pub fn is_reserved(s: &[u8]) -> bool
+fn is_reserved(s: &[u8]) -> bool
     ensures { λ r. ⌜ r ≡ among (now (s .entry)) reserved ⌝ }
 {
-    if lines::same_bytes(s, b"int") {
-        return true;
-    }
-    if lines::same_bytes(s, b"range") {
-        return true;
-    }
-    if lines::same_bytes(s, b"real") {
-        return true;
-    }
-    if lines::same_bytes(s, b"line") {
-        return true;
-    }
-    if lines::same_bytes(s, b"size") {
-        return true;
-    }
-    if lines::same_bytes(s, b"enum") {
-        return true;
-    }
-    if lines::same_bytes(s, b"bool") {
-        return true;
-    }
-    if lines::same_bytes(s, b"field") {
-        return true;
-    }
-    if lines::same_bytes(s, b"uuid") {
-        return true;
-    }
-    if lines::same_bytes(s, b"email") {
-        return true;
-    }
-    if lines::same_bytes(s, b"date") {
-        return true;
-    }
-    if lines::same_bytes(s, b"regexp") {
-        return true;
-    }
-    lines::same_bytes(s, b"rec")
+    types::is_among(
+        s,
+        b"int range real line size enum bool field uuid email date regexp rec",
+    )
 }
 
 // Is the first word of a typedef's text a name that it may have?
@@ -333,7 +312,7 @@ fn names_good(table: &[u8; 256], d: &[u8], scratch: &mut [u8]) -> bool
     }
 }
 
-// The number of the first typedef from one on whose name is the first word of a text, 32 where there is none.
+// The number of the first typedef from one on whose name is the first word of a text, or that there is none.
 fn first_index(d: &[u8], names: Names, from: usize, s: &[u8]) -> usize
     requires { ⌜ AreNames (now d) names × (from ≤ names .count) ⌝ }
     ensures { λ r. ⌜ r ≡ indexFrom from (firstWord (now (s .entry))) (drop from (namesFrom (now (d .entry)) 0)) ⌝ }
@@ -352,7 +331,7 @@ fn name_alone(d: &[u8], names: Names, k: usize, scratch: &mut [u8]) -> bool
     let places = names.places;
     let value = places[k];
     let n = lines::copy_value(&d[value..], &mut *scratch);
-    first_index(d, names, k + 1, &scratch[..n]) == 32
+    first_index(d, names, k + 1, &scratch[..n]) == Targets::MISSING
 }
 
 // Are the names of all typedefs distinct?
@@ -406,7 +385,7 @@ fn names_well(table: &[u8; 256], s: &[u8]) -> bool
 fn target_ends(targets: &[usize], t: usize) -> bool
     ensures { λ r. ⌜ r ≡ leads (now (targets .entry)) t ⌝ }
 {
-    if t == 33 {
+    if t == Targets::KIND {
         return true;
     }
     let count = targets.len();
@@ -473,7 +452,7 @@ fn all_well(
 pub fn types_well(table: &[u8; 256], d: &[u8], scratch: &mut [u8]) -> bool
     requires { ⌜ now table ≡ classTable ⌝ }
     requires { ⌜ (isReadable (now d) ≡ true) × (length (now d) ≤ fileBytes) ⌝ }
-    requires { ⌜ (length (valuesFrom (now d) (text "%typedef") 0) ≤ 32) × (fitFrom (length (now scratch)) (now d) (text "%typedef") 0 ≡ true) ⌝ }
+    requires { ⌜ (length (valuesFrom (now d) (text "%typedef") 0) ≤ typedefs) × (fitFrom (length (now scratch)) (now d) (text "%typedef") 0 ≡ true) ⌝ }
     requires { ⌜ fitFrom (length (now scratch)) (now d) (text "%type") 0 ≡ true ⌝ }
     ensures { λ r. ⌜ r ≡ isTypedWell intBounds (fieldsOf (readOf (now (d .entry)))) ⌝ }
 {

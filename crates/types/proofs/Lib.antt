@@ -4,3 +4,4 @@ pub mod Comments
 pub mod Uuids
 pub mod Firsts
 pub mod Meeting
+pub mod Among

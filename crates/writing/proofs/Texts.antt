@@ -71,9 +71,14 @@ length-put p b i t e = ap length e ∙ length-sets b i t
 pub length-headed : (q p : Bytes) (i j k x y : ℕ) (t : Bytes) → q ≡ sets (set (set p i x) j y) k t → length q ≡ length p
 length-headed q p i j k x y t e = length-put q (set (set p i x) j y) k t e ∙ length-set (set p i x) j y ∙ length-set p i x
 
-pub field-text : (b n v p q : Bytes) (end : ℕ) → length (written n v) ≤ length b → p ≡ sets b 0 n → end ≡ length n + 2 + length (indent v)
+pub length-over : (p b t : Bytes) → length t ≤ length b → p ≡ over t b → length p ≡ length b
+length-over p b t h e = length-put p b 0 t (e ∙ sym (over-sets t b h))
+
+pub field-text : (b n v p q : Bytes) (end : ℕ) → length (written n v) ≤ length b → p ≡ over n b → end ≡ length n + 2 + length (indent v)
     → q ≡ sets (set (set p (length n) 58) (length n + 1) 32) (length n + 2) (indent v) → set q end 10 ≡ over (written n v) b
-field-text b n v p q end room ep ee eq = rw (eq, ee, ep) (field-stages b n v ∙ over-sets (written n v) b room)
+field-text b n v p q end room ep ee eq =
+    let e : p ≡ sets b 0 n = ep ∙ sym (over-sets n b (omega (arith, written-length n v))) in
+    rw (eq, ee, e) (field-stages b n v ∙ over-sets (written n v) b room)
 
 -- `f(&mut b[at..])`, where f writes a text over the front of its part
 pub part-sets : (b text : Bytes) (at k : ℕ) → at + length text ≤ length b → k ≡ length b - at → putMid at k b (over text (midOf at k b)) ≡ sets b at text

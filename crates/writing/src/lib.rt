@@ -5,6 +5,7 @@ ghost use Prim.Native.Nat.{_+_, _≤_};
 ghost use lib.ListN.{length};
 ghost use lib.Seq.{sets};
 ghost use Rattle.format.specs.Bytes.{classTable};
+ghost use Rattle.format.specs.Limits.{fileBytes};
 ghost use Rattle.format.specs.Written.{indent, written, isLegalName, isLegalValue};
 ghost use Rattle.format.specs.Calls.{over};
 ghost use Rattle.writing.specs.Value.{isPlainFrom};
@@ -17,7 +18,7 @@ pub fn is_legal_name(table: &[u8; 256], s: &[u8]) -> bool
     if s.len() > format::Record::NAME {
         return false;
     }
-    if lines::byte(s, 0) == 37 {
+    if lines::byte(s, 0) == b'%' {
         return false;
     }
     let n = lines::name_len(table, s);
@@ -45,7 +46,7 @@ fn is_plain(table: &[u8; 256], s: &[u8]) -> bool
                 return false;
             }
         }
-        slash = b == 92;
+        slash = b == b'\\';
         i += 1;
     }
     !slash
@@ -64,13 +65,13 @@ pub fn is_legal_value(table: &[u8; 256], s: &[u8]) -> bool
 
 // The length of a value's text: a newline takes two bytes more.
 fn value_text_len(value: &[u8]) -> usize
-    requires { ⌜ length (now value) ≤ 65536 ⌝ }
+    requires { ⌜ length (now value) ≤ fileBytes ⌝ }
     ensures { λ r. ⌜ r ≡ length (indent (now (value .entry))) ⌝ }
 {
     let mut i = 0;
     let mut n: usize = 0;
     while i < value.len() {
-        if value[i] == 10 {
+        if value[i] == b'\n' {
             n += 3;
         } else {
             n += 1;
@@ -82,16 +83,16 @@ fn value_text_len(value: &[u8]) -> usize
 
 // The length of a field's text.
 pub fn written_len(name: &[u8], value: &[u8]) -> usize
-    requires { ⌜ (length (now name) ≤ 65536) × (length (now value) ≤ 65536) ⌝ }
+    requires { ⌜ (length (now name) ≤ fileBytes) × (length (now value) ≤ fileBytes) ⌝ }
     ensures { λ r. ⌜ r ≡ length (written (now (name .entry)) (now (value .entry))) ⌝ }
 {
     name.len() + value_text_len(value) + 3
 }
 
-// The bytes of s, at the front of out.
-fn put_bytes(out: &mut [u8], s: &[u8])
+// The bytes of s, at the front of out. Bytes behind them stay.
+pub fn put_bytes(out: &mut [u8], s: &[u8])
     requires { ⌜ length (now s) ≤ length (now out) ⌝ }
-    ensures { λ _. ⌜ now (out .exit) ≡ sets (now (out .entry)) 0 (now (s .entry)) ⌝ }
+    ensures { λ _. ⌜ now (out .exit) ≡ over (now (s .entry)) (now (out .entry)) ⌝ }
 {
     let mut i = 0;
     while i < s.len() {
@@ -111,9 +112,9 @@ fn put_value(out: &mut [u8], at: usize, value: &[u8]) -> usize
         let b = value[i];
         out[n] = b;
         n += 1;
-        if b == 10 {
-            out[n] = 43;
-            out[n + 1] = 32;
+        if b == b'\n' {
+            out[n] = b'+';
+            out[n + 1] = b' ';
             n += 2;
         }
         i += 1;
@@ -128,9 +129,9 @@ pub fn put_field(out: &mut [u8], name: &[u8], value: &[u8]) -> usize
 {
     let n = name.len();
     put_bytes(out, name);
-    out[n] = 58;
-    out[n + 1] = 32;
+    out[n] = b':';
+    out[n + 1] = b' ';
     let end = put_value(out, n + 2, value);
-    out[end] = 10;
+    out[end] = b'\n';
     end + 1
 }

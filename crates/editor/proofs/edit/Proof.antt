@@ -1,14 +1,15 @@
 -- `editor::edit` meets its contract: each return is one case of the answer.
 use native.Mathlib.Omega.{arith}
 use mathlib.Core.Path.{sym, ap, _∙_, subst}
+use lib.ListN.{length, take}
 use Rattle.format.specs.Calls.{checkAnswer}
 use Rattle.format.proofs.Answers.{answer-file, answer-fault}
 use Rattle.requests.specs.Kinds.{requestAnswer, Inside}
 use Rattle.requests.proofs.Filling.{request-bytes}
-use Rattle.edits.specs.Splices.{refusalOf}
-use Rattle.edits.specs.Places.{askedBy}
-use Rattle.editor.proofs.Editing.{number-zero, file-inside, file-length, file-small, file-readable, edit-refused, edit-accepted}
+use Rattle.edits.specs.Splices.{madeBy}
+use Rattle.edits.specs.Places.{askedBy, Locates}
 use borrow.Author.Needs.{needs}
+use Rattle.editor.proofs.Editing.{number-zero, file-inside, file-length, file-small, file-readable, place-refused, edit-refused, edit-accepted}
 use borrow.Author.Needs.{needs}
 use Rattle.editor.proofs.edit.Statement.{statement}
 use Rattle.editor.proofs.edit.Tie as tie
@@ -92,20 +93,44 @@ locate-requires c κs =
     let e = ap (requestAnswer (at-args .req .now)) (sym (at-r .given .1)) ∙ at-request-of .ensures .0 in
     (at-classes .ensures, ((file-readable (at-args .buf .now) (at-args .used) v, file-small (at-args .buf .now) (at-args .used) v, request-bytes (at-args .req .now) (at-r .given .0 .0) e), subst (Inside (at-args .req .now)) (at-r .given .1) (at-request-of .ensures .1)))
 
+enum-known-l : tie.Need-enum-known-l
+enum-known-l c = search needs
+
+same-length-3 : tie.Need-same-length-3
+same-length-3 c = search needs
+
+returns-3 : tie.Need-returns-3
+unfolding checkAnswer
+returns-3 c =
+    let at-check-with = c .before .before .before .before .before .before .before .before .before .before .before .before .before .check-with in
+    let at-if1 = c .before .before .before .before .before .before .before .before .before .before .before .if1 in
+    let at-args = c .before .before .before .before .before .before .before .before .before .before .before .before .before .before .before .before .before .before .args in
+    let at-r = c .before .before .before .before .before .before .before .before .r in
+    let at-request-of = c .before .before .before .before .before .before .before .before .before .before .request-of in
+    let at-l = c .before .l in
+    let at-locate = c .before .before .before .locate in
+    let v = sym (at-check-with .ensures) ∙ at-if1 .left in
+    let e = ap (requestAnswer (at-args .req .now)) (sym (at-r .given .1)) ∙ at-request-of .ensures .0 in
+    let q = askedBy (at-args .req .now) (at-r .given .0 .0) in
+    place-refused (at-args .buf .now) (at-args .used) v (at-args .req .now) q (sym e) (at-l .given .0 .0) (subst (Locates (take (at-args .used) (at-args .buf .now)) (at-args .req .now) q) (at-l .given .1) (at-locate .ensures))
+
+enum-known-l-2 : tie.Need-enum-known-l-2
+enum-known-l-2 c = search needs
+
 slice-reshare-prefix-edit-no : tie.Need-slice-reshare-prefix-edit-no
 unfolding checkAnswer
 slice-reshare-prefix-edit-no c =
-    let at-args = c .before .before .before .before .before .before .before .before .before .before .before .before .before .before .before .before .args in
-    let at-check-with = c .before .before .before .before .before .before .before .before .before .before .before .check-with in
-    let at-if1 = c .before .before .before .before .before .before .before .before .before .if1 in
+    let at-args = c .before .before .before .before .before .before .before .before .before .before .before .before .before .before .before .before .before .before .before .args in
+    let at-check-with = c .before .before .before .before .before .before .before .before .before .before .before .before .before .before .check-with in
+    let at-if1 = c .before .before .before .before .before .before .before .before .before .before .before .before .if1 in
     file-inside (at-args .buf .now) (at-args .used) (sym (at-check-with .ensures) ∙ at-if1 .left)
 
 slice-aggregate-edit-no : tie.Need-slice-aggregate-edit-no
 unfolding checkAnswer
 slice-aggregate-edit-no c =
-    let at-args = c .before .before .before .before .before .before .before .before .before .before .before .before .before .before .before .before .before .args in
-    let at-check-with = c .before .before .before .before .before .before .before .before .before .before .before .before .check-with in
-    let at-if1 = c .before .before .before .before .before .before .before .before .before .before .if1 in
+    let at-args = c .before .before .before .before .before .before .before .before .before .before .before .before .before .before .before .before .before .before .before .before .args in
+    let at-check-with = c .before .before .before .before .before .before .before .before .before .before .before .before .before .before .before .check-with in
+    let at-if1 = c .before .before .before .before .before .before .before .before .before .before .before .before .before .if1 in
     sym (file-length (at-args .buf .now) (at-args .used) (sym (at-check-with .ensures) ∙ at-if1 .left))
 
 slice-aggregate-edit-no-2 : tie.Need-slice-aggregate-edit-no-2
@@ -114,45 +139,17 @@ slice-aggregate-edit-no-2 c = search needs
 edit-no-requires : tie.Need-edit-no-requires
 unfolding checkAnswer
 edit-no-requires c κs =
-    let at-check-with = c .before .before .before .before .before .before .before .before .before .before .before .before .before .check-with in
-    let at-if1 = c .before .before .before .before .before .before .before .before .before .before .before .if1 in
-    let at-classes = c .before .before .before .before .before .before .classes in
-    let at-locate = c .before .before .before .locate in
-    let at-args = c .before .before .before .before .before .before .before .before .before .before .before .before .before .before .before .before .before .before .args in
-    let v = sym (at-check-with .ensures) ∙ at-if1 .left in
-    (at-classes .ensures, (omega arith, (λ z. at-locate .ensures .1 z .1, (omega (arith, file-inside (at-args .buf .now) (at-args .used) v, file-length (at-args .buf .now) (at-args .used) v), file-small (at-args .buf .now) (at-args .used) v))))
-
-same-length-3 : tie.Need-same-length-3
-same-length-3 c = search needs
-
-returns-3 : tie.Need-returns-3
-unfolding checkAnswer
-returns-3 c =
     let at-check-with = c .before .before .before .before .before .before .before .before .before .before .before .before .before .before .before .before .check-with in
     let at-if1 = c .before .before .before .before .before .before .before .before .before .before .before .before .before .before .if1 in
     let at-args = c .before .before .before .before .before .before .before .before .before .before .before .before .before .before .before .before .before .before .before .before .before .args in
     let at-r = c .before .before .before .before .before .before .before .before .before .before .before .r in
-    let at-request-of = c .before .before .before .before .before .before .before .before .before .before .before .before .before .request-of in
+    let at-l2 = c .before .before .before .before .l2 in
     let at-locate = c .before .before .before .before .before .before .locate in
-    let at-edit-no = c .before .before .edit-no in
-    let at-if2 = c .if2 in
+    let at-classes = c .before .before .before .before .before .before .before .before .before .classes in
     let v = sym (at-check-with .ensures) ∙ at-if1 .left in
-    let e = ap (requestAnswer (at-args .req .now)) (sym (at-r .given .1)) ∙ at-request-of .ensures .0 in
-    edit-refused (at-args .buf .now) (at-args .used) v (at-args .req .now) (askedBy (at-args .req .now) (at-r .given .0 .0)) (sym e) (at-locate .result) (at-locate .ensures) (at-edit-no .result) (at-if2 .taken) (at-edit-no .ensures)
-
-carry-out-requires : tie.Need-carry-out-requires
-unfolding checkAnswer
-carry-out-requires c κs =
-    let at-check-with = c .before .before .before .before .before .before .before .before .before .before .before .before .before .before .before .before .before .before .check-with in
-    let at-if1 = c .before .before .before .before .before .before .before .before .before .before .before .before .before .before .before .before .if1 in
-    let at-locate = c .before .before .before .before .before .before .before .before .locate in
-    let at-edit-no = c .before .before .before .before .edit-no in
-    let at-if2 = c .before .before .if2 in
-    let at-classes = c .before .before .before .before .before .before .before .before .before .before .before .classes in
-    let at-args = c .before .before .before .before .before .before .before .before .before .before .before .before .before .before .before .before .before .before .before .before .before .before .before .args in
-    let v = sym (at-check-with .ensures) ∙ at-if1 .left in
-    let z = number-zero _ (refusalOf (at-locate .result)) _ (sym (at-edit-no .ensures) ∙ at-if2 .left) in
-    (at-classes .ensures, ((file-inside (at-args .buf .now) (at-args .used) v, at-locate .ensures .1 (z .0) .1), z .1))
+    let q = askedBy (at-args .req .now) (at-r .given .0 .0) in
+    let l = subst (Locates (take (at-args .used) (at-args .buf .now)) (at-args .req .now) q) (at-l2 .given .1) (at-locate .ensures) in
+    (at-classes .ensures, (omega arith, (l .2, (omega (arith, file-inside (at-args .buf .now) (at-args .used) v, file-length (at-args .buf .now) (at-args .used) v), file-small (at-args .buf .now) (at-args .used) v))))
 
 same-length-4 : tie.Need-same-length-4
 same-length-4 c = search needs
@@ -160,18 +157,58 @@ same-length-4 c = search needs
 returns-4 : tie.Need-returns-4
 unfolding checkAnswer
 returns-4 c =
-    let at-check-with = c .before .before .before .before .before .before .before .before .before .before .before .before .before .before .before .before .before .before .before .before .before .check-with in
-    let at-if1 = c .before .before .before .before .before .before .before .before .before .before .before .before .before .before .before .before .before .before .before .if1 in
-    let at-args = c .before .before .before .before .before .before .before .before .before .before .before .before .before .before .before .before .before .before .before .before .before .before .before .before .before .before .args in
-    let at-r = c .before .before .before .before .before .before .before .before .before .before .before .before .before .before .before .before .r in
-    let at-request-of = c .before .before .before .before .before .before .before .before .before .before .before .before .before .before .before .before .before .before .request-of in
-    let at-locate = c .before .before .before .before .before .before .before .before .before .before .before .locate in
-    let at-if2 = c .before .before .before .before .before .if2 in
-    let at-edit-no = c .before .before .before .before .before .before .before .edit-no in
+    let at-check-with = c .before .before .before .before .before .before .before .before .before .before .before .before .before .before .before .before .before .before .before .check-with in
+    let at-if1 = c .before .before .before .before .before .before .before .before .before .before .before .before .before .before .before .before .before .if1 in
+    let at-args = c .before .before .before .before .before .before .before .before .before .before .before .before .before .before .before .before .before .before .before .before .before .before .before .before .args in
+    let at-r = c .before .before .before .before .before .before .before .before .before .before .before .before .before .before .r in
+    let at-request-of = c .before .before .before .before .before .before .before .before .before .before .before .before .before .before .before .before .request-of in
+    let at-l2 = c .before .before .before .before .before .before .before .l2 in
+    let at-locate = c .before .before .before .before .before .before .before .before .before .locate in
+    let at-edit-no = c .before .before .edit-no in
+    let at-if2 = c .if2 in
+    let v = sym (at-check-with .ensures) ∙ at-if1 .left in
+    let e = ap (requestAnswer (at-args .req .now)) (sym (at-r .given .1)) ∙ at-request-of .ensures .0 in
+    let q = askedBy (at-args .req .now) (at-r .given .0 .0) in
+    let l = subst (Locates (take (at-args .used) (at-args .buf .now)) (at-args .req .now) q) (at-l2 .given .1) (at-locate .ensures) in
+    edit-refused (at-args .buf .now) (at-args .used) v (at-args .req .now) q (sym e) (at-l2 .given .0 .0) l (at-edit-no .result) (at-if2 .taken) (at-edit-no .ensures)
+
+carry-out-requires : tie.Need-carry-out-requires
+unfolding checkAnswer
+carry-out-requires c κs =
+    let at-check-with = c .before .before .before .before .before .before .before .before .before .before .before .before .before .before .before .before .before .before .before .before .check-with in
+    let at-if1 = c .before .before .before .before .before .before .before .before .before .before .before .before .before .before .before .before .before .before .if1 in
+    let at-args = c .before .before .before .before .before .before .before .before .before .before .before .before .before .before .before .before .before .before .before .before .before .before .before .before .before .args in
+    let at-r = c .before .before .before .before .before .before .before .before .before .before .before .before .before .before .before .r in
+    let at-l2 = c .before .before .before .before .before .before .before .before .l2 in
+    let at-locate = c .before .before .before .before .before .before .before .before .before .before .locate in
+    let at-edit-no = c .before .before .before .edit-no in
+    let at-if2 = c .before .if2 in
+    let v = sym (at-check-with .ensures) ∙ at-if1 .left in
+    let q = askedBy (at-args .req .now) (at-r .given .0 .0) in
+    let l = subst (Locates (take (at-args .used) (at-args .buf .now)) (at-args .req .now) q) (at-l2 .given .1) (at-locate .ensures) in
+    ((file-inside (at-args .buf .now) (at-args .used) v, l .2), number-zero (length (at-args .buf .now)) (madeBy (take (at-args .used) (at-args .buf .now)) (at-args .req .now) (at-l2 .given .0 .0)) (sym (at-edit-no .ensures) ∙ at-if2 .left))
+
+same-length-5 : tie.Need-same-length-5
+same-length-5 c = search needs
+
+returns-5 : tie.Need-returns-5
+unfolding checkAnswer
+returns-5 c =
+    let at-check-with = c .before .before .before .before .before .before .before .before .before .before .before .before .before .before .before .before .before .before .before .before .before .before .before .check-with in
+    let at-if1 = c .before .before .before .before .before .before .before .before .before .before .before .before .before .before .before .before .before .before .before .before .before .if1 in
+    let at-args = c .before .before .before .before .before .before .before .before .before .before .before .before .before .before .before .before .before .before .before .before .before .before .before .before .before .before .before .before .args in
+    let at-r = c .before .before .before .before .before .before .before .before .before .before .before .before .before .before .before .before .before .before .r in
+    let at-request-of = c .before .before .before .before .before .before .before .before .before .before .before .before .before .before .before .before .before .before .before .before .request-of in
+    let at-l2 = c .before .before .before .before .before .before .before .before .before .before .before .l2 in
+    let at-locate = c .before .before .before .before .before .before .before .before .before .before .before .before .before .locate in
+    let at-if2 = c .before .before .before .before .if2 in
+    let at-edit-no = c .before .before .before .before .before .before .edit-no in
     let at-carry-out = c .before .before .carry-out in
     let v = sym (at-check-with .ensures) ∙ at-if1 .left in
     let e = ap (requestAnswer (at-args .req .now)) (sym (at-r .given .1)) ∙ at-request-of .ensures .0 in
-    edit-accepted (at-args .buf .now) (at-args .used) v (at-args .req .now) (askedBy (at-args .req .now) (at-r .given .0 .0)) (sym e) (at-locate .result) (at-locate .ensures) (sym (at-if2 .left) ∙ at-edit-no .ensures) (at-carry-out .result) (at-carry-out .last .1 .1 .0) (at-carry-out .ensures .0) (at-carry-out .ensures .1)
+    let q = askedBy (at-args .req .now) (at-r .given .0 .0) in
+    let l = subst (Locates (take (at-args .used) (at-args .buf .now)) (at-args .req .now) q) (at-l2 .given .1) (at-locate .ensures) in
+    edit-accepted (at-args .buf .now) (at-args .used) v (at-args .req .now) q (sym e) (at-l2 .given .0 .0) l (sym (at-if2 .left) ∙ at-edit-no .ensures) (at-carry-out .result) (at-carry-out .last .1 .0) (at-carry-out .ensures .0) (at-carry-out .ensures .1)
 
 pub edit-spec : {M : Type 1} → statement M
 edit-spec =
@@ -190,12 +227,16 @@ edit-spec =
     slice-reshare-prefix-locate
     slice-aggregate-locate
     locate-requires
+    enum-known-l
+    same-length-3
+    returns-3
+    enum-known-l-2
     slice-reshare-prefix-edit-no
     slice-aggregate-edit-no
     slice-aggregate-edit-no-2
     edit-no-requires
-    same-length-3
-    returns-3
-    carry-out-requires
     same-length-4
-    returns-4)
+    returns-4
+    carry-out-requires
+    same-length-5
+    returns-5)

@@ -1,9 +1,10 @@
 -- `edits::carry_out` meets its contract: each kind of splice is one change of the text in the buffer.
-use Prim.Native.Nat.{_-_}
+use Prim.Native.Nat.{ℕ, _-_, max}
 use native.Mathlib.Omega.{arith}
-use mathlib.Core.Path.{_≡_, sym}
+use mathlib.Core.Path.{_≡_, sym, ap, _∙_}
+use mathlib.Core.List.{_++_}
 use denote.Ref.{now}
-use lib.ListN.{length, take}
+use lib.ListN.{length, take, drop, replicate}
 use lib.Seq.{length-take-le}
 use Rattle.format.specs.Bytes.{Bytes}
 use Rattle.format.specs.Written.{written}
@@ -11,44 +12,47 @@ use Rattle.format.proofs.Filling.{padded-self}
 use Rattle.requests.specs.Fields.{bytesOf}
 use Rattle.requests.proofs.Reading.{span-length}
 use Rattle.splices.proofs.Opening.{spliced-length}
-use Rattle.changes.proofs.Cuts.{held-placed}
 use Rattle.edits.proofs.Sizes.{sound-as, length-as, carried-as}
 use borrow.Author.Needs.{needs}
 use Rattle.edits.proofs.carry_out.Statement.{statement}
 use Rattle.edits.proofs.carry_out.Tie as tie
 use Rattle.edits.proofs.carry_out.Reads as reads
 use Rattle.edits.proofs.carry_out.Lts as lts
-use Rattle.changes.proofs.cut_fields.Reads as cut-fields-reads
-use Rattle.changes.proofs.cut_text.Reads as cut-text-reads
-use Rattle.changes.proofs.put_name.Reads as put-name-reads
-use Rattle.changes.proofs.put_record.Reads as put-record-reads
-use Rattle.changes.proofs.put_text.Reads as put-text-reads
+use Rattle.splices.proofs.cut_text.Reads as cut-text-reads
+use Rattle.splices.proofs.cut_fields.Reads as cut-fields-reads
+use Rattle.splices.proofs.put_record.Reads as put-record-reads
+use Rattle.splices.proofs.put_text.Reads as put-text-reads
+use Rattle.splices.proofs.splice.Reads as splice-reads
 
 enum-known-x : tie.Need-enum-known-x
 enum-known-x c = search needs
 
 put-record-requires : tie.Need-put-record-requires
 put-record-requires c κs =
-    let a = c .before .before .before .before .before .before .args in
-    let g = c .before .before .x .given in
+    let at-args = c .before .before .before .before .before .before .args in
+    let at-x = c .before .before .x in
     let at-pre = c .before .before .before .before .before .before .pre in
+    let a = at-args in
+    let g = at-x .given in
     let b : Bytes = now (a .buf) in
     let used = a .used in
     let req = now (a .req) in
     let t : Bytes = take used b in
-    let h = sound-as t req (g .1) (at-pre .1 .0 .1) in
-    let m = length-as t req (g .1) (length b) (at-pre .1 .1) in
-    let l : length t ≡ used = length-take-le used b (at-pre .1 .0 .0) in
-    ((omega (arith, h .0, l), at-pre .1 .0 .0, m), (h .1, h .2))
+    let h = sound-as t req (g .1) (at-pre .0 .1) in
+    let m = length-as t req (g .1) (length b) (at-pre .1) in
+    let l : length t ≡ used = length-take-le used b (at-pre .0 .0) in
+    ((omega (arith, h .0, l), at-pre .0 .0, m), (h .1, h .2))
 
 same-length : tie.Need-same-length
 same-length c = search needs
 
 returns : tie.Need-returns
 returns c =
-    let a = c .before .before .before .before .before .before .before .before .before .args in
-    let g = c .before .before .before .before .before .x .given in
+    let at-args = c .before .before .before .before .before .before .before .before .before .args in
+    let at-x = c .before .before .before .before .before .x in
     let at-put-record = c .before .before .put-record in
+    let a = at-args in
+    let g = at-x .given in
     let b : Bytes = now (a .buf) in
     let used = a .used in
     let req = now (a .req) in
@@ -60,102 +64,118 @@ enum-known-x-2 c = search needs
 
 sub-put-text : tie.Need-sub-put-text
 sub-put-text c =
-    let a = c .before .before .before .before .before .before .args in
-    let g = c .before .before .x2 .given in
+    let at-args = c .before .before .before .before .before .before .args in
+    let at-x2 = c .before .before .x2 in
     let at-pre = c .before .before .before .before .before .before .pre in
+    let a = at-args in
+    let g = at-x2 .given in
     let b : Bytes = now (a .buf) in
     let used = a .used in
     let req = now (a .req) in
     let t : Bytes = take used b in
-    let h = sound-as t req (g .1) (at-pre .1 .0 .1) in
+    let h = sound-as t req (g .1) (at-pre .0 .1) in
     omega (arith, h .2 .0)
 
 part-put-text-start : tie.Need-part-put-text-start
 part-put-text-start c =
-    let a = c .before .before .before .before .before .before .args in
-    let g = c .before .before .x2 .given in
+    let at-args = c .before .before .before .before .before .before .args in
+    let at-x2 = c .before .before .x2 in
     let at-pre = c .before .before .before .before .before .before .pre in
+    let a = at-args in
+    let g = at-x2 .given in
     let b : Bytes = now (a .buf) in
     let used = a .used in
     let req = now (a .req) in
     let t : Bytes = take used b in
-    let h = sound-as t req (g .1) (at-pre .1 .0 .1) in
+    let h = sound-as t req (g .1) (at-pre .0 .1) in
     omega (arith, h .2 .0)
 
 part-put-text-end : tie.Need-part-put-text-end
 part-put-text-end c =
-    let a = c .before .before .before .before .before .before .args in
-    let g = c .before .before .x2 .given in
+    let at-args = c .before .before .before .before .before .before .args in
+    let at-x2 = c .before .before .x2 in
     let at-pre = c .before .before .before .before .before .before .pre in
+    let a = at-args in
+    let g = at-x2 .given in
     let b : Bytes = now (a .buf) in
     let used = a .used in
     let req = now (a .req) in
     let t : Bytes = take used b in
-    let h = sound-as t req (g .1) (at-pre .1 .0 .1) in
+    let h = sound-as t req (g .1) (at-pre .0 .1) in
     omega (arith, h .2 .1)
 
 sub-put-text-2 : tie.Need-sub-put-text-2
 sub-put-text-2 c =
-    let a = c .before .before .before .before .before .before .before .args in
-    let g = c .before .before .before .x2 .given in
+    let at-args = c .before .before .before .before .before .before .before .args in
+    let at-x2 = c .before .before .before .x2 in
     let at-pre = c .before .before .before .before .before .before .before .pre in
+    let a = at-args in
+    let g = at-x2 .given in
     let b : Bytes = now (a .buf) in
     let used = a .used in
     let req = now (a .req) in
     let t : Bytes = take used b in
-    let h = sound-as t req (g .1) (at-pre .1 .0 .1) in
+    let h = sound-as t req (g .1) (at-pre .0 .1) in
     omega (arith, h .3 .0)
 
 part-put-text-start-2 : tie.Need-part-put-text-start-2
 part-put-text-start-2 c =
-    let a = c .before .before .before .before .before .before .before .args in
-    let g = c .before .before .before .x2 .given in
+    let at-args = c .before .before .before .before .before .before .before .args in
+    let at-x2 = c .before .before .before .x2 in
     let at-pre = c .before .before .before .before .before .before .before .pre in
+    let a = at-args in
+    let g = at-x2 .given in
     let b : Bytes = now (a .buf) in
     let used = a .used in
     let req = now (a .req) in
     let t : Bytes = take used b in
-    let h = sound-as t req (g .1) (at-pre .1 .0 .1) in
+    let h = sound-as t req (g .1) (at-pre .0 .1) in
     omega (arith, h .3 .0)
 
 part-put-text-end-2 : tie.Need-part-put-text-end-2
 part-put-text-end-2 c =
-    let a = c .before .before .before .before .before .before .before .args in
-    let g = c .before .before .before .x2 .given in
+    let at-args = c .before .before .before .before .before .before .before .args in
+    let at-x2 = c .before .before .before .x2 in
     let at-pre = c .before .before .before .before .before .before .before .pre in
+    let a = at-args in
+    let g = at-x2 .given in
     let b : Bytes = now (a .buf) in
     let used = a .used in
     let req = now (a .req) in
     let t : Bytes = take used b in
-    let h = sound-as t req (g .1) (at-pre .1 .0 .1) in
+    let h = sound-as t req (g .1) (at-pre .0 .1) in
     omega (arith, h .3 .1)
 
 put-text-requires : tie.Need-put-text-requires
 put-text-requires c κs =
-    let a = c .before .before .before .before .before .before .before .before .args in
-    let g = c .before .before .before .before .x2 .given in
+    let at-args = c .before .before .before .before .before .before .before .before .args in
+    let at-x2 = c .before .before .before .before .x2 in
     let at-pre = c .before .before .before .before .before .before .before .before .pre in
+    let a = at-args in
+    let g = at-x2 .given in
     let b : Bytes = now (a .buf) in
     let used = a .used in
     let req = now (a .req) in
     let t : Bytes = take used b in
-    let h = sound-as t req (g .1) (at-pre .1 .0 .1) in
-    let m = length-as t req (g .1) (length b) (at-pre .1 .1) in
-    let l : length t ≡ used = length-take-le used b (at-pre .1 .0 .0) in
+    let h = sound-as t req (g .1) (at-pre .0 .1) in
+    let m = length-as t req (g .1) (length b) (at-pre .1) in
+    let l : length t ≡ used = length-take-le used b (at-pre .0 .0) in
     let at = g .0 .0 in
     let old = g .0 .1 .0 in
     let n = g .0 .1 .1 .0 in
     let v = g .0 .1 .1 .1 .0 in
-    ((omega (arith, h .0, l), at-pre .1 .0 .0, omega (arith, m, spliced-length b used at old (written (bytesOf req n) (bytesOf req v)) (omega (arith, h .0, l)) (at-pre .1 .0 .0))), (omega (arith, span-length req n (h .2), h .1, h .2 .1), omega (arith, span-length req v (h .3), h .1, h .3 .1)))
+    ((omega (arith, h .0, l), at-pre .0 .0, omega (arith, m, spliced-length b used at old (written (bytesOf req n) (bytesOf req v)) (omega (arith, h .0, l)) (at-pre .0 .0))), (omega (arith, span-length req n (h .2), h .1, h .2 .1), omega (arith, span-length req v (h .3), h .1, h .3 .1)))
 
 same-length-2 : tie.Need-same-length-2
 same-length-2 c = search needs
 
 returns-2 : tie.Need-returns-2
 returns-2 c =
-    let a = c .before .before .before .before .before .before .before .before .before .before .before .args in
-    let g = c .before .before .before .before .before .before .before .x2 .given in
+    let at-args = c .before .before .before .before .before .before .before .before .before .before .before .args in
+    let at-x2 = c .before .before .before .before .before .before .before .x2 in
     let at-put-text = c .before .before .put-text in
+    let a = at-args in
+    let g = at-x2 .given in
     let b : Bytes = now (a .buf) in
     let used = a .used in
     let req = now (a .req) in
@@ -165,97 +185,111 @@ returns-2 c =
 enum-known-x-3 : tie.Need-enum-known-x-3
 enum-known-x-3 c = search needs
 
-sub-put-name : tie.Need-sub-put-name
-sub-put-name c =
-    let a = c .before .before .before .before .before .before .args in
-    let g = c .before .before .x3 .given in
+sub-splice : tie.Need-sub-splice
+sub-splice c =
+    let at-args = c .before .before .before .before .before .before .args in
+    let at-x3 = c .before .before .x3 in
     let at-pre = c .before .before .before .before .before .before .pre in
+    let a = at-args in
+    let g = at-x3 .given in
     let b : Bytes = now (a .buf) in
     let used = a .used in
     let req = now (a .req) in
     let t : Bytes = take used b in
-    let h = sound-as t req (g .1) (at-pre .1 .0 .1) in
+    let h = sound-as t req (g .1) (at-pre .0 .1) in
     omega (arith, h .1 .0)
 
-part-put-name-start : tie.Need-part-put-name-start
-part-put-name-start c =
-    let a = c .before .before .before .before .before .before .args in
-    let g = c .before .before .x3 .given in
+part-splice-start : tie.Need-part-splice-start
+part-splice-start c =
+    let at-args = c .before .before .before .before .before .before .args in
+    let at-x3 = c .before .before .x3 in
     let at-pre = c .before .before .before .before .before .before .pre in
+    let a = at-args in
+    let g = at-x3 .given in
     let b : Bytes = now (a .buf) in
     let used = a .used in
     let req = now (a .req) in
     let t : Bytes = take used b in
-    let h = sound-as t req (g .1) (at-pre .1 .0 .1) in
+    let h = sound-as t req (g .1) (at-pre .0 .1) in
     omega (arith, h .1 .0)
 
-part-put-name-end : tie.Need-part-put-name-end
-part-put-name-end c =
-    let a = c .before .before .before .before .before .before .args in
-    let g = c .before .before .x3 .given in
+part-splice-end : tie.Need-part-splice-end
+part-splice-end c =
+    let at-args = c .before .before .before .before .before .before .args in
+    let at-x3 = c .before .before .x3 in
     let at-pre = c .before .before .before .before .before .before .pre in
+    let a = at-args in
+    let g = at-x3 .given in
     let b : Bytes = now (a .buf) in
     let used = a .used in
     let req = now (a .req) in
     let t : Bytes = take used b in
-    let h = sound-as t req (g .1) (at-pre .1 .0 .1) in
+    let h = sound-as t req (g .1) (at-pre .0 .1) in
     omega (arith, h .1 .1)
 
-put-name-requires : tie.Need-put-name-requires
-put-name-requires c κs =
-    let a = c .before .before .before .before .before .before .before .args in
-    let g = c .before .before .before .x3 .given in
+splice-requires : tie.Need-splice-requires
+splice-requires c κs =
+    let at-args = c .before .before .before .before .before .before .before .args in
+    let at-x3 = c .before .before .before .x3 in
     let at-pre = c .before .before .before .before .before .before .before .pre in
+    let a = at-args in
+    let g = at-x3 .given in
     let b : Bytes = now (a .buf) in
     let used = a .used in
     let req = now (a .req) in
     let t : Bytes = take used b in
-    let h = sound-as t req (g .1) (at-pre .1 .0 .1) in
-    let m = length-as t req (g .1) (length b) (at-pre .1 .1) in
-    let l : length t ≡ used = length-take-le used b (at-pre .1 .0 .0) in
+    let h = sound-as t req (g .1) (at-pre .0 .1) in
+    let m = length-as t req (g .1) (length b) (at-pre .1) in
+    let l : length t ≡ used = length-take-le used b (at-pre .0 .0) in
     let at = g .0 .0 in
     let old = g .0 .1 .0 in
     let n = g .0 .1 .1 .0 in
-    (omega (arith, h .0, l), at-pre .1 .0 .0, omega (arith, m, spliced-length b used at old (bytesOf req n) (omega (arith, h .0, l)) (at-pre .1 .0 .0)))
+    (omega (arith, h .0, l), at-pre .0 .0, omega (arith, m, spliced-length b used at old (bytesOf req n) (omega (arith, h .0, l)) (at-pre .0 .0)))
 
 same-length-3 : tie.Need-same-length-3
 same-length-3 c = search needs
 
 returns-3 : tie.Need-returns-3
 returns-3 c =
-    let a = c .before .before .before .before .before .before .before .before .before .before .args in
-    let g = c .before .before .before .before .before .before .x3 .given in
-    let at-put-name = c .before .before .put-name in
+    let at-args = c .before .before .before .before .before .before .before .before .before .before .args in
+    let at-x3 = c .before .before .before .before .before .before .x3 in
+    let at-splice = c .before .before .splice in
+    let a = at-args in
+    let g = at-x3 .given in
     let b : Bytes = now (a .buf) in
     let used = a .used in
     let req = now (a .req) in
     let t : Bytes = take used b in
-    carried-as t req (g .1) used _ b _ (at-put-name .ensures)
+    carried-as t req (g .1) used _ b _ (at-splice .ensures)
 
 enum-known-x-4 : tie.Need-enum-known-x-4
 enum-known-x-4 c = search needs
 
 cut-text-requires : tie.Need-cut-text-requires
 cut-text-requires c κs =
-    let a = c .before .before .before .before .before .before .args in
-    let g = c .before .before .x4 .given in
+    let at-args = c .before .before .before .before .before .before .args in
+    let at-x4 = c .before .before .x4 in
     let at-pre = c .before .before .before .before .before .before .pre in
+    let a = at-args in
+    let g = at-x4 .given in
     let b : Bytes = now (a .buf) in
     let used = a .used in
     let req = now (a .req) in
     let t : Bytes = take used b in
-    let h = sound-as t req (g .1) (at-pre .1 .0 .1) in
-    let l : length t ≡ used = length-take-le used b (at-pre .1 .0 .0) in
-    (omega (arith, h, l), at-pre .1 .0 .0)
+    let h = sound-as t req (g .1) (at-pre .0 .1) in
+    let l : length t ≡ used = length-take-le used b (at-pre .0 .0) in
+    (omega (arith, h, l), at-pre .0 .0)
 
 same-length-4 : tie.Need-same-length-4
 same-length-4 c = search needs
 
 returns-4 : tie.Need-returns-4
 returns-4 c =
-    let a = c .before .before .before .before .before .before .before .before .before .args in
-    let g = c .before .before .before .before .before .x4 .given in
+    let at-args = c .before .before .before .before .before .before .before .before .before .args in
+    let at-x4 = c .before .before .before .before .before .x4 in
     let at-cut-text = c .before .before .cut-text in
+    let a = at-args in
+    let g = at-x4 .given in
     let b : Bytes = now (a .buf) in
     let used = a .used in
     let req = now (a .req) in
@@ -267,45 +301,34 @@ enum-known-x-5 c = search needs
 
 cut-fields-requires : tie.Need-cut-fields-requires
 cut-fields-requires c κs =
-    let a = c .before .before .before .before .before .before .args in
-    let g = c .before .before .x5 .given in
+    let at-args = c .before .before .before .before .before .before .args in
+    let at-x5 = c .before .before .x5 in
     let at-pre = c .before .before .before .before .before .before .pre in
+    let a = at-args in
+    let g = at-x5 .given in
     let b : Bytes = now (a .buf) in
     let used = a .used in
     let req = now (a .req) in
     let t : Bytes = take used b in
-    let h = sound-as t req (g .1) (at-pre .1 .0 .1) in
-    let l : length t ≡ used = length-take-le used b (at-pre .1 .0 .0) in
-    (at-pre .0, ((h .0, omega (arith, h .1, l), at-pre .1 .0 .0), h .2))
+    let h = sound-as t req (g .1) (at-pre .0 .1) in
+    let l : length t ≡ used = length-take-le used b (at-pre .0 .0) in
+    ((h .0, omega (arith, h .1, l), at-pre .0 .0), h .2)
 
 same-length-5 : tie.Need-same-length-5
 same-length-5 c = search needs
 
 returns-5 : tie.Need-returns-5
 returns-5 c =
-    let a = c .before .before .before .before .before .before .before .before .before .args in
-    let g = c .before .before .before .before .before .x5 .given in
+    let at-args = c .before .before .before .before .before .before .before .before .before .args in
+    let at-x5 = c .before .before .before .before .before .x5 in
     let at-cut-fields = c .before .before .cut-fields in
+    let a = at-args in
+    let g = at-x5 .given in
     let b : Bytes = now (a .buf) in
     let used = a .used in
     let req = now (a .req) in
     let t : Bytes = take used b in
     carried-as t req (g .1) used _ b _ (at-cut-fields .ensures)
-
-enum-told : tie.Need-enum-told
-enum-told c = search needs
-
-returns-6 : tie.Need-returns-6
-returns-6 c =
-    let a = c .before .before .before .before .args in
-    let g = c .enum-told .given in
-    let at-pre = c .before .before .before .before .pre in
-    let b : Bytes = now (a .buf) in
-    let used = a .used in
-    let req = now (a .req) in
-    let t : Bytes = take used b in
-    let l : length t ≡ used = length-take-le used b (at-pre .1 .0 .0) in
-    carried-as t req (g .1) used used b b (sym l, held-placed b b used used (omega arith) (at-pre .1 .0 .0) (sym (padded-self used b (at-pre .1 .0 .0))))
 
 pub carry-out-spec : {M : Type 1} → statement M
 carry-out-spec =
@@ -326,10 +349,10 @@ carry-out-spec =
     same-length-2
     returns-2
     enum-known-x-3
-    sub-put-name
-    part-put-name-start
-    part-put-name-end
-    put-name-requires
+    sub-splice
+    part-splice-start
+    part-splice-end
+    splice-requires
     same-length-3
     returns-3
     enum-known-x-4
@@ -339,6 +362,4 @@ carry-out-spec =
     enum-known-x-5
     cut-fields-requires
     same-length-5
-    returns-5
-    enum-told
-    returns-6)
+    returns-5)

@@ -12,7 +12,7 @@ use Rattle.integrity.proofs.judge_described.Reads as reads
 use Rattle.integrity.proofs.judge_described.Lts as lts
 use Rattle.integrity.proofs.judge_sets.Reads as judge-sets-reads
 use Rattle.integrity.proofs.types_defined.Reads as types-defined-reads
-use Rattle.shapes.proofs.described_well.Reads as described-well-reads
+use Rattle.descriptors.proofs.described_well.Reads as described-well-reads
 
 slice-aggregate-described-well : tie.Need-slice-aggregate-described-well
 slice-aggregate-described-well c = search needs

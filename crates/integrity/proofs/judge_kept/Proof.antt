@@ -13,13 +13,13 @@ use Rattle.integrity.proofs.judge_kept.Lts as lts
 use Rattle.integrity.proofs.dense.may_join.Reads as may-join-reads
 use Rattle.integrity.proofs.judge.Reads as judge-reads
 use Rattle.integrity.proofs.judge_dense.Reads as judge-dense-reads
-use Rattle.splices.proofs.copy_text.Reads as copy-text-reads
+use Rattle.writing.proofs.put_bytes.Reads as put-bytes-reads
 
 may-join-requires : tie.Need-may-join-requires
 may-join-requires c κs = search needs
 
-copy-text-requires : tie.Need-copy-text-requires
-copy-text-requires c κs = search needs
+put-bytes-requires : tie.Need-put-bytes-requires
+put-bytes-requires c κs = search needs
 
 judge-dense-requires : tie.Need-judge-dense-requires
 judge-dense-requires c κs = search needs
@@ -31,8 +31,8 @@ returns : tie.Need-returns
 returns c =
     let at-judge-dense = c .before .before .judge-dense in
     let at-args = c .before .before .before .before .before .before .before .before .before .before .before .before .args in
-    let at-copy-text = c .before .before .before .before .before .before .copy-text in
-    at-judge-dense .ensures ∙ ap (λ (t : Bytes). textNo (take (length (at-args .s .now)) t)) (at-copy-text .ensures) ∙ ap textNo (take-at (at-args .s .now) (drop (length (at-args .s .now)) (at-args .copy .now)) (length (at-args .s .now)) refl)
+    let at-put-bytes = c .before .before .before .before .before .before .put-bytes in
+    at-judge-dense .ensures ∙ ap (λ (t : Bytes). textNo (take (length (at-args .s .now)) t)) (at-put-bytes .ensures) ∙ ap textNo (take-at (at-args .s .now) (drop (length (at-args .s .now)) (at-args .copy .now)) (length (at-args .s .now)) refl)
 
 judge-requires : tie.Need-judge-requires
 judge-requires c κs = search needs
@@ -45,7 +45,7 @@ judge-kept-spec =
     tie.close
     (tie.spec
     may-join-requires
-    copy-text-requires
+    put-bytes-requires
     judge-dense-requires
     same-length
     returns

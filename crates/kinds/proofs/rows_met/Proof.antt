@@ -50,12 +50,12 @@ is-symbol-requires c κs =
     let at-loop = c .before .before .before .before .before .loop in
     let at-loop-test = c .before .before .before .before .loop-test in
     let at-pre = c .before .before .before .before .before .before .before .before .pre in
-    (at-loop .inv .0, omega (arith, at-loop-test .taken, at-pre .1 .0 .1, at-pre .1 .0 .3), omega (arith, at-loop-test .taken, at-pre .1 .0 .1))
+    ((at-loop .inv .0, omega (arith, at-loop-test .taken, at-pre .1 .0 .1, at-pre .1 .0 .3), omega (arith, at-loop-test .taken, at-pre .1 .0 .1)), λ i. at-pre .1 .1 .1 (at-loop .k) (at-loop .inv .0) (at-loop-test .taken) i)
 
 shape-met-requires : tie.Need-shape-met-requires Inv-loop μ-loop
 shape-met-requires c κs =
     let at-pre = c .before .before .before .before .before .before .before .before .before .pre in
-    (at-pre .0, at-pre .1 .1)
+    (at-pre .0, at-pre .1 .1 .0)
 
 add-k : tie.Need-add-k Inv-loop μ-loop
 add-k c =

@@ -7,6 +7,7 @@ use Rattle.words.proofs.Decoded.{decoded-all, decoded-length}
 use Rattle.kinds.specs.Meets.{rowsMet}
 use Rattle.kinds.proofs.Asking.{all-asked}
 use borrow.Author.Needs.{needs}
+use borrow.Author.Needs.{needs}
 use Rattle.kinds.proofs.value_met.Statement.{statement}
 use Rattle.kinds.proofs.value_met.Tie as tie
 use Rattle.kinds.proofs.value_met.Reads as reads
@@ -63,9 +64,10 @@ rows-met-requires : tie.Need-rows-met-requires
 rows-met-requires c κs =
     let at-pre = c .before .before .before .before .before .before .before .before .before .before .before .before .before .before .before .pre in
     let at-int-in = c .before .before .before .before .before .int-in in
+    let at-texts-with = c .before .texts-with in
     let y = at-pre .1 .1 .0 in
     let z = at-pre .1 .0 in
-    (at-pre .0, ((omega (arith, y .begins), omega (arith, y .begins, y .within, z .1, z .0 .few), z .0 .rows-long, z .0 .texts-long), at-int-in .ensures))
+    (at-pre .0, ((omega (arith, y .begins), omega (arith, y .begins, y .within, z .1, z .0 .few), z .0 .rows-long, z .0 .texts-long), (at-int-in .ensures, at-texts-with .ensures .leads)))
 
 same-length : tie.Need-same-length
 same-length c = search needs

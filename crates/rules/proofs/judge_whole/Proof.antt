@@ -11,7 +11,7 @@ use Rattle.rules.proofs.judge_whole.Tie as tie
 use Rattle.rules.proofs.judge_whole.Reads as reads
 use Rattle.rules.proofs.judge_whole.Lts as lts
 use Rattle.rules.proofs.keys_apart.Reads as keys-apart-reads
-use Rattle.sizes.proofs.size_met.Reads as size-met-reads
+use Rattle.descriptors.proofs.size_met.Reads as size-met-reads
 
 keys-apart-requires : tie.Need-keys-apart-requires
 keys-apart-requires c κs =

@@ -1,11 +1,12 @@
--- `writing::put_bytes` meets its contract. The invariant: writing the rest of s at i gives what writing all of it gives.
+-- `writing::put_bytes` meets its contract. The invariant: storing the rest of s at i gives what storing all of it gives.
 use borrow.Author.Needs.{needs}
 use Prim.Native.Nat.{_≤_, _-_}
 use native.Mathlib.Numerals.{add-one}
 use native.Mathlib.Omega.{arith}
-use mathlib.Core.Path.{_≡_, refl}
+use mathlib.Core.Path.{_≡_, refl, _∙_}
 use lib.ListN.{length, drop, length-set, drop-of-length-le}
 use lib.Seq.{sets, drop-cons}
+use Rattle.lines.proofs.Over.{over-sets}
 use Rattle.writing.proofs.put_bytes.Statement.{statement}
 use Rattle.writing.proofs.put_bytes.Tie as tie
 use Rattle.writing.proofs.put_bytes.Reads as reads
@@ -47,7 +48,7 @@ returns c =
     let at-args = c .before .before .args in
     let at-loop-test = c .loop-test in
     let at-loop = c .before .loop in
-    rw (drop-of-length-le (at-args .s .now) (at-loop-test .left)) at (at-loop .inv .2)
+    (rw (drop-of-length-le (at-args .s .now) (at-loop-test .left)) at (at-loop .inv .2)) ∙ over-sets (at-args .s .now) (at-args .out .now) (omega arith)
 
 pub put-bytes-spec : {M : Type 1} → statement M
 put-bytes-spec =

@@ -10,11 +10,12 @@ use Rattle.records.proofs.SetEnds.{setEnd, end-inside}
 use Rattle.requests.specs.Pairs.{pairsAt, Weighs}
 use Rattle.edits.proofs.Acting.{insert-illegal, insert-located}
 use borrow.Author.Needs.{needs}
+use borrow.Author.Needs.{needs}
 use Rattle.edits.proofs.places.locate_insert.Statement.{statement}
 use Rattle.edits.proofs.places.locate_insert.Tie as tie
 use Rattle.edits.proofs.places.locate_insert.Reads as reads
 use Rattle.edits.proofs.places.locate_insert.Lts as lts
-use Rattle.changes.proofs.set_end.Reads as set-end-reads
+use Rattle.edits.proofs.places.set_end.Reads as set-end-reads
 use Rattle.requests.proofs.weigh.Reads as weigh-reads
 
 weigh-requires : tie.Need-weigh-requires
@@ -31,10 +32,11 @@ enum-told c = search needs
 
 returns : tie.Need-returns
 returns c =
-    let a = c .before .before .before .before .before .args in
+    let at-args = c .before .before .before .before .before .args in
     let at-pre = c .before .before .before .before .before .pre in
     let at-enum-told = c .enum-told in
     let at-weigh = c .before .before .weigh in
+    let a = at-args in
     let p = at-pre .1 .0 in
     let w = subst (Weighs (pairsAt (a .req .now) (a .from))) (at-enum-told .given .1) (at-weigh .ensures) in
     insert-illegal (a .s .now) (a .begin) 0 (p .0) (p .1) (p .2) (a .req .now) (pairsAt (a .req .now) (a .from)) w
@@ -56,21 +58,24 @@ set-end-requires c κs =
 
 add-t10 : tie.Need-add-t10
 add-t10 c =
-    let a = c .before .before .before .before .before .before .before .before .args in
+    let at-args = c .before .before .before .before .before .before .before .before .args in
     let at-pre = c .before .before .before .before .before .before .before .before .pre in
     let at-set-end = c .set-end in
     let at-good = c .before .before .before .before .before .before .before .before .good in
+    let a = at-args in
     let p = at-pre .1 .0 in
     let e = at-set-end .ensures ∙ ap (λ (y : Bytes). setEnd 0 (placesOf y)) (rest (a .s .now) (a .begin)) in
     omega (arith, at-good .1 .0 .0, end-inside _ (p .2), e, p .1, length-drop (a .begin) (a .s .now))
 
 returns-2 : tie.Need-returns-2
 returns-2 c =
-    let a = c .before .before .before .before .before .before .before .before .args in
+    let at-args = c .before .before .before .before .before .before .before .before .args in
+    let at-w = c .before .before .before .w in
     let at-pre = c .before .before .before .before .before .before .before .before .pre in
-    let g = c .before .before .before .w .given in
     let at-set-end = c .set-end in
     let at-weigh = c .before .before .before .before .before .weigh in
+    let a = at-args in
+    let g = at-w .given in
     let p = at-pre .1 .0 in
     let e = at-set-end .ensures ∙ ap (λ (y : Bytes). setEnd 0 (placesOf y)) (rest (a .s .now) (a .begin)) in
     let w = subst (Weighs (pairsAt (a .req .now) (a .from))) (g .1) (at-weigh .ensures) in

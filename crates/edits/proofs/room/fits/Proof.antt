@@ -9,9 +9,9 @@ use Rattle.writing.proofs.Texts.{indent-length, written-length}
 use Rattle.requests.specs.Fields.{bytesOf}
 use Rattle.requests.specs.Pairs.{pairsAt}
 use Rattle.requests.proofs.Reading.{span-length}
+use Rattle.words.specs.Spans.{span}
 use Rattle.records.proofs.Unfielding.{leftOf}
-use Rattle.changes.specs.Texts.{part, inserted}
-use Rattle.splices.specs.Space.{spliced}
+use Rattle.splices.specs.Space.{spliced, inserted}
 use Rattle.edits.specs.Splices.{isWithin}
 use Rattle.edits.proofs.Sizes.{not-longer, over-file, exchanged-length, alone-length, inserted-length, inserted-least, unfielded-length, sound-as, fits-as}
 use borrow.Author.Needs.{needs}
@@ -19,7 +19,8 @@ use Rattle.edits.proofs.room.fits.Statement.{statement}
 use Rattle.edits.proofs.room.fits.Tie as tie
 use Rattle.edits.proofs.room.fits.Reads as reads
 use Rattle.edits.proofs.room.fits.Lts as lts
-use Rattle.edits.proofs.room.is_within.Reads as is-within-reads
+use Rattle.format.proofs.File.fits.Reads as fits-reads
+use Rattle.format.proofs.File.new.Reads as new-reads
 use Rattle.writing.proofs.written_len.Reads as written-len-reads
 
 enum-known-x : tie.Need-enum-known-x
@@ -27,10 +28,12 @@ enum-known-x c = search needs
 
 returns : tie.Need-returns
 returns c =
-    let a = c .before .before .before .before .before .before .args in
-    let g = c .before .before .x .given in
+    let at-args = c .before .before .before .before .before .before .args in
+    let at-x = c .before .before .x in
     let at-pre = c .before .before .before .before .before .before .pre in
     let at-if1 = c .if1 in
+    let a = at-args in
+    let g = at-x .given in
     let s = a .s .now in
     let req = a .req .now in
     let h = sound-as s req (g .1) (at-pre .0) in
@@ -38,54 +41,68 @@ returns c =
     let ps = pairsAt req (g .0 .1 .0) in
     fits-as s req (g .1) (a .room) (over-file (a .room) (length (inserted s at ps)) (omega (arith, at-if1 .taken, inserted-least s at ps (h .0), h .2)))
 
-is-within-requires : tie.Need-is-within-requires
-is-within-requires c κs = search needs
+new-requires : tie.Need-new-requires
+new-requires c κs = search needs
+
+fits-requires : tie.Need-fits-requires
+fits-requires c κs = search needs
 
 returns-2 : tie.Need-returns-2
 returns-2 c =
-    let a = c .before .before .before .before .before .before .before .before .args in
-    let g = c .before .before .before .before .x .given in
-    let at-pre = c .before .before .before .before .before .before .before .before .pre in
-    let at-if2 = c .before .if2 in
-    let at-is-within = c .is-within in
+    let at-args = c .before .before .before .before .before .before .before .before .before .args in
+    let at-x = c .before .before .before .before .before .x in
+    let at-pre = c .before .before .before .before .before .before .before .before .before .pre in
+    let at-if2 = c .before .before .if2 in
+    let at-fits2 = c .fits2 in
+    let at-new = c .before .new in
+    let a = at-args in
+    let g = at-x .given in
     let s = a .s .now in
     let req = a .req .now in
     let h = sound-as s req (g .1) (at-pre .0) in
     let at = g .0 .0 in
     let ps = pairsAt req (g .0 .1 .0) in
-    fits-as s req (g .1) (a .room) (ap (isWithin (a .room)) (alone-length s at ps (at-if2 .taken) (h .0) ∙ sym (h .2)) ∙ sym (at-is-within .ensures))
+    fits-as s req (g .1) (a .room) (ap (isWithin (a .room)) (alone-length s at ps (at-if2 .taken) (h .0) ∙ sym (h .2)) ∙ sym (at-fits2 .ensures ∙ ap (isWithin (a .room)) (at-new .ensures)))
 
-add-is-within : tie.Need-add-is-within
-add-is-within c = search needs
+add-new : tie.Need-add-new
+add-new c = search needs
 
-add-is-within-2 : tie.Need-add-is-within-2
-add-is-within-2 c = search needs
+add-new-2 : tie.Need-add-new-2
+add-new-2 c = search needs
 
-is-within-requires-2 : tie.Need-is-within-requires-2
-is-within-requires-2 c κs = search needs
+new-requires-2 : tie.Need-new-requires-2
+new-requires-2 c κs = search needs
+
+fits-requires-2 : tie.Need-fits-requires-2
+fits-requires-2 c κs = search needs
 
 returns-3 : tie.Need-returns-3
 returns-3 c =
-    let a = c .before .before .before .before .before .before .before .before .args in
-    let g = c .before .before .before .before .x .given in
-    let at-pre = c .before .before .before .before .before .before .before .before .pre in
-    let at-if2 = c .before .if2 in
-    let at-is-within2 = c .is-within2 in
+    let at-args = c .before .before .before .before .before .before .before .before .before .args in
+    let at-x = c .before .before .before .before .before .x in
+    let at-pre = c .before .before .before .before .before .before .before .before .before .pre in
+    let at-if2 = c .before .before .if2 in
+    let at-fits3 = c .fits3 in
+    let at-new2 = c .before .new2 in
+    let a = at-args in
+    let g = at-x .given in
     let s = a .s .now in
     let req = a .req .now in
     let h = sound-as s req (g .1) (at-pre .0) in
     let at = g .0 .0 in
     let ps = pairsAt req (g .0 .1 .0) in
-    fits-as s req (g .1) (a .room) (ap (isWithin (a .room)) (inserted-length s at ps (omega (arith, at-if2 .left)) (h .0) ∙ ap (λ n. length s + n + 1) (sym (h .2))) ∙ sym (at-is-within2 .ensures))
+    fits-as s req (g .1) (a .room) (ap (isWithin (a .room)) (inserted-length s at ps (omega (arith, at-if2 .left)) (h .0) ∙ ap (λ n. length s + n + 1) (sym (h .2))) ∙ sym (at-fits3 .ensures ∙ ap (isWithin (a .room)) (at-new2 .ensures)))
 
 enum-known-x-2 : tie.Need-enum-known-x-2
 enum-known-x-2 c = search needs
 
 sub-written-len : tie.Need-sub-written-len
 sub-written-len c =
-    let a = c .before .before .before .before .before .args in
-    let g = c .before .x2 .given in
+    let at-args = c .before .before .before .before .before .args in
+    let at-x2 = c .before .x2 in
     let at-pre = c .before .before .before .before .before .pre in
+    let a = at-args in
+    let g = at-x2 .given in
     let s = a .s .now in
     let req = a .req .now in
     let h = sound-as s req (g .1) (at-pre .0) in
@@ -93,9 +110,11 @@ sub-written-len c =
 
 part-written-len-start : tie.Need-part-written-len-start
 part-written-len-start c =
-    let a = c .before .before .before .before .before .args in
-    let g = c .before .x2 .given in
+    let at-args = c .before .before .before .before .before .args in
+    let at-x2 = c .before .x2 in
     let at-pre = c .before .before .before .before .before .pre in
+    let a = at-args in
+    let g = at-x2 .given in
     let s = a .s .now in
     let req = a .req .now in
     let h = sound-as s req (g .1) (at-pre .0) in
@@ -103,9 +122,11 @@ part-written-len-start c =
 
 part-written-len-end : tie.Need-part-written-len-end
 part-written-len-end c =
-    let a = c .before .before .before .before .before .args in
-    let g = c .before .x2 .given in
+    let at-args = c .before .before .before .before .before .args in
+    let at-x2 = c .before .x2 in
     let at-pre = c .before .before .before .before .before .pre in
+    let a = at-args in
+    let g = at-x2 .given in
     let s = a .s .now in
     let req = a .req .now in
     let h = sound-as s req (g .1) (at-pre .0) in
@@ -113,9 +134,11 @@ part-written-len-end c =
 
 sub-written-len-2 : tie.Need-sub-written-len-2
 sub-written-len-2 c =
-    let a = c .before .before .before .before .before .before .args in
-    let g = c .before .before .x2 .given in
+    let at-args = c .before .before .before .before .before .before .args in
+    let at-x2 = c .before .before .x2 in
     let at-pre = c .before .before .before .before .before .before .pre in
+    let a = at-args in
+    let g = at-x2 .given in
     let s = a .s .now in
     let req = a .req .now in
     let h = sound-as s req (g .1) (at-pre .0) in
@@ -123,9 +146,11 @@ sub-written-len-2 c =
 
 part-written-len-start-2 : tie.Need-part-written-len-start-2
 part-written-len-start-2 c =
-    let a = c .before .before .before .before .before .before .args in
-    let g = c .before .before .x2 .given in
+    let at-args = c .before .before .before .before .before .before .args in
+    let at-x2 = c .before .before .x2 in
     let at-pre = c .before .before .before .before .before .before .pre in
+    let a = at-args in
+    let g = at-x2 .given in
     let s = a .s .now in
     let req = a .req .now in
     let h = sound-as s req (g .1) (at-pre .0) in
@@ -133,9 +158,11 @@ part-written-len-start-2 c =
 
 part-written-len-end-2 : tie.Need-part-written-len-end-2
 part-written-len-end-2 c =
-    let a = c .before .before .before .before .before .before .args in
-    let g = c .before .before .x2 .given in
+    let at-args = c .before .before .before .before .before .before .args in
+    let at-x2 = c .before .before .x2 in
     let at-pre = c .before .before .before .before .before .before .pre in
+    let a = at-args in
+    let g = at-x2 .given in
     let s = a .s .now in
     let req = a .req .now in
     let h = sound-as s req (g .1) (at-pre .0) in
@@ -143,9 +170,11 @@ part-written-len-end-2 c =
 
 written-len-requires : tie.Need-written-len-requires
 written-len-requires c κs =
-    let a = c .before .before .before .before .before .before .before .args in
-    let g = c .before .before .before .x2 .given in
+    let at-args = c .before .before .before .before .before .before .before .args in
+    let at-x2 = c .before .before .before .x2 in
     let at-pre = c .before .before .before .before .before .before .before .pre in
+    let a = at-args in
+    let g = at-x2 .given in
     let s = a .s .now in
     let req = a .req .now in
     let h = sound-as s req (g .1) (at-pre .0) in
@@ -153,22 +182,26 @@ written-len-requires c κs =
     let v = g .0 .1 .1 .1 .0 in
     (omega (arith, span-length req n (h .2), h .1, h .2 .1), omega (arith, span-length req v (h .3), h .1, h .3 .1))
 
-sub-is-within : tie.Need-sub-is-within
-sub-is-within c =
-    let a = c .before .before .before .before .before .before .before .before .args in
-    let g = c .before .before .before .before .x2 .given in
+sub-new : tie.Need-sub-new
+sub-new c =
+    let at-args = c .before .before .before .before .before .before .before .before .args in
+    let at-x2 = c .before .before .before .before .x2 in
     let at-pre = c .before .before .before .before .before .before .before .before .pre in
+    let a = at-args in
+    let g = at-x2 .given in
     let s = a .s .now in
     let req = a .req .now in
     let h = sound-as s req (g .1) (at-pre .0) in
     omega (arith, h .0)
 
-add-is-within-3 : tie.Need-add-is-within-3
-add-is-within-3 c =
-    let a = c .before .before .before .before .before .before .before .before .args in
-    let g = c .before .before .before .before .x2 .given in
+add-new-3 : tie.Need-add-new-3
+add-new-3 c =
+    let at-args = c .before .before .before .before .before .before .before .before .args in
+    let at-x2 = c .before .before .before .before .x2 in
     let at-pre = c .before .before .before .before .before .before .before .before .pre in
     let at-written-len = c .written-len in
+    let a = at-args in
+    let g = at-x2 .given in
     let s = a .s .now in
     let req = a .req .now in
     let h = sound-as s req (g .1) (at-pre .0) in
@@ -176,16 +209,22 @@ add-is-within-3 c =
     let v = g .0 .1 .1 .1 .0 in
     omega (arith, at-written-len .ensures, written-length (bytesOf req n) (bytesOf req v), indent-length (bytesOf req v), span-length req n (h .2), span-length req v (h .3), h .1, h .2 .1, h .3 .1, at-pre .1 .1)
 
-is-within-requires-3 : tie.Need-is-within-requires-3
-is-within-requires-3 c κs = search needs
+new-requires-3 : tie.Need-new-requires-3
+new-requires-3 c κs = search needs
+
+fits-requires-3 : tie.Need-fits-requires-3
+fits-requires-3 c κs = search needs
 
 returns-4 : tie.Need-returns-4
 returns-4 c =
-    let a = c .before .before .before .before .before .before .before .before .before .args in
-    let g = c .before .before .before .before .before .x2 .given in
-    let at-pre = c .before .before .before .before .before .before .before .before .before .pre in
-    let at-written-len = c .before .written-len in
-    let at-is-within3 = c .is-within3 in
+    let at-args = c .before .before .before .before .before .before .before .before .before .before .args in
+    let at-x2 = c .before .before .before .before .before .before .x2 in
+    let at-pre = c .before .before .before .before .before .before .before .before .before .before .pre in
+    let at-written-len = c .before .before .written-len in
+    let at-fits4 = c .fits4 in
+    let at-new3 = c .before .new3 in
+    let a = at-args in
+    let g = at-x2 .given in
     let s = a .s .now in
     let req = a .req .now in
     let h = sound-as s req (g .1) (at-pre .0) in
@@ -194,67 +233,81 @@ returns-4 c =
     let n = g .0 .1 .1 .0 in
     let v = g .0 .1 .1 .1 .0 in
     let w = written (bytesOf req n) (bytesOf req v) in
-    fits-as s req (g .1) (a .room) (ap (isWithin (a .room)) (exchanged-length s at old w (h .0) ∙ ap (λ k. (length s - old) + k) (sym (at-written-len .ensures))) ∙ sym (at-is-within3 .ensures))
+    fits-as s req (g .1) (a .room) (ap (isWithin (a .room)) (exchanged-length s at old w (h .0) ∙ ap (λ k. (length s - old) + k) (sym (at-written-len .ensures))) ∙ sym (at-fits4 .ensures ∙ ap (isWithin (a .room)) (at-new3 .ensures)))
 
 enum-known-x-3 : tie.Need-enum-known-x-3
 enum-known-x-3 c = search needs
 
-sub-new : tie.Need-sub-new
-sub-new c =
-    let a = c .before .before .before .before .before .before .args in
-    let g = c .before .before .x3 .given in
+sub-new-2 : tie.Need-sub-new-2
+sub-new-2 c =
+    let at-args = c .before .before .before .before .before .before .args in
+    let at-x3 = c .before .before .x3 in
     let at-pre = c .before .before .before .before .before .before .pre in
+    let a = at-args in
+    let g = at-x3 .given in
     let s = a .s .now in
     let req = a .req .now in
     let h = sound-as s req (g .1) (at-pre .0) in
     omega (arith, h .1 .0)
 
-sub-is-within-2 : tie.Need-sub-is-within-2
-sub-is-within-2 c =
-    let a = c .before .before .before .before .before .before .args in
-    let g = c .before .before .x3 .given in
+sub-new-3 : tie.Need-sub-new-3
+sub-new-3 c =
+    let at-args = c .before .before .before .before .before .before .args in
+    let at-x3 = c .before .before .x3 in
     let at-pre = c .before .before .before .before .before .before .pre in
+    let a = at-args in
+    let g = at-x3 .given in
     let s = a .s .now in
     let req = a .req .now in
     let h = sound-as s req (g .1) (at-pre .0) in
     omega (arith, h .0)
 
-add-is-within-4 : tie.Need-add-is-within-4
-add-is-within-4 c =
-    let a = c .before .before .before .before .before .before .args in
-    let g = c .before .before .x3 .given in
+add-new-4 : tie.Need-add-new-4
+add-new-4 c =
+    let at-args = c .before .before .before .before .before .before .args in
+    let at-x3 = c .before .before .x3 in
     let at-pre = c .before .before .before .before .before .before .pre in
     let at-good = c .before .before .before .before .before .before .good in
+    let a = at-args in
+    let g = at-x3 .given in
     let s = a .s .now in
     let req = a .req .now in
     let h = sound-as s req (g .1) (at-pre .0) in
     omega (arith, h .1 .1, at-good, at-pre .1 .1)
 
-is-within-requires-4 : tie.Need-is-within-requires-4
-is-within-requires-4 c κs = search needs
+new-requires-4 : tie.Need-new-requires-4
+new-requires-4 c κs = search needs
+
+fits-requires-4 : tie.Need-fits-requires-4
+fits-requires-4 c κs = search needs
 
 returns-5 : tie.Need-returns-5
 returns-5 c =
-    let a = c .before .before .before .before .before .before .before .args in
-    let g = c .before .before .before .x3 .given in
-    let at-pre = c .before .before .before .before .before .before .before .pre in
-    let at-is-within4 = c .is-within4 in
+    let at-args = c .before .before .before .before .before .before .before .before .args in
+    let at-x3 = c .before .before .before .before .x3 in
+    let at-pre = c .before .before .before .before .before .before .before .before .pre in
+    let at-fits5 = c .fits5 in
+    let at-new4 = c .before .new4 in
+    let a = at-args in
+    let g = at-x3 .given in
     let s = a .s .now in
     let req = a .req .now in
     let h = sound-as s req (g .1) (at-pre .0) in
     let at = g .0 .0 in
     let old = g .0 .1 .0 in
     let n = g .0 .1 .1 .0 in
-    fits-as s req (g .1) (a .room) (ap (isWithin (a .room)) (exchanged-length s at old (bytesOf req n) (h .0) ∙ ap (λ k. (length s - old) + k) (span-length req n (h .1))) ∙ sym (at-is-within4 .ensures))
+    fits-as s req (g .1) (a .room) (ap (isWithin (a .room)) (exchanged-length s at old (bytesOf req n) (h .0) ∙ ap (λ k. (length s - old) + k) (span-length req n (h .1))) ∙ sym (at-fits5 .ensures ∙ ap (isWithin (a .room)) (at-new4 .ensures)))
 
 enum-told : tie.Need-enum-told
 enum-told c = search needs
 
 returns-6 : tie.Need-returns-6
 returns-6 c =
-    let a = c .before .before .before .before .args in
-    let g = c .enum-told .given in
+    let at-args = c .before .before .before .before .args in
+    let at-enum-told = c .enum-told in
     let at-pre = c .before .before .before .before .pre in
+    let a = at-args in
+    let g = at-enum-told .given in
     let s = a .s .now in
     let req = a .req .now in
     let h = sound-as s req (g .1) (at-pre .0) in
@@ -267,27 +320,17 @@ enum-told-2 c = search needs
 
 returns-7 : tie.Need-returns-7
 returns-7 c =
-    let a = c .before .before .before .before .args in
-    let g = c .enum-told2 .given in
+    let at-args = c .before .before .before .before .args in
+    let at-enum-told2 = c .enum-told2 in
     let at-pre = c .before .before .before .before .pre in
+    let a = at-args in
+    let g = at-enum-told2 .given in
     let s = a .s .now in
     let req = a .req .now in
     let h = sound-as s req (g .1) (at-pre .0) in
     let start = g .0 .0 in
     let end = g .0 .1 .0 in
-    fits-as s req (g .1) (a .room) (not-longer (a .room) (length (spliced s start (end - start) (leftOf (part s start end)))) (length s) (unfielded-length s start end (h .0) (h .1) (h .2)) (at-pre .1 .0) (at-pre .1 .1))
-
-enum-told-3 : tie.Need-enum-told-3
-enum-told-3 c = search needs
-
-returns-8 : tie.Need-returns-8
-returns-8 c =
-    let a = c .before .before .before .before .args in
-    let g = c .enum-told3 .given in
-    let at-pre = c .before .before .before .before .pre in
-    let s = a .s .now in
-    let req = a .req .now in
-    fits-as s req (g .1) (a .room) (not-longer (a .room) (length s) (length s) (omega arith) (at-pre .1 .0) (at-pre .1 .1))
+    fits-as s req (g .1) (a .room) (not-longer (a .room) (length (spliced s start (end - start) (leftOf (span start end s)))) (length s) (unfielded-length s start end (h .0) (h .1) (h .2)) (at-pre .1 .0) (at-pre .1 .1))
 
 pub fits-spec : {M : Type 1} → statement M
 fits-spec =
@@ -295,11 +338,13 @@ fits-spec =
     (tie.spec
     enum-known-x
     returns
-    is-within-requires
+    new-requires
+    fits-requires
     returns-2
-    add-is-within
-    add-is-within-2
-    is-within-requires-2
+    add-new
+    add-new-2
+    new-requires-2
+    fits-requires-2
     returns-3
     enum-known-x-2
     sub-written-len
@@ -309,19 +354,19 @@ fits-spec =
     part-written-len-start-2
     part-written-len-end-2
     written-len-requires
-    sub-is-within
-    add-is-within-3
-    is-within-requires-3
+    sub-new
+    add-new-3
+    new-requires-3
+    fits-requires-3
     returns-4
     enum-known-x-3
-    sub-new
-    sub-is-within-2
-    add-is-within-4
-    is-within-requires-4
+    sub-new-2
+    sub-new-3
+    add-new-4
+    new-requires-4
+    fits-requires-4
     returns-5
     enum-told
     returns-6
     enum-told-2
-    returns-7
-    enum-told-3
-    returns-8)
+    returns-7)

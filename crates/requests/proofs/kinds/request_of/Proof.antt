@@ -1,15 +1,15 @@
 -- `requests::kinds::request_of` meets its contract: the length, the kind, the set, and then the fields of the kind.
 use native.Mathlib.Omega.{arith}
 use Rattle.requests.proofs.Reading.{text-found, text-missed}
-use Rattle.requests.proofs.Kinding.{request-long, no-kind, no-set, wrong-kind, right-kind}
+use Rattle.requests.proofs.Kinding.{request-long, no-kind, no-set, wrong-kind, no-edit, an-edit}
 use borrow.Author.Needs.{needs}
 use Rattle.requests.proofs.kinds.request_of.Statement.{statement}
 use Rattle.requests.proofs.kinds.request_of.Tie as tie
 use Rattle.requests.proofs.kinds.request_of.Reads as reads
 use Rattle.requests.proofs.kinds.request_of.Lts as lts
 use Rattle.lines.proofs.byte.Reads as byte-reads
-use Rattle.requests.proofs.kinds.kind_at.Reads as kind-at-reads
 use Rattle.requests.proofs.fields.text_at.Reads as text-at-reads
+use Rattle.requests.proofs.kinds.edit_at.Reads as edit-at-reads
 
 returns : tie.Need-returns
 returns c =
@@ -74,26 +74,42 @@ returns-4 c =
 byte-requires : tie.Need-byte-requires
 byte-requires c κs = search needs
 
-kind-at-requires : tie.Need-kind-at-requires
-kind-at-requires c κs =
-    let at-args = c .before .before .before .before .before .before .before .before .before .before .before .before .before .args in
-    let at-k = c .before .before .before .before .before .before .before .before .k in
-    let at-text-at2 = c .before .before .before .before .before .before .text-at2 in
-    let at-s = c .before .before .before .before .s in
-    let h = text-found (at-args .req .now) (at-k .given .0 .0 .end) 2 (at-text-at2 .result) (at-s .given .0 .0) (at-text-at2 .ensures) (at-s .given .1) in h .2
+edit-at-requires : tie.Need-edit-at-requires
+edit-at-requires c κs = search needs
+
+enum-known-e : tie.Need-enum-known-e
+enum-known-e c = search needs
+
+enum-told-3 : tie.Need-enum-told-3
+enum-told-3 c = search needs
 
 returns-5 : tie.Need-returns-5
 returns-5 c =
-    let at-args = c .before .before .before .before .before .before .before .before .before .before .before .before .before .before .args in
-    let at-if1 = c .before .before .before .before .before .before .before .before .before .before .before .before .if1 in
-    let at-k = c .before .before .before .before .before .before .before .before .before .k in
-    let at-text-at = c .before .before .before .before .before .before .before .before .before .before .before .text-at in
-    let at-s = c .before .before .before .before .before .s in
-    let at-text-at2 = c .before .before .before .before .before .before .before .text-at2 in
-    let at-byte = c .before .byte in
-    let at-kind-at = c .kind-at in
-    let at-if2 = c .before .before .if2 in
-    right-kind (at-args .req .now) (at-if1 .left) (at-k .given .0 .0) (text-found (at-args .req .now) 0 1 (at-text-at .result) (at-k .given .0 .0) (at-text-at .ensures) (at-k .given .1)) (at-s .given .0 .0) (text-found (at-args .req .now) (at-k .given .0 .0 .end) 2 (at-text-at2 .result) (at-s .given .0 .0) (at-text-at2 .ensures) (at-s .given .1)) (at-byte .result) (at-kind-at .result) (at-byte .ensures) (at-if2 .left) (at-kind-at .ensures)
+    let at-args = c .before .before .before .before .before .before .before .before .before .before .before .before .before .before .before .before .args in
+    let at-if1 = c .before .before .before .before .before .before .before .before .before .before .before .before .before .before .if1 in
+    let at-k = c .before .before .before .before .before .before .before .before .before .before .before .k in
+    let at-text-at = c .before .before .before .before .before .before .before .before .before .before .before .before .before .text-at in
+    let at-s = c .before .before .before .before .before .before .before .s in
+    let at-text-at2 = c .before .before .before .before .before .before .before .before .before .text-at2 in
+    let at-byte = c .before .before .before .byte in
+    let at-if2 = c .before .before .before .before .if2 in
+    let at-edit-at = c .before .before .edit-at in
+    let at-enum-told3 = c .enum-told3 in
+    no-edit (at-args .req .now) (at-if1 .left) (at-k .given .0 .0) (text-found (at-args .req .now) 0 1 (at-text-at .result) (at-k .given .0 .0) (at-text-at .ensures) (at-k .given .1)) (at-s .given .0 .0) (text-found (at-args .req .now) (at-k .given .0 .0 .end) 2 (at-text-at2 .result) (at-s .given .0 .0) (at-text-at2 .ensures) (at-s .given .1)) (at-byte .result) (at-byte .ensures) (at-if2 .left) (at-edit-at .result) (at-edit-at .ensures) (at-enum-told3 .given .1)
+
+returns-6 : tie.Need-returns-6
+returns-6 c =
+    let at-args = c .before .before .before .before .before .before .before .before .before .before .before .before .before .before .before .before .before .args in
+    let at-if1 = c .before .before .before .before .before .before .before .before .before .before .before .before .before .before .before .if1 in
+    let at-k = c .before .before .before .before .before .before .before .before .before .before .before .before .k in
+    let at-text-at = c .before .before .before .before .before .before .before .before .before .before .before .before .before .before .text-at in
+    let at-s = c .before .before .before .before .before .before .before .before .s in
+    let at-text-at2 = c .before .before .before .before .before .before .before .before .before .before .text-at2 in
+    let at-byte = c .before .before .before .before .byte in
+    let at-if2 = c .before .before .before .before .before .if2 in
+    let at-edit-at = c .before .before .before .edit-at in
+    let at-e = c .before .e in
+    an-edit (at-args .req .now) (at-if1 .left) (at-k .given .0 .0) (text-found (at-args .req .now) 0 1 (at-text-at .result) (at-k .given .0 .0) (at-text-at .ensures) (at-k .given .1)) (at-s .given .0 .0) (text-found (at-args .req .now) (at-k .given .0 .0 .end) 2 (at-text-at2 .result) (at-s .given .0 .0) (at-text-at2 .ensures) (at-s .given .1)) (at-byte .result) (at-byte .ensures) (at-if2 .left) (at-edit-at .result) (at-e .given .0 .0) (at-edit-at .ensures) (at-e .given .1)
 
 pub request-of-spec : {M : Type 1} → statement M
 request-of-spec =
@@ -111,5 +127,8 @@ request-of-spec =
     sub-if2
     returns-4
     byte-requires
-    kind-at-requires
-    returns-5)
+    edit-at-requires
+    enum-known-e
+    enum-told-3
+    returns-5
+    returns-6)

@@ -1,5 +1,6 @@
 -- `requests::pairs::is_legal_pair` meets its contract: the name, and then the value.
 use mathlib.Core.Path.{sym, _∙_}
+use borrow.Author.Tests.{not-true, not-false}
 use Rattle.requests.specs.Fields.{bytesOf}
 use Rattle.requests.proofs.Weighing.{legal-both, illegal-name}
 use borrow.Author.Needs.{needs}
@@ -22,6 +23,13 @@ part-is-legal-name-end c = search needs
 is-legal-name-requires : tie.Need-is-legal-name-requires
 is-legal-name-requires c κs = search needs
 
+returns : tie.Need-returns
+returns c =
+    let at-args = c .before .before .before .before .args in
+    let at-is-legal-name = c .before .is-legal-name in
+    let at-if1 = c .if1 in
+    sym (illegal-name (bytesOf (at-args .req .now) (at-args .name)) (bytesOf (at-args .req .now) (at-args .value)) (sym (at-is-legal-name .ensures) ∙ not-true (at-is-legal-name .result) (at-if1 .taken)))
+
 sub-is-legal-value : tie.Need-sub-is-legal-value
 sub-is-legal-value c = search needs
 
@@ -34,20 +42,13 @@ part-is-legal-value-end c = search needs
 is-legal-value-requires : tie.Need-is-legal-value-requires
 is-legal-value-requires c κs = search needs
 
-returns : tie.Need-returns
-returns c =
+returns-2 : tie.Need-returns-2
+returns-2 c =
     let at-is-legal-value = c .is-legal-value in
     let at-args = c .before .before .before .before .before .before .args in
     let at-is-legal-name = c .before .before .before .is-legal-name in
     let at-if1 = c .before .before .if1 in
-    at-is-legal-value .ensures ∙ sym (legal-both (bytesOf (at-args .req .now) (at-args .name)) (bytesOf (at-args .req .now) (at-args .value)) (sym (at-is-legal-name .ensures) ∙ at-if1 .taken))
-
-returns-2 : tie.Need-returns-2
-returns-2 c =
-    let at-args = c .before .before .before .before .args in
-    let at-is-legal-name = c .before .is-legal-name in
-    let at-if1 = c .if1 in
-    sym (illegal-name (bytesOf (at-args .req .now) (at-args .name)) (bytesOf (at-args .req .now) (at-args .value)) (sym (at-is-legal-name .ensures) ∙ at-if1 .left))
+    at-is-legal-value .ensures ∙ sym (legal-both (bytesOf (at-args .req .now) (at-args .name)) (bytesOf (at-args .req .now) (at-args .value)) (sym (at-is-legal-name .ensures) ∙ not-false (at-is-legal-name .result) (at-if1 .left)))
 
 pub is-legal-pair-spec : {M : Type 1} → statement M
 is-legal-pair-spec =
@@ -57,9 +58,9 @@ is-legal-pair-spec =
     part-is-legal-name-start
     part-is-legal-name-end
     is-legal-name-requires
+    returns
     sub-is-legal-value
     part-is-legal-value-start
     part-is-legal-value-end
     is-legal-value-requires
-    returns
     returns-2)

@@ -1,4 +1,0 @@
--- Laws of texts that are edited in a buffer.
-pub mod Buffers
-pub mod Inserts
-pub mod Cuts

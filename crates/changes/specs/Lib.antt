@@ -1,2 +1,0 @@
--- The texts that edits leave.
-pub mod Texts

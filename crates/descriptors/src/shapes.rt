@@ -1,0 +1,365 @@
+// Descriptors: is each field of one shaped as its name asks, and are no two sets called alike?
+ghost use mathlib.Core.Path.{_≡_};
+ghost use mathlib.Core.Bool.{true, false};
+ghost use Prim.Native.Nat.{ℕ, _≤_};
+ghost use lib.Dec.{leb};
+ghost use lib.ListN.{length};
+ghost use Rattle.format.specs.Pieces.{readOf};
+ghost use Rattle.format.proofs.Records.{records};
+ghost use Rattle.format.specs.Bytes.{classTable, all, among};
+ghost use Rattle.format.specs.Lines.{isName, isSpecial};
+ghost use Rattle.format.specs.Limits.{valueBytes, descriptors};
+ghost use Rattle.format.specs.Numbers.{intBounds};
+ghost use Rattle.format.specs.Records.{fieldsOf};
+ghost use Rattle.format.specs.Rules.{one, several, isShaped, isWellFormed};
+ghost use Rattle.format.specs.Sets.{valuesOf};
+ghost use Rattle.format.specs.Questions.{fitsRecord};
+ghost use Rattle.format.specs.Words.{words, firstWord, isTypeName};
+ghost use Rattle.format.proofs.Walking.{walkFits, walkWell};
+ghost use Rattle.lines.specs.Value.{valueFrom};
+ghost use Rattle.records.specs.Places.{isReadable};
+ghost use Rattle.records.specs.Heads.{HeadParts};
+ghost use Rattle.words.specs.Spans.{span};
+ghost use Rattle.descriptors.specs.Sizes.{fieldOf};
+ghost use Rattle.descriptors.specs.Contents.{OnlyWord, holds, Asks};
+ghost use Rattle.descriptors.specs.Names.{namesAt, Inside, NamedBy, Told};
+use super::sizes::is_size;
+use super::sizes::size_rule;
+use format::Descriptor;
+use records::FoundField;
+use records::NextField;
+use words::Span;
+use words::Word;
+
+// The one word of a text, nothing where it has none or more.
+fn one_word(s: &[u8]) -> Word
+    ensures { λ r. ⌜ OnlyWord (now (s .entry)) r ⌝ }
+{
+    let w = words::next_word(s, 0);
+    let Word::At { start, end } = w else {
+        return Word::Nothing;
+    };
+    let v = words::next_word(s, end);
+    match v {
+        Word::At { start: _, end: _ } => Word::Nothing,
+        Word::Nothing => Word::At { start, end },
+    }
+}
+
+// Is this text one name?
+fn one_name(table: &[u8; 256], s: &[u8]) -> bool
+    requires { ⌜ now table ≡ classTable ⌝ }
+    ensures { λ r. ⌜ r ≡ one isName (words (now (s .entry))) ⌝ }
+{
+    let w = one_word(s);
+    let Word::At { start, end } = w else {
+        return false;
+    };
+    words::is_name(table, &s[start..end])
+}
+
+// Is this text one type name?
+fn one_type_name(table: &[u8; 256], s: &[u8]) -> bool
+    requires { ⌜ now table ≡ classTable ⌝ }
+    ensures { λ r. ⌜ r ≡ one isTypeName (words (now (s .entry))) ⌝ }
+{
+    let w = one_word(s);
+    let Word::At { start, end } = w else {
+        return false;
+    };
+    words::is_type_name(table, &s[start..end])
+}
+
+// Is every word of this text a name?
+fn each_name(table: &[u8; 256], s: &[u8]) -> bool
+    requires { ⌜ now table ≡ classTable ⌝ }
+    ensures { λ r. ⌜ r ≡ all isName (words (now (s .entry))) ⌝ }
+{
+    let mut i = 0;
+    loop {
+        let w = words::next_word(s, i);
+        let Word::At { start, end } = w else {
+            return true;
+        };
+        if words::is_name(table, &s[start..end]) {
+            i = end;
+        } else {
+            return false;
+        }
+    }
+}
+
+// Is this text one or more names?
+fn all_names(table: &[u8; 256], s: &[u8]) -> bool
+    requires { ⌜ now table ≡ classTable ⌝ }
+    ensures { λ r. ⌜ r ≡ several isName (words (now (s .entry))) ⌝ }
+{
+    let w = words::next_word(s, 0);
+    let Word::At { start: _, end: _ } = w else {
+        return false;
+    };
+    each_name(table, s)
+}
+
+// What the value of a field has to be.
+pub enum Content {
+    Free,
+    TypeName,
+    Names,
+    Name,
+    Size,
+    Fault,
+}
+
+// What a name that starts with `%` asks of its value.
+fn special_content(name: &[u8]) -> Content
+    requires { ⌜ isSpecial (now name) ≡ true ⌝ }
+    ensures { λ r. ⌜ Asks (now (name .entry)) r ⌝ }
+{
+    if lines::same_bytes(name, b"%rec") {
+        return Content::TypeName;
+    }
+    if lines::same_bytes(name, b"%doc") {
+        return Content::Free;
+    }
+    if lines::same_bytes(name, b"%mandatory") {
+        return Content::Names;
+    }
+    if lines::same_bytes(name, b"%prohibit") {
+        return Content::Names;
+    }
+    if lines::same_bytes(name, b"%allowed") {
+        return Content::Names;
+    }
+    if lines::same_bytes(name, b"%unique") {
+        return Content::Names;
+    }
+    if lines::same_bytes(name, b"%key") {
+        return Content::Name;
+    }
+    if lines::same_bytes(name, b"%size") {
+        return Content::Size;
+    }
+    if lines::same_bytes(name, b"%typedef") {
+        return Content::Free;
+    }
+    if lines::same_bytes(name, b"%type") {
+        return Content::Free;
+    }
+    Content::Fault
+}
+
+// What a field's name asks of its value.
+pub fn content_of(name: &[u8]) -> Content
+    ensures { λ r. ⌜ Asks (now (name .entry)) r ⌝ }
+{
+    if lines::byte(name, 0) == b'%' {
+        special_content(name)
+    } else {
+        Content::Free
+    }
+}
+
+// Is a text what is asked?
+pub fn text_holds(table: &[u8; 256], c: Content, s: &[u8]) -> bool
+    requires { ⌜ now table ≡ classTable ⌝ }
+    ensures { λ r. ⌜ r ≡ holds c (now (s .entry)) ⌝ }
+{
+    match c {
+        Content::Free => true,
+        Content::TypeName => one_type_name(table, s),
+        Content::Names => all_names(table, s),
+        Content::Name => one_name(table, s),
+        Content::Size => is_size(size_rule(s)),
+        Content::Fault => false,
+    }
+}
+
+// Is a field shaped as its name asks? Its value begins where value does, and is decoded into the scratch.
+pub fn field_shaped(table: &[u8; 256], name: &[u8], value: &[u8], scratch: &mut [u8]) -> bool
+    requires { ⌜ now table ≡ classTable ⌝ }
+    requires { ⌜ length (valueFrom (now value)) ≤ length (now scratch) ⌝ }
+    ensures { λ r. ⌜ ((k : ℕ) → r ≡ isShaped intBounds (fieldOf (now (name .entry)) (valueFrom (now (value .entry))) k)) × (length (now (scratch .exit)) ≡ length (now (scratch .entry))) ⌝ }
+{
+    let c = content_of(name);
+    let n = lines::copy_value(value, scratch);
+    text_holds(table, c, &scratch[..n])
+}
+
+// Are all fields of a record shaped as their names ask?
+fn all_shaped(table: &[u8; 256], d: &[u8], scratch: &mut [u8]) -> bool
+    requires { ⌜ now table ≡ classTable ⌝ }
+    requires { ⌜ isReadable (now d) ≡ true ⌝ }
+    requires { ⌜ fitsRecord (fieldsOf (readOf (now d))) ≡ true ⌝ }
+    requires { ⌜ valueBytes ≤ length (now scratch) ⌝ }
+    ensures { λ r. ⌜ (r ≡ all (isShaped intBounds) (fieldsOf (readOf (now (d .entry))))) × (length (now (scratch .exit)) ≡ length (now (scratch .entry))) ⌝ }
+{
+    let mut i = 0;
+    loop {
+        let n = records::next_field(table, d, i);
+        let NextField::At {
+            start,
+            named,
+            value,
+            end,
+        } = n
+        else {
+            return true;
+        };
+        if field_shaped(table, &d[start..named], &d[value..end], scratch) {
+            i = end;
+        } else {
+            return false;
+        }
+    }
+}
+
+// Does a name occur at most once among the fields of a record?
+fn at_most_once(table: &[u8; 256], d: &[u8], name: &[u8]) -> bool
+    requires { ⌜ now table ≡ classTable ⌝ }
+    requires { ⌜ isReadable (now d) ≡ true ⌝ }
+    ensures { λ r. ⌜ r ≡ leb (length (valuesOf (now (name .entry)) (fieldsOf (readOf (now (d .entry)))))) 1 ⌝ }
+{
+    let f = records::find_field(table, d, name, 1);
+    match f {
+        FoundField::At {
+            start: _,
+            value: _,
+            end: _,
+        } => false,
+        FoundField::Missing => true,
+    }
+}
+
+// Is a descriptor well formed, `%typedef` and `%type` fields aside?
+pub fn well_formed(table: &[u8; 256], d: &[u8], scratch: &mut [u8]) -> bool
+    requires { ⌜ now table ≡ classTable ⌝ }
+    requires { ⌜ isReadable (now d) ≡ true ⌝ }
+    requires { ⌜ fitsRecord (fieldsOf (readOf (now d))) ≡ true ⌝ }
+    requires { ⌜ valueBytes ≤ length (now scratch) ⌝ }
+    ensures { λ r. ⌜ (r ≡ isWellFormed intBounds (fieldsOf (readOf (now (d .entry))))) × (length (now (scratch .exit)) ≡ length (now (scratch .entry))) ⌝ }
+{
+    if all_shaped(table, d, scratch) {
+        if at_most_once(table, d, b"%key") {
+            at_most_once(table, d, b"%size")
+        } else {
+            false
+        }
+    } else {
+        false
+    }
+}
+
+// Where the first `%rec` value of a descriptor stands in it.
+fn rec_value(table: &[u8; 256], d: &[u8]) -> Span
+    requires { ⌜ now table ≡ classTable ⌝ }
+    requires { ⌜ isReadable (now d) ≡ true ⌝ }
+    ensures { λ r. ⌜ NamedBy (now (d .entry)) r ⌝ }
+{
+    let f = records::find_field(table, d, b"%rec", 0);
+    match f {
+        FoundField::At {
+            start: _,
+            value,
+            end,
+        } => Span { start: value, end },
+        FoundField::Missing => Span { start: 0, end: 0 },
+    }
+}
+
+// Is a word the first one of some value? The values stand in s from each start to the end beside it.
+fn is_named(s: &[u8], starts: &[usize], ends: &[usize], word: &[u8]) -> bool
+    requires { ⌜ Inside (now s) (now starts) (now ends) ⌝ }
+    ensures { λ r. ⌜ r ≡ among (now (word .entry)) (namesAt (now (s .entry)) (now (starts .entry)) (now (ends .entry))) ⌝ }
+{
+    let mut k = 0;
+    while k < starts.len() {
+        let a = starts[k];
+        let e = ends[k];
+        if records::word_is(&s[a..e], word) {
+            return true;
+        }
+        k += 1;
+    }
+    false
+}
+
+// Is the first word of a text the first one of some value?
+fn is_taken(s: &[u8], starts: &[usize], ends: &[usize], t: &[u8]) -> bool
+    requires { ⌜ Inside (now s) (now starts) (now ends) ⌝ }
+    ensures { λ r. ⌜ r ≡ among (firstWord (now (t .entry))) (namesAt (now (s .entry)) (now (starts .entry)) (now (ends .entry))) ⌝ }
+{
+    let a = words::gap_end(t, 0);
+    let e = words::word_end(t, a);
+    is_named(s, starts, ends, &t[a..e])
+}
+
+// A descriptor, from a to e: where its name stands, or that it is not well formed or is called like one before it.
+enum Head {
+    Fault,
+    Named { start: usize, end: usize },
+}
+
+fn head_of(
+    table: &[u8; 256],
+    s: &[u8],
+    a: usize,
+    e: usize,
+    starts: &[usize],
+    ends: &[usize],
+    scratch: &mut [u8],
+) -> Head
+    requires { ⌜ now table ≡ classTable ⌝ }
+    requires { ⌜ (a ≤ e) × (e ≤ length (now s)) ⌝ }
+    requires { ⌜ isReadable (span a e (now s)) ≡ true ⌝ }
+    requires { ⌜ fitsRecord (fieldsOf (readOf (span a e (now s)))) ≡ true ⌝ }
+    requires { ⌜ Inside (now s) (now starts) (now ends) ⌝ }
+    requires { ⌜ valueBytes ≤ length (now scratch) ⌝ }
+    ensures { λ r. ⌜ Told (now (s .entry)) (fieldsOf (readOf (span a e (now (s .entry))))) (namesAt (now (s .entry)) (now (starts .entry)) (now (ends .entry))) r × (length (now (scratch .exit)) ≡ length (now (scratch .entry))) ⌝ }
+{
+    if well_formed(table, &s[a..e], scratch) {
+        let v = rec_value(table, &s[a..e]);
+        let start = a + v.start;
+        let end = a + v.end;
+        let n = lines::copy_value(&s[start..end], scratch);
+        if is_taken(s, starts, ends, &scratch[..n]) {
+            Head::Fault
+        } else {
+            Head::Named { start, end }
+        }
+    } else {
+        Head::Fault
+    }
+}
+
+// Question 6: are all descriptors well formed, and no two sets called alike? count of them stand in s, from each start to the end beside it.
+pub fn described_well(
+    table: &[u8; 256],
+    s: &[u8],
+    starts: &[usize],
+    ends: &[usize],
+    count: usize,
+    scratch: &mut [u8],
+) -> bool
+    requires { ⌜ now table ≡ classTable ⌝ }
+    requires { ⌜ HeadParts (now s) (now starts) (now ends) count × (count ≤ descriptors) ⌝ }
+    requires { ⌜ walkFits (records (readOf (now s))) ≡ true ⌝ }
+    requires { ⌜ valueBytes ≤ length (now scratch) ⌝ }
+    ensures { λ r. ⌜ (r ≡ walkWell intBounds (records (readOf (now (s .entry))))) × (length (now (scratch .exit)) ≡ length (now (scratch .entry))) ⌝ }
+{
+    let mut from = [0usize; Descriptor::COUNT];
+    let mut to = [0usize; Descriptor::COUNT];
+    let mut n = 0;
+    while n < count {
+        let a = starts[n];
+        let e = ends[n];
+        let h = head_of(table, s, a, e, &from[..n], &to[..n], scratch);
+        let Head::Named { start, end } = h else {
+            return false;
+        };
+        from[n] = start;
+        to[n] = end;
+        n += 1;
+    }
+    true
+}

@@ -1,0 +1,162 @@
+// The size rule: what a `%size` value stands for, and is a set's size met?
+ghost use mathlib.Core.Path.{_≡_};
+ghost use mathlib.Core.Bool.{true};
+ghost use mathlib.Core.List.{[], _∷_};
+ghost use mathlib.Core.Option.{some};
+ghost use Prim.Native.Nat.{ℕ, _≤_};
+ghost use lib.ListN.{length};
+ghost use Rattle.format.specs.Pieces.{readOf};
+ghost use Rattle.format.specs.Bytes.{classTable, text, all, isSome};
+ghost use Rattle.format.specs.Limits.{valueBytes};
+ghost use Rattle.format.specs.Numbers.{intBounds};
+ghost use Rattle.format.specs.Records.{fieldsOf};
+ghost use Rattle.format.specs.Rules.{orderOf, sizeBy, sizeRule, meetsSize};
+ghost use Rattle.format.specs.Sets.{valuesOf};
+ghost use Rattle.format.specs.Questions.{fitsRecord};
+ghost use Rattle.format.specs.Words.{words};
+ghost use Rattle.lines.specs.Value.{valueFrom};
+ghost use Rattle.records.specs.Places.{isReadable};
+ghost use Rattle.descriptors.specs.Sizes.{sizeAnswer, fieldOf, sizeAsked};
+use numbers::Natural;
+use records::NextField;
+use words::Word;
+
+// A size: how many records a set may have.
+pub enum SizeRule {
+    None,
+    Exactly(u64),
+    Below(u64),
+    AtMost(u64),
+    Above(u64),
+    AtLeast(u64),
+}
+
+// The size that a sign and a number make.
+fn size_by(sign: &[u8], n: u64) -> SizeRule
+    ensures { λ r. ⌜ sizeAnswer r ≡ sizeBy (orderOf (now (sign .entry))) (some n) ⌝ }
+{
+    if lines::same_bytes(sign, b"<") {
+        return SizeRule::Below(n);
+    }
+    if lines::same_bytes(sign, b"<=") {
+        return SizeRule::AtMost(n);
+    }
+    if lines::same_bytes(sign, b">") {
+        return SizeRule::Above(n);
+    }
+    if lines::same_bytes(sign, b">=") {
+        return SizeRule::AtLeast(n);
+    }
+    SizeRule::None
+}
+
+// The size that one word stands for.
+fn size_exactly(w: &[u8]) -> SizeRule
+    ensures { λ r. ⌜ sizeAnswer r ≡ sizeRule intBounds ((now (w .entry)) ∷ []) ⌝ }
+{
+    let x = numbers::number_of(w);
+    match x {
+        Natural::Of(n) => SizeRule::Exactly(n),
+        Natural::Not => SizeRule::None,
+    }
+}
+
+// The size that two words stand for.
+fn size_signed(sign: &[u8], w: &[u8]) -> SizeRule
+    ensures { λ r. ⌜ sizeAnswer r ≡ sizeRule intBounds ((now (sign .entry)) ∷ (now (w .entry)) ∷ []) ⌝ }
+{
+    let x = numbers::number_of(w);
+    match x {
+        Natural::Of(n) => size_by(sign, n),
+        Natural::Not => SizeRule::None,
+    }
+}
+
+// The size that a text stands for.
+pub fn size_rule(s: &[u8]) -> SizeRule
+    ensures { λ r. ⌜ sizeAnswer r ≡ sizeRule intBounds (words (now (s .entry))) ⌝ }
+{
+    let w = words::next_word(s, 0);
+    let Word::At { start, end } = w else {
+        return SizeRule::None;
+    };
+    let x = words::next_word(s, end);
+    let Word::At { start: a, end: e } = x else {
+        return size_exactly(&s[start..end]);
+    };
+    let y = words::next_word(s, e);
+    match y {
+        Word::At { start: _, end: _ } => SizeRule::None,
+        Word::Nothing => size_signed(&s[start..end], &s[a..e]),
+    }
+}
+
+// Is this a size?
+pub fn is_size(r: SizeRule) -> bool
+    ensures { λ t. ⌜ t ≡ isSome (sizeAnswer r) ⌝ }
+{
+    match r {
+        SizeRule::None => false,
+        SizeRule::Exactly(_) => true,
+        SizeRule::Below(_) => true,
+        SizeRule::AtMost(_) => true,
+        SizeRule::Above(_) => true,
+        SizeRule::AtLeast(_) => true,
+    }
+}
+
+// Is the size met by n records?
+pub fn size_holds(r: SizeRule, n: u64) -> bool
+    ensures { λ t. ⌜ t ≡ meetsSize (sizeAnswer r) n ⌝ }
+{
+    match r {
+        SizeRule::None => true,
+        SizeRule::Exactly(k) => n == k,
+        SizeRule::Below(k) => n < k,
+        SizeRule::AtMost(k) => n <= k,
+        SizeRule::Above(k) => k < n,
+        SizeRule::AtLeast(k) => k <= n,
+    }
+}
+
+// Is what a field says of its set's size met by n records? Only `%size` says anything.
+fn field_met(name: &[u8], value: &[u8], n: u64, scratch: &mut [u8]) -> bool
+    requires { ⌜ length (valueFrom (now value)) ≤ length (now scratch) ⌝ }
+    ensures { λ r. ⌜ ((k : ℕ) → r ≡ sizeAsked n (fieldOf (now (name .entry)) (valueFrom (now (value .entry))) k)) × (length (now (scratch .exit)) ≡ length (now (scratch .entry))) ⌝ }
+{
+    if lines::same_bytes(b"%size", name) {
+        let m = lines::copy_value(value, scratch);
+        let r = size_rule(&scratch[..m]);
+        size_holds(r, n)
+    } else {
+        true
+    }
+}
+
+// Is every size of a descriptor met by count records?
+pub fn size_met(table: &[u8; 256], d: &[u8], count: usize, scratch: &mut [u8]) -> bool
+    requires { ⌜ now table ≡ classTable ⌝ }
+    requires { ⌜ isReadable (now d) ≡ true ⌝ }
+    requires { ⌜ fitsRecord (fieldsOf (readOf (now d))) ≡ true ⌝ }
+    requires { ⌜ valueBytes ≤ length (now scratch) ⌝ }
+    ensures { λ r. ⌜ (r ≡ all (λ v. meetsSize (sizeRule intBounds (words v)) count) (valuesOf (text "%size") (fieldsOf (readOf (now (d .entry)))))) × (length (now (scratch .exit)) ≡ length (now (scratch .entry))) ⌝ }
+{
+    let mut i = 0;
+    loop {
+        let n = records::next_field(table, d, i);
+        let NextField::At {
+            start,
+            named,
+            value,
+            end,
+        } = n
+        else {
+            return true;
+        };
+        if field_met(&d[start..named], &d[value..end], count as u64, scratch) {
+            i = end;
+        } else {
+            return false;
+        }
+    }
+}

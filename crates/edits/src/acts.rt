@@ -1,0 +1,160 @@
+// An act on a record: where it acts in the text, and what it does there.
+ghost use mathlib.Core.Path.{_≡_};
+ghost use mathlib.Core.Bool.{true};
+ghost use Prim.Native.Nat.{_≤_};
+ghost use lib.ListN.{length, drop};
+ghost use Rattle.format.specs.Bytes.{classTable};
+ghost use Rattle.format.specs.Limits.{fileBytes};
+ghost use Rattle.format.specs.Edits.{Edit};
+ghost use Rattle.records.specs.Places.{isReadable};
+ghost use Rattle.records.specs.Walk.{recordIn};
+ghost use Rattle.requests.specs.Fields.{InSpan};
+ghost use Rattle.requests.specs.Kinds.{actOf, InAct, InChange};
+ghost use Rattle.edits.specs.Places.{changeAt, LocatesIn};
+use super::Located;
+use super::Splice;
+use records::FoundField;
+use records::FoundRecord;
+use records::NextField;
+use requests::Act;
+use requests::Change;
+use requests::Refusal;
+use words::Span;
+
+// How many fields a part has.
+fn count_fields(table: &[u8; 256], s: &[u8]) -> usize
+    requires { ⌜ now table ≡ classTable ⌝ }
+    requires { ⌜ isReadable (now s) ≡ true ⌝ }
+    ensures { λ r. ⌜ r ≡ length (recordIn (now (s .entry))) ⌝ }
+{
+    let mut i = 0;
+    let mut n = 0;
+    loop {
+        let f = records::next_field(table, s, i);
+        let NextField::At {
+            start: _,
+            named: _,
+            value: _,
+            end,
+        } = f
+        else {
+            return n;
+        };
+        n += 1;
+        i = end;
+    }
+}
+
+// The change of a field of that name, which stands at a place of the text, in the record that fills `own`.
+fn locate_change(
+    table: &[u8; 256],
+    own: &[u8],
+    req: &[u8],
+    name: Span,
+    field: Span,
+    change: Change,
+) -> Located
+    requires { ⌜ now table ≡ classTable ⌝ }
+    requires { ⌜ (isReadable (now own) ≡ true) × (field .start ≤ field .end) ⌝ }
+    requires { ⌜ InSpan (now req) name × InChange (now req) change ⌝ }
+    ensures { λ r. ⌜ r ≡ changeAt (now (own .entry)) (now (req .entry)) name field change ⌝ }
+{
+    let at = field.start;
+    let old = field.end - field.start;
+    match change {
+        Change::Value(value) => {
+            let a = value.start;
+            let b = value.end;
+            if !writing::is_legal_value(table, &req[a..b]) {
+                return Located::Refused(Refusal::ILLEGAL);
+            }
+            return Located::At(Splice::Field {
+                at,
+                old,
+                name,
+                value,
+            });
+        }
+        Change::Dropped => {
+            if count_fields(table, own) < 2 {
+                return Located::Refused(Refusal::EMPTIED);
+            }
+            return Located::At(Splice::Cut { at, old });
+        }
+        Change::Name(new) => {
+            let a = new.start;
+            let b = new.end;
+            if !writing::is_legal_name(table, &req[a..b]) {
+                return Located::Refused(Refusal::ILLEGAL);
+            }
+            return Located::At(Splice::Name {
+                at,
+                old: name.end - name.start,
+                name: new,
+            });
+        }
+    }
+}
+
+// An act on record `row` of the set whose records begin at `begin`.
+pub(crate) fn locate_act(
+    table: &[u8; 256],
+    s: &[u8],
+    req: &[u8],
+    begin: usize,
+    row: usize,
+    act: Act,
+) -> Located
+    requires { ⌜ now table ≡ classTable ⌝ }
+    requires { ⌜ (isReadable (now s) ≡ true) × (begin ≤ length (now s)) × (isReadable (drop begin (now s)) ≡ true) ⌝ }
+    requires { ⌜ (length (now req) ≤ fileBytes) × InAct (now req) act ⌝ }
+    ensures { λ r. ⌜ LocatesIn (now (s .entry)) (now (req .entry)) begin (Edit.on row (actOf (now (req .entry)) act)) r ⌝ }
+{
+    let f = records::find_record(table, &s[begin..], row);
+    let FoundRecord::At(p) = f else {
+        return Located::Refused(Refusal::RECORD);
+    };
+    let first = begin + p.start;
+    let last = begin + p.end;
+    match act {
+        Act::Delete => {
+            return Located::At(Splice::Unfield {
+                start: first,
+                end: last,
+            });
+        }
+        Act::Add { name, value } => {
+            if !requests::is_legal_pair(table, req, name, value) {
+                return Located::Refused(Refusal::ILLEGAL);
+            }
+            return Located::At(Splice::Field {
+                at: last,
+                old: 0,
+                name,
+                value,
+            });
+        }
+        Act::Change {
+            name,
+            occurrence,
+            change,
+        } => {
+            let a = name.start;
+            let b = name.end;
+            let g = records::find_field(table, &s[first..last], &req[a..b], occurrence);
+            let FoundField::At {
+                start,
+                value: _,
+                end,
+            } = g
+            else {
+                return Located::Refused(Refusal::FIELD);
+            };
+            let field = Span {
+                start: first + start,
+                end: first + end,
+            };
+            return locate_change(table, &s[first..last], req, name, field, change);
+        }
+    }
+}

@@ -1,6 +1,0 @@
--- The laws of what names ask, of the fields of a descriptor, of the names met so far, and of the records of a file.
-pub mod Wording
-pub mod Asking
-pub mod Naming
-pub mod Judging
-pub mod Walks

@@ -1,3 +1,0 @@
--- What the code's answers say of a descriptor.
-pub mod Contents
-pub mod Names

@@ -1,2 +1,0 @@
--- What the code's answers say of a size.
-pub mod Sizes
