@@ -3,11 +3,12 @@
 
 Usage: python3 tests/differential/run.py [SEED [ROUNDS]]     (after `rt staticlib recfile`; needs cc; recutils if it is installed)
 
-Random, damaged and limit-sized files, and such with many types, names and symbols; every call on each of them; lists of edits with other
+Random, damaged and limit-sized files, such with many types, names and symbols, and such with runs of joints; every call on each of them; lists of edits with other
 bytes behind the file. It prints how many answers were compared and stops at the first that differs, showing what was asked.
 """
 import ctypes
 import os
+import re
 import shutil
 import subprocess
 import sys
@@ -137,6 +138,15 @@ class Tests:
                 text[at:at] = bytes(r.choice(b'\\\n+#:% \tA') for _ in range(r.randint(1, 3)))
         return bytes(text)
 
+    def jointed(self, text):
+        """A file with runs of joints put in: behind bytes of its values, where they add nothing, and now and then anywhere, at the end too."""
+        r, text = self.random, bytearray(text)
+        for _ in range(r.randint(1, 6)):
+            inside = [m.start() + r.randint(0, len(m.group())) for m in re.finditer(rb'(?<=: )[^\n]+', text)]
+            at = r.choice(inside) if inside and r.random() < .85 else r.randrange(len(text) + 1)
+            text[at:at] = b'\\\n' * r.choice([1, 1, 2, 3, 40])
+        return bytes(text)
+
     def passing(self):
         """A file that passes and has a set with records."""
         while True:
@@ -241,6 +251,8 @@ def main():
         tests.file(tests.passing())
         tests.file(tests.crowds.file())
         tests.file(tests.damaged(tests.crowds.file()), rounds=1)
+        tests.file(tests.jointed(tests.passing()), rounds=2)
+        tests.file(tests.jointed(tests.crowds.file()), rounds=1)
     print('%d answers compared with tests/model/recfile.py, seed %d: all the same' % (tests.done, seed))
     print('by number: ' + ' '.join('%d:%d' % x for x in sorted(tests.numbers.items())))
     if shutil.which('recsel'):

@@ -7,11 +7,13 @@ use mathlib.Core.List.{List, [], _∷_, _++_, map, map-append}
 use lib.ListN.{length, take, drop, getD, set, length-append, length-drop, length-map}
 use lib.Seq.{take-suc, take-at, drop-at, drop-drop, drop-cons, set-at, append-snoc, length-take-le}
 use Rattle.format.specs.Bytes.{Bytes}
-use Rattle.format.specs.Calls.{numberIn, valueOr, Filled, over, editAnswer}
+use Rattle.format.specs.Questions.{verdict}
+use Rattle.format.specs.Calls.{numberIn, valueOr, Filled, over, checkAnswer, editAnswer}
 use Rattle.format.specs.Runs.{Call, Told, Ran, ranOn, run, plainRun}
 use Rattle.format.specs.Plain.{Plain, plainOf}
 use Rattle.format.specs.Pieces.{readOf}
 use Rattle.format.specs.Demand.{Demand}
+use Rattle.format.proofs.Answers.{answer-file}
 use Rattle.format.proofs.Demand.{calls-meet-demand, run-told}
 use Rattle.editor.specs.Lists.{editsIn, toldBy, ranBy, Leaves}
 
@@ -40,6 +42,16 @@ run-more : (cs : List Call) (q : Bytes) (buffer : Bytes) (used : ℕ) → run (c
 unfolding run
 run-more [] q buffer used = refl
 run-more (Call.edit p ∷ cs) q buffer used = let e : Edited = editOf buffer used p in ap (ranOn (toldOf e)) (run-more cs q (e .buffer) (e .length))
+
+-- the check's number stays: an edit that is accepted leaves a file that passes, and any other leaves all as it was
+verdict-on : (buffer : Bytes) (used : ℕ) (q : Bytes) (k : ℕ) → verdict buffer used ≡ k → verdict (editOf buffer used q .buffer) (editOf buffer used q .length) ≡ k
+unfolding run
+verdict-on buffer used q zero v = calls-meet-demand buffer used (Call.edit q ∷ []) v .passes
+verdict-on buffer used q (suc k) v = ap (λ (a : Filled). verdict (a .out) (valueOr used (a .result))) (answer-file buffer used q (suc k) (omega arith) v) ∙ v
+
+pub number-stays : (buffer : Bytes) (used : ℕ) (q : Bytes) (k : ℕ) → checkAnswer buffer used ≡ k → (e : Edited) → e ≡ editOf buffer used q → checkAnswer (e .buffer) (e .length) ≡ k
+unfolding checkAnswer
+number-stays buffer used q k v e h = ap (λ (x : Edited). verdict (x .buffer) (x .length)) h ∙ verdict-on buffer used q k v
 
 -- one more size
 

@@ -4,7 +4,7 @@ ghost use Prim.Native.Nat.{ℕ, _≤_, min};
 ghost use lib.ListN.{length, take, drop};
 ghost use Rattle.format.specs.Bytes.{classTable};
 ghost use Rattle.format.specs.Limits.{fileBytes};
-ghost use Rattle.format.specs.Calls.{numberIn, valueOr, editAnswer};
+ghost use Rattle.format.specs.Calls.{numberIn, valueOr, checkAnswer, editAnswer};
 ghost use Rattle.format.proofs.Judging.{textNo};
 ghost use Rattle.format.proofs.Results.{editNo};
 ghost use Rattle.edits.specs.Splices.{madeBy, Sound};
@@ -54,15 +54,12 @@ pub enum Edited {
     Refused(u32),
 }
 
-// One request to the file in the first `used` bytes of buf. A refusal writes nothing.
-pub fn edit(buf: &mut [u8], used: usize, req: &[u8]) -> Edited
+// One request to a file that passes, in the first `used` bytes of buf, with room for a copy of it. A refusal writes nothing.
+pub fn edit_passing(buf: &mut [u8], used: usize, req: &[u8], copy: &mut [u8]) -> Edited
+    requires { ⌜ checkAnswer (now buf) used ≡ 0 ⌝ }
+    requires { ⌜ fileBytes ≤ length (now copy) ⌝ }
     ensures { λ r. ⌜ editedBy r (now (buf .exit)) ≡ editAnswer (now (buf .entry)) used (now (req .entry)) ⌝ }
 {
-    let mut copy = [0u8; File::BYTES];
-    let k = integrity::check_with(buf, used, &mut copy);
-    if k != 0 {
-        return Edited::Refused(k);
-    }
     let r = requests::request_of(req);
     let RequestOf::Is(q) = r else {
         return Edited::Refused(Refusal::FORM);
@@ -75,7 +72,7 @@ pub fn edit(buf: &mut [u8], used: usize, req: &[u8]) -> Edited
         }
         Located::At(x) => {
             let room = buf.len();
-            let n = edit_no(&table, x, &buf[..used], req, room, &mut copy);
+            let n = edit_no(&table, x, &buf[..used], req, room, &mut *copy);
             if n != 0 {
                 return Edited::Refused(n);
             }
@@ -83,6 +80,27 @@ pub fn edit(buf: &mut [u8], used: usize, req: &[u8]) -> Edited
             return Edited::Length(new);
         }
     }
+}
+
+// One request to a file of which the check's number k is known.
+fn edit_judged(buf: &mut [u8], used: usize, req: &[u8], k: u32, copy: &mut [u8]) -> Edited
+    requires { ⌜ checkAnswer (now buf) used ≡ k ⌝ }
+    requires { ⌜ fileBytes ≤ length (now copy) ⌝ }
+    ensures { λ r. ⌜ editedBy r (now (buf .exit)) ≡ editAnswer (now (buf .entry)) used (now (req .entry)) ⌝ }
+{
+    if k != 0 {
+        return Edited::Refused(k);
+    }
+    edit_passing(buf, used, req, &mut *copy)
+}
+
+// One request to the file in the first `used` bytes of buf. A refusal writes nothing.
+pub fn edit(buf: &mut [u8], used: usize, req: &[u8]) -> Edited
+    ensures { λ r. ⌜ editedBy r (now (buf .exit)) ≡ editAnswer (now (buf .entry)) used (now (req .entry)) ⌝ }
+{
+    let mut copy = [0u8; File::BYTES];
+    let k = integrity::check_with(buf, used, &mut copy);
+    edit_judged(buf, used, req, k, &mut copy)
 }
 
 // The number that an edit tells, 0 if accepted.
@@ -124,7 +142,7 @@ fn least(a: usize, b: usize) -> usize
 
 // Requests one after another, each on what the one before left. They stand one behind another in `requests`, and sizes says how many bytes each has;
 // one that runs past the end has what is left. As many are run as there are sizes, numbers and lengths. Numbers and lengths say what each edit told;
-// the result is the file's length at the end.
+// the result is the file's length at the end. The file is checked once: an accepted edit leaves one that passes, and a refused one leaves it as it was.
 pub fn edit_all(
     buf: &mut [u8],
     used: usize,
@@ -139,13 +157,15 @@ pub fn edit_all(
         × (drop count (now (lengths .exit)) ≡ drop count (now (lengths .entry)))) ⌝ }
 {
     let count = least(sizes.len(), least(numbers.len(), lengths.len()));
+    let mut copy = [0u8; File::BYTES];
+    let k = integrity::check_with(buf, used, &mut copy);
     let mut n = used;
     let mut at = 0;
     let mut i = 0;
     while i < count {
         let size = least(sizes[i], requests.len() - at);
         let end = at + size;
-        let e = edit(buf, n, &requests[at..end]);
+        let e = edit_judged(buf, n, &requests[at..end], k, &mut copy);
         n = length_of(e, n);
         numbers[i] = number_of(e);
         lengths[i] = n;
