@@ -1,5 +1,5 @@
 #!/usr/bin/env python3
-"""tools/refresh on a change of the code: a branch is put into `lists::part_next`, in a clone of the repository. Each answer must stand under the need that
+"""tools/refresh on a change of the code: a branch is put into `dictionary::lists::part_next`, in a clone of the repository. Each answer must stand under the need that
 it had, the new branch must be the only hole, and a second run must leave the file alone.
 
 Usage: tests/tools/refresh.py       (after rt check; a minute)
@@ -32,13 +32,13 @@ with tempfile.TemporaryDirectory() as folder:
     shutil.copy(os.path.join(ROOT, 'tools', 'refresh'), os.path.join(folder, 'tools', 'refresh'))
     for part in ('rlib', 'stamp'):
         shutil.copytree(os.path.join(ROOT, 'target', part), os.path.join(folder, 'target', part))
-    code, proof = (os.path.join(folder, 'crates', 'lists', p) for p in ('src/lib.rt', 'proofs/part_next/Proof.antt'))
+    code, proof = (os.path.join(folder, 'crates', 'dictionary', p) for p in ('src/lists.rt', 'proofs/lists/part_next/Proof.antt'))
     old = answers(open(proof).read())
     text = open(code).read()
-    assert text.count(BEFORE) == 1, 'the code of lists::part_next has moved: mend this test'
+    assert text.count(BEFORE) == 1, 'the code of part_next has moved: mend this test'
     with open(code, 'w') as f:
         f.write(text.replace(BEFORE, BRANCH + BEFORE))
-    said = refresh(folder, 'lists', 'part_next')
+    said = refresh(folder, 'dictionary', 'lists::part_next')
     new = answers(open(proof).read())
     assert 'new: returns-2, a hole' in said and said.count('new:') == 1 and 'gone' not in said, said
     assert new.pop('returns-2') == '?'
@@ -48,7 +48,7 @@ with tempfile.TemporaryDirectory() as folder:
         wanted = re.sub(r'at-if[12]\b', lambda m: number[m.group(0)], answer)
         assert new.pop(moved.get(name, name)) == wanted, name
     assert not new, new
-    said = refresh(folder, '--check', 'lists')
-    assert '2 proof files, 2 up to date' in said, said
+    said = refresh(folder, '--check', 'dictionary', 'lists::part_next')
+    assert '1 proof files, 1 up to date' in said, said
 print('refresh: ok')
 sys.exit(0)
