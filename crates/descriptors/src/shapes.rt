@@ -6,7 +6,7 @@ ghost use lib.Dec.{leb};
 ghost use lib.ListN.{length};
 ghost use Rattle.format.specs.Pieces.{readOf};
 ghost use Rattle.format.proofs.Records.{records};
-ghost use Rattle.format.specs.Bytes.{classTable, all, among};
+ghost use Rattle.format.specs.Bytes.{all, among};
 ghost use Rattle.format.specs.Lines.{isName, isSpecial};
 ghost use Rattle.format.specs.Limits.{valueBytes, descriptors};
 ghost use Rattle.format.specs.Numbers.{intBounds};
@@ -47,32 +47,29 @@ fn one_word(s: &[u8]) -> Word
 }
 
 // Is this text one name?
-fn one_name(table: &[u8; 256], s: &[u8]) -> bool
-    requires { ⌜ now table ≡ classTable ⌝ }
+fn one_name(s: &[u8]) -> bool
     ensures { λ r. ⌜ r ≡ one isName (words (now (s .entry))) ⌝ }
 {
     let w = one_word(s);
     let Word::At { start, end } = w else {
         return false;
     };
-    words::is_name(table, &s[start..end])
+    words::is_name(&s[start..end])
 }
 
 // Is this text one type name?
-fn one_type_name(table: &[u8; 256], s: &[u8]) -> bool
-    requires { ⌜ now table ≡ classTable ⌝ }
+fn one_type_name(s: &[u8]) -> bool
     ensures { λ r. ⌜ r ≡ one isTypeName (words (now (s .entry))) ⌝ }
 {
     let w = one_word(s);
     let Word::At { start, end } = w else {
         return false;
     };
-    words::is_type_name(table, &s[start..end])
+    words::is_type_name(&s[start..end])
 }
 
 // Is every word of this text a name?
-fn each_name(table: &[u8; 256], s: &[u8]) -> bool
-    requires { ⌜ now table ≡ classTable ⌝ }
+fn each_name(s: &[u8]) -> bool
     ensures { λ r. ⌜ r ≡ all isName (words (now (s .entry))) ⌝ }
 {
     let mut i = 0;
@@ -81,7 +78,7 @@ fn each_name(table: &[u8; 256], s: &[u8]) -> bool
         let Word::At { start, end } = w else {
             return true;
         };
-        if words::is_name(table, &s[start..end]) {
+        if words::is_name(&s[start..end]) {
             i = end;
         } else {
             return false;
@@ -90,15 +87,14 @@ fn each_name(table: &[u8; 256], s: &[u8]) -> bool
 }
 
 // Is this text one or more names?
-fn all_names(table: &[u8; 256], s: &[u8]) -> bool
-    requires { ⌜ now table ≡ classTable ⌝ }
+fn all_names(s: &[u8]) -> bool
     ensures { λ r. ⌜ r ≡ several isName (words (now (s .entry))) ⌝ }
 {
     let w = words::next_word(s, 0);
     let Word::At { start: _, end: _ } = w else {
         return false;
     };
-    each_name(table, s)
+    each_name(s)
 }
 
 // What the value of a field has to be.
@@ -161,34 +157,31 @@ pub fn content_of(name: &[u8]) -> Content
 }
 
 // Is a text what is asked?
-pub fn text_holds(table: &[u8; 256], c: Content, s: &[u8]) -> bool
-    requires { ⌜ now table ≡ classTable ⌝ }
+pub fn text_holds(c: Content, s: &[u8]) -> bool
     ensures { λ r. ⌜ r ≡ holds c (now (s .entry)) ⌝ }
 {
     match c {
         Content::Free => true,
-        Content::TypeName => one_type_name(table, s),
-        Content::Names => all_names(table, s),
-        Content::Name => one_name(table, s),
+        Content::TypeName => one_type_name(s),
+        Content::Names => all_names(s),
+        Content::Name => one_name(s),
         Content::Size => is_size(size_rule(s)),
         Content::Fault => false,
     }
 }
 
 // Is a field shaped as its name asks? Its value begins where value does, and is decoded into the scratch.
-pub fn field_shaped(table: &[u8; 256], name: &[u8], value: &[u8], scratch: &mut [u8]) -> bool
-    requires { ⌜ now table ≡ classTable ⌝ }
+pub fn field_shaped(name: &[u8], value: &[u8], scratch: &mut [u8]) -> bool
     requires { ⌜ length (valueFrom (now value)) ≤ length (now scratch) ⌝ }
     ensures { λ r. ⌜ ((k : ℕ) → r ≡ isShaped intBounds (fieldOf (now (name .entry)) (valueFrom (now (value .entry))) k)) × (length (now (scratch .exit)) ≡ length (now (scratch .entry))) ⌝ }
 {
     let c = content_of(name);
     let n = lines::copy_value(value, scratch);
-    text_holds(table, c, &scratch[..n])
+    text_holds(c, &scratch[..n])
 }
 
 // Are all fields of a record shaped as their names ask?
-fn all_shaped(table: &[u8; 256], d: &[u8], scratch: &mut [u8]) -> bool
-    requires { ⌜ now table ≡ classTable ⌝ }
+fn all_shaped(d: &[u8], scratch: &mut [u8]) -> bool
     requires { ⌜ isReadable (now d) ≡ true ⌝ }
     requires { ⌜ fitsRecord (fieldsOf (readOf (now d))) ≡ true ⌝ }
     requires { ⌜ valueBytes ≤ length (now scratch) ⌝ }
@@ -196,7 +189,7 @@ fn all_shaped(table: &[u8; 256], d: &[u8], scratch: &mut [u8]) -> bool
 {
     let mut i = 0;
     loop {
-        let n = records::next_field(table, d, i);
+        let n = records::next_field(d, i);
         let NextField::At {
             start,
             named,
@@ -206,7 +199,7 @@ fn all_shaped(table: &[u8; 256], d: &[u8], scratch: &mut [u8]) -> bool
         else {
             return true;
         };
-        if field_shaped(table, &d[start..named], &d[value..end], scratch) {
+        if field_shaped(&d[start..named], &d[value..end], scratch) {
             i = end;
         } else {
             return false;
@@ -215,12 +208,11 @@ fn all_shaped(table: &[u8; 256], d: &[u8], scratch: &mut [u8]) -> bool
 }
 
 // Does a name occur at most once among the fields of a record?
-fn at_most_once(table: &[u8; 256], d: &[u8], name: &[u8]) -> bool
-    requires { ⌜ now table ≡ classTable ⌝ }
+fn at_most_once(d: &[u8], name: &[u8]) -> bool
     requires { ⌜ isReadable (now d) ≡ true ⌝ }
     ensures { λ r. ⌜ r ≡ leb (length (valuesOf (now (name .entry)) (fieldsOf (readOf (now (d .entry)))))) 1 ⌝ }
 {
-    let f = records::find_field(table, d, name, 1);
+    let f = records::find_field(d, name, 1);
     match f {
         FoundField::At {
             start: _,
@@ -232,16 +224,15 @@ fn at_most_once(table: &[u8; 256], d: &[u8], name: &[u8]) -> bool
 }
 
 // Is a descriptor well formed, `%typedef` and `%type` fields aside?
-pub fn well_formed(table: &[u8; 256], d: &[u8], scratch: &mut [u8]) -> bool
-    requires { ⌜ now table ≡ classTable ⌝ }
+pub fn well_formed(d: &[u8], scratch: &mut [u8]) -> bool
     requires { ⌜ isReadable (now d) ≡ true ⌝ }
     requires { ⌜ fitsRecord (fieldsOf (readOf (now d))) ≡ true ⌝ }
     requires { ⌜ valueBytes ≤ length (now scratch) ⌝ }
     ensures { λ r. ⌜ (r ≡ isWellFormed intBounds (fieldsOf (readOf (now (d .entry))))) × (length (now (scratch .exit)) ≡ length (now (scratch .entry))) ⌝ }
 {
-    if all_shaped(table, d, scratch) {
-        if at_most_once(table, d, b"%key") {
-            at_most_once(table, d, b"%size")
+    if all_shaped(d, scratch) {
+        if at_most_once(d, b"%key") {
+            at_most_once(d, b"%size")
         } else {
             false
         }
@@ -251,12 +242,11 @@ pub fn well_formed(table: &[u8; 256], d: &[u8], scratch: &mut [u8]) -> bool
 }
 
 // Where the first `%rec` value of a descriptor stands in it.
-fn rec_value(table: &[u8; 256], d: &[u8]) -> Span
-    requires { ⌜ now table ≡ classTable ⌝ }
+fn rec_value(d: &[u8]) -> Span
     requires { ⌜ isReadable (now d) ≡ true ⌝ }
     ensures { λ r. ⌜ NamedBy (now (d .entry)) r ⌝ }
 {
-    let f = records::find_field(table, d, b"%rec", 0);
+    let f = records::find_field(d, b"%rec", 0);
     match f {
         FoundField::At {
             start: _,
@@ -301,7 +291,6 @@ enum Head {
 }
 
 fn head_of(
-    table: &[u8; 256],
     s: &[u8],
     a: usize,
     e: usize,
@@ -309,7 +298,6 @@ fn head_of(
     ends: &[usize],
     scratch: &mut [u8],
 ) -> Head
-    requires { ⌜ now table ≡ classTable ⌝ }
     requires { ⌜ (a ≤ e) × (e ≤ length (now s)) ⌝ }
     requires { ⌜ isReadable (span a e (now s)) ≡ true ⌝ }
     requires { ⌜ fitsRecord (fieldsOf (readOf (span a e (now s)))) ≡ true ⌝ }
@@ -317,8 +305,8 @@ fn head_of(
     requires { ⌜ valueBytes ≤ length (now scratch) ⌝ }
     ensures { λ r. ⌜ Told (now (s .entry)) (fieldsOf (readOf (span a e (now (s .entry))))) (namesAt (now (s .entry)) (now (starts .entry)) (now (ends .entry))) r × (length (now (scratch .exit)) ≡ length (now (scratch .entry))) ⌝ }
 {
-    if well_formed(table, &s[a..e], scratch) {
-        let v = rec_value(table, &s[a..e]);
+    if well_formed(&s[a..e], scratch) {
+        let v = rec_value(&s[a..e]);
         let start = a + v.start;
         let end = a + v.end;
         let n = lines::copy_value(&s[start..end], scratch);
@@ -334,14 +322,12 @@ fn head_of(
 
 // Question 6: are all descriptors well formed, and no two sets called alike? count of them stand in s, from each start to the end beside it.
 pub fn described_well(
-    table: &[u8; 256],
     s: &[u8],
     starts: &[usize],
     ends: &[usize],
     count: usize,
     scratch: &mut [u8],
 ) -> bool
-    requires { ⌜ now table ≡ classTable ⌝ }
     requires { ⌜ HeadParts (now s) (now starts) (now ends) count × (count ≤ descriptors) ⌝ }
     requires { ⌜ walkFits (records (readOf (now s))) ≡ true ⌝ }
     requires { ⌜ valueBytes ≤ length (now scratch) ⌝ }
@@ -353,7 +339,7 @@ pub fn described_well(
     while n < count {
         let a = starts[n];
         let e = ends[n];
-        let h = head_of(table, s, a, e, &from[..n], &to[..n], scratch);
+        let h = head_of(s, a, e, &from[..n], &to[..n], scratch);
         let Head::Named { start, end } = h else {
             return false;
         };

@@ -6,7 +6,7 @@ ghost use mathlib.Core.Option.{some};
 ghost use Prim.Native.Nat.{ℕ, _≤_};
 ghost use lib.ListN.{length};
 ghost use Rattle.format.specs.Pieces.{readOf};
-ghost use Rattle.format.specs.Bytes.{classTable, text, all, isSome};
+ghost use Rattle.format.specs.Bytes.{text, all, isSome};
 ghost use Rattle.format.specs.Limits.{valueBytes};
 ghost use Rattle.format.specs.Numbers.{intBounds};
 ghost use Rattle.format.specs.Records.{fieldsOf};
@@ -134,8 +134,7 @@ fn field_met(name: &[u8], value: &[u8], n: u64, scratch: &mut [u8]) -> bool
 }
 
 // Is every size of a descriptor met by count records?
-pub fn size_met(table: &[u8; 256], d: &[u8], count: usize, scratch: &mut [u8]) -> bool
-    requires { ⌜ now table ≡ classTable ⌝ }
+pub fn size_met(d: &[u8], count: usize, scratch: &mut [u8]) -> bool
     requires { ⌜ isReadable (now d) ≡ true ⌝ }
     requires { ⌜ fitsRecord (fieldsOf (readOf (now d))) ≡ true ⌝ }
     requires { ⌜ valueBytes ≤ length (now scratch) ⌝ }
@@ -143,7 +142,7 @@ pub fn size_met(table: &[u8; 256], d: &[u8], count: usize, scratch: &mut [u8]) -
 {
     let mut i = 0;
     loop {
-        let n = records::next_field(table, d, i);
+        let n = records::next_field(d, i);
         let NextField::At {
             start,
             named,

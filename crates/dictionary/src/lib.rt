@@ -5,7 +5,7 @@ ghost use mathlib.Core.Bool.{true};
 ghost use mathlib.Core.List.{[], map};
 ghost use Prim.Native.Nat.{_+_, _<_, _≤_};
 ghost use lib.ListN.{length, drop};
-ghost use Rattle.format.specs.Bytes.{classTable, text, all};
+ghost use Rattle.format.specs.Bytes.{text, all};
 ghost use Rattle.format.specs.Lines.{isName};
 ghost use Rattle.format.specs.Words.{words};
 ghost use Rattle.format.specs.Rules.{typedNames};
@@ -90,8 +90,7 @@ fn add_names(d: &[u8], i: usize, tag: u32, entries: &mut [u32], n: usize) -> usi
 }
 
 // The words of all lists of a descriptor, put into entries; how many.
-fn add_lists(table: &[u8; 256], d: &[u8], entries: &mut [u32]) -> usize
-    requires { ⌜ now table ≡ classTable ⌝ }
+fn add_lists(d: &[u8], entries: &mut [u32]) -> usize
     requires { ⌜ (isReadable (now d) ≡ true) × (length (now d) ≤ 65536) ⌝ }
     requires { ⌜ (length (listTerms (recordIn (now d))) ≤ length (now entries)) × (all areNames (recordIn (now d)) ≡ true) ⌝ }
     ensures { λ r. ⌜ Adding (now (d .entry)) (now (entries .entry)) 0 (listTerms (recordIn (now (d .entry)))) [] (now (entries .exit)) r ⌝ }
@@ -99,7 +98,7 @@ fn add_lists(table: &[u8; 256], d: &[u8], entries: &mut [u32]) -> usize
     let mut n = 0;
     let mut i = 0;
     loop {
-        let f = records::next_field(table, d, i);
+        let f = records::next_field(d, i);
         let NextField::At {
             start,
             named,
@@ -120,8 +119,7 @@ fn add_lists(table: &[u8; 256], d: &[u8], entries: &mut [u32]) -> usize
 }
 
 // The byte behind the first `%type` fields, as many as there are to be passed.
-fn pass_types(table: &[u8; 256], d: &[u8], count: usize) -> usize
-    requires { ⌜ now table ≡ classTable ⌝ }
+fn pass_types(d: &[u8], count: usize) -> usize
     requires { ⌜ isReadable (now d) ≡ true ⌝ }
     requires { ⌜ count ≤ length (valuesFrom (now d) (text "%type") 0) ⌝ }
     ensures { λ r. ⌜ (r ≤ length (now (d .entry))) × (isReadable (drop r (now (d .entry))) ≡ true) × (valuesFrom (now (d .entry)) (text "%type") r ≡ drop count (valuesFrom (now (d .entry)) (text "%type") 0)) ⌝ }
@@ -129,7 +127,7 @@ fn pass_types(table: &[u8; 256], d: &[u8], count: usize) -> usize
     let mut i = 0;
     let mut row = 0;
     while row < count {
-        let v = typedefs::next_value(table, d, b"%type", i);
+        let v = typedefs::next_value(d, b"%type", i);
         let NextValue::At { value: _, end } = v else {
             return i;
         };
@@ -146,17 +144,16 @@ pub struct Added {
 }
 
 // The names of the `%type` fields from one on, put behind the first n entries: of as many fields as there is certainly room for.
-fn add_types(table: &[u8; 256], d: &[u8], from: usize, entries: &mut [u32], n: usize) -> Added
-    requires { ⌜ now table ≡ classTable ⌝ }
+fn add_types(d: &[u8], from: usize, entries: &mut [u32], n: usize) -> Added
     requires { ⌜ Described (now d) ⌝ }
     requires { ⌜ (from ≤ length (valuesFrom (now d) (text "%type") 0)) × (n ≤ length (now entries)) ⌝ }
     ensures { λ r. ⌜ RowsAdded (now (d .entry)) from (now (entries .entry)) n (now (entries .exit)) r ⌝ }
 {
     let mut k = n;
     let mut row = from;
-    let mut i = pass_types(table, d, from);
+    let mut i = pass_types(d, from);
     loop {
-        let v = typedefs::next_value(table, d, b"%type", i);
+        let v = typedefs::next_value(d, b"%type", i);
         let NextValue::At { value, end } = v else {
             return Added {
                 count: k,
@@ -182,14 +179,13 @@ pub struct Dictionary {
 }
 
 // The dictionary of a descriptor, from one of its `%type` fields on, in a lent array.
-pub fn read(table: &[u8; 256], d: &[u8], from: usize, entries: &mut [u32]) -> Dictionary
-    requires { ⌜ now table ≡ classTable ⌝ }
+pub fn read(d: &[u8], from: usize, entries: &mut [u32]) -> Dictionary
     requires { ⌜ Described (now d) ⌝ }
     requires { ⌜ (from ≤ length (valuesFrom (now d) (text "%type") 0)) × (4354 ≤ length (now entries)) ⌝ }
     ensures { λ r. ⌜ IsDictionary (now (d .entry)) from (now (entries .exit)) r ⌝ }
 {
-    let n = add_lists(table, d, &mut *entries);
-    let a = add_types(table, d, from, &mut *entries, n);
+    let n = add_lists(d, &mut *entries);
+    let a = add_types(d, from, &mut *entries, n);
     let count = a.count;
     let t = terms::build(d, &mut entries[..count]);
     Dictionary {

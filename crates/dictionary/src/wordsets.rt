@@ -4,7 +4,7 @@ ghost use mathlib.Core.Bool.{true};
 ghost use mathlib.Core.List.{[]};
 ghost use Prim.Native.Nat.{_+_, _≤_};
 ghost use lib.ListN.{length, drop};
-ghost use Rattle.format.specs.Bytes.{classTable, all};
+ghost use Rattle.format.specs.Bytes.{all};
 ghost use Rattle.format.specs.Lines.{isName};
 ghost use Rattle.format.specs.Words.{words};
 ghost use Rattle.format.specs.Rules.{listed};
@@ -39,8 +39,7 @@ fn add_value(d: &[u8], i: usize, entries: &mut [u32], n: usize) -> usize
 }
 
 // The same of all fields of a name.
-fn add_list(table: &[u8; 256], d: &[u8], name: &[u8], entries: &mut [u32]) -> usize
-    requires { ⌜ now table ≡ classTable ⌝ }
+fn add_list(d: &[u8], name: &[u8], entries: &mut [u32]) -> usize
     requires { ⌜ (isReadable (now d) ≡ true) × (length (now d) ≤ 65536) ⌝ }
     requires { ⌜ (length (listed (now name) (recordIn (now d))) ≤ 64) × (64 ≤ length (now entries)) ⌝ }
     requires { ⌜ all isName (listed (now name) (recordIn (now d))) ≡ true ⌝ }
@@ -49,7 +48,7 @@ fn add_list(table: &[u8; 256], d: &[u8], name: &[u8], entries: &mut [u32]) -> us
     let mut n = 0;
     let mut i = 0;
     loop {
-        let v = typedefs::next_value(table, d, name, i);
+        let v = typedefs::next_value(d, name, i);
         let NextValue::At { value, end } = v else {
             return n;
         };
@@ -65,20 +64,13 @@ pub struct Words {
 }
 
 // The table of the words that the fields of a name list, and their sets, in lent arrays: `terms::find_joined` tells the places at which a word stands in the list.
-pub fn read(
-    table: &[u8; 256],
-    d: &[u8],
-    name: &[u8],
-    entries: &mut [u32],
-    sets: &mut [u64],
-) -> Words
-    requires { ⌜ now table ≡ classTable ⌝ }
+pub fn read(d: &[u8], name: &[u8], entries: &mut [u32], sets: &mut [u64]) -> Words
     requires { ⌜ (isReadable (now d) ≡ true) × (length (now d) ≤ 65536) ⌝ }
     requires { ⌜ (length (listed (now name) (recordIn (now d))) ≤ 64) × (64 ≤ length (now entries)) × (64 ≤ length (now sets)) ⌝ }
     requires { ⌜ all isName (listed (now name) (recordIn (now d))) ≡ true ⌝ }
     ensures { λ r. ⌜ IsWords (now (d .entry)) (listed (now (name .entry)) (recordIn (now (d .entry)))) (now (entries .exit)) (now (sets .exit)) r ⌝ }
 {
-    let n = add_list(table, d, name, &mut *entries);
+    let n = add_list(d, name, &mut *entries);
     let t = terms::build(d, &mut entries[..n]);
     terms::join(d, &*entries, t, &mut *sets);
     Words { table: t, count: n }

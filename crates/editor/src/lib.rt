@@ -2,7 +2,6 @@
 ghost use mathlib.Core.Path.{_≡_};
 ghost use Prim.Native.Nat.{ℕ, _≤_, min};
 ghost use lib.ListN.{length, take, drop};
-ghost use Rattle.format.specs.Bytes.{classTable};
 ghost use Rattle.format.specs.Limits.{fileBytes};
 ghost use Rattle.format.specs.Calls.{numberIn, valueOr, checkAnswer, editAnswer};
 ghost use Rattle.format.proofs.Judging.{textNo};
@@ -17,8 +16,7 @@ use requests::Refusal;
 use requests::RequestOf;
 
 // The number of the text that a splice makes of s, questions 2 to 14. It is made in a copy.
-fn result_no(table: &[u8; 256], x: Splice, s: &[u8], req: &[u8], copy: &mut [u8]) -> u32
-    requires { ⌜ now table ≡ classTable ⌝ }
+fn result_no(x: Splice, s: &[u8], req: &[u8], copy: &mut [u8]) -> u32
     requires { ⌜ fileBytes ≤ length (now copy) ⌝ }
     requires { ⌜ Sound (now s) (now req) x ⌝ }
     requires { ⌜ (length (now s) ≤ fileBytes) × (length (madeBy (now s) (now req) x) ≤ fileBytes) ⌝ }
@@ -27,12 +25,11 @@ fn result_no(table: &[u8; 256], x: Splice, s: &[u8], req: &[u8], copy: &mut [u8]
     let used = s.len();
     writing::put_bytes(&mut *copy, s);
     let n = edits::carry_out(x, &mut *copy, used, req);
-    integrity::judge_spent(table, copy, n)
+    integrity::judge_spent(copy, n)
 }
 
 // The number of a splice of a text that passes, in a buffer of room bytes: the first question, 26 on, that says no, else 0.
-fn edit_no(table: &[u8; 256], x: Splice, s: &[u8], req: &[u8], room: usize, copy: &mut [u8]) -> u32
-    requires { ⌜ now table ≡ classTable ⌝ }
+fn edit_no(x: Splice, s: &[u8], req: &[u8], room: usize, copy: &mut [u8]) -> u32
     requires { ⌜ fileBytes ≤ length (now copy) ⌝ }
     requires { ⌜ Sound (now s) (now req) x ⌝ }
     requires { ⌜ (length (now s) ≤ room) × (length (now s) ≤ fileBytes) ⌝ }
@@ -41,7 +38,7 @@ fn edit_no(table: &[u8; 256], x: Splice, s: &[u8], req: &[u8], room: usize, copy
     if !edits::fits(x, s, req, room) {
         return Refusal::LARGE;
     }
-    let n = result_no(table, x, s, req, copy);
+    let n = result_no(x, s, req, copy);
     if n == 0 {
         return 0;
     }
@@ -64,15 +61,14 @@ pub fn edit_passing(buf: &mut [u8], used: usize, req: &[u8], copy: &mut [u8]) ->
     let RequestOf::Is(q) = r else {
         return Edited::Refused(Refusal::FORM);
     };
-    let table = format::classes();
-    let l = edits::locate(&table, &buf[..used], req, q);
+    let l = edits::locate(&buf[..used], req, q);
     match l {
         Located::Refused(k) => {
             return Edited::Refused(k);
         }
         Located::At(x) => {
             let room = buf.len();
-            let n = edit_no(&table, x, &buf[..used], req, room, &mut *copy);
+            let n = edit_no(x, &buf[..used], req, room, &mut *copy);
             if n != 0 {
                 return Edited::Refused(n);
             }

@@ -3,7 +3,6 @@ ghost use mathlib.Core.Path.{_≡_};
 ghost use mathlib.Core.Bool.{true};
 ghost use Prim.Native.Nat.{_≤_};
 ghost use lib.ListN.{length, drop};
-ghost use Rattle.format.specs.Bytes.{classTable};
 ghost use Rattle.format.specs.Limits.{fileBytes};
 ghost use Rattle.format.specs.Edits.{Edit};
 ghost use Rattle.records.specs.Places.{isReadable};
@@ -22,15 +21,14 @@ use requests::Refusal;
 use words::Span;
 
 // How many fields a part has.
-fn count_fields(table: &[u8; 256], s: &[u8]) -> usize
-    requires { ⌜ now table ≡ classTable ⌝ }
+fn count_fields(s: &[u8]) -> usize
     requires { ⌜ isReadable (now s) ≡ true ⌝ }
     ensures { λ r. ⌜ r ≡ length (recordIn (now (s .entry))) ⌝ }
 {
     let mut i = 0;
     let mut n = 0;
     loop {
-        let f = records::next_field(table, s, i);
+        let f = records::next_field(s, i);
         let NextField::At {
             start: _,
             named: _,
@@ -46,15 +44,7 @@ fn count_fields(table: &[u8; 256], s: &[u8]) -> usize
 }
 
 // The change of a field of that name, which stands at a place of the text, in the record that fills `own`.
-fn locate_change(
-    table: &[u8; 256],
-    own: &[u8],
-    req: &[u8],
-    name: Span,
-    field: Span,
-    change: Change,
-) -> Located
-    requires { ⌜ now table ≡ classTable ⌝ }
+fn locate_change(own: &[u8], req: &[u8], name: Span, field: Span, change: Change) -> Located
     requires { ⌜ (isReadable (now own) ≡ true) × (field .start ≤ field .end) ⌝ }
     requires { ⌜ InSpan (now req) name × InChange (now req) change ⌝ }
     ensures { λ r. ⌜ r ≡ changeAt (now (own .entry)) (now (req .entry)) name field change ⌝ }
@@ -65,7 +55,7 @@ fn locate_change(
         Change::Value(value) => {
             let a = value.start;
             let b = value.end;
-            if !writing::is_legal_value(table, &req[a..b]) {
+            if !writing::is_legal_value(&req[a..b]) {
                 return Located::Refused(Refusal::ILLEGAL);
             }
             return Located::At(Splice::Field {
@@ -76,7 +66,7 @@ fn locate_change(
             });
         }
         Change::Dropped => {
-            if count_fields(table, own) < 2 {
+            if count_fields(own) < 2 {
                 return Located::Refused(Refusal::EMPTIED);
             }
             return Located::At(Splice::Cut { at, old });
@@ -84,7 +74,7 @@ fn locate_change(
         Change::Name(new) => {
             let a = new.start;
             let b = new.end;
-            if !writing::is_legal_name(table, &req[a..b]) {
+            if !writing::is_legal_name(&req[a..b]) {
                 return Located::Refused(Refusal::ILLEGAL);
             }
             return Located::At(Splice::Name {
@@ -97,20 +87,12 @@ fn locate_change(
 }
 
 // An act on record `row` of the set whose records begin at `begin`.
-pub(crate) fn locate_act(
-    table: &[u8; 256],
-    s: &[u8],
-    req: &[u8],
-    begin: usize,
-    row: usize,
-    act: Act,
-) -> Located
-    requires { ⌜ now table ≡ classTable ⌝ }
+pub(crate) fn locate_act(s: &[u8], req: &[u8], begin: usize, row: usize, act: Act) -> Located
     requires { ⌜ (isReadable (now s) ≡ true) × (begin ≤ length (now s)) × (isReadable (drop begin (now s)) ≡ true) ⌝ }
     requires { ⌜ (length (now req) ≤ fileBytes) × InAct (now req) act ⌝ }
     ensures { λ r. ⌜ LocatesIn (now (s .entry)) (now (req .entry)) begin (Edit.on row (actOf (now (req .entry)) act)) r ⌝ }
 {
-    let f = records::find_record(table, &s[begin..], row);
+    let f = records::find_record(&s[begin..], row);
     let FoundRecord::At(p) = f else {
         return Located::Refused(Refusal::RECORD);
     };
@@ -124,7 +106,7 @@ pub(crate) fn locate_act(
             });
         }
         Act::Add { name, value } => {
-            if !requests::is_legal_pair(table, req, name, value) {
+            if !requests::is_legal_pair(req, name, value) {
                 return Located::Refused(Refusal::ILLEGAL);
             }
             return Located::At(Splice::Field {
@@ -141,7 +123,7 @@ pub(crate) fn locate_act(
         } => {
             let a = name.start;
             let b = name.end;
-            let g = records::find_field(table, &s[first..last], &req[a..b], occurrence);
+            let g = records::find_field(&s[first..last], &req[a..b], occurrence);
             let FoundField::At {
                 start,
                 value: _,
@@ -154,7 +136,7 @@ pub(crate) fn locate_act(
                 start: first + start,
                 end: first + end,
             };
-            return locate_change(table, &s[first..last], req, name, field, change);
+            return locate_change(&s[first..last], req, name, field, change);
         }
     }
 }

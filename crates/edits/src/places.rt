@@ -3,7 +3,6 @@ ghost use mathlib.Core.Path.{_≡_};
 ghost use mathlib.Core.Bool.{true};
 ghost use Prim.Native.Nat.{_≤_};
 ghost use lib.ListN.{length, drop};
-ghost use Rattle.format.specs.Bytes.{classTable};
 ghost use Rattle.format.specs.Limits.{fileBytes};
 ghost use Rattle.records.specs.Places.{isReadable, placesOf};
 ghost use Rattle.records.proofs.SetEnds.{setEnd};
@@ -21,14 +20,13 @@ use requests::Request;
 use requests::Weighed;
 
 // Where the records of a part end that stand before any descriptor: the byte behind the last one's block, 0 where there is none.
-fn set_end(table: &[u8; 256], s: &[u8]) -> usize
-    requires { ⌜ now table ≡ classTable ⌝ }
+fn set_end(s: &[u8]) -> usize
     requires { ⌜ isReadable (now s) ≡ true ⌝ }
     ensures { λ r. ⌜ r ≡ setEnd 0 (placesOf (now (s .entry))) ⌝ }
 {
     let mut i = 0;
     loop {
-        let r = records::next_record(table, &s[i..]);
+        let r = records::next_record(&s[i..]);
         let NextRecord::At(p) = r else {
             return i;
         };
@@ -40,17 +38,16 @@ fn set_end(table: &[u8; 256], s: &[u8]) -> usize
 }
 
 // A record put in at the end of the set whose records begin at `begin`.
-fn locate_insert(table: &[u8; 256], s: &[u8], req: &[u8], begin: usize, from: usize) -> Located
-    requires { ⌜ now table ≡ classTable ⌝ }
+fn locate_insert(s: &[u8], req: &[u8], begin: usize, from: usize) -> Located
     requires { ⌜ (isReadable (now s) ≡ true) × (begin ≤ length (now s)) × (isReadable (drop begin (now s)) ≡ true) ⌝ }
     requires { ⌜ (length (now req) ≤ fileBytes) × InEdit (now req) (Edit.Insert from) ⌝ }
     ensures { λ r. ⌜ LocatesIn (now (s .entry)) (now (req .entry)) begin (editOf (now (req .entry)) (Edit.Insert from)) r ⌝ }
 {
-    let w = requests::weigh(table, req, from);
+    let w = requests::weigh(req, from);
     let Weighed::Sums { len, count: _ } = w else {
         return Located::Refused(Refusal::ILLEGAL);
     };
-    let e = set_end(table, &s[begin..]);
+    let e = set_end(&s[begin..]);
     Located::At(Splice::Record {
         at: begin + e,
         from,
@@ -59,8 +56,7 @@ fn locate_insert(table: &[u8; 256], s: &[u8], req: &[u8], begin: usize, from: us
 }
 
 // What a request does to a readable text, or the number of the first of questions 21 to 25 that says no.
-pub fn locate(table: &[u8; 256], s: &[u8], req: &[u8], q: Request) -> Located
-    requires { ⌜ now table ≡ classTable ⌝ }
+pub fn locate(s: &[u8], req: &[u8], q: Request) -> Located
     requires { ⌜ (isReadable (now s) ≡ true) × (length (now s) ≤ fileBytes) × (length (now req) ≤ fileBytes) ⌝ }
     requires { ⌜ Inside (now req) (RequestOf.Is q) ⌝ }
     ensures { λ r. ⌜ Locates (now (s .entry)) (now (req .entry)) (askedBy (now (req .entry)) q) r ⌝ }
@@ -68,17 +64,17 @@ pub fn locate(table: &[u8; 256], s: &[u8], req: &[u8], q: Request) -> Located
     let set = q.set;
     let a = set.start;
     let b = set.end;
-    let f = records::find_set(table, s, &req[a..b]);
+    let f = records::find_set(s, &req[a..b]);
     let FoundSet::At(begin) = f else {
         return Located::Refused(Refusal::SET);
     };
     let edit = q.edit;
     match edit {
         Edit::Insert { start } => {
-            return locate_insert(table, s, req, begin, start);
+            return locate_insert(s, req, begin, start);
         }
         Edit::On { row, act } => {
-            return locate_act(table, s, req, begin, row, act);
+            return locate_act(s, req, begin, row, act);
         }
     }
 }

@@ -6,7 +6,7 @@ ghost use lib.Dec.{ltb};
 ghost use lib.ListN.{length, take, getD};
 ghost use Rattle.format.specs.Pieces.{readOf};
 ghost use Rattle.format.proofs.Records.{records};
-ghost use Rattle.format.specs.Bytes.{classTable, pick, isAllowed, all};
+ghost use Rattle.format.specs.Bytes.{pick, isAllowed, all};
 ghost use Rattle.format.specs.Lines.{isEnded};
 ghost use Rattle.format.specs.Limits.{fileBytes, valueBytes, descriptors};
 ghost use Rattle.format.specs.Numbers.{intBounds};
@@ -67,14 +67,12 @@ fn is_text(s: &[u8]) -> bool
 
 // Question 7: are the types of all descriptors well formed? count of them stand in s, from each start to the end beside it.
 fn types_defined(
-    table: &[u8; 256],
     s: &[u8],
     starts: &[usize],
     ends: &[usize],
     count: usize,
     scratch: &mut [u8],
 ) -> bool
-    requires { ⌜ now table ≡ classTable ⌝ }
     requires { ⌜ HeadParts (now s) (now starts) (now ends) count × (length (now s) ≤ fileBytes) ⌝ }
     requires { ⌜ walkFits (records (readOf (now s))) ≡ true ⌝ }
     requires { ⌜ valueBytes ≤ length (now scratch) ⌝ }
@@ -84,7 +82,7 @@ fn types_defined(
     while k < count {
         let a = starts[k];
         let e = ends[k];
-        if typedefs::types_well(table, &s[a..e], &mut *scratch) {} else {
+        if typedefs::types_well(&s[a..e], &mut *scratch) {} else {
             return false;
         }
         k += 1;
@@ -106,7 +104,6 @@ fn members_end(starts: &[usize], k: usize, count: usize, len: usize) -> usize
 // Questions 8 to 14 of all sets: the least number of a descriptor's set, else 0. count descriptors stand in s, from each start to the end beside it, and the members of
 // each behind its block.
 fn judge_sets(
-    table: &[u8; 256],
     s: &[u8],
     starts: &[usize],
     ends: &[usize],
@@ -115,7 +112,6 @@ fn judge_sets(
     scratch: &mut [u8],
     entries: &mut [u32],
 ) -> u32
-    requires { ⌜ now table ≡ classTable ⌝ }
     requires { ⌜ length (now s) ≤ fileBytes ⌝ }
     requires { ⌜ Granted (records (readOf (now s))) ⌝ }
     requires { ⌜ HeadRows (now s) (now starts) (now ends) (now afters) count ⌝ }
@@ -129,7 +125,7 @@ fn judge_sets(
         let e = ends[k];
         let b = afters[k];
         let next = members_end(starts, k + 1, count, s.len());
-        let n = rules::judge_set(table, &s[a..e], &s[b..next], &mut *scratch, &mut *entries);
+        let n = rules::judge_set(&s[a..e], &s[b..next], &mut *scratch, &mut *entries);
         worst = tallies::lesser(worst, n);
         k += 1;
     }
@@ -138,42 +134,30 @@ fn judge_sets(
 
 // Questions 6 to 14 of a readable text of which 4 and 5 say yes, with count descriptors.
 fn judge_described(
-    table: &[u8; 256],
     s: &[u8],
     starts: &[usize],
     ends: &[usize],
     afters: &[usize],
     count: usize,
 ) -> u32
-    requires { ⌜ now table ≡ classTable ⌝ }
     requires { ⌜ length (now s) ≤ fileBytes ⌝ }
     requires { ⌜ (walkFits (records (readOf (now s))) ≡ true) × (walkOnce (records (readOf (now s))) ≡ true) ⌝ }
     requires { ⌜ HeadRows (now s) (now starts) (now ends) (now afters) count × (count ≤ descriptors) ⌝ }
     ensures { λ r. ⌜ r ≡ recordsNo intBounds (records (readOf (now (s .entry)))) ⌝ }
 {
     let mut scratch = [0u8; 4096];
-    if descriptors::described_well(table, s, starts, ends, count, &mut scratch) {} else {
+    if descriptors::described_well(s, starts, ends, count, &mut scratch) {} else {
         return 6;
     }
-    if types_defined(table, s, starts, ends, count, &mut scratch) {} else {
+    if types_defined(s, starts, ends, count, &mut scratch) {} else {
         return 7;
     }
     let mut entries = [0u32; 16384];
-    judge_sets(
-        table,
-        s,
-        starts,
-        ends,
-        afters,
-        count,
-        &mut scratch,
-        &mut entries,
-    )
+    judge_sets(s, starts, ends, afters, count, &mut scratch, &mut entries)
 }
 
 // Questions 3 to 14 of a text of which 2 says yes.
-fn judge_lines(table: &[u8; 256], s: &[u8]) -> u32
-    requires { ⌜ now table ≡ classTable ⌝ }
+fn judge_lines(s: &[u8]) -> u32
     requires { ⌜ (all isAllowed (now s) && isEnded (now s)) ≡ true ⌝ }
     requires { ⌜ length (now s) ≤ fileBytes ⌝ }
     ensures { λ r. ⌜ r ≡ textNo (now (s .entry)) ⌝ }
@@ -181,66 +165,62 @@ fn judge_lines(table: &[u8; 256], s: &[u8]) -> u32
     let mut starts = [0usize; 64];
     let mut ends = [0usize; 64];
     let mut afters = [0usize; 64];
-    let b = limits::bounds_of(table, s, &mut starts, &mut ends, &mut afters);
+    let b = limits::bounds_of(s, &mut starts, &mut ends, &mut afters);
     match b {
         Bounded::Fault => 3,
         Bounded::Past => 4,
         Bounded::Unnamed => 5,
-        Bounded::Heads(count) => judge_described(table, s, &starts, &ends, &afters, count),
+        Bounded::Heads(count) => judge_described(s, &starts, &ends, &afters, count),
     }
 }
 
 // Questions 2 to 14 of a text: the number of the first that says no, else 0.
-fn judge(table: &[u8; 256], s: &[u8]) -> u32
-    requires { ⌜ now table ≡ classTable ⌝ }
+fn judge(s: &[u8]) -> u32
     requires { ⌜ length (now s) ≤ fileBytes ⌝ }
     ensures { λ r. ⌜ r ≡ textNo (now (s .entry)) ⌝ }
 {
     if is_text(s) {
-        return judge_lines(table, s);
+        return judge_lines(s);
     }
     2
 }
 
 // The same of the text of `used` bytes at the front of a slice, which is spent: the text is made dense first.
-fn judge_dense(table: &[u8; 256], text: &mut [u8], used: usize) -> u32
-    requires { ⌜ now table ≡ classTable ⌝ }
+fn judge_dense(text: &mut [u8], used: usize) -> u32
     requires { ⌜ (used ≤ length (now text)) × (used ≤ fileBytes) ⌝ }
     ensures { λ r. ⌜ r ≡ textNo (take used (now (text .entry))) ⌝ }
 {
     if !is_text(&text[..used]) {
         return 2;
     }
-    if !records::is_readable(table, &text[..used]) {
+    if !records::is_readable(&text[..used]) {
         return 3;
     }
     let n = make_dense(text, used);
-    judge_lines(table, &text[..n])
+    judge_lines(&text[..n])
 }
 
 // The same of a text that the caller has no further use for.
-pub fn judge_spent(table: &[u8; 256], text: &mut [u8], used: usize) -> u32
-    requires { ⌜ now table ≡ classTable ⌝ }
+pub fn judge_spent(text: &mut [u8], used: usize) -> u32
     requires { ⌜ (used ≤ length (now text)) × (used ≤ fileBytes) ⌝ }
     ensures { λ r. ⌜ r ≡ textNo (take used (now (text .entry))) ⌝ }
 {
     if may_join(&text[..used]) {
-        return judge_dense(table, text, used);
+        return judge_dense(text, used);
     }
-    judge(table, &text[..used])
+    judge(&text[..used])
 }
 
 // The same of a text that is to stay as it is, with room for a copy of it.
-fn judge_kept(table: &[u8; 256], s: &[u8], copy: &mut [u8]) -> u32
-    requires { ⌜ now table ≡ classTable ⌝ }
+fn judge_kept(s: &[u8], copy: &mut [u8]) -> u32
     requires { ⌜ (length (now s) ≤ fileBytes) × (fileBytes ≤ length (now copy)) ⌝ }
     ensures { λ r. ⌜ r ≡ textNo (now (s .entry)) ⌝ }
 {
     if may_join(s) {
         writing::put_bytes(&mut *copy, s);
-        return judge_dense(table, copy, s.len());
+        return judge_dense(copy, s.len());
     }
-    judge(table, s)
+    judge(s)
 }
 
 // The number of the first question that says no of the first `used` bytes of a buffer, else 0, with room for a copy of them.
@@ -252,8 +232,7 @@ pub fn check_with(buf: &[u8], used: usize, copy: &mut [u8]) -> u32
     if !f.fits(buf.len()) {
         return 1;
     }
-    let table = format::classes();
-    judge_kept(&table, &buf[0..used], copy)
+    judge_kept(&buf[0..used], copy)
 }
 
 // The number of the first question that says no of the first `used` bytes of a buffer, else 0.

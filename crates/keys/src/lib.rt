@@ -4,7 +4,7 @@ ghost use mathlib.Core.Path.{_≡_};
 ghost use mathlib.Core.Bool.{true};
 ghost use Prim.Native.Nat.{_<_, _≤_};
 ghost use lib.ListN.{length, take, drop};
-ghost use Rattle.format.specs.Bytes.{classTable, among};
+ghost use Rattle.format.specs.Bytes.{among};
 ghost use Rattle.format.specs.Rules.{distinct};
 ghost use Rattle.format.specs.Sets.{valuesOf};
 ghost use Rattle.lines.specs.Value.{valueFrom};
@@ -129,8 +129,7 @@ fn distinct_keys(s: &[u8], entries: &mut [u32], n: usize) -> bool
 }
 
 // The entries of the values in s of the fields of a name; how many there are.
-fn gather(table: &[u8; 256], name: &[u8], s: &[u8], entries: &mut [u32]) -> usize
-    requires { ⌜ now table ≡ classTable ⌝ }
+fn gather(name: &[u8], s: &[u8], entries: &mut [u32]) -> usize
     requires { ⌜ (isReadable (now s) ≡ true) × (length (now s) ≤ 65536) ⌝ }
     requires { ⌜ length (valuesOf (now name) (recordIn (now s))) ≤ length (now entries) ⌝ }
     ensures { λ n. ⌜ Gathered (now (name .entry)) (now (s .entry)) (now (entries .exit)) n ⌝ }
@@ -138,7 +137,7 @@ fn gather(table: &[u8; 256], name: &[u8], s: &[u8], entries: &mut [u32]) -> usiz
     let mut i = 0;
     let mut n = 0;
     loop {
-        let f = records::next_field(table, s, i);
+        let f = records::next_field(s, i);
         let NextField::At {
             start,
             named,
@@ -159,12 +158,11 @@ fn gather(table: &[u8; 256], name: &[u8], s: &[u8], entries: &mut [u32]) -> usiz
 }
 
 // Are the values in s of the fields of a name distinct?
-pub fn keys_distinct(table: &[u8; 256], name: &[u8], s: &[u8], entries: &mut [u32]) -> bool
-    requires { ⌜ now table ≡ classTable ⌝ }
+pub fn keys_distinct(name: &[u8], s: &[u8], entries: &mut [u32]) -> bool
     requires { ⌜ (isReadable (now s) ≡ true) × (length (now s) ≤ 65536) ⌝ }
     requires { ⌜ length (valuesOf (now name) (recordIn (now s))) ≤ length (now entries) ⌝ }
     ensures { λ r. ⌜ r ≡ distinct (valuesOf (now (name .entry)) (recordIn (now (s .entry)))) ⌝ }
 {
-    let n = gather(table, name, s, &mut *entries);
+    let n = gather(name, s, &mut *entries);
     distinct_keys(s, &mut *entries, n)
 }

@@ -5,7 +5,7 @@ ghost use mathlib.Core.Bool.{true};
 ghost use mathlib.Core.Option.{some};
 ghost use Prim.Native.Nat.{_-_, _<_, _≤_};
 ghost use lib.ListN.{length, drop};
-ghost use Rattle.format.specs.Bytes.{classTable, isSome};
+ghost use Rattle.format.specs.Bytes.{isSome};
 ghost use Rattle.format.specs.Limits.{valueBytes};
 ghost use Rattle.format.specs.Words.{trim, afterWord};
 ghost use Rattle.format.specs.Numbers.{intBounds, intOf};
@@ -43,15 +43,14 @@ pub struct Kinds {
 }
 
 // The type behind the first word of the value at a place.
-fn type_at(table: &[u8; 256], d: &[u8], value: usize, scratch: &mut [u8]) -> Shape
-    requires { ⌜ now table ≡ classTable ⌝ }
+fn type_at(d: &[u8], value: usize, scratch: &mut [u8]) -> Shape
     requires { ⌜ (value ≤ length (now d)) × (length (valueFrom (drop value (now d))) ≤ length (now scratch)) ⌝ }
     requires { ⌜ isSome (typeAt (now d) value) ≡ true ⌝ }
     ensures { λ r. ⌜ typeAt (now (d .entry)) value ≡ some (typedIn (afterWord (valueFrom (drop value (now (d .entry))))) r) ⌝ }
 {
     let n = lines::copy_value(&d[value..], &mut *scratch);
     let at = typedefs::behind_word(&scratch[..n]);
-    let t = types::type_of(table, &scratch[at..n]);
+    let t = types::type_of(&scratch[at..n]);
     let TypeOf::Is(kind) = t else {
         return Shape::Line;
     };
@@ -69,20 +68,12 @@ fn text_of(kind: Shape, value: usize) -> usize
 }
 
 // Where the value stands that holds the kind at the end of the type of the value at a place: there, or a typedef's.
-fn end_of(
-    table: &[u8; 256],
-    d: &[u8],
-    names: Names,
-    targets: &[usize],
-    value: usize,
-    scratch: &mut [u8],
-) -> usize
-    requires { ⌜ now table ≡ classTable ⌝ }
+fn end_of(d: &[u8], names: Names, targets: &[usize], value: usize, scratch: &mut [u8]) -> usize
     requires { ⌜ Described (now d) × AreNames (now d) names × (now targets ≡ targetsOf (now d)) ⌝ }
     requires { ⌜ TypeAt (now d) value × (valueBytes ≤ length (now scratch)) ⌝ }
     ensures { λ r. ⌜ EndAt (now (d .entry)) value r ⌝ }
 {
-    let t = typedefs::target_of(table, d, names, value, &mut *scratch);
+    let t = typedefs::target_of(d, names, value, &mut *scratch);
     if t == Targets::KIND {
         return value;
     }
@@ -99,8 +90,7 @@ fn end_of(
 }
 
 // The kinds of a descriptor, by the names and the targets of its typedefs.
-fn fill(table: &[u8; 256], d: &[u8], names: Names, targets: &[usize], scratch: &mut [u8]) -> Kinds
-    requires { ⌜ now table ≡ classTable ⌝ }
+fn fill(d: &[u8], names: Names, targets: &[usize], scratch: &mut [u8]) -> Kinds
     requires { ⌜ Described (now d) × AreNames (now d) names × (now targets ≡ targetsOf (now d)) ⌝ }
     requires { ⌜ valueBytes ≤ length (now scratch) ⌝ }
     ensures { λ r. ⌜ IsKinds (now (d .entry)) r ⌝ }
@@ -110,12 +100,12 @@ fn fill(table: &[u8; 256], d: &[u8], names: Names, targets: &[usize], scratch: &
     let mut i = 0;
     let mut count = 0;
     loop {
-        let v = typedefs::next_value(table, d, b"%type", i);
+        let v = typedefs::next_value(d, b"%type", i);
         let NextValue::At { value, end } = v else {
             return Kinds { rows, texts, count };
         };
-        let at = end_of(table, d, names, targets, value, &mut *scratch);
-        let kind = type_at(table, d, at, &mut *scratch);
+        let at = end_of(d, names, targets, value, &mut *scratch);
+        let kind = type_at(d, at, &mut *scratch);
         rows[count] = Row { kind };
         texts[count] = text_of(kind, at);
         count += 1;
@@ -124,17 +114,16 @@ fn fill(table: &[u8; 256], d: &[u8], names: Names, targets: &[usize], scratch: &
 }
 
 // The kinds of a descriptor.
-pub fn read(table: &[u8; 256], d: &[u8], scratch: &mut [u8]) -> Kinds
-    requires { ⌜ now table ≡ classTable ⌝ }
+pub fn read(d: &[u8], scratch: &mut [u8]) -> Kinds
     requires { ⌜ Described (now d) ⌝ }
     requires { ⌜ valueBytes ≤ length (now scratch) ⌝ }
     ensures { λ r. ⌜ IsKinds (now (d .entry)) r ⌝ }
 {
-    let names = typedefs::read_names(table, d);
-    let t = typedefs::read_targets(table, d, names, &mut *scratch);
+    let names = typedefs::read_names(d);
+    let t = typedefs::read_targets(d, names, &mut *scratch);
     let rows = t.rows;
     let count = t.count;
-    fill(table, d, names, &rows[..count], &mut *scratch)
+    fill(d, names, &rows[..count], &mut *scratch)
 }
 
 // The rows of whose texts a value is a symbol, blanks and newlines around it aside.
@@ -174,7 +163,6 @@ fn is_symbol(texts: &[usize], from: usize, row: usize, found: u64) -> bool
 
 // Does a value meet the kinds of the rows in a set of tags, from one row on before another? x is what it is as an int, found of which texts it is a symbol.
 fn rows_met(
-    table: &[u8; 256],
     kinds: Kinds,
     from: usize,
     next: usize,
@@ -183,7 +171,6 @@ fn rows_met(
     v: &[u8],
     x: IntOf,
 ) -> bool
-    requires { ⌜ now table ≡ classTable ⌝ }
     requires { ⌜ (from ≤ next) × (next ≤ 32) × (length (kinds .rows) ≡ 32) × (length (kinds .texts) ≡ 32) ⌝ }
     requires { ⌜ intAnswer x ≡ intOf intBounds (trim (now v)) ⌝ }
     requires { ⌜ Leads (kinds .texts) from next found ⌝ }
@@ -196,7 +183,7 @@ fn rows_met(
             let row = kinds.rows[k];
             let symbol = is_symbol(&texts, from, k, found);
             let kind = row.kind;
-            if readings::shape_met(table, kind, v, x, symbol) {
+            if readings::shape_met(kind, v, x, symbol) {
                 k += 1;
             } else {
                 return false;
@@ -210,7 +197,6 @@ fn rows_met(
 
 // Does the value that begins where s does meet the kinds of the rows in a set of tags, from one row on before the first that is not in a table of symbols?
 pub fn value_met(
-    table: &[u8; 256],
     d: &[u8],
     kinds: Kinds,
     from: usize,
@@ -221,7 +207,6 @@ pub fn value_met(
     s: &[u8],
     scratch: &mut [u8],
 ) -> bool
-    requires { ⌜ now table ≡ classTable ⌝ }
     requires { ⌜ IsKinds (now d) kinds × (to ≤ kinds .count) ⌝ }
     requires { ⌜ IsSymbols (now d) (kinds .texts) from to (now entries) enums ⌝ }
     requires { ⌜ length (valueFrom (now s)) ≤ length (now scratch) ⌝ }
@@ -232,5 +217,5 @@ pub fn value_met(
     let texts = kinds.texts;
     let found = texts_with(d, &texts, from, to, entries, enums, &scratch[..n]);
     let next = enums.next;
-    rows_met(table, kinds, from, next, found, tags, &scratch[..n], x)
+    rows_met(kinds, from, next, found, tags, &scratch[..n], x)
 }

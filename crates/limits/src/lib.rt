@@ -182,8 +182,7 @@ fn counted(d: Descriptor, name: &[u8], value: &[u8]) -> Descriptor
 }
 
 // Are the limits of a descriptor held by the fields of a part?
-fn rules_fit(table: &[u8; 256], d: &[u8]) -> bool
-    requires { ⌜ now table ≡ classTable ⌝ }
+fn rules_fit(d: &[u8]) -> bool
     requires { ⌜ isReadable (now d) ≡ true ⌝ }
     requires { ⌜ length (now d) ≤ fileBytes ⌝ }
     ensures { λ b. ⌜ b ≡ fitsRules (fieldsOf (readOf (now (d .entry)))) ⌝ }
@@ -191,7 +190,7 @@ fn rules_fit(table: &[u8; 256], d: &[u8]) -> bool
     let mut i = 0;
     let mut c = Descriptor::new();
     loop {
-        let n = records::next_field(table, d, i);
+        let n = records::next_field(d, i);
         let NextField::At {
             start,
             named,
@@ -243,11 +242,10 @@ enum Scan {
 }
 
 // Some limit is not held; s is what is left of the file.
-fn past(table: &[u8; 256], s: &[u8]) -> Scan
-    requires { ⌜ now table ≡ classTable ⌝ }
+fn past(s: &[u8]) -> Scan
     ensures { λ r. ⌜ r ≡ pick (isReadable (now (s .entry))) Scan.Past Scan.Fault ⌝ }
 {
-    if records::is_readable(table, s) {
+    if records::is_readable(s) {
         return Scan::Past;
     }
     Scan::Fault
@@ -281,7 +279,7 @@ fn walk_pieces(
                 let from = i + value;
                 let e = i + size;
                 if field_fits(o.fields, name, &s[from..e]) {} else {
-                    return past(table, &s[e..]);
+                    return past(&s[e..]);
                 }
                 o = with_field(o, &s[i..named], i, e);
                 i = e;
@@ -309,8 +307,7 @@ fn walk_pieces(
 }
 
 // Are the limits of all descriptors held? They stand from each start to the end beside it.
-fn rules_held(table: &[u8; 256], s: &[u8], starts: &[usize], ends: &[usize], count: usize) -> bool
-    requires { ⌜ now table ≡ classTable ⌝ }
+fn rules_held(s: &[u8], starts: &[usize], ends: &[usize], count: usize) -> bool
     requires { ⌜ length (now s) ≤ fileBytes ⌝ }
     requires { ⌜ HeadParts (now s) (now starts) (now ends) count ⌝ }
     ensures { λ b. ⌜ b ≡ all fitsRules (heads (records (readOf (now (s .entry))))) ⌝ }
@@ -319,7 +316,7 @@ fn rules_held(table: &[u8; 256], s: &[u8], starts: &[usize], ends: &[usize], cou
     while k < count {
         let a = starts[k];
         let e = ends[k];
-        if rules_fit(table, &s[a..e]) {} else {
+        if rules_fit(&s[a..e]) {} else {
             return false;
         }
         k += 1;
@@ -339,18 +336,17 @@ pub enum Bounded {
 // Questions 3, 4 and 5 of a text that ends in a newline, or is empty: has every line a form, are the limits of every record held and the descriptors not too many,
 // and has every record with a `%` name `%rec`, once? The rows tell where the descriptors stand.
 pub fn bounds_of(
-    table: &[u8; 256],
     s: &[u8],
     starts: &mut [usize],
     ends: &mut [usize],
     afters: &mut [usize],
 ) -> Bounded
-    requires { ⌜ now table ≡ classTable ⌝ }
     requires { ⌜ (isEnded (now s) ≡ true) × (length (now s) ≤ fileBytes) ⌝ }
     requires { ⌜ (length (now starts) ≡ descriptors) × (length (now ends) ≡ descriptors) × (length (now afters) ≡ descriptors) ⌝ }
     ensures { λ b. ⌜ BoundedAs (now (s .entry)) (now (starts .exit)) (now (ends .exit)) (now (afters .exit)) b ⌝ }
 {
-    let r = walk_pieces(table, s, &mut *starts, &mut *ends, &mut *afters);
+    let table = format::classes();
+    let r = walk_pieces(&table, s, &mut *starts, &mut *ends, &mut *afters);
     match r {
         Scan::Fault => {
             return Bounded::Fault;
@@ -362,7 +358,7 @@ pub fn bounds_of(
             if count > Descriptor::COUNT {
                 return Bounded::Past;
             }
-            if rules_held(table, s, starts, ends, count) {} else {
+            if rules_held(s, starts, ends, count) {} else {
                 return Bounded::Past;
             }
             if once {

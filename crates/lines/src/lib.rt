@@ -1,12 +1,12 @@
 // Reading lines: each reader is given the part of the file that starts at the byte reached.
 ghost use mathlib.Core.Path.{_≡_};
 ghost use mathlib.Core.Bool.{true, false};
-ghost use Prim.Native.Nat.{ℕ, _+_, _<_, _≤_};
-ghost use lib.ListN.{length, take, drop, getD};
+ghost use Prim.Native.Nat.{_+_, _<_, _≤_};
+ghost use lib.ListN.{length, drop, getD};
 ghost use Rattle.format.specs.Bytes.{classTable, same, isBlank, all};
 ghost use Rattle.format.specs.Lines.{lines, isEnded};
 ghost use Rattle.format.specs.Calls.{over};
-ghost use Rattle.lines.specs.Line.{lineLen, firstLine, GoesOn, run, nameLen};
+ghost use Rattle.lines.specs.Line.{lineLen, firstLine, GoesOn, nameLen};
 ghost use Rattle.lines.specs.Piece.{extentOf, nextOf, isFault};
 ghost use Rattle.lines.specs.Value.{valueFrom, Unfolds};
 

@@ -2,7 +2,7 @@
 ghost use mathlib.Core.Path.{_≡_};
 ghost use mathlib.Core.Bool.{true};
 ghost use Rattle.format.specs.Lists.{front};
-ghost use Rattle.format.specs.Bytes.{classTable, text};
+ghost use Rattle.format.specs.Bytes.{text};
 ghost use Prim.Native.Nat.{_≤_};
 ghost use lib.ListN.{length, drop};
 ghost use Rattle.format.specs.Sets.{valuesOf};
@@ -27,16 +27,15 @@ pub enum Counted {
 }
 
 // The count of a set in a readable text.
-pub fn count_in(table: &[u8; 256], s: &[u8], set: &[u8]) -> Counted
-    requires { ⌜ now table ≡ classTable ⌝ }
+pub fn count_in(s: &[u8], set: &[u8]) -> Counted
     requires { ⌜ isReadable (now s) ≡ true ⌝ }
     ensures { λ r. ⌜ countedAnswer r ≡ countIn (now (s .entry)) (now (set .entry)) ⌝ }
 {
-    let f = records::find_set(table, s, set);
+    let f = records::find_set(s, set);
     let FoundSet::At(a) = f else {
         return Counted::Refused(21);
     };
-    let n = records::count_records(table, &s[a..]);
+    let n = records::count_records(&s[a..]);
     Counted::Records(n)
 }
 
@@ -47,16 +46,15 @@ pub enum Seen {
 }
 
 // A record of a set in a readable text.
-pub fn view_in(table: &[u8; 256], s: &[u8], set: &[u8], row: usize) -> Seen
-    requires { ⌜ now table ≡ classTable ⌝ }
+pub fn view_in(s: &[u8], set: &[u8], row: usize) -> Seen
     requires { ⌜ isReadable (now s) ≡ true ⌝ }
     ensures { λ r. ⌜ (seenAnswer (now (s .entry)) r ≡ viewIn (now (s .entry)) (now (set .entry)) row) × SeenInside (now (s .entry)) r ⌝ }
 {
-    let f = records::find_set(table, s, set);
+    let f = records::find_set(s, set);
     let FoundSet::At(a) = f else {
         return Seen::Refused(21);
     };
-    let g = records::find_record(table, &s[a..], row);
+    let g = records::find_record(&s[a..], row);
     let FoundRecord::At(p) = g else {
         return Seen::Refused(22);
     };
@@ -73,7 +71,6 @@ pub enum Fetched {
 
 // The value of an occurrence of a name in a record of a set of a readable text, put into out.
 pub fn fetch_in(
-    table: &[u8; 256],
     s: &[u8],
     set: &[u8],
     row: usize,
@@ -81,21 +78,20 @@ pub fn fetch_in(
     occurrence: usize,
     out: &mut [u8],
 ) -> Fetched
-    requires { ⌜ now table ≡ classTable ⌝ }
     requires { ⌜ isReadable (now s) ≡ true ⌝ }
     ensures { λ r. ⌜ fetchIn (now (s .entry)) (now (set .entry)) row (now (name .entry)) occurrence (now (out .entry)) ≡ record { result = fetchedAnswer r; out = now (out .exit) } ⌝ }
 {
-    let f = records::find_set(table, s, set);
+    let f = records::find_set(s, set);
     let FoundSet::At(a) = f else {
         return Fetched::Refused(21);
     };
-    let g = records::find_record(table, &s[a..], row);
+    let g = records::find_record(&s[a..], row);
     let FoundRecord::At(p) = g else {
         return Fetched::Refused(22);
     };
     let b = a + p.start;
     let e = a + p.end;
-    let h = records::find_field(table, &s[b..e], name, occurrence);
+    let h = records::find_field(&s[b..e], name, occurrence);
     let FoundField::At {
         start: _,
         value,
@@ -115,15 +111,14 @@ pub fn fetch_in(
 }
 
 // Where descriptor k stands.
-fn find_descriptor(table: &[u8; 256], s: &[u8], k: usize) -> FoundRecord
-    requires { ⌜ now table ≡ classTable ⌝ }
+fn find_descriptor(s: &[u8], k: usize) -> FoundRecord
     requires { ⌜ isReadable (now s) ≡ true ⌝ }
     ensures { λ r. ⌜ r ≡ descriptorAt (placesOf (now (s .entry))) k ⌝ }
 {
     let mut i = 0;
     let mut left = k;
     loop {
-        let r = records::next_record(table, &s[i..]);
+        let r = records::next_record(&s[i..]);
         let NextRecord::At(p) = r else {
             return FoundRecord::Missing;
         };
@@ -185,12 +180,11 @@ fn copy_word(s: &[u8], i: usize, out: &mut [u8])
 }
 
 // The name of the set that a descriptor, which fills d, opens, put into out.
-fn descriptor_name(table: &[u8; 256], d: &[u8], out: &mut [u8]) -> Fetched
-    requires { ⌜ now table ≡ classTable ⌝ }
+fn descriptor_name(d: &[u8], out: &mut [u8]) -> Fetched
     requires { ⌜ isReadable (now d) ≡ true ⌝ }
     ensures { λ r. ⌜ titled (valuesOf (text "%rec") (recordIn (now (d .entry)))) (now (out .entry)) ≡ record { result = fetchedAnswer r; out = now (out .exit) } ⌝ }
 {
-    let f = records::find_field(table, d, b"%rec", 0);
+    let f = records::find_field(d, b"%rec", 0);
     let FoundField::At {
         start: _,
         value,
@@ -209,19 +203,18 @@ fn descriptor_name(table: &[u8; 256], d: &[u8], out: &mut [u8]) -> Fetched
 }
 
 // The name of set k of a readable text, in file order, put into out.
-pub fn name_in(table: &[u8; 256], s: &[u8], k: usize, out: &mut [u8]) -> Fetched
-    requires { ⌜ now table ≡ classTable ⌝ }
+pub fn name_in(s: &[u8], k: usize, out: &mut [u8]) -> Fetched
     requires { ⌜ isReadable (now s) ≡ true ⌝ }
     ensures { λ r. ⌜ nameIn (now (s .entry)) k (now (out .entry)) ≡ record { result = fetchedAnswer r; out = now (out .exit) } ⌝ }
 {
     if k == 0 {
         return Fetched::Length(0);
     }
-    let f = find_descriptor(table, s, k - 1);
+    let f = find_descriptor(s, k - 1);
     let FoundRecord::At(p) = f else {
         return Fetched::Refused(21);
     };
     let a = p.start;
     let e = p.end;
-    descriptor_name(table, &s[a..e], &mut *out)
+    descriptor_name(&s[a..e], &mut *out)
 }

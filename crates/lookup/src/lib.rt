@@ -18,8 +18,7 @@ pub fn count(buf: &[u8], used: usize, set: &[u8]) -> Counted
     if n != 0 {
         return Counted::Refused(n);
     }
-    let table = format::classes();
-    inside::count_in(&table, &buf[0..used], set)
+    inside::count_in(&buf[0..used], set)
 }
 
 // The value of an occurrence of a name in a record of a set, put into out; what stands behind it there stays.
@@ -38,8 +37,7 @@ pub fn fetch(
     if n != 0 {
         return Fetched::Refused(n);
     }
-    let table = format::classes();
-    inside::fetch_in(&table, &buf[0..used], set, row, name, occurrence, &mut *out)
+    inside::fetch_in(&buf[0..used], set, row, name, occurrence, &mut *out)
 }
 
 // Where a record of a set stands in the file: from its first field's first byte to the byte behind its last field.
@@ -50,8 +48,7 @@ pub fn view_place(buf: &[u8], used: usize, set: &[u8], row: usize) -> Seen
     if n != 0 {
         return Seen::Refused(n);
     }
-    let table = format::classes();
-    inside::view_in(&table, &buf[0..used], set, row)
+    inside::view_in(&buf[0..used], set, row)
 }
 
 // The part of the file that a record of a set stands in, the empty part where it is refused; the number, 0 if accepted, goes into `number`.
@@ -79,6 +76,5 @@ pub fn set_name(buf: &[u8], used: usize, k: usize, out: &mut [u8]) -> Fetched
     if n != 0 {
         return Fetched::Refused(n);
     }
-    let table = format::classes();
-    inside::name_in(&table, &buf[0..used], k, &mut *out)
+    inside::name_in(&buf[0..used], k, &mut *out)
 }

@@ -1,6 +1,6 @@
 // A value against many types: it is read as an int once, and of which `enum` types it is a symbol is known by one search.
 ghost use mathlib.Core.Path.{_≡_};
-ghost use Rattle.format.specs.Bytes.{classTable, isSome};
+ghost use Rattle.format.specs.Bytes.{isSome};
 ghost use Rattle.format.specs.Words.{trim};
 ghost use Rattle.format.specs.Numbers.{intBounds, intOf};
 ghost use Rattle.format.specs.Types.{isInRange};
@@ -44,8 +44,7 @@ fn is_between(a: Whole, b: Whole, x: IntOf) -> bool
 }
 
 // Does a value meet a kind? x is what it is as an int, and symbol tells whether it is a symbol of the kind, if that is an `enum`.
-pub fn shape_met(table: &[u8; 256], kind: Shape, v: &[u8], x: IntOf, symbol: bool) -> bool
-    requires { ⌜ now table ≡ classTable ⌝ }
+pub fn shape_met(kind: Shape, v: &[u8], x: IntOf, symbol: bool) -> bool
     requires { ⌜ intAnswer x ≡ intOf intBounds (trim (now v)) ⌝ }
     ensures { λ r. ⌜ r ≡ metBy kind symbol (now (v .entry)) ⌝ }
 {
@@ -54,6 +53,6 @@ pub fn shape_met(table: &[u8; 256], kind: Shape, v: &[u8], x: IntOf, symbol: boo
         Shape::Range(low, high) => is_between(low, high, x),
         Shape::Enum { start: _, end: _ } => symbol,
         Shape::Alias { start: _, end: _ } => false,
-        _ => types::meets(table, kind, b"", v),
+        _ => types::meets(kind, b"", v),
     }
 }

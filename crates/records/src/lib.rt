@@ -5,7 +5,7 @@ ghost use Prim.Native.Nat.{_≤_};
 ghost use lib.ListN.{length, drop};
 ghost use Rattle.format.specs.Pieces.{readOf};
 ghost use Rattle.format.specs.Lists.{front, behind};
-ghost use Rattle.format.specs.Bytes.{classTable, text, same};
+ghost use Rattle.format.specs.Bytes.{text, same};
 ghost use Rattle.format.specs.Words.{isGap, notGap, firstWord};
 ghost use Rattle.lines.specs.Value.{valueFrom};
 ghost use Rattle.records.specs.Places.{isReadable, placesOf, firstPlace, setPlace, recordPlace, countBefore, fieldPlace};
@@ -16,10 +16,10 @@ use lines::Decoded;
 use lines::Next;
 
 // Is a part empty or ended by a newline, and has every line of it a form?
-pub fn is_readable(table: &[u8; 256], s: &[u8]) -> bool
-    requires { ⌜ now table ≡ classTable ⌝ }
+pub fn is_readable(s: &[u8]) -> bool
     ensures { λ r. ⌜ r ≡ isReadable (now (s .entry)) ⌝ }
 {
+    let table = format::classes();
     let len = s.len();
     if len == 0 {
         return true;
@@ -29,7 +29,7 @@ pub fn is_readable(table: &[u8; 256], s: &[u8]) -> bool
     }
     let mut i = 0;
     loop {
-        let n = lines::next_piece(table, &s[i..]);
+        let n = lines::next_piece(&table, &s[i..]);
         match n {
             Next::Blank { size } => {
                 i += size;
@@ -133,8 +133,7 @@ fn record_run(s: &[u8], at: usize, described: bool) -> Run
 }
 
 // The next record of a part: its first field, and its run behind that.
-pub fn next_record(table: &[u8; 256], s: &[u8]) -> NextRecord
-    requires { ⌜ now table ≡ classTable ⌝ }
+pub fn next_record(s: &[u8]) -> NextRecord
     requires { ⌜ isReadable (now s) ≡ true ⌝ }
     ensures { λ r. ⌜ r ≡ firstPlace (placesOf (now (s .entry))) ⌝ }
 {
@@ -174,15 +173,14 @@ pub fn next_record(table: &[u8; 256], s: &[u8]) -> NextRecord
 }
 
 // How many records a part has before any descriptor.
-pub fn count_records(table: &[u8; 256], s: &[u8]) -> usize
-    requires { ⌜ now table ≡ classTable ⌝ }
+pub fn count_records(s: &[u8]) -> usize
     requires { ⌜ isReadable (now s) ≡ true ⌝ }
     ensures { λ r. ⌜ r ≡ countBefore (placesOf (now (s .entry))) ⌝ }
 {
     let mut i = 0;
     let mut n = 0;
     loop {
-        let r = next_record(table, &s[i..]);
+        let r = next_record(&s[i..]);
         let NextRecord::At(p) = r else {
             return n;
         };
@@ -200,15 +198,14 @@ pub enum FoundRecord {
     Missing,
 }
 
-pub fn find_record(table: &[u8; 256], s: &[u8], k: usize) -> FoundRecord
-    requires { ⌜ now table ≡ classTable ⌝ }
+pub fn find_record(s: &[u8], k: usize) -> FoundRecord
     requires { ⌜ isReadable (now s) ≡ true ⌝ }
     ensures { λ r. ⌜ r ≡ recordPlace (placesOf (now (s .entry))) k ⌝ }
 {
     let mut i = 0;
     let mut left = k;
     loop {
-        let r = next_record(table, &s[i..]);
+        let r = next_record(&s[i..]);
         let NextRecord::At(p) = r else {
             return FoundRecord::Missing;
         };
@@ -240,8 +237,7 @@ pub enum NextField {
 }
 
 // The first field from byte i on.
-pub fn next_field(table: &[u8; 256], s: &[u8], i: usize) -> NextField
-    requires { ⌜ now table ≡ classTable ⌝ }
+pub fn next_field(s: &[u8], i: usize) -> NextField
     requires { ⌜ (i ≤ length (now s)) × (isReadable (drop i (now s)) ≡ true) ⌝ }
     ensures { λ r. ⌜ FieldNext (now (s .entry)) i r ⌝ }
 {
@@ -284,8 +280,7 @@ pub enum FoundField {
 }
 
 // The occurrence o of a name among the fields of a part.
-pub fn find_field(table: &[u8; 256], s: &[u8], name: &[u8], o: usize) -> FoundField
-    requires { ⌜ now table ≡ classTable ⌝ }
+pub fn find_field(s: &[u8], name: &[u8], o: usize) -> FoundField
     requires { ⌜ isReadable (now s) ≡ true ⌝ }
     ensures { λ r. ⌜ r ≡ fieldPlace (now (name .entry)) (now (s .entry)) o ⌝ }
 {
@@ -388,12 +383,11 @@ pub fn word_is(s: &[u8], word: &[u8]) -> bool
 }
 
 // Does a descriptor, which fills s, open the set of a name?
-fn opens_set(table: &[u8; 256], s: &[u8], name: &[u8]) -> bool
-    requires { ⌜ now table ≡ classTable ⌝ }
+fn opens_set(s: &[u8], name: &[u8]) -> bool
     requires { ⌜ isReadable (now s) ≡ true ⌝ }
     ensures { λ r. ⌜ r ≡ opensSet (now (name .entry)) (now (s .entry)) ⌝ }
 {
-    let f = find_field(table, s, b"%rec", 0);
+    let f = find_field(s, b"%rec", 0);
     let FoundField::At {
         start: _,
         value,
@@ -411,8 +405,7 @@ pub enum FoundSet {
     Missing,
 }
 
-pub fn find_set(table: &[u8; 256], s: &[u8], name: &[u8]) -> FoundSet
-    requires { ⌜ now table ≡ classTable ⌝ }
+pub fn find_set(s: &[u8], name: &[u8]) -> FoundSet
     requires { ⌜ isReadable (now s) ≡ true ⌝ }
     ensures { λ r. ⌜ r ≡ setPlace (now (name .entry)) (placesOf (now (s .entry))) ⌝ }
 {
@@ -421,14 +414,14 @@ pub fn find_set(table: &[u8; 256], s: &[u8], name: &[u8]) -> FoundSet
     }
     let mut i = 0;
     loop {
-        let r = next_record(table, &s[i..]);
+        let r = next_record(&s[i..]);
         let NextRecord::At(p) = r else {
             return FoundSet::Missing;
         };
         if p.descriptor {
             let a = i + p.start;
             let e = i + p.end;
-            if opens_set(table, &s[a..e], name) {
+            if opens_set(&s[a..e], name) {
                 return FoundSet::At(i + p.after);
             }
         }

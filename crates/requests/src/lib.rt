@@ -3,7 +3,7 @@ ghost use mathlib.Core.Path.{_≡_};
 ghost use mathlib.Core.Bool.{true};
 ghost use Prim.Native.Nat.{_≤_};
 ghost use lib.ListN.{length};
-ghost use Rattle.format.specs.Bytes.{classTable, isSome};
+ghost use Rattle.format.specs.Bytes.{isSome};
 ghost use Rattle.format.specs.Limits.{fileBytes};
 ghost use Rattle.format.specs.Calls.{writeAnswer};
 ghost use Rattle.requests.specs.Pairs.{pairsFrom, pairsAt};
@@ -33,13 +33,12 @@ pub enum Written {
 }
 
 // The number of the first question about pairs that says no, else 0.
-fn write_no(table: &[u8; 256], req: &[u8], from: usize, room: usize) -> u32
-    requires { ⌜ now table ≡ classTable ⌝ }
+fn write_no(req: &[u8], from: usize, room: usize) -> u32
     requires { ⌜ (length (now req) ≤ fileBytes) × (from ≤ length (now req)) ⌝ }
     requires { ⌜ isSome (pairsFrom (now req) from) ≡ true ⌝ }
     ensures { λ r. ⌜ r ≡ writeNo (pairsAt (now (req .entry)) from) room ⌝ }
 {
-    let w = weigh(table, req, from);
+    let w = weigh(req, from);
     let Weighed::Sums { len, count } = w else {
         return Refusal::ILLEGAL;
     };
@@ -67,8 +66,7 @@ pub fn write_record(req: &[u8], out: &mut [u8]) -> Written
     let Edit::Insert { start } = edit else {
         return Written::Refused(Refusal::FORM);
     };
-    let table = format::classes();
-    let n = write_no(&table, req, start, out.len());
+    let n = write_no(req, start, out.len());
     if n != 0 {
         return Written::Refused(n);
     }

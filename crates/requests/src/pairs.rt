@@ -4,7 +4,7 @@ ghost use mathlib.Core.Bool.{true};
 ghost use Prim.Native.Nat.{_+_, _≤_};
 ghost use lib.ListN.{length};
 ghost use lib.Seq.{sets};
-ghost use Rattle.format.specs.Bytes.{classTable, isSome};
+ghost use Rattle.format.specs.Bytes.{isSome};
 ghost use Rattle.format.specs.Limits.{fileBytes};
 ghost use Rattle.format.specs.Written.{written, isLegalPair, writtenAll};
 ghost use Rattle.format.specs.Calls.{over};
@@ -63,8 +63,7 @@ pub(crate) fn are_pairs(req: &[u8], from: usize) -> bool
 }
 
 // Are a pair's name and value legal?
-pub fn is_legal_pair(table: &[u8; 256], req: &[u8], name: Span, value: Span) -> bool
-    requires { ⌜ now table ≡ classTable ⌝ }
+pub fn is_legal_pair(req: &[u8], name: Span, value: Span) -> bool
     requires { ⌜ InSpan (now req) name × InSpan (now req) value ⌝ }
     ensures { λ r. ⌜ r ≡ isLegalPair (pairOf (now (req .entry)) name value) ⌝ }
 {
@@ -72,10 +71,10 @@ pub fn is_legal_pair(table: &[u8; 256], req: &[u8], name: Span, value: Span) -> 
     let b = name.end;
     let c = value.start;
     let d = value.end;
-    if !writing::is_legal_name(table, &req[a..b]) {
+    if !writing::is_legal_name(&req[a..b]) {
         return false;
     }
-    writing::is_legal_value(table, &req[c..d])
+    writing::is_legal_value(&req[c..d])
 }
 
 // The length of a pair's text.
@@ -111,8 +110,7 @@ pub enum Weighed {
     Sums { len: usize, count: usize },
 }
 
-pub fn weigh(table: &[u8; 256], req: &[u8], from: usize) -> Weighed
-    requires { ⌜ now table ≡ classTable ⌝ }
+pub fn weigh(req: &[u8], from: usize) -> Weighed
     requires { ⌜ (length (now req) ≤ fileBytes) × (from ≤ length (now req)) ⌝ }
     requires { ⌜ isSome (pairsFrom (now req) from) ≡ true ⌝ }
     ensures { λ r. ⌜ Weighs (pairsAt (now (req .entry)) from) r ⌝ }
@@ -125,7 +123,7 @@ pub fn weigh(table: &[u8; 256], req: &[u8], from: usize) -> Weighed
         let Pair::At { name, value, next } = p else {
             return Weighed::Sums { len, count };
         };
-        if is_legal_pair(table, req, name, value) {} else {
+        if is_legal_pair(req, name, value) {} else {
             return Weighed::Illegal;
         }
         len += pair_len(req, name, value);

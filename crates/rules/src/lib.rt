@@ -4,7 +4,7 @@ ghost use mathlib.Core.Bool.{true, not};
 ghost use Prim.Native.Nat.{_-_, _≤_};
 ghost use lib.Dec.{eqb};
 ghost use lib.ListN.{length, take, drop};
-ghost use Rattle.format.specs.Bytes.{classTable, all};
+ghost use Rattle.format.specs.Bytes.{all};
 ghost use Rattle.format.specs.Limits.{fileBytes, valueBytes};
 ghost use Rattle.format.specs.Pieces.{readOf};
 ghost use Rattle.format.specs.Numbers.{intBounds};
@@ -42,12 +42,11 @@ struct Book {
 }
 
 // Has a descriptor a field of a name?
-fn has_field(table: &[u8; 256], d: &[u8], name: &[u8]) -> bool
-    requires { ⌜ now table ≡ classTable ⌝ }
+fn has_field(d: &[u8], name: &[u8]) -> bool
     requires { ⌜ isReadable (now d) ≡ true ⌝ }
     ensures { λ r. ⌜ r ≡ not (eqb (length (valuesOf (now (name .entry)) (recordIn (now (d .entry))))) 0) ⌝ }
 {
-    let v = typedefs::next_value(table, d, name, 0);
+    let v = typedefs::next_value(d, name, 0);
     match v {
         NextValue::At { value: _, end: _ } => true,
         NextValue::Nothing => false,
@@ -63,7 +62,6 @@ struct Chunk {
 
 // The records by a rulebook whose names stand in the first 8,192 entries, and whose symbols stand behind them.
 fn judge_halves(
-    table: &[u8; 256],
     d: &[u8],
     entries: &[u32],
     needed: &[u32],
@@ -74,13 +72,11 @@ fn judge_halves(
     part: &[u8],
     scratch: &mut [u8],
 ) -> Asked
-    requires { ⌜ now table ≡ classTable ⌝ }
     requires { ⌜ (8192 ≤ length (now entries)) × IsRulebook (now d) (take 8192 (now entries)) (now needed) (now needsets) (now single) (now singlesets) (drop 8192 (now entries)) r ⌝ }
     requires { ⌜ (isReadable (now part) ≡ true) × (length (now part) ≤ 65536) × (all (fitsIn (length (now scratch))) (recordIn (now part)) ≡ true) ⌝ }
     ensures { λ a. ⌜ (a .number ≡ partNo (now (d .entry)) (r .tables .from) (r .enums .next - r .tables .from) (records (readOf (now (part .entry))))) × (a .count ≡ length (records (readOf (now (part .entry))))) ⌝ }
 {
     members::judge_part(
-        table,
         d,
         &entries[..8192],
         needed,
@@ -96,7 +92,6 @@ fn judge_halves(
 
 // Questions 8 to 12 by the `%type` fields from one on, by as many of them as the tables have room for.
 fn judge_rows(
-    table: &[u8; 256],
     d: &[u8],
     needed: &[u32],
     needsets: &[u64],
@@ -108,7 +103,6 @@ fn judge_rows(
     scratch: &mut [u8],
     entries: &mut [u32],
 ) -> Chunk
-    requires { ⌜ now table ≡ classTable ⌝ }
     requires { ⌜ IsBook (now d) (now needed) (now needsets) (now single) (now singlesets) b × (from ≤ b .kinds .count) ⌝ }
     requires { ⌜ (isReadable (now part) ≡ true) × (length (now part) ≤ 65536) × (all (fitsIn (length (now scratch))) (recordIn (now part)) ≡ true) ⌝ }
     requires { ⌜ 16384 ≤ length (now entries) ⌝ }
@@ -116,7 +110,7 @@ fn judge_rows(
 {
     let kinds = b.kinds;
     let texts = kinds.texts;
-    let names = dictionary::read(table, d, from, &mut entries[..8192]);
+    let names = dictionary::read(d, from, &mut entries[..8192]);
     let to = names.next;
     let enums = symbols::read(d, &texts, from, to, &mut entries[8192..]);
     let mandatory = b.mandatory;
@@ -135,7 +129,6 @@ fn judge_rows(
         keyed: b.keyed,
     };
     let a = judge_halves(
-        table,
         d,
         &*entries,
         needed,
@@ -155,7 +148,6 @@ fn judge_rows(
 
 // Questions 8 to 12 by all `%type` fields.
 fn judge_records(
-    table: &[u8; 256],
     d: &[u8],
     needed: &[u32],
     needsets: &[u64],
@@ -166,7 +158,6 @@ fn judge_records(
     scratch: &mut [u8],
     entries: &mut [u32],
 ) -> Asked
-    requires { ⌜ now table ≡ classTable ⌝ }
     requires { ⌜ IsBook (now d) (now needed) (now needsets) (now single) (now singlesets) b ⌝ }
     requires { ⌜ (isReadable (now part) ≡ true) × (length (now part) ≤ 65536) × (all (fitsIn (length (now scratch))) (recordIn (now part)) ≡ true) ⌝ }
     requires { ⌜ 16384 ≤ length (now entries) ⌝ }
@@ -178,7 +169,6 @@ fn judge_records(
     let mut worst = 0;
     loop {
         let c = judge_rows(
-            table,
             d,
             needed,
             needsets,
@@ -202,14 +192,7 @@ fn judge_records(
 }
 
 // Questions 8 to 12 of a set's records, and how many there are.
-fn judge_members(
-    table: &[u8; 256],
-    d: &[u8],
-    part: &[u8],
-    scratch: &mut [u8],
-    entries: &mut [u32],
-) -> Asked
-    requires { ⌜ now table ≡ classTable ⌝ }
+fn judge_members(d: &[u8], part: &[u8], scratch: &mut [u8], entries: &mut [u32]) -> Asked
     requires { ⌜ Described (now d) ⌝ }
     requires { ⌜ (isReadable (now part) ≡ true) × (length (now part) ≤ 65536) × (all (fitsIn (length (now scratch))) (recordIn (now part)) ≡ true) ⌝ }
     requires { ⌜ (valueBytes ≤ length (now scratch)) × (16384 ≤ length (now entries)) ⌝ }
@@ -219,11 +202,11 @@ fn judge_members(
     let mut needsets = [0u64; 64];
     let mut single = [0u32; 64];
     let mut singlesets = [0u64; 64];
-    let kinds = kinds::read(table, d, &mut *scratch);
-    let mandatory = wordsets::read(table, d, b"%mandatory", &mut needed, &mut needsets);
-    let unique = wordsets::read(table, d, b"%unique", &mut single, &mut singlesets);
-    let limited = has_field(table, d, b"%allowed");
-    let keyed = has_field(table, d, b"%key");
+    let kinds = kinds::read(d, &mut *scratch);
+    let mandatory = wordsets::read(d, b"%mandatory", &mut needed, &mut needsets);
+    let unique = wordsets::read(d, b"%unique", &mut single, &mut singlesets);
+    let limited = has_field(d, b"%allowed");
+    let keyed = has_field(d, b"%key");
     let b = Book {
         mandatory,
         unique,
@@ -232,7 +215,6 @@ fn judge_members(
         keyed,
     };
     judge_records(
-        table,
         d,
         &needed,
         &needsets,
@@ -246,20 +228,13 @@ fn judge_members(
 }
 
 // Question 13 of a set whose records have its key.
-fn keys_apart(
-    table: &[u8; 256],
-    d: &[u8],
-    part: &[u8],
-    scratch: &mut [u8],
-    entries: &mut [u32],
-) -> bool
-    requires { ⌜ now table ≡ classTable ⌝ }
+fn keys_apart(d: &[u8], part: &[u8], scratch: &mut [u8], entries: &mut [u32]) -> bool
     requires { ⌜ IsRules (now d) × (length (now d) ≤ 65536) ⌝ }
     requires { ⌜ (isReadable (now part) ≡ true) × (length (now part) ≤ 65536) × HaveKeys (recordIn (now d)) (records (readOf (now part))) ⌝ }
     requires { ⌜ (valueBytes ≤ length (now scratch)) × (16384 ≤ length (now entries)) ⌝ }
     ensures { λ r. ⌜ r ≡ distinct (keysOf (ruled (recordIn (now (d .entry))) (records (readOf (now (part .entry)))))) ⌝ }
 {
-    let v = typedefs::next_value(table, d, b"%key", 0);
+    let v = typedefs::next_value(d, b"%key", 0);
     let NextValue::At { value, end } = v else {
         return true;
     };
@@ -268,50 +243,35 @@ fn keys_apart(
     let Word::At { start, end: e } = w else {
         return true;
     };
-    keys::keys_distinct(table, &scratch[start..e], part, &mut *entries)
+    keys::keys_distinct(&scratch[start..e], part, &mut *entries)
 }
 
 // Questions 13 and 14 of a set whose records have its key; so many they are. The number of the first that says no, else 0.
-fn judge_whole(
-    table: &[u8; 256],
-    d: &[u8],
-    count: usize,
-    part: &[u8],
-    scratch: &mut [u8],
-    entries: &mut [u32],
-) -> u32
-    requires { ⌜ now table ≡ classTable ⌝ }
+fn judge_whole(d: &[u8], count: usize, part: &[u8], scratch: &mut [u8], entries: &mut [u32]) -> u32
     requires { ⌜ IsRules (now d) × (length (now d) ≤ 65536) × (count ≡ length (records (readOf (now part)))) ⌝ }
     requires { ⌜ (isReadable (now part) ≡ true) × (length (now part) ≤ 65536) × HaveKeys (recordIn (now d)) (records (readOf (now part))) ⌝ }
     requires { ⌜ (valueBytes ≤ length (now scratch)) × (16384 ≤ length (now entries)) ⌝ }
     ensures { λ n. ⌜ n ≡ firstNo (wholeRows intBounds) (ruled (recordIn (now (d .entry))) (records (readOf (now (part .entry))))) ⌝ }
 {
-    if keys_apart(table, d, part, &mut *scratch, &mut *entries) {} else {
+    if keys_apart(d, part, &mut *scratch, &mut *entries) {} else {
         return 13;
     }
-    if descriptors::size_met(table, d, count, &mut *scratch) {} else {
+    if descriptors::size_met(d, count, &mut *scratch) {} else {
         return 14;
     }
     0
 }
 
 // The number of the first of questions 8 to 14 that a set fails, else 0: d is its descriptor, part the bytes of its records.
-pub fn judge_set(
-    table: &[u8; 256],
-    d: &[u8],
-    part: &[u8],
-    scratch: &mut [u8],
-    entries: &mut [u32],
-) -> u32
-    requires { ⌜ now table ≡ classTable ⌝ }
+pub fn judge_set(d: &[u8], part: &[u8], scratch: &mut [u8], entries: &mut [u32]) -> u32
     requires { ⌜ IsRules (now d) × (length (now d) ≤ fileBytes) ⌝ }
     requires { ⌜ (isReadable (now part) ≡ true) × (length (now part) ≤ fileBytes) × AllFit (records (readOf (now part))) ⌝ }
     requires { ⌜ (valueBytes ≤ length (now scratch)) × (16384 ≤ length (now entries)) ⌝ }
     ensures { λ n. ⌜ n ≡ setNo intBounds (ruled (recordIn (now (d .entry))) (records (readOf (now (part .entry))))) ⌝ }
 {
-    let a = judge_members(table, d, part, &mut *scratch, &mut *entries);
+    let a = judge_members(d, part, &mut *scratch, &mut *entries);
     if a.number != 0 {
         return a.number;
     }
-    judge_whole(table, d, a.count, part, &mut *scratch, &mut *entries)
+    judge_whole(d, a.count, part, &mut *scratch, &mut *entries)
 }

@@ -5,7 +5,7 @@ ghost use mathlib.Core.Bool.{true};
 ghost use Prim.Native.Nat.{_+_, _-_, _≤_};
 ghost use lib.Dec.{eqb};
 ghost use lib.ListN.{length};
-ghost use Rattle.format.specs.Bytes.{classTable, pick, all};
+ghost use Rattle.format.specs.Bytes.{pick, all};
 ghost use Rattle.format.specs.Pieces.{readOf};
 ghost use Rattle.format.proofs.Least.{least};
 ghost use Rattle.format.proofs.Records.{records};
@@ -67,7 +67,6 @@ fn with_types(worst: u32, typed: bool) -> u32
 
 // Does the value that begins where s does meet the kinds of the rows in a set of tags? Most names have no type, and their values are not looked at.
 fn value_met(
-    table: &[u8; 256],
     d: &[u8],
     kinds: Kinds,
     from: usize,
@@ -78,7 +77,6 @@ fn value_met(
     s: &[u8],
     scratch: &mut [u8],
 ) -> bool
-    requires { ⌜ now table ≡ classTable ⌝ }
     requires { ⌜ IsKinds (now d) kinds × (to ≤ kinds .count) ⌝ }
     requires { ⌜ IsSymbols (now d) (kinds .texts) from to (now marks) enums ⌝ }
     requires { ⌜ length (valueFrom (now s)) ≤ length (now scratch) ⌝ }
@@ -87,24 +85,12 @@ fn value_met(
     if tags % 4294967296 == 0 {
         return true;
     }
-    kinds::value_met(
-        table,
-        d,
-        kinds,
-        from,
-        to,
-        marks,
-        enums,
-        tags,
-        s,
-        &mut *scratch,
-    )
+    kinds::value_met(d, kinds, from, to, marks, enums, tags, s, &mut *scratch)
 }
 
 // The least number of the records of a part and how many they are, from the `%type` field on at which the tables begin. What was seen of a name is kept by the number of its field,
 // since records of a set are often alike.
 pub fn judge_part(
-    table: &[u8; 256],
     d: &[u8],
     names: &[u32],
     needed: &[u32],
@@ -116,7 +102,6 @@ pub fn judge_part(
     s: &[u8],
     scratch: &mut [u8],
 ) -> Asked
-    requires { ⌜ now table ≡ classTable ⌝ }
     requires { ⌜ IsRulebook (now d) (now names) (now needed) (now needsets) (now single) (now singlesets) (now marks) r ⌝ }
     requires { ⌜ (isReadable (now s) ≡ true) × (length (now s) ≤ 65536) × (all (fitsIn (length (now scratch))) (recordIn (now s)) ≡ true) ⌝ }
     ensures { λ a. ⌜ (a .number ≡ partNo (now (d .entry)) (r .tables .from) (r .enums .next - r .tables .from) (records (readOf (now (s .entry))))) × (a .count ≡ length (records (readOf (now (s .entry))))) ⌝ }
@@ -179,7 +164,6 @@ pub fn judge_part(
                 let v = i + value;
                 let e = i + size;
                 let met = value_met(
-                    table,
                     d,
                     r.kinds,
                     from,

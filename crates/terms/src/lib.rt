@@ -3,7 +3,7 @@
 ghost use mathlib.Core.Path.{_≡_};
 ghost use mathlib.Core.Bool.{true};
 ghost use Prim.Native.Nat.{_+_, _<_, _≤_, _^_};
-ghost use lib.ListN.{length, getD, take, drop};
+ghost use lib.ListN.{length, getD, take};
 ghost use Rattle.format.specs.Bytes.{same};
 ghost use Rattle.sorting.specs.Texts.{textAt, mixed};
 ghost use Rattle.sorting.specs.Order.{comparedOf};

@@ -1,77 +1,61 @@
 // Prints each record of the recfile on standard input, descriptors included: its names and decoded values, and a blank line behind it.
 ghost use mathlib.Core.Path.{_≡_};
 ghost use mathlib.Core.Bool.{true};
-ghost use Rattle.format.specs.Bytes.{classTable};
 ghost use Rattle.records.specs.Places.{isReadable};
-use lines::Next;
+use records::NextField;
 use records::NextRecord;
 
 fn main() {
     let mut file = io::large_buffer();
     let n = io::read_full(0, &mut file);
-    let table = format::classes();
-    dump(&table, &file[..n]);
+    dump(&file[..n]);
 }
 
-fn dump(table: &[u8; 256], s: &[u8])
-    requires { ⌜ now table ≡ classTable ⌝ }
-{
-    if records::is_readable(table, s) {
-        dump_records(table, s);
+fn dump(s: &[u8]) {
+    if records::is_readable(s) {
+        dump_records(s);
     } else {
         io::write_all(1, b"not a recfile\n");
     }
 }
 
-fn dump_records(table: &[u8; 256], s: &[u8])
-    requires { ⌜ now table ≡ classTable ⌝ }
+fn dump_records(s: &[u8])
     requires { ⌜ isReadable (now s) ≡ true ⌝ }
 {
     let mut i = 0;
     loop {
-        let r = records::next_record(table, &s[i..]);
+        let r = records::next_record(&s[i..]);
         let NextRecord::At(p) = r else {
             return;
         };
         let a = i + p.start;
         let e = i + p.end;
-        dump_record(table, &s[a..e]);
+        dump_record(&s[a..e]);
         i += p.after;
     }
 }
 
-fn dump_record(table: &[u8; 256], s: &[u8])
-    requires { ⌜ now table ≡ classTable ⌝ }
+fn dump_record(s: &[u8])
     requires { ⌜ isReadable (now s) ≡ true ⌝ }
 {
     let mut i = 0;
     loop {
-        let n = lines::next_piece(table, &s[i..]);
-        match n {
-            Next::Field { name, value, size } => {
-                let a = i + name;
-                let v = i + value;
-                let e = i + size;
-                io::write_all(1, &s[i..a]);
-                io::write_all(1, b":");
-                dump_value(&s[v..e]);
-                io::write_all(1, b"\n");
-                i = e;
-            }
-            Next::Comment { size } => {
-                i += size;
-            }
-            Next::Blank { size } => {
-                i += size;
-            }
-            Next::End => {
-                io::write_all(1, b"\n");
-                return;
-            }
-            Next::Fault => {
-                return;
-            }
-        }
+        let f = records::next_field(s, i);
+        let NextField::At {
+            start,
+            named,
+            value,
+            end,
+        } = f
+        else {
+            io::write_all(1, b"\n");
+            return;
+        };
+        io::write_all(1, &s[start..named]);
+        io::write_all(1, b":");
+        dump_value(&s[value..end]);
+        io::write_all(1, b"\n");
+        i = end;
     }
 }
 

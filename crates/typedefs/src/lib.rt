@@ -7,7 +7,7 @@ ghost use lib.ListN.{length, take, drop, getD};
 ghost use Rattle.format.specs.Pieces.{readOf};
 ghost use Rattle.format.specs.Records.{fieldsOf};
 ghost use Rattle.format.specs.Lines.{isName};
-ghost use Rattle.format.specs.Bytes.{classTable, text, all, among, upFrom};
+ghost use Rattle.format.specs.Bytes.{text, all, among, upFrom};
 ghost use Rattle.format.specs.Limits.{fileBytes, typedefs};
 ghost use Rattle.format.specs.Words.{firstWord, afterWord, split, isTypeName};
 ghost use Rattle.format.specs.Numbers.{intBounds};
@@ -33,14 +33,13 @@ pub enum NextValue {
 }
 
 // The value of the first field of a name from byte i on.
-pub fn next_value(table: &[u8; 256], s: &[u8], name: &[u8], i: usize) -> NextValue
-    requires { ⌜ now table ≡ classTable ⌝ }
+pub fn next_value(s: &[u8], name: &[u8], i: usize) -> NextValue
     requires { ⌜ (i ≤ length (now s)) × (isReadable (drop i (now s)) ≡ true) ⌝ }
     ensures { λ r. ⌜ ValueNext (now (s .entry)) (now (name .entry)) i r ⌝ }
 {
     let mut at = i;
     loop {
-        let f = records::next_field(table, s, at);
+        let f = records::next_field(s, at);
         let NextField::At {
             start,
             named,
@@ -75,8 +74,7 @@ struct Places {
 }
 
 // The places, and the names put into entries, each with the number of its typedef.
-fn add_names(table: &[u8; 256], d: &[u8], entries: &mut [u32]) -> Places
-    requires { ⌜ now table ≡ classTable ⌝ }
+fn add_names(d: &[u8], entries: &mut [u32]) -> Places
     requires { ⌜ (isReadable (now d) ≡ true) × (length (now d) ≤ fileBytes) ⌝ }
     requires { ⌜ (length (valuesFrom (now d) (text "%typedef") 0) ≤ typedefs) × (all isTypeName (namesFrom (now d) 0) ≡ true) × (typedefs ≤ length (now entries)) ⌝ }
     ensures { λ r. ⌜ ArePlaces (now (d .entry)) (r .rows) (r .count) × Adding (now (d .entry)) (now (entries .entry)) 0 (numbered 0 (namesFrom (now (d .entry)) 0)) [] (now (entries .exit)) (r .count) ⌝ }
@@ -85,7 +83,7 @@ fn add_names(table: &[u8; 256], d: &[u8], entries: &mut [u32]) -> Places
     let mut i = 0;
     let mut count = 0;
     loop {
-        let v = next_value(table, d, b"%typedef", i);
+        let v = next_value(d, b"%typedef", i);
         let NextValue::At { value, end } = v else {
             return Places { rows, count };
         };
@@ -105,14 +103,13 @@ pub struct Names {
     pub count: usize,
 }
 
-pub fn read_names(table: &[u8; 256], d: &[u8]) -> Names
-    requires { ⌜ now table ≡ classTable ⌝ }
+pub fn read_names(d: &[u8]) -> Names
     requires { ⌜ (isReadable (now d) ≡ true) × (length (now d) ≤ fileBytes) ⌝ }
     requires { ⌜ (length (valuesFrom (now d) (text "%typedef") 0) ≤ typedefs) × (all isTypeName (namesFrom (now d) 0) ≡ true) ⌝ }
     ensures { λ r. ⌜ AreNames (now (d .entry)) r ⌝ }
 {
     let mut entries = [0u32; Descriptor::TYPEDEFS];
-    let p = add_names(table, d, &mut entries);
+    let p = add_names(d, &mut entries);
     let places = p.rows;
     let count = p.count;
     let t = terms::build(d, &mut entries[..count]);
@@ -152,12 +149,11 @@ fn index_from(d: &[u8], names: Names, from: usize, name: &[u8]) -> usize
 }
 
 // The target of a type's text.
-pub fn target_in(table: &[u8; 256], d: &[u8], names: Names, s: &[u8]) -> usize
-    requires { ⌜ now table ≡ classTable ⌝ }
+pub fn target_in(d: &[u8], names: Names, s: &[u8]) -> usize
     requires { ⌜ AreNames (now d) names ⌝ }
     ensures { λ r. ⌜ r ≡ targetBy (namesFrom (now (d .entry)) 0) (typeOf intBounds (now (s .entry))) ⌝ }
 {
-    let t = types::type_of(table, s);
+    let t = types::type_of(s);
     let TypeOf::Is(k) = t else {
         return Targets::FAULT;
     };
@@ -168,21 +164,14 @@ pub fn target_in(table: &[u8; 256], d: &[u8], names: Names, s: &[u8]) -> usize
 }
 
 // The same of the value at a place, whose type stands behind its first word.
-pub fn target_of(
-    table: &[u8; 256],
-    d: &[u8],
-    names: Names,
-    value: usize,
-    scratch: &mut [u8],
-) -> usize
-    requires { ⌜ now table ≡ classTable ⌝ }
+pub fn target_of(d: &[u8], names: Names, value: usize, scratch: &mut [u8]) -> usize
     requires { ⌜ AreNames (now d) names ⌝ }
     requires { ⌜ (value ≤ length (now d)) × (length (valueFrom (drop value (now d))) ≤ length (now scratch)) ⌝ }
     ensures { λ r. ⌜ r ≡ targetIn (namesFrom (now (d .entry)) 0) (valueFrom (drop value (now (d .entry)))) ⌝ }
 {
     let n = lines::copy_value(&d[value..], &mut *scratch);
     let at = behind_word(&scratch[..n]);
-    target_in(table, d, names, &scratch[at..n])
+    target_in(d, names, &scratch[at..n])
 }
 
 // The targets of the typedefs of a descriptor, in order: the number of the typedef that is named, or one of three above all numbers.
@@ -202,8 +191,7 @@ impl Targets {
     pub const FAULT: usize = 34;
 }
 
-pub fn read_targets(table: &[u8; 256], d: &[u8], names: Names, scratch: &mut [u8]) -> Targets
-    requires { ⌜ now table ≡ classTable ⌝ }
+pub fn read_targets(d: &[u8], names: Names, scratch: &mut [u8]) -> Targets
     requires { ⌜ AreNames (now d) names ⌝ }
     requires { ⌜ fitFrom (length (now scratch)) (now d) (text "%typedef") 0 ≡ true ⌝ }
     ensures { λ r. ⌜ (r .count ≤ typedefs) × (length (r .rows) ≡ typedefs) × (take (r .count) (r .rows) ≡ map (targetIn (namesFrom (now (d .entry)) 0)) (valuesFrom (now (d .entry)) (text "%typedef") 0)) ⌝ }
@@ -213,7 +201,7 @@ pub fn read_targets(table: &[u8; 256], d: &[u8], names: Names, scratch: &mut [u8
     let mut rows = [Targets::KIND; Descriptor::TYPEDEFS];
     let mut k = 0;
     while k < count {
-        let t = target_of(table, d, names, places[k], &mut *scratch);
+        let t = target_of(d, names, places[k], &mut *scratch);
         rows[k] = t;
         k += 1;
     }
@@ -277,35 +265,33 @@ fn is_reserved(s: &[u8]) -> bool
 }
 
 // Is the first word of a typedef's text a name that it may have?
-fn name_good(table: &[u8; 256], s: &[u8]) -> bool
-    requires { ⌜ now table ≡ classTable ⌝ }
+fn name_good(s: &[u8]) -> bool
     ensures { λ r. ⌜ r ≡ isTypedefName (firstWord (now (s .entry))) ⌝ }
 {
     let w = words::next_word(s, 0);
     let Word::At { start, end } = w else {
         return false;
     };
-    if !words::is_type_name(table, &s[start..end]) {
+    if !words::is_type_name(&s[start..end]) {
         return false;
     }
     !is_reserved(&s[start..end])
 }
 
 // Has every typedef a name that it may have?
-fn names_good(table: &[u8; 256], d: &[u8], scratch: &mut [u8]) -> bool
-    requires { ⌜ now table ≡ classTable ⌝ }
+fn names_good(d: &[u8], scratch: &mut [u8]) -> bool
     requires { ⌜ isReadable (now d) ≡ true ⌝ }
     requires { ⌜ fitFrom (length (now scratch)) (now d) (text "%typedef") 0 ≡ true ⌝ }
     ensures { λ r. ⌜ r ≡ all isTypedefName (namesFrom (now (d .entry)) 0) ⌝ }
 {
     let mut i = 0;
     loop {
-        let v = next_value(table, d, b"%typedef", i);
+        let v = next_value(d, b"%typedef", i);
         let NextValue::At { value, end } = v else {
             return true;
         };
         let n = lines::copy_value(&d[value..end], &mut *scratch);
-        if !name_good(table, &scratch[..n]) {
+        if !name_good(&scratch[..n]) {
             return false;
         }
         i = end;
@@ -352,14 +338,13 @@ fn names_apart(d: &[u8], names: Names, scratch: &mut [u8]) -> bool
 }
 
 // Is every part, between commas, of a word a name?
-fn parts_named(table: &[u8; 256], s: &[u8]) -> bool
-    requires { ⌜ now table ≡ classTable ⌝ }
+fn parts_named(s: &[u8]) -> bool
     ensures { λ r. ⌜ r ≡ all isName (split 44 (now (s .entry))) ⌝ }
 {
     let mut i = 0;
     loop {
         let e = words::part_end(s, i, 44);
-        if !words::is_name(table, &s[i..e]) {
+        if !words::is_name(&s[i..e]) {
             return false;
         }
         if e == s.len() {
@@ -370,15 +355,14 @@ fn parts_named(table: &[u8; 256], s: &[u8]) -> bool
 }
 
 // Are the names of a `%type` field's text names?
-fn names_well(table: &[u8; 256], s: &[u8]) -> bool
-    requires { ⌜ now table ≡ classTable ⌝ }
+fn names_well(s: &[u8]) -> bool
     ensures { λ r. ⌜ r ≡ all isName (typedNames (now (s .entry))) ⌝ }
 {
     let w = words::next_word(s, 0);
     let Word::At { start, end } = w else {
         return false;
     };
-    parts_named(table, &s[start..end])
+    parts_named(&s[start..end])
 }
 
 // Does what a type's text leads to end in a kind?
@@ -401,47 +385,32 @@ fn target_ends(targets: &[usize], t: usize) -> bool
 }
 
 // Is the `%type` field whose value stands at a place well formed?
-fn type_well(
-    table: &[u8; 256],
-    d: &[u8],
-    names: Names,
-    targets: &[usize],
-    value: usize,
-    scratch: &mut [u8],
-) -> bool
-    requires { ⌜ now table ≡ classTable ⌝ }
+fn type_well(d: &[u8], names: Names, targets: &[usize], value: usize, scratch: &mut [u8]) -> bool
     requires { ⌜ AreNames (now d) names ⌝ }
     requires { ⌜ (value ≤ length (now d)) × (length (valueFrom (drop value (now d))) ≤ length (now scratch)) ⌝ }
     ensures { λ r. ⌜ r ≡ wellBy (namesFrom (now (d .entry)) 0) (now (targets .entry)) (valueFrom (drop value (now (d .entry)))) ⌝ }
 {
     let n = lines::copy_value(&d[value..], &mut *scratch);
-    if !names_well(table, &scratch[..n]) {
+    if !names_well(&scratch[..n]) {
         return false;
     }
-    let t = target_of(table, d, names, value, &mut *scratch);
+    let t = target_of(d, names, value, &mut *scratch);
     target_ends(targets, t)
 }
 
 // Are all of them?
-fn all_well(
-    table: &[u8; 256],
-    d: &[u8],
-    names: Names,
-    targets: &[usize],
-    scratch: &mut [u8],
-) -> bool
-    requires { ⌜ now table ≡ classTable ⌝ }
+fn all_well(d: &[u8], names: Names, targets: &[usize], scratch: &mut [u8]) -> bool
     requires { ⌜ (isReadable (now d) ≡ true) × AreNames (now d) names ⌝ }
     requires { ⌜ fitFrom (length (now scratch)) (now d) (text "%type") 0 ≡ true ⌝ }
     ensures { λ r. ⌜ r ≡ all (wellBy (namesFrom (now (d .entry)) 0) (now (targets .entry))) (valuesFrom (now (d .entry)) (text "%type") 0) ⌝ }
 {
     let mut i = 0;
     loop {
-        let v = next_value(table, d, b"%type", i);
+        let v = next_value(d, b"%type", i);
         let NextValue::At { value, end } = v else {
             return true;
         };
-        if !type_well(table, d, names, targets, value, &mut *scratch) {
+        if !type_well(d, names, targets, value, &mut *scratch) {
             return false;
         }
         i = end;
@@ -449,26 +418,25 @@ fn all_well(
 }
 
 // Question 7 of a descriptor: are its typedefs and types well formed?
-pub fn types_well(table: &[u8; 256], d: &[u8], scratch: &mut [u8]) -> bool
-    requires { ⌜ now table ≡ classTable ⌝ }
+pub fn types_well(d: &[u8], scratch: &mut [u8]) -> bool
     requires { ⌜ (isReadable (now d) ≡ true) × (length (now d) ≤ fileBytes) ⌝ }
     requires { ⌜ (length (valuesFrom (now d) (text "%typedef") 0) ≤ typedefs) × (fitFrom (length (now scratch)) (now d) (text "%typedef") 0 ≡ true) ⌝ }
     requires { ⌜ fitFrom (length (now scratch)) (now d) (text "%type") 0 ≡ true ⌝ }
     ensures { λ r. ⌜ r ≡ isTypedWell intBounds (fieldsOf (readOf (now (d .entry)))) ⌝ }
 {
-    if !names_good(table, d, &mut *scratch) {
+    if !names_good(d, &mut *scratch) {
         return false;
     }
-    let names = read_names(table, d);
+    let names = read_names(d);
     if !names_apart(d, names, &mut *scratch) {
         return false;
     }
-    let t = read_targets(table, d, names, &mut *scratch);
+    let t = read_targets(d, names, &mut *scratch);
     let rows = t.rows;
     let count = t.count;
     let targets = &rows[..count];
     if !all_end(targets) {
         return false;
     }
-    all_well(table, d, names, targets, &mut *scratch)
+    all_well(d, names, targets, &mut *scratch)
 }

@@ -3,7 +3,6 @@ ghost use mathlib.Core.Path.{_≡_};
 ghost use mathlib.Core.Bool.{false};
 ghost use Prim.Native.Nat.{_≤_};
 ghost use lib.ListN.{length, drop};
-ghost use Rattle.format.specs.Bytes.{classTable};
 ghost use Rattle.format.specs.Words.{words};
 ghost use Rattle.format.specs.Numbers.{intBounds};
 ghost use Rattle.format.specs.Lists.{onward};
@@ -77,12 +76,11 @@ fn head_end(s: &[u8], i: usize) -> usize
 }
 
 // An enum, whose text stands behind `at`.
-fn enum_type(table: &[u8; 256], s: &[u8], at: usize) -> TypeOf
-    requires { ⌜ now table ≡ classTable ⌝ }
+fn enum_type(s: &[u8], at: usize) -> TypeOf
     requires { ⌜ at ≤ length (now s) ⌝ }
     ensures { λ r. ⌜ Told (now (s .entry)) (onward enumIn (uncomment false (drop at (now (s .entry))))) r ⌝ }
 {
-    if is_enum(table, &s[at..]) {
+    if is_enum(&s[at..]) {
         TypeOf::Is(Shape::Enum {
             start: at,
             end: s.len(),
@@ -161,8 +159,7 @@ fn size_of(s: &[u8], at: usize) -> TypeOf
 }
 
 // A typedef's name from start to end, with nothing after it.
-fn alias_of(table: &[u8; 256], s: &[u8], start: usize, end: usize) -> TypeOf
-    requires { ⌜ now table ≡ classTable ⌝ }
+fn alias_of(s: &[u8], start: usize, end: usize) -> TypeOf
     requires { ⌜ (start ≤ end) × (end ≤ length (now s)) ⌝ }
     ensures { λ r. ⌜ Told (now (s .entry)) (aliasOf (span start end (now (s .entry))) (words (drop end (now (s .entry))))) r ⌝ }
 {
@@ -170,7 +167,7 @@ fn alias_of(table: &[u8; 256], s: &[u8], start: usize, end: usize) -> TypeOf
     let Word::Nothing = v else {
         return TypeOf::Fault;
     };
-    if words::is_type_name(table, &s[start..end]) {
+    if words::is_type_name(&s[start..end]) {
         TypeOf::Is(Shape::Alias { start, end })
     } else {
         TypeOf::Fault
@@ -178,8 +175,7 @@ fn alias_of(table: &[u8; 256], s: &[u8], start: usize, end: usize) -> TypeOf
 }
 
 // A type that is no enum.
-fn plain_type(table: &[u8; 256], s: &[u8]) -> TypeOf
-    requires { ⌜ now table ≡ classTable ⌝ }
+fn plain_type(s: &[u8]) -> TypeOf
     ensures { λ r. ⌜ Told (now (s .entry)) (plainKind intBounds (words (now (s .entry)))) r ⌝ }
 {
     let w = words::next_word(s, 0);
@@ -197,20 +193,19 @@ fn plain_type(table: &[u8; 256], s: &[u8]) -> TypeOf
         }
         Head::Range => range_of(s, end),
         Head::Size => size_of(s, end),
-        Head::Name => alias_of(table, s, start, end),
+        Head::Name => alias_of(s, start, end),
     }
 }
 
 // The type that a text stands for.
-pub fn type_of(table: &[u8; 256], s: &[u8]) -> TypeOf
-    requires { ⌜ now table ≡ classTable ⌝ }
+pub fn type_of(s: &[u8]) -> TypeOf
     ensures { λ r. ⌜ Told (now (s .entry)) (typeOf intBounds (now (s .entry))) r ⌝ }
 {
     let start = words::gap_end(s, 0);
     let end = head_end(s, start);
     if lines::same_bytes(&s[start..end], b"enum") {
-        enum_type(table, s, end)
+        enum_type(s, end)
     } else {
-        plain_type(table, s)
+        plain_type(s)
     }
 }

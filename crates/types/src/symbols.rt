@@ -157,13 +157,13 @@ fn all_symbols(table: &[u8; 256], s: &[u8]) -> bool
 }
 
 // One symbol or more?
-pub(crate) fn is_enum(table: &[u8; 256], s: &[u8]) -> bool
-    requires { ⌜ now table ≡ classTable ⌝ }
+pub(crate) fn is_enum(s: &[u8]) -> bool
     ensures { λ r. ⌜ r ≡ isEnum (symbolsAt (now (s .entry)) 0) ⌝ }
 {
+    let table = format::classes();
     let w = next_symbol(s, 0);
     match w {
-        Symbol::At { start: _, end: _ } => all_symbols(table, s),
+        Symbol::At { start: _, end: _ } => all_symbols(&table, s),
         Symbol::End => false,
         Symbol::Fault => false,
     }

@@ -4,7 +4,7 @@ ghost use mathlib.Core.Bool.{_&&_};
 ghost use Prim.Native.Nat.{_<_, _≤_};
 ghost use lib.Dec.{eqb};
 ghost use lib.ListN.{length, getD};
-ghost use Rattle.format.specs.Bytes.{classTable, among, isSome};
+ghost use Rattle.format.specs.Bytes.{among, isSome};
 ghost use Rattle.format.specs.Numbers.{intBounds, areDigits, intOf};
 ghost use Rattle.format.specs.Types.{isInRange, truths, isUuid};
 ghost use Rattle.words.specs.Spans.{span};
@@ -98,8 +98,7 @@ fn in_range(a: Whole, b: Whole, w: &[u8]) -> bool
 }
 
 // Does a value meet the type that was read from text? An alias has to be followed first.
-pub fn meets(table: &[u8; 256], k: Shape, text: &[u8], v: &[u8]) -> bool
-    requires { ⌜ now table ≡ classTable ⌝ }
+pub fn meets(k: Shape, text: &[u8], v: &[u8]) -> bool
     requires { ⌜ Sound (now text) k ⌝ }
     ensures { λ r. ⌜ r ≡ meetsIn (now (text .entry)) k (now (v .entry)) ⌝ }
 {
@@ -114,7 +113,7 @@ pub fn meets(table: &[u8; 256], k: Shape, text: &[u8], v: &[u8]) -> bool
         Shape::Size(n) => v.len() as u64 <= n,
         Shape::Enum { start, end } => has_symbol(&text[start..end], &v[a..e]),
         Shape::Bool => is_truth(&v[a..e]),
-        Shape::Field => words::is_name(table, &v[a..e]),
+        Shape::Field => words::is_name(&v[a..e]),
         Shape::Uuid => is_uuid(&v[a..e]),
         Shape::Alias { start: _, end: _ } => false,
     }

@@ -123,30 +123,30 @@ fn later_bytes(table: &[u8; 256], s: &[u8], from: usize) -> bool
 }
 
 // Is this text a name?
-pub fn is_name(table: &[u8; 256], s: &[u8]) -> bool
-    requires { ⌜ now table ≡ classTable ⌝ }
+pub fn is_name(s: &[u8]) -> bool
     ensures { λ r. ⌜ r ≡ isName (now (s .entry)) ⌝ }
 {
+    let table = format::classes();
     if s.len() == 0 {
         return false;
     }
-    if format::is_first(table, s[0]) {
-        later_bytes(table, s, 1)
+    if format::is_first(&table, s[0]) {
+        later_bytes(&table, s, 1)
     } else {
         false
     }
 }
 
 // Is this text a type name?
-pub fn is_type_name(table: &[u8; 256], s: &[u8]) -> bool
-    requires { ⌜ now table ≡ classTable ⌝ }
+pub fn is_type_name(s: &[u8]) -> bool
     ensures { λ r. ⌜ r ≡ isTypeName (now (s .entry)) ⌝ }
 {
+    let table = format::classes();
     if s.len() == 0 {
         return false;
     }
-    if format::class_of(table, s[0]) == 1 {
-        later_bytes(table, s, 1)
+    if format::class_of(&table, s[0]) == 1 {
+        later_bytes(&table, s, 1)
     } else {
         false
     }

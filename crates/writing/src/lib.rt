@@ -11,17 +11,17 @@ ghost use Rattle.format.specs.Calls.{over};
 ghost use Rattle.writing.specs.Value.{isPlainFrom};
 
 // Is it a name of at most 64 bytes that does not begin with `%`?
-pub fn is_legal_name(table: &[u8; 256], s: &[u8]) -> bool
-    requires { ⌜ now table ≡ classTable ⌝ }
+pub fn is_legal_name(s: &[u8]) -> bool
     ensures { λ r. ⌜ r ≡ isLegalName (now (s .entry)) ⌝ }
 {
+    let table = format::classes();
     if s.len() > format::Record::NAME {
         return false;
     }
     if lines::byte(s, 0) == b'%' {
         return false;
     }
-    let n = lines::name_len(table, s);
+    let n = lines::name_len(&table, s);
     if n == 0 {
         return false;
     }
@@ -53,14 +53,14 @@ fn is_plain(table: &[u8; 256], s: &[u8]) -> bool
 }
 
 // Is it a value of at most 4,096 bytes that can be written?
-pub fn is_legal_value(table: &[u8; 256], s: &[u8]) -> bool
-    requires { ⌜ now table ≡ classTable ⌝ }
+pub fn is_legal_value(s: &[u8]) -> bool
     ensures { λ r. ⌜ r ≡ isLegalValue (now (s .entry)) ⌝ }
 {
+    let table = format::classes();
     if s.len() > format::Record::VALUE {
         return false;
     }
-    is_plain(table, s)
+    is_plain(&table, s)
 }
 
 // The length of a value's text: a newline takes two bytes more.

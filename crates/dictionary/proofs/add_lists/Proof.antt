@@ -14,22 +14,21 @@ use Rattle.dictionary.proofs.list_tag.Reads as list-tag-reads
 use Rattle.records.proofs.next_field.Reads as next-field-reads
 
 abbrev Inv-loop : tie.InvT-loop
-Inv-loop table d entries₀ n₀ i₀ entries n i = ListsLeft d entries₀ entries n i
+Inv-loop d entries₀ n₀ i₀ entries n i = ListsLeft d entries₀ entries n i
 
 abbrev μ-loop : tie.MeasureT-loop
-μ-loop table d entries₀ n₀ i₀ entries n i = length d - i
+μ-loop d entries₀ n₀ i₀ entries n i = length d - i
 
 loop-holds : tie.Need-loop-holds Inv-loop μ-loop
 loop-holds c =
     let at-args = c .before .before .args in
     let at-pre = c .before .before .pre in
-    lists-start (at-args .d .now) (at-args .entries .now) (at-pre .1 .0 .0) (at-pre .1 .1 .0) (at-pre .1 .1 .1)
+    lists-start (at-args .d .now) (at-args .entries .now) (at-pre .0 .0) (at-pre .1 .0) (at-pre .1 .1)
 
 next-field-requires : tie.Need-next-field-requires Inv-loop μ-loop
 next-field-requires c κs =
-    let at-pre = c .before .before .before .pre in
     let at-loop = c .loop in
-    (at-pre .0, (at-loop .inv .inside, at-loop .inv .readable))
+    ((at-loop .inv .inside, at-loop .inv .readable))
 
 enum-known-f : tie.Need-enum-known-f Inv-loop μ-loop
 enum-known-f c = search needs
@@ -92,7 +91,7 @@ add-words-requires c κs =
     let at-list-tag = c .before .before .list-tag in
     let h = next-told (at-args .d .now) (at-loop .i) (at-next-field .result) (at-next-field .ensures) (at-f .given .1) in
     let g = at-f .given .0 in
-    ((omega (arith, h .value-there), at-pre .1 .0 .1, at-if1 .taken), (lists-room (at-args .d .now) (at-args .entries .now) (at-loop .entries) (at-loop .n) (at-loop .i) (at-loop .inv) (g .0) (g .1 .0) (g .1 .1 .0) (g .1 .1 .1 .0) h (at-list-tag .result) (at-list-tag .ensures) (at-if1 .taken), lists-names (at-args .d .now) (at-args .entries .now) (at-loop .entries) (at-loop .n) (at-loop .i) (at-loop .inv) (g .0) (g .1 .0) (g .1 .1 .0) (g .1 .1 .1 .0) h (at-list-tag .result) (at-list-tag .ensures) (at-if1 .taken)))
+    ((omega (arith, h .value-there), at-pre .0 .1, at-if1 .taken), (lists-room (at-args .d .now) (at-args .entries .now) (at-loop .entries) (at-loop .n) (at-loop .i) (at-loop .inv) (g .0) (g .1 .0) (g .1 .1 .0) (g .1 .1 .1 .0) h (at-list-tag .result) (at-list-tag .ensures) (at-if1 .taken), lists-names (at-args .d .now) (at-args .entries .now) (at-loop .entries) (at-loop .n) (at-loop .i) (at-loop .inv) (g .0) (g .1 .0) (g .1 .1 .0) (g .1 .1 .1 .0) h (at-list-tag .result) (at-list-tag .ensures) (at-if1 .taken)))
 
 loop-less : tie.Need-loop-less Inv-loop μ-loop
 loop-less c =

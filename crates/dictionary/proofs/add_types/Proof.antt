@@ -24,31 +24,30 @@ use Rattle.dictionary.proofs.pass_types.Reads as pass-types-reads
 use Rattle.typedefs.proofs.next_value.Reads as next-value-reads
 
 abbrev Inv-loop : tie.InvT-loop
-Inv-loop table d from entries₀ n k₀ row₀ i₀ t12 entries k row i = (from ≤ row) × (row ≤ length (valuesFrom d (text "%type") 0)) × Behind d row i × (k ≤ length entries) × (length entries ≡ length entries₀) × (row ≡ from → k ≡ n) × Adding d entries₀ n (rowTerms from (drop from (valuesFrom d (text "%type") 0))) (rowTerms row (drop row (valuesFrom d (text "%type") 0))) entries k
+Inv-loop d from entries₀ n k₀ row₀ i₀ t12 entries k row i = (from ≤ row) × (row ≤ length (valuesFrom d (text "%type") 0)) × Behind d row i × (k ≤ length entries) × (length entries ≡ length entries₀) × (row ≡ from → k ≡ n) × Adding d entries₀ n (rowTerms from (drop from (valuesFrom d (text "%type") 0))) (rowTerms row (drop row (valuesFrom d (text "%type") 0))) entries k
 
 abbrev μ-loop : tie.MeasureT-loop
-μ-loop table d from entries₀ n k₀ row₀ i₀ t12 entries k row i = length d - i
+μ-loop d from entries₀ n k₀ row₀ i₀ t12 entries k row i = length d - i
 
 pass-types-requires : tie.Need-pass-types-requires Inv-loop μ-loop
 pass-types-requires c κs =
     let at-pre = c .before .before .pre in
-    (at-pre .0, (at-pre .1 .0 .reads, at-pre .1 .1 .0))
+    ((at-pre .0 .reads, at-pre .1 .0))
 
 loop-holds : tie.Need-loop-holds Inv-loop μ-loop
 loop-holds c =
     let at-pre = c .before .before .before .pre in
     let at-pass-types = c .pass-types in
     let at-args = c .before .before .before .args in
-    (omega arith, at-pre .1 .1 .0, record { inside = at-pass-types .ensures .0; readable = at-pass-types .ensures .1; values = at-pass-types .ensures .2 }, at-pre .1 .1 .1, refl, λ e. refl, adding-start (at-args .d .now) (at-args .entries .now) (at-args .n) (rowTerms (at-args .from) (drop (at-args .from) (valuesFrom (at-args .d .now) (text "%type") 0))))
+    (omega arith, at-pre .1 .0, record { inside = at-pass-types .ensures .0; readable = at-pass-types .ensures .1; values = at-pass-types .ensures .2 }, at-pre .1 .1, refl, λ e. refl, adding-start (at-args .d .now) (at-args .entries .now) (at-args .n) (rowTerms (at-args .from) (drop (at-args .from) (valuesFrom (at-args .d .now) (text "%type") 0))))
 
 slice-aggregate-next-value : tie.Need-slice-aggregate-next-value Inv-loop μ-loop
 slice-aggregate-next-value c = search needs
 
 next-value-requires : tie.Need-next-value-requires Inv-loop μ-loop
 next-value-requires c κs =
-    let at-pre = c .before .before .before .before .before .pre in
     let at-loop = c .before .loop in
-    (at-pre .0, (at-loop .inv .2 .inside, at-loop .inv .2 .readable))
+    ((at-loop .inv .2 .inside, at-loop .inv .2 .readable))
 
 enum-known-v : tie.Need-enum-known-v Inv-loop μ-loop
 enum-known-v c = search needs
@@ -96,7 +95,7 @@ cast-add-names c =
     let at-v = c .before .before .v in
     let at-pre = c .before .before .before .before .before .before .before .before .before .before .pre in
     let h = value-told (at-args .d .now) (text "%type") (at-loop .i) (at-next-value .result) (at-next-value .ensures) (at-v .given .1) in
-    omega (arith, row-inside (at-args .d .now) (at-loop .row) (at-loop .i) _ _ (at-loop .inv .2) h, rows-few (at-args .d .now) (at-pre .1 .0))
+    omega (arith, row-inside (at-args .d .now) (at-loop .row) (at-loop .i) _ _ (at-loop .inv .2) h, rows-few (at-args .d .now) (at-pre .0))
 
 add-names-requires : tie.Need-add-names-requires Inv-loop μ-loop
 add-names-requires c κs =
@@ -107,10 +106,10 @@ add-names-requires c κs =
     let at-pre = c .before .before .before .before .before .before .before .before .before .before .before .pre in
     let at-if1 = c .before .if1 in
     let h = value-told (at-args .d .now) (text "%type") (at-loop .i) (at-next-value .result) (at-next-value .ensures) (at-v .given .1) in
-    let f = row-fits (at-args .d .now) (at-loop .row) (at-loop .i) _ _ (at-loop .inv .2) h (at-pre .1 .0) in
+    let f = row-fits (at-args .d .now) (at-loop .row) (at-loop .i) _ _ (at-loop .inv .2) h (at-pre .0) in
     let z = at-loop .inv .3 in
     let y = at-if1 .left in
-    ((omega (arith, h .value-there), at-pre .1 .0 .short, omega (arith, row-inside (at-args .d .now) (at-loop .row) (at-loop .i) _ _ (at-loop .inv .2) h, rows-few (at-args .d .now) (at-pre .1 .0))), (omega arith, row-names (at-args .d .now) (at-loop .row) (at-loop .i) _ _ (at-loop .inv .2) h (at-pre .1 .0)))
+    ((omega (arith, h .value-there), at-pre .0 .short, omega (arith, row-inside (at-args .d .now) (at-loop .row) (at-loop .i) _ _ (at-loop .inv .2) h, rows-few (at-args .d .now) (at-pre .0))), (omega arith, row-names (at-args .d .now) (at-loop .row) (at-loop .i) _ _ (at-loop .inv .2) h (at-pre .0)))
 
 add-row : tie.Need-add-row Inv-loop μ-loop
 add-row c =
@@ -120,7 +119,7 @@ add-row c =
     let at-v = c .before .before .before .before .before .before .v in
     let at-pre = c .before .before .before .before .before .before .before .before .before .before .before .before .before .before .pre in
     let h = value-told (at-args .d .now) (text "%type") (at-loop .i) (at-next-value .result) (at-next-value .ensures) (at-v .given .1) in
-    omega (arith, row-inside (at-args .d .now) (at-loop .row) (at-loop .i) _ _ (at-loop .inv .2) h, rows-few (at-args .d .now) (at-pre .1 .0))
+    omega (arith, row-inside (at-args .d .now) (at-loop .row) (at-loop .i) _ _ (at-loop .inv .2) h, rows-few (at-args .d .now) (at-pre .0))
 
 loop-less : tie.Need-loop-less Inv-loop μ-loop
 loop-less c =
@@ -141,13 +140,13 @@ loop-again c =
     let at-add-names = c .before .before .add-names in
     let at-if1 = c .before .before .before .before .if1 in
     let h = value-told (at-args .d .now) (text "%type") (at-loop .i) (at-next-value .result) (at-next-value .ensures) (at-v .given .1) in
-    let f = row-fits (at-args .d .now) (at-loop .row) (at-loop .i) _ _ (at-loop .inv .2) h (at-pre .1 .0) in
+    let f = row-fits (at-args .d .now) (at-loop .row) (at-loop .i) _ _ (at-loop .inv .2) h (at-pre .0) in
     let g = at-v .given .0 in
     let a = at-add-names .ensures in
     let b = row-inside (at-args .d .now) (at-loop .row) (at-loop .i) _ _ (at-loop .inv .2) h in
     let z = at-if1 .left in
     let y = at-loop .inv .3 in
-    (omega (arith, at-loop .inv .0), omega (arith, b), behind-more (at-args .d .now) (at-loop .row) (at-loop .i) _ _ (at-loop .inv .2) h, omega (arith, a .count, a .long, length-map (typedNames (valueFrom (drop (g .0) (at-args .d .now)))) (termOf (at-loop .row))), a .long ∙ at-loop .inv .4, (λ e. absurd (omega (arith, at-loop .inv .0))), rows-more (at-args .d .now) (at-loop .row) (at-loop .i) _ _ (at-loop .inv .2) h (at-pre .1 .0) (at-args .from) (at-args .entries .now) (at-args .n) (at-loop .entries) (at-loop .k) _ _ (at-loop .inv .6) a)
+    (omega (arith, at-loop .inv .0), omega (arith, b), behind-more (at-args .d .now) (at-loop .row) (at-loop .i) _ _ (at-loop .inv .2) h, omega (arith, a .count, a .long, length-map (typedNames (valueFrom (drop (g .0) (at-args .d .now)))) (termOf (at-loop .row))), a .long ∙ at-loop .inv .4, (λ e. absurd (omega (arith, at-loop .inv .0))), rows-more (at-args .d .now) (at-loop .row) (at-loop .i) _ _ (at-loop .inv .2) h (at-pre .0) (at-args .from) (at-args .entries .now) (at-args .n) (at-loop .entries) (at-loop .k) _ _ (at-loop .inv .6) a)
 
 pub add-types-spec : {M : Type 1} → statement M
 add-types-spec =

@@ -15,25 +15,24 @@ use Rattle.dictionary.proofs.pass_types.Lts as lts
 use Rattle.typedefs.proofs.next_value.Reads as next-value-reads
 
 abbrev Inv-loop : tie.InvT-loop
-Inv-loop table d count i₀ row₀ t8 i row = (row ≤ count) × Behind d row i
+Inv-loop d count i₀ row₀ t8 i row = (row ≤ count) × Behind d row i
 
 abbrev μ-loop : tie.MeasureT-loop
-μ-loop table d count i₀ row₀ t8 i row = count - row
+μ-loop d count i₀ row₀ t8 i row = count - row
 
 loop-holds : tie.Need-loop-holds Inv-loop μ-loop
 loop-holds c =
     let at-args = c .before .args in
     let at-pre = c .before .pre in
-    (omega arith, behind-start (at-args .d .now) (at-pre .1 .0))
+    (omega arith, behind-start (at-args .d .now) (at-pre .0))
 
 slice-aggregate-next-value : tie.Need-slice-aggregate-next-value Inv-loop μ-loop
 slice-aggregate-next-value c = search needs
 
 next-value-requires : tie.Need-next-value-requires Inv-loop μ-loop
 next-value-requires c κs =
-    let at-pre = c .before .before .before .before .pre in
     let at-loop = c .before .before .loop in
-    (at-pre .0, (at-loop .inv .1 .inside, at-loop .inv .1 .readable))
+    ((at-loop .inv .1 .inside, at-loop .inv .1 .readable))
 
 enum-known-v : tie.Need-enum-known-v Inv-loop μ-loop
 enum-known-v c = search needs
@@ -51,7 +50,7 @@ returns c =
     let at-pre = c .before .before .before .before .before .before .before .pre in
     let e = value-told (at-args .d .now) (text "%type") (at-loop .i) (at-next-value .result) (at-next-value .ensures) (at-enum-told .given .1) in
     let h = row-none (at-args .d .now) (at-loop .row) (at-loop .i) (at-loop .inv .1) e in
-    absurd (omega (arith, at-loop-test .taken, at-pre .1 .1))
+    absurd (omega (arith, at-loop-test .taken, at-pre .1))
 
 add-row : tie.Need-add-row Inv-loop μ-loop
 add-row c = search needs

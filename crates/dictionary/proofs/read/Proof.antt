@@ -21,8 +21,8 @@ add-lists-requires : tie.Need-add-lists-requires
 add-lists-requires c κs =
     let at-pre = c .before .before .before .pre in
     let at-args = c .before .before .before .args in
-    let h = at-pre .1 .0 in
-    (at-pre .0, ((h .reads, h .short), (omega (arith, lists-few (at-args .d .now) h, at-pre .1 .1 .1), lists-names intBounds (recordIn (at-args .d .now)) (all-shaped (at-args .d .now) h))))
+    let h = at-pre .0 in
+    (((h .reads, h .short), (omega (arith, lists-few (at-args .d .now) h, at-pre .1 .1), lists-names intBounds (recordIn (at-args .d .now)) (all-shaped (at-args .d .now) h))))
 
 add-types-requires : tie.Need-add-types-requires
 add-types-requires c κs =
@@ -30,7 +30,7 @@ add-types-requires c κs =
     let at-pre = c .before .before .before .before .before .before .before .pre in
     let at-args = c .before .before .before .before .before .before .before .args in
     let a = at-add-lists .ensures in
-    (at-pre .0, (at-pre .1 .0, (at-pre .1 .1 .0, omega (arith, a .count, a .long, lists-few (at-args .d .now) (at-pre .1 .0), at-pre .1 .1 .1))))
+    ((at-pre .0, (at-pre .1 .0, omega (arith, a .count, a .long, lists-few (at-args .d .now) (at-pre .0), at-pre .1 .1))))
 
 slice-relend-prefix-build : tie.Need-slice-relend-prefix-build
 slice-relend-prefix-build c =
@@ -40,14 +40,14 @@ slice-relend-prefix-build c =
 slice-aggregate-build : tie.Need-slice-aggregate-build
 slice-aggregate-build c =
     let at-add-types = c .before .before .before .add-types in
-    sym (length-take-le (at-add-types .result .count) (at-add-types .last .1 .1 .1 .0) (at-add-types .ensures .room))
+    sym (length-take-le (at-add-types .result .count) (at-add-types .last .1 .1 .0) (at-add-types .ensures .room))
 
 build-requires : tie.Need-build-requires
 build-requires c κs =
     let at-args = c .before .before .before .before .before .before .before .before .before .before .before .args in
     let at-add-lists = c .before .before .before .before .before .before .before .add-lists in
     let at-add-types = c .before .before .before .add-types in
-    all-entries (at-args .d .now) (at-args .from) (at-args .entries .now) (at-add-lists .last .1 .1 .0) (at-add-lists .result) (at-add-lists .ensures) (at-add-types .last .1 .1 .1 .0) (at-add-types .result) (at-add-types .ensures)
+    all-entries (at-args .d .now) (at-args .from) (at-args .entries .now) (at-add-lists .last .1 .0) (at-add-lists .result) (at-add-lists .ensures) (at-add-types .last .1 .1 .0) (at-add-types .result) (at-add-types .ensures)
 
 same-length : tie.Need-same-length
 same-length c =
@@ -58,7 +58,7 @@ same-length c =
     let b = at-add-types .ensures .adding .long in
     let r = at-add-types .ensures .room in
     let k = at-build .kept in
-    omega (arith, length-append (at-build .last .1 .0) (drop (at-add-types .result .count) (at-add-types .last .1 .1 .1 .0)), length-drop (at-add-types .result .count) (at-add-types .last .1 .1 .1 .0), length-take-le (at-add-types .result .count) (at-add-types .last .1 .1 .1 .0) (at-add-types .ensures .room), k .1 .0)
+    omega (arith, length-append (at-build .last .1 .0) (drop (at-add-types .result .count) (at-add-types .last .1 .1 .0)), length-drop (at-add-types .result .count) (at-add-types .last .1 .1 .0), length-take-le (at-add-types .result .count) (at-add-types .last .1 .1 .0) (at-add-types .ensures .room), k .1 .0)
 
 returns : tie.Need-returns
 returns c =
@@ -68,7 +68,7 @@ returns c =
     let at-build = c .before .before .build in
     let at-pre = c .before .before .before .before .before .before .before .before .before .before .before .before .before .before .pre in
     let a = at-add-lists .ensures in
-    made (at-args .d .now) (at-args .from) (at-args .entries .now) (at-add-lists .last .1 .1 .0) (at-add-lists .result) a (at-add-types .last .1 .1 .1 .0) (at-add-types .result) (at-add-types .ensures) (at-build .last .1 .0) (at-build .result) (at-build .ensures) (omega (arith, a .count, a .long, lists-few (at-args .d .now) (at-pre .1 .0), at-pre .1 .1 .1))
+    made (at-args .d .now) (at-args .from) (at-args .entries .now) (at-add-lists .last .1 .0) (at-add-lists .result) a (at-add-types .last .1 .1 .0) (at-add-types .result) (at-add-types .ensures) (at-build .last .1 .0) (at-build .result) (at-build .ensures) (omega (arith, a .count, a .long, lists-few (at-args .d .now) (at-pre .0), at-pre .1 .1))
 
 pub read-spec : {M : Type 1} → statement M
 read-spec =

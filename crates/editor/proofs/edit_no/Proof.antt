@@ -20,7 +20,7 @@ use Rattle.edits.proofs.fits.Reads as fits-reads
 fits-requires : tie.Need-fits-requires
 fits-requires c κs =
     let at-pre = c .before .before .before .pre in
-    (at-pre .1 .1 .0, at-pre .1 .1 .1)
+    (at-pre .1 .0, at-pre .1 .1)
 
 returns : tie.Need-returns
 returns c =
@@ -37,7 +37,7 @@ result-no-requires c κs =
     let at-fits2 = c .before .before .fits2 in
     let at-if1 = c .before .if1 in
     let t : Bytes = madeBy (at-args .s .now) (at-args .req .now) (at-args .x) in
-    (at-pre .0, (at-pre .1 .0, (at-pre .1 .1 .0, (at-pre .1 .1 .1 .1, within-file (at-args .room) t (at-fits2 .result) (at-fits2 .ensures) (not-false (at-fits2 .result) (at-if1 .left))))))
+    ((at-pre .0, (at-pre .1 .0, (at-pre .1 .1 .1, within-file (at-args .room) t (at-fits2 .result) (at-fits2 .ensures) (not-false (at-fits2 .result) (at-if1 .left))))))
 
 same-length : tie.Need-same-length
 same-length c = search needs

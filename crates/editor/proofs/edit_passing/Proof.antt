@@ -18,7 +18,6 @@ use Rattle.editor.proofs.edit_passing.Lts as lts
 use Rattle.editor.proofs.edit_no.Reads as edit-no-reads
 use Rattle.edits.proofs.carry_out.Reads as carry-out-reads
 use Rattle.edits.proofs.locate.Reads as locate-reads
-use Rattle.format.proofs.classes.Reads as classes-reads
 use Rattle.requests.proofs.request_of.Reads as request-of-reads
 
 request-of-requires : tie.Need-request-of-requires
@@ -39,34 +38,30 @@ returns c =
     let at-enum-told = c .enum-told in
     sym (answer-fault (at-args .buf .now) (at-args .used) (at-args .req .now) (at-pre .0) (sym (at-request-of .ensures .0) ∙ ap (requestAnswer (at-args .req .now)) (at-enum-told .given .1)))
 
-classes-requires : tie.Need-classes-requires
-classes-requires c κs = search needs
-
 slice-reshare-prefix-locate : tie.Need-slice-reshare-prefix-locate
 unfolding checkAnswer
 slice-reshare-prefix-locate c =
-    let at-args = c .before .before .before .before .before .before .before .before .before .args in
-    let at-pre = c .before .before .before .before .before .before .before .before .before .pre in
+    let at-args = c .before .before .before .before .before .before .before .args in
+    let at-pre = c .before .before .before .before .before .before .before .pre in
     file-inside (at-args .buf .now) (at-args .used) (at-pre .0)
 
 slice-aggregate-locate : tie.Need-slice-aggregate-locate
 unfolding checkAnswer
 slice-aggregate-locate c =
-    let at-args = c .before .before .before .before .before .before .before .before .before .before .args in
-    let at-pre = c .before .before .before .before .before .before .before .before .before .before .pre in
+    let at-args = c .before .before .before .before .before .before .before .before .args in
+    let at-pre = c .before .before .before .before .before .before .before .before .pre in
     sym (file-length (at-args .buf .now) (at-args .used) (at-pre .0))
 
 locate-requires : tie.Need-locate-requires
 unfolding checkAnswer
 locate-requires c κs =
-    let at-pre = c .before .before .before .before .before .before .before .before .before .before .pre in
-    let at-args = c .before .before .before .before .before .before .before .before .before .before .args in
-    let at-r = c .before .before .before .before .r in
-    let at-request-of = c .before .before .before .before .before .before .request-of in
-    let at-classes = c .before .before .classes in
+    let at-pre = c .before .before .before .before .before .before .before .before .pre in
+    let at-args = c .before .before .before .before .before .before .before .before .args in
+    let at-r = c .before .before .r in
+    let at-request-of = c .before .before .before .before .request-of in
     let v = at-pre .0 in
     let e = ap (requestAnswer (at-args .req .now)) (sym (at-r .given .1)) ∙ at-request-of .ensures .0 in
-    (at-classes .ensures, ((file-readable (at-args .buf .now) (at-args .used) v, file-small (at-args .buf .now) (at-args .used) v, request-bytes (at-args .req .now) (at-r .given .0 .0) e), subst (Inside (at-args .req .now)) (at-r .given .1) (at-request-of .ensures .1)))
+    (((file-readable (at-args .buf .now) (at-args .used) v, file-small (at-args .buf .now) (at-args .used) v, request-bytes (at-args .req .now) (at-r .given .0 .0) e), subst (Inside (at-args .req .now)) (at-r .given .1) (at-request-of .ensures .1)))
 
 enum-known-l : tie.Need-enum-known-l
 enum-known-l c = search needs
@@ -77,10 +72,10 @@ same-length c = search needs
 returns-2 : tie.Need-returns-2
 unfolding checkAnswer
 returns-2 c =
-    let at-pre = c .before .before .before .before .before .before .before .before .before .before .before .before .before .before .pre in
-    let at-args = c .before .before .before .before .before .before .before .before .before .before .before .before .before .before .args in
-    let at-r = c .before .before .before .before .before .before .before .before .r in
-    let at-request-of = c .before .before .before .before .before .before .before .before .before .before .request-of in
+    let at-pre = c .before .before .before .before .before .before .before .before .before .before .before .before .pre in
+    let at-args = c .before .before .before .before .before .before .before .before .before .before .before .before .args in
+    let at-r = c .before .before .before .before .before .before .r in
+    let at-request-of = c .before .before .before .before .before .before .before .before .request-of in
     let at-l = c .before .l in
     let at-locate = c .before .before .before .locate in
     let v = at-pre .0 in
@@ -94,30 +89,29 @@ enum-known-l-2 c = search needs
 slice-reshare-prefix-edit-no : tie.Need-slice-reshare-prefix-edit-no
 unfolding checkAnswer
 slice-reshare-prefix-edit-no c =
-    let at-args = c .before .before .before .before .before .before .before .before .before .before .before .before .before .before .before .args in
-    let at-pre = c .before .before .before .before .before .before .before .before .before .before .before .before .before .before .before .pre in
+    let at-args = c .before .before .before .before .before .before .before .before .before .before .before .before .args in
+    let at-pre = c .before .before .before .before .before .before .before .before .before .before .before .before .pre in
     file-inside (at-args .buf .now) (at-args .used) (at-pre .0)
 
 slice-aggregate-edit-no : tie.Need-slice-aggregate-edit-no
 unfolding checkAnswer
 slice-aggregate-edit-no c =
-    let at-args = c .before .before .before .before .before .before .before .before .before .before .before .before .before .before .before .before .args in
-    let at-pre = c .before .before .before .before .before .before .before .before .before .before .before .before .before .before .before .before .pre in
+    let at-args = c .before .before .before .before .before .before .before .before .before .before .before .before .before .args in
+    let at-pre = c .before .before .before .before .before .before .before .before .before .before .before .before .before .pre in
     sym (file-length (at-args .buf .now) (at-args .used) (at-pre .0))
 
 edit-no-requires : tie.Need-edit-no-requires
 unfolding checkAnswer
 edit-no-requires c κs =
-    let at-pre = c .before .before .before .before .before .before .before .before .before .before .before .before .before .before .before .before .before .pre in
-    let at-args = c .before .before .before .before .before .before .before .before .before .before .before .before .before .before .before .before .before .args in
-    let at-r = c .before .before .before .before .before .before .before .before .before .before .before .r in
-    let at-l2 = c .before .before .before .before .l2 in
-    let at-locate = c .before .before .before .before .before .before .locate in
-    let at-classes = c .before .before .before .before .before .before .before .before .before .classes in
+    let at-pre = c .before .before .before .before .before .before .before .before .before .before .before .before .before .before .pre in
+    let at-args = c .before .before .before .before .before .before .before .before .before .before .before .before .before .before .args in
+    let at-r = c .before .before .before .before .before .before .before .before .r in
+    let at-l2 = c .before .before .before .l2 in
+    let at-locate = c .before .before .before .before .before .locate in
     let v = at-pre .0 in
     let q = askedBy (at-args .req .now) (at-r .given .0 .0) in
     let l = subst (Locates (take (at-args .used) (at-args .buf .now)) (at-args .req .now) q) (at-l2 .given .1) (at-locate .ensures) in
-    (at-classes .ensures, (omega arith, (l .2, (omega (arith, file-inside (at-args .buf .now) (at-args .used) v, file-length (at-args .buf .now) (at-args .used) v), file-small (at-args .buf .now) (at-args .used) v))))
+    ((omega arith, (l .2, (omega (arith, file-inside (at-args .buf .now) (at-args .used) v, file-length (at-args .buf .now) (at-args .used) v), file-small (at-args .buf .now) (at-args .used) v))))
 
 same-length-2 : tie.Need-same-length-2
 same-length-2 c = search needs
@@ -128,12 +122,12 @@ same-length-3 c = search needs
 returns-3 : tie.Need-returns-3
 unfolding checkAnswer
 returns-3 c =
-    let at-pre = c .before .before .before .before .before .before .before .before .before .before .before .before .before .before .before .before .before .before .before .before .before .pre in
-    let at-args = c .before .before .before .before .before .before .before .before .before .before .before .before .before .before .before .before .before .before .before .before .before .args in
-    let at-r = c .before .before .before .before .before .before .before .before .before .before .before .before .before .before .before .r in
-    let at-request-of = c .before .before .before .before .before .before .before .before .before .before .before .before .before .before .before .before .before .request-of in
-    let at-l2 = c .before .before .before .before .before .before .before .before .l2 in
-    let at-locate = c .before .before .before .before .before .before .before .before .before .before .locate in
+    let at-pre = c .before .before .before .before .before .before .before .before .before .before .before .before .before .before .before .before .before .before .pre in
+    let at-args = c .before .before .before .before .before .before .before .before .before .before .before .before .before .before .before .before .before .before .args in
+    let at-r = c .before .before .before .before .before .before .before .before .before .before .before .before .r in
+    let at-request-of = c .before .before .before .before .before .before .before .before .before .before .before .before .before .before .request-of in
+    let at-l2 = c .before .before .before .before .before .before .before .l2 in
+    let at-locate = c .before .before .before .before .before .before .before .before .before .locate in
     let at-edit-no = c .before .before .before .edit-no in
     let at-if1 = c .if1 in
     let v = at-pre .0 in
@@ -145,11 +139,11 @@ returns-3 c =
 carry-out-requires : tie.Need-carry-out-requires
 unfolding checkAnswer
 carry-out-requires c κs =
-    let at-pre = c .before .before .before .before .before .before .before .before .before .before .before .before .before .before .before .before .before .before .before .before .before .before .pre in
-    let at-args = c .before .before .before .before .before .before .before .before .before .before .before .before .before .before .before .before .before .before .before .before .before .before .args in
-    let at-r = c .before .before .before .before .before .before .before .before .before .before .before .before .before .before .before .before .r in
-    let at-l2 = c .before .before .before .before .before .before .before .before .before .l2 in
-    let at-locate = c .before .before .before .before .before .before .before .before .before .before .before .locate in
+    let at-pre = c .before .before .before .before .before .before .before .before .before .before .before .before .before .before .before .before .before .before .before .pre in
+    let at-args = c .before .before .before .before .before .before .before .before .before .before .before .before .before .before .before .before .before .before .before .args in
+    let at-r = c .before .before .before .before .before .before .before .before .before .before .before .before .before .r in
+    let at-l2 = c .before .before .before .before .before .before .before .before .l2 in
+    let at-locate = c .before .before .before .before .before .before .before .before .before .before .locate in
     let at-edit-no = c .before .before .before .before .edit-no in
     let at-if1 = c .before .if1 in
     let v = at-pre .0 in
@@ -166,12 +160,12 @@ same-length-5 c = search needs
 returns-4 : tie.Need-returns-4
 unfolding checkAnswer
 returns-4 c =
-    let at-pre = c .before .before .before .before .before .before .before .before .before .before .before .before .before .before .before .before .before .before .before .before .before .before .before .before .before .pre in
-    let at-args = c .before .before .before .before .before .before .before .before .before .before .before .before .before .before .before .before .before .before .before .before .before .before .before .before .before .args in
-    let at-r = c .before .before .before .before .before .before .before .before .before .before .before .before .before .before .before .before .before .before .before .r in
-    let at-request-of = c .before .before .before .before .before .before .before .before .before .before .before .before .before .before .before .before .before .before .before .before .before .request-of in
-    let at-l2 = c .before .before .before .before .before .before .before .before .before .before .before .before .l2 in
-    let at-locate = c .before .before .before .before .before .before .before .before .before .before .before .before .before .before .locate in
+    let at-pre = c .before .before .before .before .before .before .before .before .before .before .before .before .before .before .before .before .before .before .before .before .before .before .pre in
+    let at-args = c .before .before .before .before .before .before .before .before .before .before .before .before .before .before .before .before .before .before .before .before .before .before .args in
+    let at-r = c .before .before .before .before .before .before .before .before .before .before .before .before .before .before .before .before .r in
+    let at-request-of = c .before .before .before .before .before .before .before .before .before .before .before .before .before .before .before .before .before .before .request-of in
+    let at-l2 = c .before .before .before .before .before .before .before .before .before .before .before .l2 in
+    let at-locate = c .before .before .before .before .before .before .before .before .before .before .before .before .before .locate in
     let at-if1 = c .before .before .before .before .if1 in
     let at-edit-no = c .before .before .before .before .before .before .before .edit-no in
     let at-carry-out = c .before .before .carry-out in
@@ -189,7 +183,6 @@ edit-passing-spec =
     enum-known-r
     enum-told
     returns
-    classes-requires
     slice-reshare-prefix-locate
     slice-aggregate-locate
     locate-requires

@@ -22,7 +22,7 @@ carry-out-requires c κs =
     let at-args = c .before .before .before .before .before .before .before .before .args in
     let at-put-bytes = c .before .before .before .put-bytes in
     let at-pre = c .before .before .before .before .before .before .before .before .pre in
-    ((omega arith, copied-sound (at-args .s .now) _ (at-put-bytes .last .0) (at-args .req .now) (at-args .x) (at-put-bytes .ensures) (at-pre .1 .1 .0)), omega (arith, ap length (copied-made (at-args .s .now) _ (at-put-bytes .last .0) (at-args .req .now) (at-args .x) (at-put-bytes .ensures)), at-pre .1 .0, at-pre .1 .1 .1 .1))
+    ((omega arith, copied-sound (at-args .s .now) _ (at-put-bytes .last .0) (at-args .req .now) (at-args .x) (at-put-bytes .ensures) (at-pre .1 .0)), omega (arith, ap length (copied-made (at-args .s .now) _ (at-put-bytes .last .0) (at-args .req .now) (at-args .x) (at-put-bytes .ensures)), at-pre .0, at-pre .1 .1 .1))
 
 judge-spent-requires : tie.Need-judge-spent-requires
 judge-spent-requires c κs =
@@ -30,7 +30,7 @@ judge-spent-requires c κs =
     let at-args = c .before .before .before .before .before .before .before .before .before .before .before .before .args in
     let at-put-bytes = c .before .before .before .before .before .before .before .put-bytes in
     let at-pre = c .before .before .before .before .before .before .before .before .before .before .before .before .pre in
-    let n = at-carry-out .ensures .0 ∙ ap length (copied-made (at-args .s .now) _ (at-put-bytes .last .0) (at-args .req .now) (at-args .x) (at-put-bytes .ensures)) in (at-pre .0, (omega (arith, n, at-pre .1 .0, at-pre .1 .1 .1 .1), omega (arith, n, at-pre .1 .1 .1 .1)))
+    let n = at-carry-out .ensures .0 ∙ ap length (copied-made (at-args .s .now) _ (at-put-bytes .last .0) (at-args .req .now) (at-args .x) (at-put-bytes .ensures)) in ((omega (arith, n, at-pre .0, at-pre .1 .1 .1), omega (arith, n, at-pre .1 .1 .1)))
 
 same-length : tie.Need-same-length
 same-length c = search needs

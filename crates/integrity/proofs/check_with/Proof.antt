@@ -18,7 +18,6 @@ use Rattle.integrity.proofs.check_with.Reads as reads
 use Rattle.integrity.proofs.check_with.Lts as lts
 use Rattle.format.proofs.File.fits.Reads as fits-reads
 use Rattle.format.proofs.File.new.Reads as new-reads
-use Rattle.format.proofs.classes.Reads as classes-reads
 use Rattle.integrity.proofs.judge_kept.Reads as judge-kept-reads
 
 new-requires : tie.Need-new-requires
@@ -35,9 +34,6 @@ returns c =
     let at-if1 = c .if1 in
     used-no (at-args .buf .now) (at-args .used) (sym (at-fits2 .ensures ∙ ap (λ (n : ℕ). leb n (length (at-args .buf .now)) && leb n fileBytes) (at-new .ensures)) ∙ not-true _ (at-if1 .taken))
 
-classes-requires : tie.Need-classes-requires
-classes-requires c κs = search needs
-
 sub-judge-kept : tie.Need-sub-judge-kept
 sub-judge-kept c = search needs
 
@@ -46,32 +42,31 @@ part-judge-kept-start c = search needs
 
 part-judge-kept-end : tie.Need-part-judge-kept-end
 part-judge-kept-end c =
-    let at-args = c .before .before .before .before .before .before .before .args in
-    let at-fits2 = c .before .before .before .fits2 in
-    let at-new = c .before .before .before .before .new in
-    let at-if1 = c .before .before .if1 in
+    let at-args = c .before .before .before .before .before .args in
+    let at-fits2 = c .before .fits2 in
+    let at-new = c .before .before .new in
+    let at-if1 = c .if1 in
     let u = used-inside (at-args .buf .now) (at-args .used) (sym (at-fits2 .ensures ∙ ap (λ (n : ℕ). leb n (length (at-args .buf .now)) && leb n fileBytes) (at-new .ensures)) ∙ not-false _ (at-if1 .left)) in omega (arith, u .0)
 
 judge-kept-requires : tie.Need-judge-kept-requires
 judge-kept-requires c κs =
-    let at-args = c .before .before .before .before .before .before .before .before .before .args in
-    let at-fits2 = c .before .before .before .before .before .fits2 in
-    let at-new = c .before .before .before .before .before .before .new in
-    let at-if1 = c .before .before .before .before .if1 in
-    let at-classes = c .before .before .before .classes in
-    let at-pre = c .before .before .before .before .before .before .before .before .before .pre in
-    let u = used-inside (at-args .buf .now) (at-args .used) (sym (at-fits2 .ensures ∙ ap (λ (n : ℕ). leb n (length (at-args .buf .now)) && leb n fileBytes) (at-new .ensures)) ∙ not-false _ (at-if1 .left)) in (at-classes .ensures, (omega (arith, u .1, length-take-le (at-args .used - 0) (at-args .buf .now) (omega (arith, u .0))), at-pre))
+    let at-args = c .before .before .before .before .before .before .before .args in
+    let at-fits2 = c .before .before .before .fits2 in
+    let at-new = c .before .before .before .before .new in
+    let at-if1 = c .before .before .if1 in
+    let at-pre = c .before .before .before .before .before .before .before .pre in
+    let u = used-inside (at-args .buf .now) (at-args .used) (sym (at-fits2 .ensures ∙ ap (λ (n : ℕ). leb n (length (at-args .buf .now)) && leb n fileBytes) (at-new .ensures)) ∙ not-false _ (at-if1 .left)) in ((omega (arith, u .1, length-take-le (at-args .used - 0) (at-args .buf .now) (omega (arith, u .0))), at-pre))
 
 same-length : tie.Need-same-length
 same-length c = search needs
 
 returns-2 : tie.Need-returns-2
 returns-2 c =
-    let at-args = c .before .before .before .before .before .before .before .before .before .before .before .before .args in
+    let at-args = c .before .before .before .before .before .before .before .before .before .before .args in
     let at-judge-kept = c .before .before .judge-kept in
-    let at-fits2 = c .before .before .before .before .before .before .before .before .fits2 in
-    let at-new = c .before .before .before .before .before .before .before .before .before .new in
-    let at-if1 = c .before .before .before .before .before .before .before .if1 in
+    let at-fits2 = c .before .before .before .before .before .before .fits2 in
+    let at-new = c .before .before .before .before .before .before .before .new in
+    let at-if1 = c .before .before .before .before .before .if1 in
     let t : take (at-args .used - 0) (at-args .buf .now) ≡ take (at-args .used) (at-args .buf .now) = ap (λ (n : ℕ). take n (at-args .buf .now)) (let e : at-args .used - 0 ≡ at-args .used = omega arith in e) in at-judge-kept .ensures ∙ ap textNo t ∙ used-text (at-args .buf .now) (at-args .used) (sym (at-fits2 .ensures ∙ ap (λ (n : ℕ). leb n (length (at-args .buf .now)) && leb n fileBytes) (at-new .ensures)) ∙ not-false _ (at-if1 .left))
 
 pub check-with-spec : {M : Type 1} → statement M
@@ -81,7 +76,6 @@ check-with-spec =
     new-requires
     fits-requires
     returns
-    classes-requires
     sub-judge-kept
     part-judge-kept-start
     part-judge-kept-end

@@ -17,7 +17,7 @@ judge-lines-requires c κs =
     let at-pre = c .before .before .before .pre in
     let at-is-text = c .before .is-text in
     let at-if1 = c .if1 in
-    (at-pre .0, (sym (at-is-text .ensures) ∙ at-if1 .taken, at-pre .1))
+    ((sym (at-is-text .ensures) ∙ at-if1 .taken, at-pre))
 
 returns : tie.Need-returns
 returns c =

@@ -29,7 +29,7 @@ slice-aggregate-is-text : tie.Need-slice-aggregate-is-text
 slice-aggregate-is-text c =
     let at-args = c .before .before .args in
     let at-pre = c .before .before .pre in
-    sym (length-take-le (at-args .used) (at-args .text .now) (at-pre .1 .0))
+    sym (length-take-le (at-args .used) (at-args .text .now) (at-pre .0))
 
 is-text-requires : tie.Need-is-text-requires
 is-text-requires c κs = search needs
@@ -51,7 +51,7 @@ slice-aggregate-is-readable : tie.Need-slice-aggregate-is-readable
 slice-aggregate-is-readable c =
     let at-args = c .before .before .before .before .before .args in
     let at-pre = c .before .before .before .before .before .pre in
-    sym (length-take-le (at-args .used) (at-args .text .now) (at-pre .1 .0))
+    sym (length-take-le (at-args .used) (at-args .text .now) (at-pre .0))
 
 is-readable-requires : tie.Need-is-readable-requires
 is-readable-requires c κs = search needs
@@ -74,7 +74,7 @@ make-dense-requires c κs =
     let at-args = c .before .before .before .before .before .before .before .before .args in
     let at-is-text = c .before .before .before .before .before .is-text in
     let at-if1 = c .before .before .before .before .if1 in
-    (at-pre .1 .0, text-ended (take (at-args .used) (at-args .text .now)) (sym (at-is-text .ensures) ∙ not-false _ (at-if1 .left)))
+    (at-pre .0, text-ended (take (at-args .used) (at-args .text .now)) (sym (at-is-text .ensures) ∙ not-false _ (at-if1 .left)))
 
 slice-reshare-prefix-judge-lines : tie.Need-slice-reshare-prefix-judge-lines
 slice-reshare-prefix-judge-lines c = search needs
@@ -91,7 +91,7 @@ judge-lines-requires c κs =
     let at-args = c .before .before .before .before .before .before .before .before .before .before .before .before .args in
     let at-is-text = c .before .before .before .before .before .before .before .before .before .is-text in
     let at-if1 = c .before .before .before .before .before .before .before .before .if1 in
-    (at-pre .0, (subst (λ (s : Bytes). (all isAllowed s && isEnded s) ≡ true) (sym (at-make-dense .ensures .2)) (dense-text (take (at-args .used) (at-args .text .now)) (sym (at-is-text .ensures) ∙ not-false _ (at-if1 .left))), omega (arith, at-make-dense .ensures .0, at-make-dense .ensures .1 ∙ sym (ap length (at-make-dense .ensures .2)), at-pre .1 .1)))
+    ((subst (λ (s : Bytes). (all isAllowed s && isEnded s) ≡ true) (sym (at-make-dense .ensures .2)) (dense-text (take (at-args .used) (at-args .text .now)) (sym (at-is-text .ensures) ∙ not-false _ (at-if1 .left))), omega (arith, at-make-dense .ensures .0, at-make-dense .ensures .1 ∙ sym (ap length (at-make-dense .ensures .2)), at-pre .1)))
 
 same-length-3 : tie.Need-same-length-3
 same-length-3 c = search needs

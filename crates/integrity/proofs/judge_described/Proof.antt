@@ -21,7 +21,7 @@ described-well-requires : tie.Need-described-well-requires
 described-well-requires c κs =
     let at-pre = c .before .before .before .before .before .pre in
     let at-args = c .before .before .before .before .before .args in
-    (at-pre .0, (((at-args .afters .now, at-pre .1 .1 .1 .0), at-pre .1 .1 .1 .1), (at-pre .1 .1 .0 .0, omega arith)))
+    ((((at-args .afters .now, at-pre .1 .1 .0), at-pre .1 .1 .1), (at-pre .1 .0 .0, omega arith)))
 
 returns : tie.Need-returns
 returns c =
@@ -29,7 +29,7 @@ returns c =
     let at-pre = c .before .before .before .before .before .before .before .before .pre in
     let at-described-well = c .before .before .described-well in
     let at-if1 = c .if1 in
-    well-no (records (readOf (at-args .s .now))) (at-pre .1 .1 .0 .0) (at-pre .1 .1 .0 .1) (sym (at-described-well .ensures .0) ∙ at-if1 .left)
+    well-no (records (readOf (at-args .s .now))) (at-pre .1 .0 .0) (at-pre .1 .0 .1) (sym (at-described-well .ensures .0) ∙ at-if1 .left)
 
 slice-aggregate-types-defined : tie.Need-slice-aggregate-types-defined
 slice-aggregate-types-defined c = search needs
@@ -39,7 +39,7 @@ types-defined-requires c κs =
     let at-pre = c .before .before .before .before .before .before .before .before .before .pre in
     let at-args = c .before .before .before .before .before .before .before .before .before .args in
     let at-described-well = c .before .before .before .described-well in
-    (at-pre .0, (((at-args .afters .now, at-pre .1 .1 .1 .0), at-pre .1 .0), (at-pre .1 .1 .0 .0, omega (arith, at-described-well .ensures .1))))
+    ((((at-args .afters .now, at-pre .1 .1 .0), at-pre .0), (at-pre .1 .0 .0, omega (arith, at-described-well .ensures .1))))
 
 returns-2 : tie.Need-returns-2
 returns-2 c =
@@ -49,7 +49,7 @@ returns-2 c =
     let at-if1 = c .before .before .before .before .if1 in
     let at-types-defined = c .before .before .types-defined in
     let at-if2 = c .if2 in
-    types-no (records (readOf (at-args .s .now))) (at-pre .1 .1 .0 .0) (at-pre .1 .1 .0 .1) (sym (at-described-well .ensures .0) ∙ at-if1 .taken) (sym (at-types-defined .ensures) ∙ at-if2 .left)
+    types-no (records (readOf (at-args .s .now))) (at-pre .1 .0 .0) (at-pre .1 .0 .1) (sym (at-described-well .ensures .0) ∙ at-if1 .taken) (sym (at-types-defined .ensures) ∙ at-if2 .left)
 
 slice-aggregate-judge-sets : tie.Need-slice-aggregate-judge-sets
 slice-aggregate-judge-sets c = search needs
@@ -64,7 +64,7 @@ judge-sets-requires c κs =
     let at-if1 = c .before .before .before .before .before .before .if1 in
     let at-types-defined = c .before .before .before .before .types-defined in
     let at-if2 = c .before .before .if2 in
-    (at-pre .0, (at-pre .1 .0, (record { fit = at-pre .1 .1 .0 .0; well = (sym (at-described-well .ensures .0) ∙ at-if1 .taken); types = sym (at-types-defined .ensures) ∙ at-if2 .taken }, (at-pre .1 .1 .1 .0, (omega (arith, at-described-well .ensures .1), omega arith)))))
+    ((at-pre .0, (record { fit = at-pre .1 .0 .0; well = (sym (at-described-well .ensures .0) ∙ at-if1 .taken); types = sym (at-types-defined .ensures) ∙ at-if2 .taken }, (at-pre .1 .1 .0, (omega (arith, at-described-well .ensures .1), omega arith)))))
 
 returns-3 : tie.Need-returns-3
 returns-3 c =
@@ -75,7 +75,7 @@ returns-3 c =
     let at-if1 = c .before .before .before .before .before .before .before .before .before .if1 in
     let at-types-defined = c .before .before .before .before .before .before .before .types-defined in
     let at-if2 = c .before .before .before .before .before .if2 in
-    at-judge-sets .ensures ∙ sets-no (records (readOf (at-args .s .now))) (at-pre .1 .1 .0 .0) (at-pre .1 .1 .0 .1) (sym (at-described-well .ensures .0) ∙ at-if1 .taken) (sym (at-types-defined .ensures) ∙ at-if2 .taken)
+    at-judge-sets .ensures ∙ sets-no (records (readOf (at-args .s .now))) (at-pre .1 .0 .0) (at-pre .1 .0 .1) (sym (at-described-well .ensures .0) ∙ at-if1 .taken) (sym (at-types-defined .ensures) ∙ at-if2 .taken)
 
 pub judge-described-spec : {M : Type 1} → statement M
 judge-described-spec =

@@ -25,7 +25,7 @@ bounds-of-requires : tie.Need-bounds-of-requires
 bounds-of-requires c κs =
     let at-pre = c .before .before .before .before .pre in
     let at-args = c .before .before .before .before .args in
-    (at-pre .0, ((text-ended (at-args .s .now) (at-pre .1 .0), at-pre .1 .1), (refl, refl, refl)))
+    (((text-ended (at-args .s .now) (at-pre .0), at-pre .1), (refl, refl, refl)))
 
 enum-told : tie.Need-enum-told
 enum-told c = search needs
@@ -54,7 +54,7 @@ judge-described-requires c κs =
     let at-bounds-of = c .before .before .before .before .before .before .before .before .before .bounds-of in
     let at-b = c .before .before .before .before .b in
     let at-pre = c .before .before .before .before .before .before .before .before .before .before .before .before .before .before .pre in
-    let rs = records (readOf (at-args .s .now)) in let t = subst (BoundedAs (at-args .s .now) (at-bounds-of .last .1 .1 .0) (at-bounds-of .last .1 .1 .1 .0) (at-bounds-of .last .1 .1 .1 .1 .0)) (at-b .given .1) (at-bounds-of .ensures) in (at-pre .0, (at-pre .1 .1, ((t .1, t .2), (t .4, few-heads rs (t .1) _ (t .3)))))
+    let rs = records (readOf (at-args .s .now)) in let t = subst (BoundedAs (at-args .s .now) (at-bounds-of .last .1 .0) (at-bounds-of .last .1 .1 .0) (at-bounds-of .last .1 .1 .1 .0)) (at-b .given .1) (at-bounds-of .ensures) in ((at-pre .1, ((t .1, t .2), (t .4, few-heads rs (t .1) _ (t .3)))))
 
 returns : tie.Need-returns
 returns c =
@@ -62,7 +62,7 @@ returns c =
     let at-bounds-of = c .before .before .before .before .before .bounds-of in
     let at-enum-told = c .enum-told in
     let at-pre = c .before .before .before .before .before .before .before .before .before .before .pre in
-    let rs = records (readOf (at-args .s .now)) in let t = subst (BoundedAs (at-args .s .now) (at-bounds-of .last .1 .1 .0) (at-bounds-of .last .1 .1 .1 .0) (at-bounds-of .last .1 .1 .1 .1 .0)) (at-enum-told .given .1) (at-bounds-of .ensures) in lines-no (at-args .s .now) (at-pre .1 .0) t
+    let rs = records (readOf (at-args .s .now)) in let t = subst (BoundedAs (at-args .s .now) (at-bounds-of .last .1 .0) (at-bounds-of .last .1 .1 .0) (at-bounds-of .last .1 .1 .1 .0)) (at-enum-told .given .1) (at-bounds-of .ensures) in lines-no (at-args .s .now) (at-pre .0) t
 
 returns-2 : tie.Need-returns-2
 returns-2 c =
@@ -70,7 +70,7 @@ returns-2 c =
     let at-bounds-of = c .before .before .before .before .before .bounds-of in
     let at-enum-told2 = c .enum-told2 in
     let at-pre = c .before .before .before .before .before .before .before .before .before .before .pre in
-    let rs = records (readOf (at-args .s .now)) in let t = subst (BoundedAs (at-args .s .now) (at-bounds-of .last .1 .1 .0) (at-bounds-of .last .1 .1 .1 .0) (at-bounds-of .last .1 .1 .1 .1 .0)) (at-enum-told2 .given .1) (at-bounds-of .ensures) in limits-no rs (t .1) ∙ sym (text-records (at-args .s .now) (at-pre .1 .0) (t .0))
+    let rs = records (readOf (at-args .s .now)) in let t = subst (BoundedAs (at-args .s .now) (at-bounds-of .last .1 .0) (at-bounds-of .last .1 .1 .0) (at-bounds-of .last .1 .1 .1 .0)) (at-enum-told2 .given .1) (at-bounds-of .ensures) in limits-no rs (t .1) ∙ sym (text-records (at-args .s .now) (at-pre .0) (t .0))
 
 returns-3 : tie.Need-returns-3
 returns-3 c =
@@ -78,7 +78,7 @@ returns-3 c =
     let at-bounds-of = c .before .before .before .before .before .bounds-of in
     let at-enum-told3 = c .enum-told3 in
     let at-pre = c .before .before .before .before .before .before .before .before .before .before .pre in
-    let rs = records (readOf (at-args .s .now)) in let t = subst (BoundedAs (at-args .s .now) (at-bounds-of .last .1 .1 .0) (at-bounds-of .last .1 .1 .1 .0) (at-bounds-of .last .1 .1 .1 .1 .0)) (at-enum-told3 .given .1) (at-bounds-of .ensures) in once-no rs (t .1) (t .2) ∙ sym (text-records (at-args .s .now) (at-pre .1 .0) (t .0))
+    let rs = records (readOf (at-args .s .now)) in let t = subst (BoundedAs (at-args .s .now) (at-bounds-of .last .1 .0) (at-bounds-of .last .1 .1 .0) (at-bounds-of .last .1 .1 .1 .0)) (at-enum-told3 .given .1) (at-bounds-of .ensures) in once-no rs (t .1) (t .2) ∙ sym (text-records (at-args .s .now) (at-pre .0) (t .0))
 
 returns-4 : tie.Need-returns-4
 returns-4 c =
@@ -87,7 +87,7 @@ returns-4 c =
     let at-b = c .before .before .before .before .before .b in
     let at-judge-described = c .judge-described in
     let at-pre = c .before .before .before .before .before .before .before .before .before .before .before .before .before .before .before .pre in
-    let rs = records (readOf (at-args .s .now)) in let t = subst (BoundedAs (at-args .s .now) (at-bounds-of .last .1 .1 .0) (at-bounds-of .last .1 .1 .1 .0) (at-bounds-of .last .1 .1 .1 .1 .0)) (at-b .given .1) (at-bounds-of .ensures) in at-judge-described .ensures ∙ sym (text-records (at-args .s .now) (at-pre .1 .0) (t .0))
+    let rs = records (readOf (at-args .s .now)) in let t = subst (BoundedAs (at-args .s .now) (at-bounds-of .last .1 .0) (at-bounds-of .last .1 .1 .0) (at-bounds-of .last .1 .1 .1 .0)) (at-b .given .1) (at-bounds-of .ensures) in at-judge-described .ensures ∙ sym (text-records (at-args .s .now) (at-pre .0) (t .0))
 
 pub judge-lines-spec : {M : Type 1} → statement M
 judge-lines-spec =

@@ -16,16 +16,16 @@ use Rattle.rules.proofs.judge_set.Reads as judge-set-reads
 use Rattle.rules.proofs.tallies.lesser.Reads as lesser-reads
 
 abbrev Inv-loop : tie.InvT-loop
-Inv-loop table s starts ends afters count scratch₀ entries₀ k₀ worst₀ scratch entries k worst = SetsAt s starts ends afters count k worst × (length scratch ≡ length scratch₀) × (length entries ≡ length entries₀)
+Inv-loop s starts ends afters count scratch₀ entries₀ k₀ worst₀ scratch entries k worst = SetsAt s starts ends afters count k worst × (length scratch ≡ length scratch₀) × (length entries ≡ length entries₀)
 
 abbrev μ-loop : tie.MeasureT-loop
-μ-loop table s starts ends afters count scratch₀ entries₀ k₀ worst₀ scratch entries k worst = count - k
+μ-loop s starts ends afters count scratch₀ entries₀ k₀ worst₀ scratch entries k worst = count - k
 
 loop-holds : tie.Need-loop-holds Inv-loop μ-loop
 loop-holds c =
     let at-args = c .before .before .before .before .before .before .args in
     let at-pre = c .before .before .before .before .before .before .pre in
-    (sets-start (at-args .s .now) (at-args .starts .now) (at-args .ends .now) (at-args .afters .now) (at-args .count) (at-pre .1 .1 .1 .0) (at-pre .1 .1 .0), refl, refl)
+    (sets-start (at-args .s .now) (at-args .starts .now) (at-args .ends .now) (at-args .afters .now) (at-args .count) (at-pre .1 .1 .0) (at-pre .1 .0), refl, refl)
 
 mul-a : tie.Need-mul-a Inv-loop μ-loop
 mul-a c = search needs
@@ -109,7 +109,7 @@ judge-set-requires c κs =
     let at-pre = c .before .before .before .before .before .before .before .before .before .before .before .before .before .before .before .before .pre in
     let at-args = c .before .before .before .before .before .before .before .before .before .before .before .before .before .before .before .before .args in
     let r = sets-row (at-loop .inv .0) (at-loop-test .taken) in let m = sets-members (at-loop .inv .0) (at-loop-test .taken) (at-members-end .result) (at-members-end .ensures) in
-    (at-pre .0, ((sets-rules (at-loop .inv .0) (at-loop-test .taken), omega (arith, span-length (at-args .s .now) (getD (at-args .starts .now) (at-loop .k) 0) (getD (at-args .ends .now) (at-loop .k) 0) (omega (arith, r .filled)) (omega (arith, r .within, r .inside)), r .within, r .inside, at-pre .1 .0)), ((m .reads, omega (arith, span-length (at-args .s .now) (getD (at-args .afters .now) (at-loop .k) 0) (at-members-end .result) (m .ordered) (m .inside), m .inside, at-pre .1 .0), members-fit (at-loop .inv .0) (at-loop-test .taken) (at-members-end .result) (at-members-end .ensures)), (omega (arith, at-pre .1 .1 .1 .1 .0, at-loop .inv .1), omega (arith, at-pre .1 .1 .1 .1 .1, at-loop .inv .2)))))
+    (((sets-rules (at-loop .inv .0) (at-loop-test .taken), omega (arith, span-length (at-args .s .now) (getD (at-args .starts .now) (at-loop .k) 0) (getD (at-args .ends .now) (at-loop .k) 0) (omega (arith, r .filled)) (omega (arith, r .within, r .inside)), r .within, r .inside, at-pre .0)), ((m .reads, omega (arith, span-length (at-args .s .now) (getD (at-args .afters .now) (at-loop .k) 0) (at-members-end .result) (m .ordered) (m .inside), m .inside, at-pre .0), members-fit (at-loop .inv .0) (at-loop-test .taken) (at-members-end .result) (at-members-end .ensures)), (omega (arith, at-pre .1 .1 .1 .0, at-loop .inv .1), omega (arith, at-pre .1 .1 .1 .1, at-loop .inv .2)))))
 
 lesser-requires : tie.Need-lesser-requires Inv-loop μ-loop
 lesser-requires c κs = search needs

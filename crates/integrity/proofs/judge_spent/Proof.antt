@@ -19,7 +19,7 @@ slice-aggregate-may-join : tie.Need-slice-aggregate-may-join
 slice-aggregate-may-join c =
     let at-args = c .before .before .args in
     let at-pre = c .before .before .pre in
-    sym (length-take-le (at-args .used) (at-args .text .now) (at-pre .1 .0))
+    sym (length-take-le (at-args .used) (at-args .text .now) (at-pre .0))
 
 may-join-requires : tie.Need-may-join-requires
 may-join-requires c κs = search needs
@@ -40,13 +40,13 @@ slice-aggregate-judge : tie.Need-slice-aggregate-judge
 slice-aggregate-judge c =
     let at-args = c .before .before .before .before .before .args in
     let at-pre = c .before .before .before .before .before .pre in
-    sym (length-take-le (at-args .used) (at-args .text .now) (at-pre .1 .0))
+    sym (length-take-le (at-args .used) (at-args .text .now) (at-pre .0))
 
 judge-requires : tie.Need-judge-requires
 judge-requires c κs =
     let at-pre = c .before .before .before .before .before .pre in
     let at-args = c .before .before .before .before .before .args in
-    (at-pre .0, omega (arith, length-take-le (at-args .used) (at-args .text .now) (at-pre .1 .0), at-pre .1 .1))
+    (omega (arith, length-take-le (at-args .used) (at-args .text .now) (at-pre .0), at-pre .1))
 
 same-length-2 : tie.Need-same-length-2
 same-length-2 c = search needs

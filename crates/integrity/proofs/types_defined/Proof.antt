@@ -18,16 +18,16 @@ use Rattle.integrity.proofs.types_defined.Lts as lts
 use Rattle.typedefs.proofs.types_well.Reads as types-well-reads
 
 abbrev Inv-loop : tie.InvT-loop
-Inv-loop table s starts ends count scratch₀ k₀ scratch k = TypesAt s starts ends count k × (length scratch ≡ length scratch₀)
+Inv-loop s starts ends count scratch₀ k₀ scratch k = TypesAt s starts ends count k × (length scratch ≡ length scratch₀)
 
 abbrev μ-loop : tie.MeasureT-loop
-μ-loop table s starts ends count scratch₀ k₀ scratch k = count - k
+μ-loop s starts ends count scratch₀ k₀ scratch k = count - k
 
 loop-holds : tie.Need-loop-holds Inv-loop μ-loop
 loop-holds c =
     let at-args = c .before .before .before .before .args in
     let at-pre = c .before .before .before .before .pre in
-    (types-start (at-args .s .now) (at-args .starts .now) (at-args .ends .now) (at-args .count) (at-pre .1 .0 .0) (at-pre .1 .1 .0), refl)
+    (types-start (at-args .s .now) (at-args .starts .now) (at-args .ends .now) (at-args .count) (at-pre .0 .0) (at-pre .1 .0), refl)
 
 mul-a : tie.Need-mul-a Inv-loop μ-loop
 mul-a c = search needs
@@ -77,8 +77,8 @@ types-well-requires c κs =
     let e = getD (at-args .ends .now) (at-loop .k) 0 in
     let d = recordIn (span a e (at-args .s .now)) in
     let short = span-length (at-args .s .now) a e (omega (arith, r .filled)) (omega (arith, r .within, r .inside)) in
-    let room : valueBytes ≤ length (at-loop .scratch) = omega (arith, at-pre .1 .1 .1, at-loop .inv .1) in
-    (at-pre .0, ((r .own, omega (arith, short, at-pre .1 .0 .1, r .within, r .inside)), ((few-typedefs d (f .few (r .head)), values-fit (length (at-loop .scratch)) room (text "%typedef") d (f .fits)), values-fit (length (at-loop .scratch)) room (text "%type") d (f .fits))))
+    let room : valueBytes ≤ length (at-loop .scratch) = omega (arith, at-pre .1 .1, at-loop .inv .1) in
+    (((r .own, omega (arith, short, at-pre .0 .1, r .within, r .inside)), ((few-typedefs d (f .few (r .head)), values-fit (length (at-loop .scratch)) room (text "%typedef") d (f .fits)), values-fit (length (at-loop .scratch)) room (text "%type") d (f .fits))))
 
 same-length : tie.Need-same-length Inv-loop μ-loop
 same-length c =

@@ -15,22 +15,21 @@ use Rattle.lines.proofs.same_bytes.Reads as same-bytes-reads
 use Rattle.records.proofs.next_field.Reads as next-field-reads
 
 abbrev Inv-loop : tie.InvT-loop
-Inv-loop table name s entries₀ i₀ n₀ entries i n = (length entries ≡ length entries₀) × (n ≤ i) × Enters name s entries n i
+Inv-loop name s entries₀ i₀ n₀ entries i n = (length entries ≡ length entries₀) × (n ≤ i) × Enters name s entries n i
 
 abbrev μ-loop : tie.MeasureT-loop
-μ-loop table name s entries₀ i₀ n₀ entries i n = length s - i
+μ-loop name s entries₀ i₀ n₀ entries i n = length s - i
 
 loop-holds : tie.Need-loop-holds Inv-loop μ-loop
 loop-holds c =
     let at-args = c .before .before .before .args in
     let at-pre = c .before .before .before .pre in
-    (refl, omega arith, enters-start (at-args .name .now) (at-args .s .now) (at-args .entries .now) (at-pre .1 .0 .0) (at-pre .1 .1))
+    (refl, omega arith, enters-start (at-args .name .now) (at-args .s .now) (at-args .entries .now) (at-pre .0 .0) (at-pre .1))
 
 next-field-requires : tie.Need-next-field-requires Inv-loop μ-loop
 next-field-requires c κs =
-    let at-pre = c .before .before .before .before .pre in
     let at-loop = c .loop in
-    (at-pre .0, (at-loop .inv .2 .inside, at-loop .inv .2 .readable))
+    ((at-loop .inv .2 .inside, at-loop .inv .2 .readable))
 
 enum-known-f : tie.Need-enum-known-f Inv-loop μ-loop
 enum-known-f c = search needs
@@ -85,13 +84,13 @@ entry-requires c κs =
     let at-next-field = c .before .before .before .before .before .before .next-field in
     let at-f = c .before .before .before .before .f in
     let at-pre = c .before .before .before .before .before .before .before .before .before .before .before .pre in
-    let h = next-told (at-args .s .now) (at-loop .i) (at-next-field .result) (at-next-field .ensures) (at-f .given .1) in (omega (arith, h .value-there, at-pre .1 .0 .1), omega (arith, h .value-there))
+    let h = next-told (at-args .s .now) (at-loop .i) (at-next-field .result) (at-next-field .ensures) (at-f .given .1) in (omega (arith, h .value-there, at-pre .0 .1), omega (arith, h .value-there))
 
 mul-entries : tie.Need-mul-entries Inv-loop μ-loop
 mul-entries c =
     let at-loop = c .before .before .before .before .before .before .before .before .loop in
     let at-pre = c .before .before .before .before .before .before .before .before .before .before .before .before .pre in
-    omega (arith, at-loop .inv .1, at-loop .inv .2 .inside, at-pre .1 .0 .1)
+    omega (arith, at-loop .inv .1, at-loop .inv .2 .inside, at-pre .0 .1)
 
 slice-write-entries : tie.Need-slice-write-entries Inv-loop μ-loop
 slice-write-entries c =
@@ -107,7 +106,7 @@ add-n : tie.Need-add-n Inv-loop μ-loop
 add-n c =
     let at-loop = c .before .before .before .before .before .before .before .before .loop in
     let at-pre = c .before .before .before .before .before .before .before .before .before .before .before .before .pre in
-    omega (arith, at-loop .inv .1, at-loop .inv .2 .inside, at-pre .1 .0 .1)
+    omega (arith, at-loop .inv .1, at-loop .inv .2 .inside, at-pre .0 .1)
 
 loop-less : tie.Need-loop-less Inv-loop μ-loop
 loop-less c =
@@ -127,7 +126,7 @@ loop-again c =
     let at-same-bytes = c .before .before .same-bytes in
     let at-if1 = c .before .if1 in
     let at-pre = c .before .before .before .before .before .before .before .before .before .before .before .before .pre in
-    let h = next-told (at-args .s .now) (at-loop .i) (at-next-field .result) (at-next-field .ensures) (at-f .given .1) in let g = at-f .given .0 in (length-set (at-loop .entries) (at-loop .n) (at-entry .result) ∙ at-loop .inv .0, omega (arith, at-loop .inv .1, h .begins, h .moves), enters-more (at-args .name .now) (at-args .s .now) (at-loop .entries) (at-loop .n) (at-loop .i) (at-loop .inv .2) (g .0) (g .1 .0) (g .1 .1 .0) (g .1 .1 .1 .0) h (at-same-bytes .result) (at-same-bytes .ensures) (at-if1 .taken) (at-entry .result) (at-pre .1 .0 .1) (at-entry .ensures))
+    let h = next-told (at-args .s .now) (at-loop .i) (at-next-field .result) (at-next-field .ensures) (at-f .given .1) in let g = at-f .given .0 in (length-set (at-loop .entries) (at-loop .n) (at-entry .result) ∙ at-loop .inv .0, omega (arith, at-loop .inv .1, h .begins, h .moves), enters-more (at-args .name .now) (at-args .s .now) (at-loop .entries) (at-loop .n) (at-loop .i) (at-loop .inv .2) (g .0) (g .1 .0) (g .1 .1 .0) (g .1 .1 .1 .0) h (at-same-bytes .result) (at-same-bytes .ensures) (at-if1 .taken) (at-entry .result) (at-pre .0 .1) (at-entry .ensures))
 
 loop-less-2 : tie.Need-loop-less-2 Inv-loop μ-loop
 loop-less-2 c =

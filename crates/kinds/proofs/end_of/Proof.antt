@@ -21,7 +21,7 @@ use Rattle.typedefs.proofs.target_of.Reads as target-of-reads
 target-of-requires : tie.Need-target-of-requires
 target-of-requires c κs =
     let at-pre = c .before .before .before .before .pre in
-    (at-pre .0, (at-pre .1 .0 .1, (omega (arith, at-pre .1 .1 .0 .there), omega (arith, at-pre .1 .1 .0 .fits, at-pre .1 .1 .1))))
+    ((at-pre .0 .1, (omega (arith, at-pre .1 .0 .there), omega (arith, at-pre .1 .0 .fits, at-pre .1 .1))))
 
 same-length : tie.Need-same-length
 same-length c = search needs
@@ -33,9 +33,9 @@ returns c =
     let at-target-of = c .before .before .before .target-of in
     let at-if1 = c .if1 in
     let d = at-args .d .now in
-    let y = at-pre .1 .1 .0 in
+    let y = at-pre .1 .0 in
     let e = at-target-of .ensures in
-    record { there = y .there; fits = y .fits; ends = own-kind d (at-pre .1 .0 .0) (at-args .targets .now) (at-pre .1 .0 .2) (valueFrom (drop (at-args .value) d)) (at-target-of .result) e (y .ends) (at-if1 .taken) }
+    record { there = y .there; fits = y .fits; ends = own-kind d (at-pre .0 .0) (at-args .targets .now) (at-pre .0 .2) (valueFrom (drop (at-args .value) d)) (at-target-of .result) e (y .ends) (at-if1 .taken) }
 
 same-length-2 : tie.Need-same-length-2
 same-length-2 c = search needs
@@ -48,9 +48,9 @@ returns-2 c =
     let at-if1 = c .before .if1 in
     let at-if2 = c .if2 in
     let d = at-args .d .now in
-    let y = at-pre .1 .1 .0 in
+    let y = at-pre .1 .0 in
     let e = at-target-of .ensures in
-    absurd (not-lost d (at-pre .1 .0 .0) (at-args .targets .now) (at-pre .1 .0 .2) (valueFrom (drop (at-args .value) d)) (at-target-of .result) e (y .ends) (at-if1 .left) (at-if2 .taken))
+    absurd (not-lost d (at-pre .0 .0) (at-args .targets .now) (at-pre .0 .2) (valueFrom (drop (at-args .value) d)) (at-target-of .result) e (y .ends) (at-if1 .left) (at-if2 .taken))
 
 sub-follow : tie.Need-sub-follow
 sub-follow c = search needs
@@ -74,9 +74,9 @@ returns-3 c =
     let at-follow = c .before .follow in
     let at-match = c .match in
     let d = at-args .d .now in
-    let y = at-pre .1 .1 .0 in
+    let y = at-pre .1 .0 in
     let e = at-target-of .ensures in
-    absurd (not-open d (at-pre .1 .0 .0) (at-args .targets .now) (at-pre .1 .0 .2) (valueFrom (drop (at-args .value) d)) (at-target-of .result) e (y .ends) (at-if1 .left) (at-if2 .left) (at-follow .result) (at-follow .ensures) (at-match .keys2))
+    absurd (not-open d (at-pre .0 .0) (at-args .targets .now) (at-pre .0 .2) (valueFrom (drop (at-args .value) d)) (at-target-of .result) e (y .ends) (at-if1 .left) (at-if2 .left) (at-follow .result) (at-follow .ensures) (at-match .keys2))
 
 mul-result : tie.Need-mul-result
 mul-result c =
@@ -88,10 +88,10 @@ mul-result c =
     let at-follow = c .before .before .before .before .follow in
     let at-f = c .before .before .f in
     let d = at-args .d .now in
-    let y = at-pre .1 .1 .0 in
+    let y = at-pre .1 .0 in
     let e = at-target-of .ensures in
-    let r = end-kind d (at-pre .1 .0 .0) (at-args .targets .now) (at-pre .1 .0 .2) (valueFrom (drop (at-args .value) d)) (at-target-of .result) e (y .ends) (at-if1 .left) (at-if2 .left) (at-follow .result) (at-follow .ensures) (at-f .given .0 .0) (at-f .given .1) in
-    let h = at-pre .1 .0 .1 .values in
+    let r = end-kind d (at-pre .0 .0) (at-args .targets .now) (at-pre .0 .2) (valueFrom (drop (at-args .value) d)) (at-target-of .result) e (y .ends) (at-if1 .left) (at-if2 .left) (at-follow .result) (at-follow .ensures) (at-f .given .0 .0) (at-f .given .1) in
+    let h = at-pre .0 .1 .values in
     omega (arith, r .0, h .count, h .few)
 
 array-read-result : tie.Need-array-read-result
@@ -104,10 +104,10 @@ array-read-result c =
     let at-follow = c .before .before .before .before .follow in
     let at-f = c .before .before .f in
     let d = at-args .d .now in
-    let y = at-pre .1 .1 .0 in
+    let y = at-pre .1 .0 in
     let e = at-target-of .ensures in
-    let r = end-kind d (at-pre .1 .0 .0) (at-args .targets .now) (at-pre .1 .0 .2) (valueFrom (drop (at-args .value) d)) (at-target-of .result) e (y .ends) (at-if1 .left) (at-if2 .left) (at-follow .result) (at-follow .ensures) (at-f .given .0 .0) (at-f .given .1) in
-    let h = at-pre .1 .0 .1 .values in
+    let r = end-kind d (at-pre .0 .0) (at-args .targets .now) (at-pre .0 .2) (valueFrom (drop (at-args .value) d)) (at-target-of .result) e (y .ends) (at-if1 .left) (at-if2 .left) (at-follow .result) (at-follow .ensures) (at-f .given .0 .0) (at-f .given .1) in
+    let h = at-pre .0 .1 .values in
     omega (arith, r .0, h .count, h .few, h .long)
 
 same-length-4 : tie.Need-same-length-4
@@ -123,14 +123,14 @@ returns-4 c =
     let at-follow = c .before .before .before .before .follow in
     let at-f = c .before .before .f in
     let d = at-args .d .now in
-    let y = at-pre .1 .1 .0 in
+    let y = at-pre .1 .0 in
     let e = at-target-of .ensures in
-    let r = end-kind d (at-pre .1 .0 .0) (at-args .targets .now) (at-pre .1 .0 .2) (valueFrom (drop (at-args .value) d)) (at-target-of .result) e (y .ends) (at-if1 .left) (at-if2 .left) (at-follow .result) (at-follow .ensures) (at-f .given .0 .0) (at-f .given .1) in
-    let h = at-pre .1 .0 .1 .values in
+    let r = end-kind d (at-pre .0 .0) (at-args .targets .now) (at-pre .0 .2) (valueFrom (drop (at-args .value) d)) (at-target-of .result) e (y .ends) (at-if1 .left) (at-if2 .left) (at-follow .result) (at-follow .ensures) (at-f .given .0 .0) (at-f .given .1) in
+    let h = at-pre .0 .1 .values in
     let p = h .places (at-f .given .0 .0) (omega (arith, r .0, h .count)) in
     record {
       there = p .0;
-      fits = omega (arith, ap length (p .1), fits-at d (at-pre .1 .0 .0) (text "%typedef") (at-f .given .0 .0));
+      fits = omega (arith, ap length (p .1), fits-at d (at-pre .0 .0) (text "%typedef") (at-f .given .0 .0));
       ends = r .1 ∙ ap (λ (x : Bytes). kindOnly (typeOf intBounds (afterWord x))) (sym (p .1));
     }
 

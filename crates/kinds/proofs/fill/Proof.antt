@@ -19,25 +19,24 @@ use Rattle.kinds.proofs.type_at.Reads as type-at-reads
 use Rattle.typedefs.proofs.next_value.Reads as next-value-reads
 
 abbrev Inv-loop : tie.InvT-loop
-Inv-loop table d names targets scratch₀ rows₀ texts₀ i₀ count₀ t15 scratch rows texts i count = Behind d count i × (count ≤ length (valuesFrom d (text "%type") 0)) × (length scratch ≡ length scratch₀) × (length rows ≡ 32) × (length texts ≡ 32) × Filled d rows texts count
+Inv-loop d names targets scratch₀ rows₀ texts₀ i₀ count₀ t15 scratch rows texts i count = Behind d count i × (count ≤ length (valuesFrom d (text "%type") 0)) × (length scratch ≡ length scratch₀) × (length rows ≡ 32) × (length texts ≡ 32) × Filled d rows texts count
 
 abbrev μ-loop : tie.MeasureT-loop
-μ-loop table d names targets scratch₀ rows₀ texts₀ i₀ count₀ t15 scratch rows texts i count = length d - i
+μ-loop d names targets scratch₀ rows₀ texts₀ i₀ count₀ t15 scratch rows texts i count = length d - i
 
 loop-holds : tie.Need-loop-holds Inv-loop μ-loop
 loop-holds c =
     let at-args = c .before .before .before .args in
     let at-pre = c .before .before .before .pre in
-    (behind-start (at-args .d .now) (at-pre .1 .0 .0 .reads), omega arith, refl, refl, refl, λ k l. absurd (omega arith))
+    (behind-start (at-args .d .now) (at-pre .0 .0 .reads), omega arith, refl, refl, refl, λ k l. absurd (omega arith))
 
 slice-aggregate-next-value : tie.Need-slice-aggregate-next-value Inv-loop μ-loop
 slice-aggregate-next-value c = search needs
 
 next-value-requires : tie.Need-next-value-requires Inv-loop μ-loop
 next-value-requires c κs =
-    let at-pre = c .before .before .before .before .before .pre in
     let at-loop = c .before .loop in
-    (at-pre .0, (at-loop .inv .0 .inside, at-loop .inv .0 .readable))
+    ((at-loop .inv .0 .inside, at-loop .inv .0 .readable))
 
 enum-known-v : tie.Need-enum-known-v Inv-loop μ-loop
 enum-known-v c = search needs
@@ -60,7 +59,7 @@ returns c =
     let d = at-args .d .now in
     let e = value-told d (text "%type") (at-loop .i) (at-next-value .result) (at-next-value .ensures) (at-enum-told .given .1) in
     let n = row-none d (at-loop .count) (at-loop .i) (at-loop .inv .0) e in
-    let few = rows-few d (at-pre .1 .0 .0) in
+    let few = rows-few d (at-pre .0 .0) in
     record { few = omega (arith, at-loop .inv .1); count = omega (arith, at-loop .inv .1); rows-long = at-loop .inv .3; texts-long = at-loop .inv .4; row = at-loop .inv .5 }
 
 end-of-requires : tie.Need-end-of-requires Inv-loop μ-loop
@@ -72,7 +71,7 @@ end-of-requires c κs =
     let at-pre = c .before .before .before .before .before .before .before .before .before .before .pre in
     let d = at-args .d .now in
     let h = value-told d (text "%type") (at-loop .i) (at-next-value .result) (at-next-value .ensures) (at-v .given .1) in
-    (at-pre .0, (at-pre .1 .0, (type-here d (at-pre .1 .0 .0) (at-loop .count) (at-loop .i) _ _ (at-loop .inv .0) h, omega (arith, at-loop .inv .2, at-pre .1 .1))))
+    ((at-pre .0, (type-here d (at-pre .0 .0) (at-loop .count) (at-loop .i) _ _ (at-loop .inv .0) h, omega (arith, at-loop .inv .2, at-pre .1))))
 
 type-at-requires : tie.Need-type-at-requires Inv-loop μ-loop
 type-at-requires c κs =
@@ -86,7 +85,7 @@ type-at-requires c κs =
     let d = at-args .d .now in
     let h = value-told d (text "%type") (at-loop .i) (at-next-value .result) (at-next-value .ensures) (at-v .given .1) in
     let a = at-end-of .ensures in
-    (at-pre .0, ((omega (arith, a .there), omega (arith, a .fits, at-scratch .given, at-loop .inv .2, at-pre .1 .1)), end-typed d (at-pre .1 .0 .0) (at-loop .count) (at-loop .i) _ _ (at-loop .inv .0) h (at-end-of .result) a))
+    (((omega (arith, a .there), omega (arith, a .fits, at-scratch .given, at-loop .inv .2, at-pre .1)), end-typed d (at-pre .0 .0) (at-loop .count) (at-loop .i) _ _ (at-loop .inv .0) h (at-end-of .result) a))
 
 mul-rows : tie.Need-mul-rows Inv-loop μ-loop
 mul-rows c =
@@ -97,7 +96,7 @@ mul-rows c =
     let at-pre = c .before .before .before .before .before .before .before .before .before .before .before .before .before .before .before .before .before .pre in
     let d = at-args .d .now in
     let h = value-told d (text "%type") (at-loop .i) (at-next-value .result) (at-next-value .ensures) (at-v .given .1) in
-    omega (arith, row-inside d (at-loop .count) (at-loop .i) _ _ (at-loop .inv .0) h, rows-few d (at-pre .1 .0 .0))
+    omega (arith, row-inside d (at-loop .count) (at-loop .i) _ _ (at-loop .inv .0) h, rows-few d (at-pre .0 .0))
 
 array-set-from-rows : tie.Need-array-set-from-rows Inv-loop μ-loop
 array-set-from-rows c =
@@ -108,7 +107,7 @@ array-set-from-rows c =
     let at-pre = c .before .before .before .before .before .before .before .before .before .before .before .before .before .before .before .before .before .pre in
     let d = at-args .d .now in
     let h = value-told d (text "%type") (at-loop .i) (at-next-value .result) (at-next-value .ensures) (at-v .given .1) in
-    omega (arith, row-inside d (at-loop .count) (at-loop .i) _ _ (at-loop .inv .0) h, rows-few d (at-pre .1 .0 .0))
+    omega (arith, row-inside d (at-loop .count) (at-loop .i) _ _ (at-loop .inv .0) h, rows-few d (at-pre .0 .0))
 
 text-of-requires : tie.Need-text-of-requires Inv-loop μ-loop
 text-of-requires c κs = search needs
@@ -122,7 +121,7 @@ mul-texts c =
     let at-pre = c .before .before .before .before .before .before .before .before .before .before .before .before .before .before .before .before .before .before .pre in
     let d = at-args .d .now in
     let h = value-told d (text "%type") (at-loop .i) (at-next-value .result) (at-next-value .ensures) (at-v .given .1) in
-    omega (arith, row-inside d (at-loop .count) (at-loop .i) _ _ (at-loop .inv .0) h, rows-few d (at-pre .1 .0 .0))
+    omega (arith, row-inside d (at-loop .count) (at-loop .i) _ _ (at-loop .inv .0) h, rows-few d (at-pre .0 .0))
 
 array-write-texts : tie.Need-array-write-texts Inv-loop μ-loop
 array-write-texts c =
@@ -133,7 +132,7 @@ array-write-texts c =
     let at-pre = c .before .before .before .before .before .before .before .before .before .before .before .before .before .before .before .before .before .before .pre in
     let d = at-args .d .now in
     let h = value-told d (text "%type") (at-loop .i) (at-next-value .result) (at-next-value .ensures) (at-v .given .1) in
-    omega (arith, row-inside d (at-loop .count) (at-loop .i) _ _ (at-loop .inv .0) h, rows-few d (at-pre .1 .0 .0))
+    omega (arith, row-inside d (at-loop .count) (at-loop .i) _ _ (at-loop .inv .0) h, rows-few d (at-pre .0 .0))
 
 add-count : tie.Need-add-count Inv-loop μ-loop
 add-count c =
@@ -144,7 +143,7 @@ add-count c =
     let at-pre = c .before .before .before .before .before .before .before .before .before .before .before .before .before .before .before .before .before .before .pre in
     let d = at-args .d .now in
     let h = value-told d (text "%type") (at-loop .i) (at-next-value .result) (at-next-value .ensures) (at-v .given .1) in
-    omega (arith, row-inside d (at-loop .count) (at-loop .i) _ _ (at-loop .inv .0) h, rows-few d (at-pre .1 .0 .0))
+    omega (arith, row-inside d (at-loop .count) (at-loop .i) _ _ (at-loop .inv .0) h, rows-few d (at-pre .0 .0))
 
 loop-less : tie.Need-loop-less Inv-loop μ-loop
 loop-less c =
@@ -171,8 +170,8 @@ loop-again c =
     let h = value-told d (text "%type") (at-loop .i) (at-next-value .result) (at-next-value .ensures) (at-v .given .1) in
     let b = at-loop .inv .0 in
     let l = row-inside d (at-loop .count) (at-loop .i) _ _ b h in
-    let few = rows-few d (at-pre .1 .0 .0) in
-    let k = row-kind d (at-pre .1 .0 .0) (at-loop .count) (at-loop .i) _ _ b h (at-end-of .result) (at-end-of .ensures) (at-type-at .result) (at-text-of .result) (at-type-at .ensures) (at-text-of .ensures) in
+    let few = rows-few d (at-pre .0 .0) in
+    let k = row-kind d (at-pre .0 .0) (at-loop .count) (at-loop .i) _ _ b h (at-end-of .result) (at-end-of .ensures) (at-type-at .result) (at-text-of .result) (at-type-at .ensures) (at-text-of .ensures) in
     (behind-more d (at-loop .count) (at-loop .i) _ _ b h, omega (arith, l), omega (arith, at-scratch .given, at-scratch2 .given, at-loop .inv .2), simp length-set (at-loop .inv .3), simp length-set (at-loop .inv .4), filled-more d (at-loop .rows) (at-loop .texts) (at-loop .count) (record { kind = at-type-at .result }) (at-text-of .result) (omega (arith, l, at-loop .inv .3)) (omega (arith, l, at-loop .inv .4)) k (at-loop .inv .5))
 
 pub fill-spec : {M : Type 1} → statement M

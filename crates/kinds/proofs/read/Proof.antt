@@ -17,14 +17,14 @@ read-names-requires : tie.Need-read-names-requires
 read-names-requires c κs =
     let at-pre = c .before .before .pre in
     let at-args = c .before .before .args in
-    (at-pre .0, ((at-pre .1 .0 .reads, at-pre .1 .0 .short), (typedefs-few (at-args .d .now) (at-pre .1 .0), typedefs-named (at-args .d .now) (at-pre .1 .0))))
+    (((at-pre .0 .reads, at-pre .0 .short), (typedefs-few (at-args .d .now) (at-pre .0), typedefs-named (at-args .d .now) (at-pre .0))))
 
 read-targets-requires : tie.Need-read-targets-requires
 read-targets-requires c κs =
     let at-pre = c .before .before .before .before .pre in
     let at-read-names = c .before .read-names in
     let at-args = c .before .before .before .before .args in
-    (at-pre .0, (at-read-names .ensures, typedefs-fit (at-args .d .now) (at-pre .1 .0) (length (at-args .scratch .now)) (at-pre .1 .1)))
+    ((at-read-names .ensures, typedefs-fit (at-args .d .now) (at-pre .0) (length (at-args .scratch .now)) (at-pre .1)))
 
 array-share-prefix-rows : tie.Need-array-share-prefix-rows
 array-share-prefix-rows c =
@@ -42,7 +42,7 @@ fill-requires c κs =
     let at-read-names = c .before .before .before .before .before .before .before .read-names in
     let at-read-targets = c .before .before .before .before .before .read-targets in
     let at-scratch = c .before .before .before .before .scratch in
-    (at-pre .0, ((at-pre .1 .0, at-read-names .ensures, at-read-targets .ensures .2), omega (arith, at-scratch .given, at-pre .1 .1)))
+    (((at-pre .0, at-read-names .ensures, at-read-targets .ensures .2), omega (arith, at-scratch .given, at-pre .1)))
 
 same-length : tie.Need-same-length
 same-length c = search needs

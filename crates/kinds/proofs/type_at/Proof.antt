@@ -36,14 +36,14 @@ copy-value-requires : tie.Need-copy-value-requires
 copy-value-requires c κs =
     let at-args = c .before .before .before .before .args in
     let at-pre = c .before .before .before .before .pre in
-    subst (λ (x : Bytes). length (valueFrom x) ≤ length (at-args .scratch .now)) (sym (rest (at-args .d .now) (at-args .value))) (at-pre .1 .0 .1)
+    subst (λ (x : Bytes). length (valueFrom x) ≤ length (at-args .scratch .now)) (sym (rest (at-args .d .now) (at-args .value))) (at-pre .0 .1)
 
 slice-reshare-prefix-behind-word : tie.Need-slice-reshare-prefix-behind-word
 slice-reshare-prefix-behind-word c =
     let at-args = c .before .before .before .before .before .before .before .args in
     let at-copy-value = c .before .before .copy-value in
     let at-pre = c .before .before .before .before .before .before .before .pre in
-    decoded-inside (valueFrom (span (at-args .value) (length (at-args .d .now)) (at-args .d .now))) (at-args .scratch .now) _ (at-copy-value .result) (at-copy-value .ensures .0) (at-copy-value .ensures .1) (subst (λ (x : Bytes). length (valueFrom x) ≤ length (at-args .scratch .now)) (sym (rest (at-args .d .now) (at-args .value))) (at-pre .1 .0 .1))
+    decoded-inside (valueFrom (span (at-args .value) (length (at-args .d .now)) (at-args .d .now))) (at-args .scratch .now) _ (at-copy-value .result) (at-copy-value .ensures .0) (at-copy-value .ensures .1) (subst (λ (x : Bytes). length (valueFrom x) ≤ length (at-args .scratch .now)) (sym (rest (at-args .d .now) (at-args .value))) (at-pre .0 .1))
 
 slice-aggregate-behind-word : tie.Need-slice-aggregate-behind-word
 slice-aggregate-behind-word c =
@@ -75,12 +75,10 @@ part-type-of-end c =
     let at-args = c .before .before .before .before .before .before .before .before .before .before .args in
     let at-copy-value = c .before .before .before .before .before .copy-value in
     let at-pre = c .before .before .before .before .before .before .before .before .before .before .pre in
-    decoded-inside (valueFrom (span (at-args .value) (length (at-args .d .now)) (at-args .d .now))) (at-args .scratch .now) _ (at-copy-value .result) (at-copy-value .ensures .0) (at-copy-value .ensures .1) (subst (λ (x : Bytes). length (valueFrom x) ≤ length (at-args .scratch .now)) (sym (rest (at-args .d .now) (at-args .value))) (at-pre .1 .0 .1))
+    decoded-inside (valueFrom (span (at-args .value) (length (at-args .d .now)) (at-args .d .now))) (at-args .scratch .now) _ (at-copy-value .result) (at-copy-value .ensures .0) (at-copy-value .ensures .1) (subst (λ (x : Bytes). length (valueFrom x) ≤ length (at-args .scratch .now)) (sym (rest (at-args .d .now) (at-args .value))) (at-pre .0 .1))
 
 type-of-requires : tie.Need-type-of-requires
-type-of-requires c κs =
-    let at-pre = c .before .before .before .before .before .before .before .before .before .before .before .pre in
-    at-pre .0
+type-of-requires c κs = search needs
 
 enum-known-t : tie.Need-enum-known-t
 enum-known-t c = search needs
@@ -104,7 +102,7 @@ returns c =
     let g = decoded-after w (at-args .scratch .now) _ (at-copy-value .result) (at-copy-value .ensures .0) (at-copy-value .ensures .1) (at-behind-word .result) (omega (arith, l, at-behind-word .ensures .0)) (at-behind-word .ensures .1) ∙ ap (λ (x : Bytes). afterWord (valueFrom x)) (rest (at-args .d .now) (at-args .value)) in
     let h = subst (λ (u : Bytes). Told u (typeOf intBounds u) (at-type-of .result)) g (at-type-of .ensures) in
     let u = afterWord (valueFrom (drop (at-args .value) (at-args .d .now))) in
-    absurd (not-refused u (typeOf intBounds u) (at-type-of .result) h (at-pre .1 .1) (at-enum-told .given .1))
+    absurd (not-refused u (typeOf intBounds u) (at-type-of .result) h (at-pre .1) (at-enum-told .given .1))
 
 same-length-2 : tie.Need-same-length-2
 same-length-2 c = search needs

@@ -20,7 +20,7 @@ use Rattle.readings.proofs.int_in.Reads as int-in-reads
 copy-value-requires : tie.Need-copy-value-requires
 copy-value-requires c κs =
     let at-pre = c .before .before .before .before .before .pre in
-    at-pre .1 .1 .1
+    at-pre .1 .1
 
 slice-reshare-prefix-int-in : tie.Need-slice-reshare-prefix-int-in
 slice-reshare-prefix-int-in c = search needs
@@ -49,7 +49,7 @@ slice-aggregate-texts-with-2 c =
 texts-with-requires : tie.Need-texts-with-requires
 texts-with-requires c κs =
     let at-pre = c .before .before .before .before .before .before .before .before .before .before .before .before .before .pre in
-    at-pre .1 .1 .0
+    at-pre .1 .0
 
 slice-reshare-prefix-rows-met : tie.Need-slice-reshare-prefix-rows-met
 slice-reshare-prefix-rows-met c = search needs
@@ -65,9 +65,9 @@ rows-met-requires c κs =
     let at-pre = c .before .before .before .before .before .before .before .before .before .before .before .before .before .before .before .pre in
     let at-int-in = c .before .before .before .before .before .int-in in
     let at-texts-with = c .before .texts-with in
-    let y = at-pre .1 .1 .0 in
-    let z = at-pre .1 .0 in
-    (at-pre .0, ((omega (arith, y .begins), omega (arith, y .begins, y .within, z .1, z .0 .few), z .0 .rows-long, z .0 .texts-long), (at-int-in .ensures, at-texts-with .ensures .leads)))
+    let y = at-pre .1 .0 in
+    let z = at-pre .0 in
+    (((omega (arith, y .begins), omega (arith, y .begins, y .within, z .1, z .0 .few), z .0 .rows-long, z .0 .texts-long), (at-int-in .ensures, at-texts-with .ensures .leads)))
 
 same-length : tie.Need-same-length
 same-length c = search needs
@@ -79,8 +79,8 @@ returns c =
     let at-args = c .before .before .before .before .before .before .before .before .before .before .before .before .before .before .before .before .args in
     let at-texts-with = c .before .before .texts-with in
     let at-copy-value = c .before .before .before .before .before .before .before .before .before .before .copy-value in
-    let y = at-pre .1 .1 .0 in
-    let z = at-pre .1 .0 in
+    let y = at-pre .1 .0 in
+    let z = at-pre .0 in
     at-rows-met .ensures
     ∙ all-asked (at-args .d .now) (at-args .kinds) (z .0) (at-args .from) (at-args .enums .next) (at-texts-with .result) (at-args .tags) _ (omega (arith, y .within, z .1)) (at-texts-with .ensures) (y .begins)
     ∙ ap (rowsMet (at-args .d .now) (at-args .tags) (at-args .from) (at-args .enums .next - at-args .from)) (decoded-all (valueFrom (at-args .s .now)) (at-args .scratch .now) _ (at-copy-value .result) (at-copy-value .ensures .0) (at-copy-value .ensures .1))

@@ -12,6 +12,10 @@ use Rattle.limits.proofs.bounds_of.Reads as reads
 use Rattle.limits.proofs.bounds_of.Lts as lts
 use Rattle.limits.proofs.rules_held.Reads as rules-held-reads
 use Rattle.limits.proofs.walk_pieces.Reads as walk-pieces-reads
+use Rattle.format.proofs.classes.Reads as classes-reads
+
+classes-requires : tie.Need-classes-requires
+classes-requires c κs = search needs
 
 walk-pieces-requires : tie.Need-walk-pieces-requires
 walk-pieces-requires c κs = search needs
@@ -30,7 +34,7 @@ same-length-3 c = search needs
 
 returns : tie.Need-returns
 returns c =
-    let at-args = c .before .before .before .before .before .before .before .before .before .before .before .before .before .before .before .before .args in
+    let at-args = c .before .before .before .before .before .before .before .before .before .before .before .before .before .before .before .before .before .before .args in
     let at-walk-pieces = c .before .before .before .before .before .before .before .before .walk-pieces in
     let at-enum-told = c .enum-told in
     let rs = records (readOf (at-args .s .now)) in let t = subst (Scanned (at-args .s .now) (at-walk-pieces .last .1 .1 .0) (at-walk-pieces .last .1 .1 .1 .0) (at-walk-pieces .last .1 .1 .1 .1 .0)) (at-enum-told .given .1) (at-walk-pieces .ensures) in t
@@ -49,7 +53,7 @@ same-length-6 c = search needs
 
 returns-2 : tie.Need-returns-2
 returns-2 c =
-    let at-args = c .before .before .before .before .before .before .before .before .before .before .before .before .before .before .before .before .args in
+    let at-args = c .before .before .before .before .before .before .before .before .before .before .before .before .before .before .before .before .before .before .args in
     let at-walk-pieces = c .before .before .before .before .before .before .before .before .walk-pieces in
     let at-enum-told2 = c .enum-told2 in
     let rs = records (readOf (at-args .s .now)) in let t = subst (Scanned (at-args .s .now) (at-walk-pieces .last .1 .1 .0) (at-walk-pieces .last .1 .1 .1 .0) (at-walk-pieces .last .1 .1 .1 .1 .0)) (at-enum-told2 .given .1) (at-walk-pieces .ensures) in (t .0, past-told rs (t .1))
@@ -68,7 +72,7 @@ same-length-9 c = search needs
 
 returns-3 : tie.Need-returns-3
 returns-3 c =
-    let at-args = c .before .before .before .before .before .before .before .before .before .before .before .before .before .before .before .before .before .before .args in
+    let at-args = c .before .before .before .before .before .before .before .before .before .before .before .before .before .before .before .before .before .before .before .before .args in
     let at-walk-pieces = c .before .before .before .before .before .before .before .before .before .before .walk-pieces in
     let at-r = c .before .before .r in
     let at-if1 = c .if1 in
@@ -76,12 +80,12 @@ returns-3 c =
 
 rules-held-requires : tie.Need-rules-held-requires
 rules-held-requires c κs =
-    let at-args = c .before .before .before .before .before .before .before .before .before .before .before .before .before .before .before .before .before .before .before .before .args in
+    let at-args = c .before .before .before .before .before .before .before .before .before .before .before .before .before .before .before .before .before .before .before .before .before .before .args in
     let at-walk-pieces = c .before .before .before .before .before .before .before .before .before .before .before .before .walk-pieces in
     let at-r = c .before .before .before .before .r in
-    let at-pre = c .before .before .before .before .before .before .before .before .before .before .before .before .before .before .before .before .before .before .before .before .pre in
+    let at-pre = c .before .before .before .before .before .before .before .before .before .before .before .before .before .before .before .before .before .before .before .before .before .before .pre in
     let at-if1 = c .before .before .if1 in
-    let rs = records (readOf (at-args .s .now)) in let t = subst (Scanned (at-args .s .now) (at-walk-pieces .last .1 .1 .0) (at-walk-pieces .last .1 .1 .1 .0) (at-walk-pieces .last .1 .1 .1 .1 .0)) (at-r .given .1) (at-walk-pieces .ensures) in (at-pre .0, (at-pre .1 .0 .1, (at-walk-pieces .last .1 .1 .1 .1 .0, t .4 (at-if1 .left))))
+    let rs = records (readOf (at-args .s .now)) in let t = subst (Scanned (at-args .s .now) (at-walk-pieces .last .1 .1 .0) (at-walk-pieces .last .1 .1 .1 .0) (at-walk-pieces .last .1 .1 .1 .1 .0)) (at-r .given .1) (at-walk-pieces .ensures) in ((at-pre .0 .1, (at-walk-pieces .last .1 .1 .1 .1 .0, t .4 (at-if1 .left))))
 
 same-length-10 : tie.Need-same-length-10
 same-length-10 c = search needs
@@ -94,7 +98,7 @@ same-length-12 c = search needs
 
 returns-4 : tie.Need-returns-4
 returns-4 c =
-    let at-args = c .before .before .before .before .before .before .before .before .before .before .before .before .before .before .before .before .before .before .before .before .before .before .args in
+    let at-args = c .before .before .before .before .before .before .before .before .before .before .before .before .before .before .before .before .before .before .before .before .before .before .before .before .args in
     let at-walk-pieces = c .before .before .before .before .before .before .before .before .before .before .before .before .before .before .walk-pieces in
     let at-r = c .before .before .before .before .before .before .r in
     let at-rules-held = c .before .rules-held in
@@ -112,7 +116,7 @@ same-length-15 c = search needs
 
 returns-5 : tie.Need-returns-5
 returns-5 c =
-    let at-args = c .before .before .before .before .before .before .before .before .before .before .before .before .before .before .before .before .before .before .before .before .before .before .before .args in
+    let at-args = c .before .before .before .before .before .before .before .before .before .before .before .before .before .before .before .before .before .before .before .before .before .before .before .before .before .args in
     let at-walk-pieces = c .before .before .before .before .before .before .before .before .before .before .before .before .before .before .before .walk-pieces in
     let at-r = c .before .before .before .before .before .before .before .r in
     let at-rules-held = c .before .before .rules-held in
@@ -132,7 +136,7 @@ same-length-18 c = search needs
 
 returns-6 : tie.Need-returns-6
 returns-6 c =
-    let at-args = c .before .before .before .before .before .before .before .before .before .before .before .before .before .before .before .before .before .before .before .before .before .before .before .args in
+    let at-args = c .before .before .before .before .before .before .before .before .before .before .before .before .before .before .before .before .before .before .before .before .before .before .before .before .before .args in
     let at-walk-pieces = c .before .before .before .before .before .before .before .before .before .before .before .before .before .before .before .walk-pieces in
     let at-r = c .before .before .before .before .before .before .before .r in
     let at-rules-held = c .before .before .rules-held in
@@ -145,6 +149,7 @@ pub bounds-of-spec : {M : Type 1} → statement M
 bounds-of-spec =
     tie.close
     (tie.spec
+    classes-requires
     walk-pieces-requires
     enum-told
     same-length

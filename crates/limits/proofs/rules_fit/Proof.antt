@@ -25,10 +25,10 @@ use Rattle.limits.proofs.counted.Reads as counted-reads
 use Rattle.records.proofs.next_field.Reads as next-field-reads
 
 abbrev Inv-loop : tie.InvT-loop
-Inv-loop table d i₀ c₀ i c = (i ≤ length d) × (isReadable (drop i d) ≡ true) × (total c ≤ 2 * i) × (countFrom noCounts (fieldsOf (readOf d)) ≡ countFrom c (fieldsFrom d i))
+Inv-loop d i₀ c₀ i c = (i ≤ length d) × (isReadable (drop i d) ≡ true) × (total c ≤ 2 * i) × (countFrom noCounts (fieldsOf (readOf d)) ≡ countFrom c (fieldsFrom d i))
 
 abbrev μ-loop : tie.MeasureT-loop
-μ-loop table d i₀ c₀ i c = length d - i
+μ-loop d i₀ c₀ i c = length d - i
 
 new-requires : tie.Need-new-requires Inv-loop μ-loop
 new-requires c κs = search needs
@@ -39,13 +39,12 @@ loop-holds c =
     let at-pre = c .before .before .pre in
     let at-args = c .before .before .args in
     let e = at-new .ensures in
-    (omega arith, at-pre .1 .0, omega (arith, e .0, e .1, e .2, e .3, e .4, e .5), ap (λ (x : Descriptor). countFrom x (fieldsOf (readOf (at-args .d .now)))) (counts-path noCounts (at-new .result) (sym (e .0)) (sym (e .1)) (sym (e .2)) (sym (e .3)) (sym (e .4)) (sym (e .5))))
+    (omega arith, at-pre .0, omega (arith, e .0, e .1, e .2, e .3, e .4, e .5), ap (λ (x : Descriptor). countFrom x (fieldsOf (readOf (at-args .d .now)))) (counts-path noCounts (at-new .result) (sym (e .0)) (sym (e .1)) (sym (e .2)) (sym (e .3)) (sym (e .4)) (sym (e .5))))
 
 next-field-requires : tie.Need-next-field-requires Inv-loop μ-loop
 next-field-requires c κs =
-    let at-pre = c .before .before .before .pre in
     let at-loop = c .loop in
-    (at-pre .0, (at-loop .inv .0, at-loop .inv .1))
+    ((at-loop .inv .0, at-loop .inv .1))
 
 enum-known-n : tie.Need-enum-known-n Inv-loop μ-loop
 enum-known-n c = search needs
@@ -128,7 +127,7 @@ counted-requires c κs =
     let at-pre = c .before .before .before .before .before .before .before .before .before .pre in
     let g = at-n .given in
     let f = next-told (at-args .d .now) (at-loop .i) (at-next-field .result) (at-next-field .ensures) (at-n .given .1) in
-    (omega (arith, at-loop .inv .0, at-loop .inv .2, at-pre .1 .1), omega (arith, span-length (at-args .d .now) (g .0 .1 .1 .0) (g .0 .1 .1 .1 .0) (f .value-inside) (f .inside), f .inside, at-pre .1 .1))
+    (omega (arith, at-loop .inv .0, at-loop .inv .2, at-pre .1), omega (arith, span-length (at-args .d .now) (g .0 .1 .1 .0) (g .0 .1 .1 .1 .0) (f .value-inside) (f .inside), f .inside, at-pre .1))
 
 loop-less : tie.Need-loop-less Inv-loop μ-loop
 loop-less c =

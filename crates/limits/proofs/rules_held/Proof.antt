@@ -21,15 +21,15 @@ use Rattle.limits.proofs.rules_held.Lts as lts
 use Rattle.limits.proofs.rules_fit.Reads as rules-fit-reads
 
 abbrev Inv-loop : tie.InvT-loop
-Inv-loop table s starts ends count k₀ k = (h : HeadParts s starts ends count) × (k ≤ count) × (all fitsRules (heads (records (readOf s))) ≡ all fitsRules (heads (recordsFrom s (rowFrom (h .0) k))))
+Inv-loop s starts ends count k₀ k = (h : HeadParts s starts ends count) × (k ≤ count) × (all fitsRules (heads (records (readOf s))) ≡ all fitsRules (heads (recordsFrom s (rowFrom (h .0) k))))
 
 abbrev μ-loop : tie.MeasureT-loop
-μ-loop table s starts ends count k₀ k = count - k
+μ-loop s starts ends count k₀ k = count - k
 
 loop-holds : tie.Need-loop-holds Inv-loop μ-loop
 loop-holds c =
     let at-pre = c .before .before .before .pre in
-    (at-pre .1 .1, omega arith, refl)
+    (at-pre .1, omega arith, refl)
 
 mul-a : tie.Need-mul-a Inv-loop μ-loop
 mul-a c = search needs
@@ -73,7 +73,7 @@ rules-fit-requires c κs =
     let at-loop-test = c .before .before .before .loop-test in
     let at-pre = c .before .before .before .before .before .before .before .before .pre in
     let at-args = c .before .before .before .before .before .before .before .before .args in
-    let r = at-loop .inv .0 .1 .row (at-loop .k) (at-loop-test .taken) in (at-pre .0, (r .own, omega (arith, span-length (at-args .s .now) (getD (at-args .starts .now) (at-loop .k) 0) (getD (at-args .ends .now) (at-loop .k) 0) (omega (arith, r .filled)) (omega (arith, r .within, r .inside)), r .within, r .inside, at-pre .1 .0)))
+    let r = at-loop .inv .0 .1 .row (at-loop .k) (at-loop-test .taken) in ((r .own, omega (arith, span-length (at-args .s .now) (getD (at-args .starts .now) (at-loop .k) 0) (getD (at-args .ends .now) (at-loop .k) 0) (omega (arith, r .filled)) (omega (arith, r .within, r .inside)), r .within, r .inside, at-pre .0)))
 
 returns : tie.Need-returns Inv-loop μ-loop
 returns c =

@@ -175,9 +175,7 @@ part-past-end : tie.Need-part-past-end Inv-loop μ-loop
 part-past-end c = search needs
 
 past-requires : tie.Need-past-requires Inv-loop μ-loop
-past-requires c κs =
-    let at-pre = c .before .before .before .before .before .before .before .before .before .before .before .before .before .before .before .pre in
-    at-pre .0
+past-requires c κs = search needs
 
 same-length : tie.Need-same-length Inv-loop μ-loop
 same-length c =

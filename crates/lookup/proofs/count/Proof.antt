@@ -13,7 +13,6 @@ use Rattle.lookup.proofs.count.Statement.{statement}
 use Rattle.lookup.proofs.count.Tie as tie
 use Rattle.lookup.proofs.count.Reads as reads
 use Rattle.lookup.proofs.count.Lts as lts
-use Rattle.format.proofs.classes.Reads as classes-reads
 use Rattle.integrity.proofs.check.Reads as check-reads
 use Rattle.lookup.proofs.inside.count_in.Reads as count-in-reads
 
@@ -27,9 +26,6 @@ returns c =
     let at-if1 = c .if1 in
     count-refused (at-args .buf .now) (at-args .used) (at-check .result) (at-check .ensures) (at-if1 .taken) (at-args .set .now)
 
-classes-requires : tie.Need-classes-requires
-classes-requires c κs = search needs
-
 sub-count-in : tie.Need-sub-count-in
 sub-count-in c = search needs
 
@@ -38,25 +34,24 @@ part-count-in-start c = search needs
 
 part-count-in-end : tie.Need-part-count-in-end
 part-count-in-end c =
-    let at-args = c .before .before .before .before .before .before .args in
-    let at-if1 = c .before .before .if1 in
-    let at-check = c .before .before .before .check in
+    let at-args = c .before .before .before .before .args in
+    let at-if1 = c .if1 in
+    let at-check = c .before .check in
     omega (arith, used-fits (at-args .buf .now) (at-args .used) (sym (at-if1 .left) ∙ at-check .ensures))
 
 count-in-requires : tie.Need-count-in-requires
 count-in-requires c κs =
-    let at-args = c .before .before .before .before .before .before .before .args in
-    let at-classes = c .before .before .classes in
-    let at-if1 = c .before .before .before .if1 in
-    let at-check = c .before .before .before .before .check in
-    let t : take (at-args .used - 0) (at-args .buf .now) ≡ take (at-args .used) (at-args .buf .now) = ap (λ (n : ℕ). take n (at-args .buf .now)) (let e : at-args .used - 0 ≡ at-args .used = omega arith in e) in (at-classes .ensures, subst (λ (x : Bytes). isReadable x ≡ true) (sym t) (used-readable (at-args .buf .now) (at-args .used) (sym (at-if1 .left) ∙ at-check .ensures)))
+    let at-args = c .before .before .before .before .before .args in
+    let at-if1 = c .before .if1 in
+    let at-check = c .before .before .check in
+    let t : take (at-args .used - 0) (at-args .buf .now) ≡ take (at-args .used) (at-args .buf .now) = ap (λ (n : ℕ). take n (at-args .buf .now)) (let e : at-args .used - 0 ≡ at-args .used = omega arith in e) in (subst (λ (x : Bytes). isReadable x ≡ true) (sym t) (used-readable (at-args .buf .now) (at-args .used) (sym (at-if1 .left) ∙ at-check .ensures)))
 
 returns-2 : tie.Need-returns-2
 returns-2 c =
-    let at-args = c .before .before .before .before .before .before .before .before .args in
+    let at-args = c .before .before .before .before .before .before .args in
     let at-count-in = c .count-in in
-    let at-if1 = c .before .before .before .before .if1 in
-    let at-check = c .before .before .before .before .before .check in
+    let at-if1 = c .before .before .if1 in
+    let at-check = c .before .before .before .check in
     let t : take (at-args .used - 0) (at-args .buf .now) ≡ take (at-args .used) (at-args .buf .now) = ap (λ (n : ℕ). take n (at-args .buf .now)) (let e : at-args .used - 0 ≡ at-args .used = omega arith in e) in at-count-in .ensures ∙ ap (λ (x : Bytes). countIn x (at-args .set .now)) t ∙ count-text (at-args .buf .now) (at-args .used) (sym (at-if1 .left) ∙ at-check .ensures) (at-args .set .now)
 
 pub count-spec : {M : Type 1} → statement M
@@ -65,7 +60,6 @@ count-spec =
     (tie.spec
     check-requires
     returns
-    classes-requires
     sub-count-in
     part-count-in-start
     part-count-in-end

@@ -13,7 +13,6 @@ use Rattle.lookup.proofs.fetch.Statement.{statement}
 use Rattle.lookup.proofs.fetch.Tie as tie
 use Rattle.lookup.proofs.fetch.Reads as reads
 use Rattle.lookup.proofs.fetch.Lts as lts
-use Rattle.format.proofs.classes.Reads as classes-reads
 use Rattle.integrity.proofs.check.Reads as check-reads
 use Rattle.lookup.proofs.inside.fetch_in.Reads as fetch-in-reads
 
@@ -27,9 +26,6 @@ returns c =
     let at-if1 = c .if1 in
     fetch-refused (at-args .buf .now) (at-args .used) (at-check .result) (at-check .ensures) (at-if1 .taken) (at-args .set .now) (at-args .row) (at-args .name .now) (at-args .occurrence) (at-args .out .now)
 
-classes-requires : tie.Need-classes-requires
-classes-requires c κs = search needs
-
 sub-fetch-in : tie.Need-sub-fetch-in
 sub-fetch-in c = search needs
 
@@ -38,27 +34,26 @@ part-fetch-in-start c = search needs
 
 part-fetch-in-end : tie.Need-part-fetch-in-end
 part-fetch-in-end c =
-    let at-args = c .before .before .before .before .before .before .before .before .args in
-    let at-if1 = c .before .before .if1 in
-    let at-check = c .before .before .before .check in
+    let at-args = c .before .before .before .before .before .before .args in
+    let at-if1 = c .if1 in
+    let at-check = c .before .check in
     omega (arith, used-fits (at-args .buf .now) (at-args .used) (sym (at-if1 .left) ∙ at-check .ensures))
 
 fetch-in-requires : tie.Need-fetch-in-requires
 fetch-in-requires c κs =
-    let at-args = c .before .before .before .before .before .before .before .before .before .before .args in
-    let at-classes = c .before .before .before .classes in
-    let at-if1 = c .before .before .before .before .if1 in
-    let at-check = c .before .before .before .before .before .check in
-    let t : take (at-args .used - 0) (at-args .buf .now) ≡ take (at-args .used) (at-args .buf .now) = ap (λ (n : ℕ). take n (at-args .buf .now)) (let e : at-args .used - 0 ≡ at-args .used = omega arith in e) in (at-classes .ensures, subst (λ (x : Bytes). isReadable x ≡ true) (sym t) (used-readable (at-args .buf .now) (at-args .used) (sym (at-if1 .left) ∙ at-check .ensures)))
+    let at-args = c .before .before .before .before .before .before .before .before .args in
+    let at-if1 = c .before .before .if1 in
+    let at-check = c .before .before .before .check in
+    let t : take (at-args .used - 0) (at-args .buf .now) ≡ take (at-args .used) (at-args .buf .now) = ap (λ (n : ℕ). take n (at-args .buf .now)) (let e : at-args .used - 0 ≡ at-args .used = omega arith in e) in (subst (λ (x : Bytes). isReadable x ≡ true) (sym t) (used-readable (at-args .buf .now) (at-args .used) (sym (at-if1 .left) ∙ at-check .ensures)))
 
 same-length : tie.Need-same-length
 same-length c = search needs
 
 returns-2 : tie.Need-returns-2
 returns-2 c =
-    let at-args = c .before .before .before .before .before .before .before .before .before .before .before .before .before .args in
-    let at-if1 = c .before .before .before .before .before .before .before .if1 in
-    let at-check = c .before .before .before .before .before .before .before .before .check in
+    let at-args = c .before .before .before .before .before .before .before .before .before .before .before .args in
+    let at-if1 = c .before .before .before .before .before .if1 in
+    let at-check = c .before .before .before .before .before .before .check in
     let at-fetch-in = c .before .before .fetch-in in
     let t : take (at-args .used - 0) (at-args .buf .now) ≡ take (at-args .used) (at-args .buf .now) = ap (λ (n : ℕ). take n (at-args .buf .now)) (let e : at-args .used - 0 ≡ at-args .used = omega arith in e) in sym (fetch-text (at-args .buf .now) (at-args .used) (sym (at-if1 .left) ∙ at-check .ensures) (at-args .set .now) (at-args .row) (at-args .name .now) (at-args .occurrence) (at-args .out .now)) ∙ ap (λ (x : Bytes). fetchIn x (at-args .set .now) (at-args .row) (at-args .name .now) (at-args .occurrence) (at-args .out .now)) (sym t) ∙ at-fetch-in .ensures
 
@@ -68,7 +63,6 @@ fetch-spec =
     (tie.spec
     check-requires
     returns
-    classes-requires
     sub-fetch-in
     part-fetch-in-start
     part-fetch-in-end

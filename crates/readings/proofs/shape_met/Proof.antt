@@ -37,10 +37,9 @@ slice-aggregate-meets c = search needs
 
 meets-requires : tie.Need-meets-requires
 meets-requires c κs =
-    let at-pre = c .before .before .before .pre in
     let at-args = c .before .before .before .args in
     let at-match = c .before .match in
-    (at-pre .0, apart (at-args .kind) (at-match .keys5) .sound)
+    (apart (at-args .kind) (at-match .keys5) .sound)
 
 returns : tie.Need-returns
 returns c =
@@ -48,7 +47,7 @@ returns c =
     let at-pre = c .before .before .before .before .pre in
     let at-args = c .before .before .before .before .args in
     let at-enum-told = c .before .enum-told in
-    at-is-int .ensures ∙ ap isSome (at-pre .1) ∙ met-shape (at-args .symbol) (at-args .v .now) (at-enum-told .given .1)
+    at-is-int .ensures ∙ ap isSome (at-pre) ∙ met-shape (at-args .symbol) (at-args .v .now) (at-enum-told .given .1)
 
 returns-2 : tie.Need-returns-2
 returns-2 c =
@@ -56,7 +55,7 @@ returns-2 c =
     let at-kind = c .before .before .kind in
     let at-pre = c .before .before .before .before .before .pre in
     let at-args = c .before .before .before .before .before .args in
-    at-is-between .ensures ∙ ap (isInRange (intIn (at-kind .given .0 .0)) (intIn (at-kind .given .0 .1 .0))) (at-pre .1) ∙ met-shape (at-args .symbol) (at-args .v .now) (at-kind .given .1)
+    at-is-between .ensures ∙ ap (isInRange (intIn (at-kind .given .0 .0)) (intIn (at-kind .given .0 .1 .0))) (at-pre) ∙ met-shape (at-args .symbol) (at-args .v .now) (at-kind .given .1)
 
 returns-3 : tie.Need-returns-3
 returns-3 c =

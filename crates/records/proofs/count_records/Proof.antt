@@ -16,16 +16,16 @@ use Rattle.records.proofs.count_records.Lts as lts
 use Rattle.records.proofs.next_record.Reads as next-record-reads
 
 abbrev Inv-loop : tie.InvT-loop
-Inv-loop table s i₀ n₀ i n = (i ≤ length s) × (isReadable (drop i s) ≡ true) × (n ≤ i) × (countBefore (placesOf s) ≡ n + countBefore (placesAt s i))
+Inv-loop s i₀ n₀ i n = (i ≤ length s) × (isReadable (drop i s) ≡ true) × (n ≤ i) × (countBefore (placesOf s) ≡ n + countBefore (placesAt s i))
 
 abbrev μ-loop : tie.MeasureT-loop
-μ-loop table s i₀ n₀ i n = length s - i
+μ-loop s i₀ n₀ i n = length s - i
 
 loop-holds : tie.Need-loop-holds Inv-loop μ-loop
 loop-holds c =
     let at-pre = c .before .pre in
     let at-args = c .before .args in
-    (omega arith, at-pre .1, omega arith, omega (arith, ap countBefore (places-all (at-args .s .now))))
+    (omega arith, at-pre, omega arith, omega (arith, ap countBefore (places-all (at-args .s .now))))
 
 sub-next-record : tie.Need-sub-next-record Inv-loop μ-loop
 sub-next-record c = search needs
@@ -38,10 +38,9 @@ part-next-record-end c = search needs
 
 next-record-requires : tie.Need-next-record-requires Inv-loop μ-loop
 next-record-requires c κs =
-    let at-pre = c .before .before .before .pre in
     let at-args = c .before .before .before .args in
     let at-loop = c .before .loop in
-    (at-pre .0, part-readable (at-args .s .now) (at-loop .i) (at-loop .inv .1))
+    (part-readable (at-args .s .now) (at-loop .i) (at-loop .inv .1))
 
 enum-known-r : tie.Need-enum-known-r Inv-loop μ-loop
 enum-known-r c = search needs

@@ -20,16 +20,16 @@ use Rattle.lines.proofs.read_piece.Reads as read-piece-reads
 use Rattle.lines.proofs.same_bytes.Reads as same-bytes-reads
 
 abbrev Inv-loop : tie.InvT-loop
-Inv-loop table s name o i₀ left₀ i left = (i ≤ length s) × (isReadable (drop i s) ≡ true) × (fieldPlace name s o ≡ fieldIn name (readOf (drop i s)) i left)
+Inv-loop s name o i₀ left₀ i left = (i ≤ length s) × (isReadable (drop i s) ≡ true) × (fieldPlace name s o ≡ fieldIn name (readOf (drop i s)) i left)
 
 abbrev μ-loop : tie.MeasureT-loop
-μ-loop table s name o i₀ left₀ i left = length s - i
+μ-loop s name o i₀ left₀ i left = length s - i
 
 loop-holds : tie.Need-loop-holds Inv-loop μ-loop
 loop-holds c =
     let at-pre = c .before .before .pre in
     let at-args = c .before .before .args in
-    (omega arith, at-pre .1, field-read (at-args .name .now) (at-args .s .now) (at-args .o))
+    (omega arith, at-pre, field-read (at-args .name .now) (at-args .s .now) (at-args .o))
 
 sub-read-piece : tie.Need-sub-read-piece Inv-loop μ-loop
 sub-read-piece c = search needs
@@ -136,8 +136,8 @@ part-same-bytes-end c =
 same-bytes-requires : tie.Need-same-bytes-requires Inv-loop μ-loop
 same-bytes-requires c κs = search needs
 
-add-t24 : tie.Need-add-t24 Inv-loop μ-loop
-add-t24 c =
+add-t23 : tie.Need-add-t23 Inv-loop μ-loop
+add-t23 c =
     let at-args = c .before .before .before .before .before .before .before .before .before .before .before .before .args in
     let at-loop = c .before .before .before .before .before .before .before .before .before .loop in
     let at-read-piece = c .before .before .before .before .before .before .before .read-piece in
@@ -145,8 +145,8 @@ add-t24 c =
     let p = steps (at-args .s .now) (at-loop .i) (at-read-piece .result) (at-loop .inv .1) (at-read-piece .ensures) (at-n3 .given .1) in
     omega (arith, p .passed .inside, p .value-inside)
 
-add-t25 : tie.Need-add-t25 Inv-loop μ-loop
-add-t25 c =
+add-t24 : tie.Need-add-t24 Inv-loop μ-loop
+add-t24 c =
     let at-args = c .before .before .before .before .before .before .before .before .before .before .before .before .args in
     let at-loop = c .before .before .before .before .before .before .before .before .before .loop in
     let at-read-piece = c .before .before .before .before .before .before .before .read-piece in
@@ -247,8 +247,8 @@ find-field-spec =
     part-same-bytes-start
     part-same-bytes-end
     same-bytes-requires
+    add-t23
     add-t24
-    add-t25
     returns
     sub-left
     add-i-3

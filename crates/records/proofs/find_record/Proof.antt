@@ -16,16 +16,16 @@ use Rattle.records.proofs.find_record.Lts as lts
 use Rattle.records.proofs.next_record.Reads as next-record-reads
 
 abbrev Inv-loop : tie.InvT-loop
-Inv-loop table s k i₀ left₀ i left = (i ≤ length s) × (isReadable (drop i s) ≡ true) × (recordPlace (placesOf s) k ≡ recordPlace (placesAt s i) left)
+Inv-loop s k i₀ left₀ i left = (i ≤ length s) × (isReadable (drop i s) ≡ true) × (recordPlace (placesOf s) k ≡ recordPlace (placesAt s i) left)
 
 abbrev μ-loop : tie.MeasureT-loop
-μ-loop table s k i₀ left₀ i left = length s - i
+μ-loop s k i₀ left₀ i left = length s - i
 
 loop-holds : tie.Need-loop-holds Inv-loop μ-loop
 loop-holds c =
     let at-pre = c .before .pre in
     let at-args = c .before .args in
-    (omega arith, at-pre .1, ap (λ ps. recordPlace ps (at-args .k)) (places-all (at-args .s .now)))
+    (omega arith, at-pre, ap (λ ps. recordPlace ps (at-args .k)) (places-all (at-args .s .now)))
 
 sub-next-record : tie.Need-sub-next-record Inv-loop μ-loop
 sub-next-record c = search needs
@@ -38,10 +38,9 @@ part-next-record-end c = search needs
 
 next-record-requires : tie.Need-next-record-requires Inv-loop μ-loop
 next-record-requires c κs =
-    let at-pre = c .before .before .before .pre in
     let at-args = c .before .before .before .args in
     let at-loop = c .before .loop in
-    (at-pre .0, part-readable (at-args .s .now) (at-loop .i) (at-loop .inv .1))
+    (part-readable (at-args .s .now) (at-loop .i) (at-loop .inv .1))
 
 enum-known-r : tie.Need-enum-known-r Inv-loop μ-loop
 enum-known-r c = search needs
@@ -67,8 +66,8 @@ returns-2 c =
     let m = meets (at-args .s .now) (at-loop .i) (at-next-record .result) (at-loop .inv .0) (at-loop .inv .1) (at-next-record .ensures) (at-r .given .1) in
     sym (at-loop .inv .2 ∙ record-stops (at-args .s .now) (at-loop .i) (at-r .given .0 .0) m (at-loop .left) (at-if1 .taken))
 
-add-t13 : tie.Need-add-t13 Inv-loop μ-loop
-add-t13 c =
+add-t12 : tie.Need-add-t12 Inv-loop μ-loop
+add-t12 c =
     let at-args = c .before .before .before .before .before .before .before .before .before .before .args in
     let at-loop = c .before .before .before .before .before .before .before .before .loop in
     let at-next-record = c .before .before .before .before .before .before .next-record in
@@ -76,8 +75,8 @@ add-t13 c =
     let m = meets (at-args .s .now) (at-loop .i) (at-next-record .result) (at-loop .inv .0) (at-loop .inv .1) (at-next-record .ensures) (at-r .given .1) in
     omega (arith, m .stand .filled, m .stand .within, m .stand .inside)
 
-add-t14 : tie.Need-add-t14 Inv-loop μ-loop
-add-t14 c =
+add-t13 : tie.Need-add-t13 Inv-loop μ-loop
+add-t13 c =
     let at-args = c .before .before .before .before .before .before .before .before .before .before .before .args in
     let at-loop = c .before .before .before .before .before .before .before .before .before .loop in
     let at-next-record = c .before .before .before .before .before .before .before .next-record in
@@ -85,8 +84,8 @@ add-t14 c =
     let m = meets (at-args .s .now) (at-loop .i) (at-next-record .result) (at-loop .inv .0) (at-loop .inv .1) (at-next-record .ensures) (at-r .given .1) in
     omega (arith, m .stand .filled, m .stand .within, m .stand .inside)
 
-add-t15 : tie.Need-add-t15 Inv-loop μ-loop
-add-t15 c =
+add-t14 : tie.Need-add-t14 Inv-loop μ-loop
+add-t14 c =
     let at-args = c .before .before .before .before .before .before .before .before .before .before .before .before .args in
     let at-loop = c .before .before .before .before .before .before .before .before .before .before .loop in
     let at-next-record = c .before .before .before .before .before .before .before .before .next-record in
@@ -152,9 +151,9 @@ find-record-spec =
     enum-told
     returns
     returns-2
+    add-t12
     add-t13
     add-t14
-    add-t15
     returns-3
     sub-left
     add-i

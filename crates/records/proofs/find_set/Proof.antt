@@ -18,10 +18,10 @@ use Rattle.records.proofs.next_record.Reads as next-record-reads
 use Rattle.records.proofs.opens_set.Reads as opens-set-reads
 
 abbrev Inv-loop : tie.InvT-loop
-Inv-loop table s name i₀ i = (i ≤ length s) × (isReadable (drop i s) ≡ true) × (setPlace name (placesOf s) ≡ descriptorPlace name (placesAt s i))
+Inv-loop s name i₀ i = (i ≤ length s) × (isReadable (drop i s) ≡ true) × (setPlace name (placesOf s) ≡ descriptorPlace name (placesAt s i))
 
 abbrev μ-loop : tie.MeasureT-loop
-μ-loop table s name i₀ i = length s - i
+μ-loop s name i₀ i = length s - i
 
 returns : tie.Need-returns Inv-loop μ-loop
 returns c =
@@ -34,7 +34,7 @@ loop-holds c =
     let at-pre = c .before .before .before .pre in
     let at-args = c .before .before .before .args in
     let at-if1 = c .if1 in
-    (omega arith, at-pre .1, set-named (at-args .name .now) (placesOf (at-args .s .now)) (at-if1 .left) ∙ ap (descriptorPlace (at-args .name .now)) (places-all (at-args .s .now)))
+    (omega arith, at-pre, set-named (at-args .name .now) (placesOf (at-args .s .now)) (at-if1 .left) ∙ ap (descriptorPlace (at-args .name .now)) (places-all (at-args .s .now)))
 
 sub-next-record : tie.Need-sub-next-record Inv-loop μ-loop
 sub-next-record c = search needs
@@ -47,10 +47,9 @@ part-next-record-end c = search needs
 
 next-record-requires : tie.Need-next-record-requires Inv-loop μ-loop
 next-record-requires c κs =
-    let at-pre = c .before .before .before .before .before .pre in
     let at-args = c .before .before .before .before .before .args in
     let at-loop = c .before .loop in
-    (at-pre .0, part-readable (at-args .s .now) (at-loop .i) (at-loop .inv .1))
+    (part-readable (at-args .s .now) (at-loop .i) (at-loop .inv .1))
 
 enum-known-r : tie.Need-enum-known-r Inv-loop μ-loop
 enum-known-r c = search needs
@@ -117,12 +116,11 @@ opens-set-requires c κs =
     let at-loop = c .before .before .before .before .before .before .before .before .before .loop in
     let at-next-record = c .before .before .before .before .before .before .before .next-record in
     let at-r = c .before .before .before .before .before .r in
-    let at-pre = c .before .before .before .before .before .before .before .before .before .before .before .before .before .pre in
     let m = meets (at-args .s .now) (at-loop .i) (at-next-record .result) (at-loop .inv .0) (at-loop .inv .1) (at-next-record .ensures) (at-r .given .1) in
-    (at-pre .0, reads-readable (m .stand .own-reads))
+    (reads-readable (m .stand .own-reads))
 
-add-t21 : tie.Need-add-t21 Inv-loop μ-loop
-add-t21 c =
+add-t20 : tie.Need-add-t20 Inv-loop μ-loop
+add-t20 c =
     let at-args = c .before .before .before .before .before .before .before .before .before .before .before .before .before .before .before .before .args in
     let at-loop = c .before .before .before .before .before .before .before .before .before .before .before .before .loop in
     let at-next-record = c .before .before .before .before .before .before .before .before .before .before .next-record in
@@ -191,7 +189,7 @@ find-set-spec =
     part-opens-set-start
     part-opens-set-end
     opens-set-requires
-    add-t21
+    add-t20
     returns-3
     add-i
     loop-less

@@ -16,16 +16,20 @@ use Rattle.records.proofs.is_readable.Tie as tie
 use Rattle.records.proofs.is_readable.Reads as reads
 use Rattle.records.proofs.is_readable.Lts as lts
 use Rattle.lines.proofs.next_piece.Reads as next-piece-reads
+use Rattle.format.proofs.classes.Reads as classes-reads
 
 abbrev Inv-loop : tie.InvT-loop
-Inv-loop table s len i₀ i = (i ≤ length s) × (isEnded s ≡ true) × (isReadable s ≡ isReadable (drop i s))
+Inv-loop s table len i₀ i = (i ≤ length s) × (isEnded s ≡ true) × (isReadable s ≡ isReadable (drop i s))
 
 abbrev μ-loop : tie.MeasureT-loop
-μ-loop table s len i₀ i = length s - i
+μ-loop s table len i₀ i = length s - i
+
+classes-requires : tie.Need-classes-requires Inv-loop μ-loop
+classes-requires c κs = search needs
 
 returns : tie.Need-returns Inv-loop μ-loop
 returns c =
-    let at-args = c .before .before .args in
+    let at-args = c .before .before .before .args in
     let at-if1 = c .if1 in
     sym (empty-readable (at-args .s .now) (at-if1 .taken))
 
@@ -41,14 +45,14 @@ shared-slice-read-if2 c =
 
 returns-2 : tie.Need-returns-2 Inv-loop μ-loop
 returns-2 c =
-    let at-args = c .before .before .before .before .args in
+    let at-args = c .before .before .before .before .before .args in
     let at-if1 = c .before .before .if1 in
     let at-if2 = c .if2 in
     sym (open-unreadable (at-args .s .now) (last-ended (at-args .s .now) (length (at-args .s .now) - 1) (omega (arith, at-if1 .left)) ∙ ne-eqb _ _ (at-if2 .taken)))
 
 loop-holds : tie.Need-loop-holds Inv-loop μ-loop
 loop-holds c =
-    let at-args = c .before .before .before .before .args in
+    let at-args = c .before .before .before .before .before .args in
     let at-if1 = c .before .before .if1 in
     let at-if2 = c .if2 in
     (omega arith, last-ended (at-args .s .now) (length (at-args .s .now) - 1) (omega (arith, at-if1 .left)) ∙ eq-eqb _ _ (at-if2 .left), refl)
@@ -64,18 +68,18 @@ part-next-piece-end c = search needs
 
 next-piece-requires : tie.Need-next-piece-requires Inv-loop μ-loop
 next-piece-requires c κs =
-    let at-pre = c .before .before .before .before .before .before .pre in
-    let at-args = c .before .before .before .before .before .before .args in
-    let at-loop = c .before .loop in
-    (at-pre, rw (rest (at-args .s .now) (at-loop .i)) (ended-drop (at-args .s .now) (at-loop .i) (at-loop .inv .1)))
+    let at-args = c .before .before .before .before .before .before .before .before .args in
+    let at-classes = c .before .before .before .before .before .before .classes in
+    let at-loop = c .before .before .loop in
+    (at-classes .ensures, rw (rest (at-args .s .now) (at-loop .i)) (ended-drop (at-args .s .now) (at-loop .i) (at-loop .inv .1)))
 
 enum-known-n : tie.Need-enum-known-n Inv-loop μ-loop
 enum-known-n c = search needs
 
 add-i : tie.Need-add-i Inv-loop μ-loop
 add-i c =
-    let at-args = c .before .before .before .before .before .before .before .before .before .before .args in
-    let at-loop = c .before .before .before .before .before .loop in
+    let at-args = c .before .before .before .before .before .before .before .before .before .before .before .before .args in
+    let at-loop = c .before .before .before .before .before .before .loop in
     let at-next-piece = c .before .before .before .next-piece in
     let at-n = c .before .n in
     let p = looks (at-args .s .now) (at-loop .i) (at-next-piece .result) (at-loop .inv .1) (at-next-piece .ensures) (at-n .given .1) in
@@ -83,8 +87,8 @@ add-i c =
 
 loop-less : tie.Need-loop-less Inv-loop μ-loop
 loop-less c =
-    let at-args = c .before .before .before .before .before .before .before .before .before .before .args in
-    let at-loop = c .before .before .before .before .before .loop in
+    let at-args = c .before .before .before .before .before .before .before .before .before .before .before .before .args in
+    let at-loop = c .before .before .before .before .before .before .loop in
     let at-next-piece = c .before .before .before .next-piece in
     let at-n = c .before .n in
     let p = looks (at-args .s .now) (at-loop .i) (at-next-piece .result) (at-loop .inv .1) (at-next-piece .ensures) (at-n .given .1) in
@@ -92,8 +96,8 @@ loop-less c =
 
 loop-again : tie.Need-loop-again Inv-loop μ-loop
 loop-again c =
-    let at-args = c .before .before .before .before .before .before .before .before .before .before .args in
-    let at-loop = c .before .before .before .before .before .loop in
+    let at-args = c .before .before .before .before .before .before .before .before .before .before .before .before .args in
+    let at-loop = c .before .before .before .before .before .before .loop in
     let at-next-piece = c .before .before .before .next-piece in
     let at-n = c .before .n in
     let p = looks (at-args .s .now) (at-loop .i) (at-next-piece .result) (at-loop .inv .1) (at-next-piece .ensures) (at-n .given .1) in
@@ -104,8 +108,8 @@ enum-known-n-2 c = search needs
 
 add-i-2 : tie.Need-add-i-2 Inv-loop μ-loop
 add-i-2 c =
-    let at-args = c .before .before .before .before .before .before .before .before .before .before .args in
-    let at-loop = c .before .before .before .before .before .loop in
+    let at-args = c .before .before .before .before .before .before .before .before .before .before .before .before .args in
+    let at-loop = c .before .before .before .before .before .before .loop in
     let at-next-piece = c .before .before .before .next-piece in
     let at-n2 = c .before .n2 in
     let p = looks (at-args .s .now) (at-loop .i) (at-next-piece .result) (at-loop .inv .1) (at-next-piece .ensures) (at-n2 .given .1) in
@@ -113,8 +117,8 @@ add-i-2 c =
 
 loop-less-2 : tie.Need-loop-less-2 Inv-loop μ-loop
 loop-less-2 c =
-    let at-args = c .before .before .before .before .before .before .before .before .before .before .args in
-    let at-loop = c .before .before .before .before .before .loop in
+    let at-args = c .before .before .before .before .before .before .before .before .before .before .before .before .args in
+    let at-loop = c .before .before .before .before .before .before .loop in
     let at-next-piece = c .before .before .before .next-piece in
     let at-n2 = c .before .n2 in
     let p = looks (at-args .s .now) (at-loop .i) (at-next-piece .result) (at-loop .inv .1) (at-next-piece .ensures) (at-n2 .given .1) in
@@ -122,8 +126,8 @@ loop-less-2 c =
 
 loop-again-2 : tie.Need-loop-again-2 Inv-loop μ-loop
 loop-again-2 c =
-    let at-args = c .before .before .before .before .before .before .before .before .before .before .args in
-    let at-loop = c .before .before .before .before .before .loop in
+    let at-args = c .before .before .before .before .before .before .before .before .before .before .before .before .args in
+    let at-loop = c .before .before .before .before .before .before .loop in
     let at-next-piece = c .before .before .before .next-piece in
     let at-n2 = c .before .n2 in
     let p = looks (at-args .s .now) (at-loop .i) (at-next-piece .result) (at-loop .inv .1) (at-next-piece .ensures) (at-n2 .given .1) in
@@ -134,8 +138,8 @@ enum-known-n-3 c = search needs
 
 add-i-3 : tie.Need-add-i-3 Inv-loop μ-loop
 add-i-3 c =
-    let at-args = c .before .before .before .before .before .before .before .before .before .before .args in
-    let at-loop = c .before .before .before .before .before .loop in
+    let at-args = c .before .before .before .before .before .before .before .before .before .before .before .before .args in
+    let at-loop = c .before .before .before .before .before .before .loop in
     let at-next-piece = c .before .before .before .next-piece in
     let at-n3 = c .before .n3 in
     let p = looks (at-args .s .now) (at-loop .i) (at-next-piece .result) (at-loop .inv .1) (at-next-piece .ensures) (at-n3 .given .1) in
@@ -143,8 +147,8 @@ add-i-3 c =
 
 loop-less-3 : tie.Need-loop-less-3 Inv-loop μ-loop
 loop-less-3 c =
-    let at-args = c .before .before .before .before .before .before .before .before .before .before .args in
-    let at-loop = c .before .before .before .before .before .loop in
+    let at-args = c .before .before .before .before .before .before .before .before .before .before .before .before .args in
+    let at-loop = c .before .before .before .before .before .before .loop in
     let at-next-piece = c .before .before .before .next-piece in
     let at-n3 = c .before .n3 in
     let p = looks (at-args .s .now) (at-loop .i) (at-next-piece .result) (at-loop .inv .1) (at-next-piece .ensures) (at-n3 .given .1) in
@@ -152,8 +156,8 @@ loop-less-3 c =
 
 loop-again-3 : tie.Need-loop-again-3 Inv-loop μ-loop
 loop-again-3 c =
-    let at-args = c .before .before .before .before .before .before .before .before .before .before .args in
-    let at-loop = c .before .before .before .before .before .loop in
+    let at-args = c .before .before .before .before .before .before .before .before .before .before .before .before .args in
+    let at-loop = c .before .before .before .before .before .before .loop in
     let at-next-piece = c .before .before .before .next-piece in
     let at-n3 = c .before .n3 in
     let p = looks (at-args .s .now) (at-loop .i) (at-next-piece .result) (at-loop .inv .1) (at-next-piece .ensures) (at-n3 .given .1) in
@@ -164,8 +168,8 @@ enum-told c = search needs
 
 returns-3 : tie.Need-returns-3 Inv-loop μ-loop
 returns-3 c =
-    let at-loop = c .before .before .before .before .loop in
-    let at-args = c .before .before .before .before .before .before .before .before .before .args in
+    let at-loop = c .before .before .before .before .before .loop in
+    let at-args = c .before .before .before .before .before .before .before .before .before .before .before .args in
     let at-next-piece = c .before .before .next-piece in
     let at-enum-told = c .enum-told in
     sym (at-loop .inv .2 ∙ looks (at-args .s .now) (at-loop .i) (at-next-piece .result) (at-loop .inv .1) (at-next-piece .ensures) (at-enum-told .given .1))
@@ -175,8 +179,8 @@ enum-told-2 c = search needs
 
 returns-4 : tie.Need-returns-4 Inv-loop μ-loop
 returns-4 c =
-    let at-loop = c .before .before .before .before .loop in
-    let at-args = c .before .before .before .before .before .before .before .before .before .args in
+    let at-loop = c .before .before .before .before .before .loop in
+    let at-args = c .before .before .before .before .before .before .before .before .before .before .before .args in
     let at-next-piece = c .before .before .next-piece in
     let at-enum-told2 = c .enum-told2 in
     sym (at-loop .inv .2 ∙ looks (at-args .s .now) (at-loop .i) (at-next-piece .result) (at-loop .inv .1) (at-next-piece .ensures) (at-enum-told2 .given .1))
@@ -187,6 +191,7 @@ is-readable-spec =
     (tie.spec
     Inv-loop
     μ-loop
+    classes-requires
     returns
     sub-if2
     shared-slice-read-if2

@@ -18,15 +18,15 @@ use Rattle.records.proofs.next_field.Lts as lts
 use Rattle.lines.proofs.read_piece.Reads as read-piece-reads
 
 abbrev Inv-loop : tie.InvT-loop
-Inv-loop table s i at₀ at = (i ≤ at) × (at ≤ length s) × (isReadable (drop at s) ≡ true) × (fieldsFrom s i ≡ fieldsFrom s at)
+Inv-loop s i at₀ at = (i ≤ at) × (at ≤ length s) × (isReadable (drop at s) ≡ true) × (fieldsFrom s i ≡ fieldsFrom s at)
 
 abbrev μ-loop : tie.MeasureT-loop
-μ-loop table s i at₀ at = length s - at
+μ-loop s i at₀ at = length s - at
 
 loop-holds : tie.Need-loop-holds Inv-loop μ-loop
 loop-holds c =
     let at-pre = c .before .pre in
-    (omega arith, at-pre .1 .0, at-pre .1 .1, refl)
+    (omega arith, at-pre .0, at-pre .1, refl)
 
 sub-read-piece : tie.Need-sub-read-piece Inv-loop μ-loop
 sub-read-piece c = search needs
@@ -106,8 +106,8 @@ loop-again-2 c =
 enum-known-n-3 : tie.Need-enum-known-n-3 Inv-loop μ-loop
 enum-known-n-3 c = search needs
 
-add-t15 : tie.Need-add-t15 Inv-loop μ-loop
-add-t15 c =
+add-t14 : tie.Need-add-t14 Inv-loop μ-loop
+add-t14 c =
     let at-args = c .before .before .before .before .before .before .before .args in
     let at-loop = c .before .before .before .before .before .loop in
     let at-read-piece = c .before .before .before .read-piece in
@@ -115,8 +115,8 @@ add-t15 c =
     let p = steps (at-args .s .now) (at-loop .at) (at-read-piece .result) (at-loop .inv .2) (at-read-piece .ensures) (at-n3 .given .1) in
     omega (arith, p .passed .inside, p .name-inside)
 
-add-t16 : tie.Need-add-t16 Inv-loop μ-loop
-add-t16 c =
+add-t15 : tie.Need-add-t15 Inv-loop μ-loop
+add-t15 c =
     let at-args = c .before .before .before .before .before .before .before .args in
     let at-loop = c .before .before .before .before .before .loop in
     let at-read-piece = c .before .before .before .read-piece in
@@ -124,8 +124,8 @@ add-t16 c =
     let p = steps (at-args .s .now) (at-loop .at) (at-read-piece .result) (at-loop .inv .2) (at-read-piece .ensures) (at-n3 .given .1) in
     omega (arith, p .passed .inside, p .value-inside)
 
-add-t17 : tie.Need-add-t17 Inv-loop μ-loop
-add-t17 c =
+add-t16 : tie.Need-add-t16 Inv-loop μ-loop
+add-t16 c =
     let at-args = c .before .before .before .before .before .before .before .args in
     let at-loop = c .before .before .before .before .before .loop in
     let at-read-piece = c .before .before .before .read-piece in
@@ -184,9 +184,9 @@ next-field-spec =
     loop-less-2
     loop-again-2
     enum-known-n-3
+    add-t14
     add-t15
     add-t16
-    add-t17
     returns
     enum-told
     returns-2

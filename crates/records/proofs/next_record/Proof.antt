@@ -23,15 +23,15 @@ use Rattle.records.proofs.is_rec.Reads as is-rec-reads
 use Rattle.records.proofs.record_run.Reads as record-run-reads
 
 abbrev Inv-loop : tie.InvT-loop
-Inv-loop table s i₀ i = (i ≤ length s) × (isReadable (drop i s) ≡ true) × (leadSize s ≡ i + leadSize (drop i s))
+Inv-loop s i₀ i = (i ≤ length s) × (isReadable (drop i s) ≡ true) × (leadSize s ≡ i + leadSize (drop i s))
 
 abbrev μ-loop : tie.MeasureT-loop
-μ-loop table s i₀ i = length s - i
+μ-loop s i₀ i = length s - i
 
 loop-holds : tie.Need-loop-holds Inv-loop μ-loop
 loop-holds c =
     let at-pre = c .before .pre in
-    (omega arith, at-pre .1, omega arith)
+    (omega arith, at-pre, omega arith)
 
 sub-read-piece : tie.Need-sub-read-piece Inv-loop μ-loop
 sub-read-piece c = search needs
@@ -170,7 +170,7 @@ returns c =
     let i = at-loop .i in
     let p = field-named s i (at-read-piece .result) (at-loop .inv .1) (at-read-piece .ensures) (g .1) in
     let t = rec-told s i (at-read-piece .result) (at-loop .inv .1) (at-read-piece .ensures) (g .1) (at-is-rec .result) (at-is-rec .ensures) in
-    sym (next-found s i (g .0 .1 .0) (g .0 .1 .1 .0) (at-is-rec .result) (at-record-run .result) (at-pre .1) (at-loop .inv .2) p t (at-record-run .ensures))
+    sym (next-found s i (g .0 .1 .0) (g .0 .1 .1 .0) (at-is-rec .result) (at-record-run .result) (at-pre) (at-loop .inv .2) p t (at-record-run .ensures))
 
 enum-told : tie.Need-enum-told Inv-loop μ-loop
 enum-told c = search needs
@@ -183,7 +183,7 @@ returns-2 c =
     let at-enum-told = c .enum-told in
     let at-pre = c .before .before .before .before .before .before .pre in
     let p = steps (at-args .s .now) (at-loop .i) (at-read-piece .result) (at-loop .inv .1) (at-read-piece .ensures) (at-enum-told .given .1) in
-    sym (next-nothing (at-args .s .now) (at-loop .i) (at-pre .1) (at-loop .inv .1) (at-loop .inv .0) (at-loop .inv .2) p)
+    sym (next-nothing (at-args .s .now) (at-loop .i) (at-pre) (at-loop .inv .1) (at-loop .inv .0) (at-loop .inv .2) p)
 
 enum-told-2 : tie.Need-enum-told-2 Inv-loop μ-loop
 enum-told-2 c = search needs

@@ -17,7 +17,7 @@ slice-aggregate-find-field c = search needs
 find-field-requires : tie.Need-find-field-requires
 find-field-requires c κs =
     let at-pre = c .before .before .before .pre in
-    (at-pre .0, at-pre .1)
+    (at-pre)
 
 enum-known-f : tie.Need-enum-known-f
 enum-known-f c = search needs
@@ -31,7 +31,7 @@ returns c =
     let at-find-field = c .before .before .find-field in
     let at-pre = c .before .before .before .before .before .before .pre in
     let at-enum-told = c .enum-told in
-    sym (opens-none (at-args .name .now) (at-args .s .now) (field-told (text "%rec") (at-args .s .now) 0 (at-find-field .result) (at-pre .1) (at-find-field .ensures) (at-enum-told .given .1)))
+    sym (opens-none (at-args .name .now) (at-args .s .now) (field-told (text "%rec") (at-args .s .now) 0 (at-find-field .result) (at-pre) (at-find-field .ensures) (at-enum-told .given .1)))
 
 sub-word-is : tie.Need-sub-word-is
 sub-word-is c =
@@ -39,7 +39,7 @@ sub-word-is c =
     let at-find-field = c .before .before .before .find-field in
     let at-pre = c .before .before .before .before .before .before .before .pre in
     let at-f = c .before .f in
-    let p = field-told (text "%rec") (at-args .s .now) 0 (at-find-field .result) (at-pre .1) (at-find-field .ensures) (at-f .given .1) in
+    let p = field-told (text "%rec") (at-args .s .now) 0 (at-find-field .result) (at-pre) (at-find-field .ensures) (at-f .given .1) in
     omega (arith, p .within)
 
 part-word-is-start : tie.Need-part-word-is-start
@@ -48,7 +48,7 @@ part-word-is-start c =
     let at-find-field = c .before .before .before .find-field in
     let at-pre = c .before .before .before .before .before .before .before .pre in
     let at-f = c .before .f in
-    let p = field-told (text "%rec") (at-args .s .now) 0 (at-find-field .result) (at-pre .1) (at-find-field .ensures) (at-f .given .1) in
+    let p = field-told (text "%rec") (at-args .s .now) 0 (at-find-field .result) (at-pre) (at-find-field .ensures) (at-f .given .1) in
     omega (arith, p .within)
 
 part-word-is-end : tie.Need-part-word-is-end
@@ -57,7 +57,7 @@ part-word-is-end c =
     let at-find-field = c .before .before .before .find-field in
     let at-pre = c .before .before .before .before .before .before .before .pre in
     let at-f = c .before .f in
-    let p = field-told (text "%rec") (at-args .s .now) 0 (at-find-field .result) (at-pre .1) (at-find-field .ensures) (at-f .given .1) in
+    let p = field-told (text "%rec") (at-args .s .now) 0 (at-find-field .result) (at-pre) (at-find-field .ensures) (at-f .given .1) in
     omega (arith, p .inside)
 
 word-is-requires : tie.Need-word-is-requires
@@ -71,7 +71,7 @@ returns-2 c =
     let at-pre = c .before .before .before .before .before .before .before .before .before .pre in
     let at-word-is = c .word-is in
     let g = at-f .given in
-    let p = field-told (text "%rec") (at-args .s .now) 0 (at-find-field .result) (at-pre .1) (at-find-field .ensures) (g .1) in
+    let p = field-told (text "%rec") (at-args .s .now) 0 (at-find-field .result) (at-pre) (at-find-field .ensures) (g .1) in
     at-word-is .ensures ∙ sym (opens-first (at-args .name .now) (at-args .s .now) (g .0 .0) (g .0 .1 .0) (g .0 .1 .1 .0) p)
 
 pub opens-set-spec : {M : Type 1} → statement M

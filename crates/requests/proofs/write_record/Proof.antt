@@ -13,7 +13,6 @@ use Rattle.requests.proofs.write_record.Statement.{statement}
 use Rattle.requests.proofs.write_record.Tie as tie
 use Rattle.requests.proofs.write_record.Reads as reads
 use Rattle.requests.proofs.write_record.Lts as lts
-use Rattle.format.proofs.classes.Reads as classes-reads
 use Rattle.requests.proofs.kinds.request_of.Reads as request-of-reads
 use Rattle.requests.proofs.pairs.put_pairs.Reads as put-pairs-reads
 use Rattle.requests.proofs.write_no.Reads as write-no-reads
@@ -48,34 +47,30 @@ returns-2 c =
     let at-match2 = c .before .match2 in
     write-other (at-args .req .now) (at-args .out .now) (at-q .given .0 .0) (request-found (at-args .req .now) (at-request-of .result) (at-q .given .0 .0) (at-request-of .ensures .0) (at-q .given .1)) (at-match2 .keys2)
 
-classes-requires : tie.Need-classes-requires
-classes-requires c κs = search needs
-
 write-no-requires : tie.Need-write-no-requires
 write-no-requires c κs =
-    let at-args = c .before .before .before .before .before .before .before .before .before .before .before .args in
-    let at-request-of = c .before .before .before .before .before .before .before .before .request-of in
-    let at-q = c .before .before .before .before .before .before .q in
-    let at-edit = c .before .before .before .edit in
-    let at-classes = c .before .classes in
-    let h = insert-inside (at-args .req .now) (at-request-of .result) (at-q .given .0 .0) (at-edit .given .0 .0) (at-request-of .ensures .1) (at-q .given .1) (at-edit .given .1) in (at-classes .ensures, ((request-bytes (at-args .req .now) (at-q .given .0 .0) (request-found (at-args .req .now) (at-request-of .result) (at-q .given .0 .0) (at-request-of .ensures .0) (at-q .given .1)), omega (arith, h .0)), h .1))
+    let at-args = c .before .before .before .before .before .before .before .before .before .args in
+    let at-request-of = c .before .before .before .before .before .before .request-of in
+    let at-q = c .before .before .before .before .q in
+    let at-edit = c .before .edit in
+    let h = insert-inside (at-args .req .now) (at-request-of .result) (at-q .given .0 .0) (at-edit .given .0 .0) (at-request-of .ensures .1) (at-q .given .1) (at-edit .given .1) in (((request-bytes (at-args .req .now) (at-q .given .0 .0) (request-found (at-args .req .now) (at-request-of .result) (at-q .given .0 .0) (at-request-of .ensures .0) (at-q .given .1)), omega (arith, h .0)), h .1))
 
 returns-3 : tie.Need-returns-3
 returns-3 c =
     let at-write-no = c .before .write-no in
-    let at-args = c .before .before .before .before .before .before .before .before .before .before .before .before .before .args in
-    let at-edit = c .before .before .before .before .before .edit in
+    let at-args = c .before .before .before .before .before .before .before .before .before .before .before .args in
+    let at-edit = c .before .before .before .edit in
     let at-if1 = c .if1 in
-    let at-q = c .before .before .before .before .before .before .before .before .q in
-    let at-request-of = c .before .before .before .before .before .before .before .before .before .before .request-of in
+    let at-q = c .before .before .before .before .before .before .q in
+    let at-request-of = c .before .before .before .before .before .before .before .before .request-of in
     filled-refused (at-write-no .result) (writtenAll (pairsAt (at-args .req .now) (at-edit .given .0 .0))) (at-args .out .now) (at-if1 .taken) ∙ ap (λ (n : ℕ). filledAs n (writtenAll (pairsAt (at-args .req .now) (at-edit .given .0 .0))) (at-args .out .now)) (at-write-no .ensures) ∙ write-insert (at-args .req .now) (at-args .out .now) (at-q .given .0 .0) (request-found (at-args .req .now) (at-request-of .result) (at-q .given .0 .0) (at-request-of .ensures .0) (at-q .given .1)) (at-edit .given .0 .0) (at-edit .given .1)
 
 put-pairs-requires : tie.Need-put-pairs-requires
 put-pairs-requires c κs =
-    let at-args = c .before .before .before .before .before .before .before .before .before .before .before .before .before .before .args in
-    let at-request-of = c .before .before .before .before .before .before .before .before .before .before .before .request-of in
-    let at-q = c .before .before .before .before .before .before .before .before .before .q in
-    let at-edit = c .before .before .before .before .before .before .edit in
+    let at-args = c .before .before .before .before .before .before .before .before .before .before .before .before .args in
+    let at-request-of = c .before .before .before .before .before .before .before .before .before .request-of in
+    let at-q = c .before .before .before .before .before .before .before .q in
+    let at-edit = c .before .before .before .before .edit in
     let at-write-no = c .before .before .write-no in
     let at-if1 = c .before .if1 in
     let h = insert-inside (at-args .req .now) (at-request-of .result) (at-q .given .0 .0) (at-edit .given .0 .0) (at-request-of .ensures .1) (at-q .given .1) (at-edit .given .1) in (h .1, asked-fits (pairsAt (at-args .req .now) (at-edit .given .0 .0)) (length (at-args .out .now)) (sym (at-write-no .ensures) ∙ at-if1 .left))
@@ -87,11 +82,11 @@ returns-4 : tie.Need-returns-4
 returns-4 c =
     let at-write-no = c .before .before .before .before .before .write-no in
     let at-put-pairs = c .before .before .put-pairs in
-    let at-args = c .before .before .before .before .before .before .before .before .before .before .before .before .before .before .before .before .before .args in
-    let at-edit = c .before .before .before .before .before .before .before .before .before .edit in
+    let at-args = c .before .before .before .before .before .before .before .before .before .before .before .before .before .before .before .args in
+    let at-edit = c .before .before .before .before .before .before .before .edit in
     let at-if1 = c .before .before .before .before .if1 in
-    let at-q = c .before .before .before .before .before .before .before .before .before .before .before .before .q in
-    let at-request-of = c .before .before .before .before .before .before .before .before .before .before .before .before .before .before .request-of in
+    let at-q = c .before .before .before .before .before .before .before .before .before .before .q in
+    let at-request-of = c .before .before .before .before .before .before .before .before .before .before .before .before .request-of in
     filled-written (at-write-no .result) (at-put-pairs .result) (writtenAll (pairsAt (at-args .req .now) (at-edit .given .0 .0))) (at-args .out .now) (at-put-pairs .last .1 .1 .0) (at-put-pairs .ensures .0) (at-put-pairs .ensures .1) (at-if1 .left) ∙ ap (λ (n : ℕ). filledAs n (writtenAll (pairsAt (at-args .req .now) (at-edit .given .0 .0))) (at-args .out .now)) (at-write-no .ensures) ∙ write-insert (at-args .req .now) (at-args .out .now) (at-q .given .0 .0) (request-found (at-args .req .now) (at-request-of .result) (at-q .given .0 .0) (at-request-of .ensures .0) (at-q .given .1)) (at-edit .given .0 .0) (at-edit .given .1)
 
 pub write-record-spec : {M : Type 1} → statement M
@@ -105,7 +100,6 @@ write-record-spec =
     enum-known-edit
     enum-told-2
     returns-2
-    classes-requires
     write-no-requires
     returns-3
     put-pairs-requires

@@ -21,7 +21,7 @@ use Rattle.typedefs.proofs.next_value.Reads as next-value-reads
 next-value-requires : tie.Need-next-value-requires
 next-value-requires c κs =
     let at-pre = c .before .before .pre in
-    (at-pre .0, (omega arith, at-pre .1))
+    ((omega arith, at-pre))
 
 enum-told : tie.Need-enum-told
 enum-told c = search needs

@@ -20,7 +20,7 @@ slice-aggregate-judge-part : tie.Need-slice-aggregate-judge-part
 slice-aggregate-judge-part c =
     let at-args = c .before .before .before .before .before .before .before .before .before .args in
     let at-pre = c .before .before .before .before .before .before .before .before .before .pre in
-    sym (length-take-le 8192 (at-args .entries .now) (at-pre .1 .0 .0))
+    sym (length-take-le 8192 (at-args .entries .now) (at-pre .0 .0))
 
 sub-judge-part : tie.Need-sub-judge-part
 sub-judge-part c = search needs
@@ -35,7 +35,7 @@ judge-part-requires : tie.Need-judge-part-requires
 judge-part-requires c κs =
     let at-pre = c .before .before .before .before .before .before .before .before .before .before .before .pre in
     let at-args = c .before .before .before .before .before .before .before .before .before .before .before .args in
-    (at-pre .0, (subst (λ (y : List ℕ). IsRulebook (at-args .d .now) (take 8192 (at-args .entries .now)) (at-args .needed .now) (at-args .needsets .now) (at-args .single .now) (at-args .singlesets .now) y (at-args .r)) (sym (rest (at-args .entries .now) 8192)) (at-pre .1 .0 .1), at-pre .1 .1))
+    ((subst (λ (y : List ℕ). IsRulebook (at-args .d .now) (take 8192 (at-args .entries .now)) (at-args .needed .now) (at-args .needsets .now) (at-args .single .now) (at-args .singlesets .now) y (at-args .r)) (sym (rest (at-args .entries .now) 8192)) (at-pre .0 .1), at-pre .1))
 
 same-length : tie.Need-same-length
 same-length c = search needs

@@ -35,7 +35,7 @@ read-requires-2 : tie.Need-read-requires-2
 read-requires-2 c κs =
     let at-pre = c .before .before .before .before .before .before .before .before .before .before .before .pre in
     let at-args = c .before .before .before .before .before .before .before .before .before .before .before .args in
-    (at-pre .0, ((at-pre .1 .0 .reads, at-pre .1 .0 .short), ((mandatory-few (at-args .d .now) (at-pre .1 .0), omega arith, omega arith), mandatory-names (at-args .d .now) (at-pre .1 .0))))
+    (((at-pre .0 .reads, at-pre .0 .short), ((mandatory-few (at-args .d .now) (at-pre .0), omega arith, omega arith), mandatory-names (at-args .d .now) (at-pre .0))))
 
 slice-aggregate-read-4 : tie.Need-slice-aggregate-read-4
 slice-aggregate-read-4 c = search needs
@@ -50,7 +50,7 @@ read-requires-3 : tie.Need-read-requires-3
 read-requires-3 c κs =
     let at-pre = c .before .before .before .before .before .before .before .before .before .before .before .before .before .before .before .before .before .pre in
     let at-args = c .before .before .before .before .before .before .before .before .before .before .before .before .before .before .before .before .before .args in
-    (at-pre .0, ((at-pre .1 .0 .reads, at-pre .1 .0 .short), ((unique-few (at-args .d .now) (at-pre .1 .0), omega arith, omega arith), unique-names (at-args .d .now) (at-pre .1 .0))))
+    (((at-pre .0 .reads, at-pre .0 .short), ((unique-few (at-args .d .now) (at-pre .0), omega arith, omega arith), unique-names (at-args .d .now) (at-pre .0))))
 
 slice-aggregate-has-field : tie.Need-slice-aggregate-has-field
 slice-aggregate-has-field c = search needs
@@ -58,7 +58,7 @@ slice-aggregate-has-field c = search needs
 has-field-requires : tie.Need-has-field-requires
 has-field-requires c κs =
     let at-pre = c .before .before .before .before .before .before .before .before .before .before .before .before .before .before .before .before .before .before .before .before .before .pre in
-    (at-pre .0, at-pre .1 .0 .reads)
+    (at-pre .0 .reads)
 
 slice-aggregate-has-field-2 : tie.Need-slice-aggregate-has-field-2
 slice-aggregate-has-field-2 c = search needs
@@ -66,7 +66,7 @@ slice-aggregate-has-field-2 c = search needs
 has-field-requires-2 : tie.Need-has-field-requires-2
 has-field-requires-2 c κs =
     let at-pre = c .before .before .before .before .before .before .before .before .before .before .before .before .before .before .before .before .before .before .before .before .before .before .before .pre in
-    (at-pre .0, at-pre .1 .0 .reads)
+    (at-pre .0 .reads)
 
 slice-aggregate-judge-records : tie.Need-slice-aggregate-judge-records
 slice-aggregate-judge-records c = search needs
@@ -90,7 +90,7 @@ judge-records-requires c κs =
     let at-args = c .before .before .before .before .before .before .before .before .before .before .before .before .before .before .before .before .before .before .before .before .before .before .before .before .before .before .before .before .before .before .args in
     let at-has-field2 = c .before .before .before .before .before .before .has-field2 in
     let at-scratch = c .before .before .before .before .before .before .before .before .before .before .before .before .before .before .before .before .before .before .before .before .before .before .before .scratch in
-    (at-pre .0, (record { described = at-pre .1 .0; mandatory-are = at-read2 .ensures; unique-are = at-read3 .ensures; kinds-are = at-read .ensures; limited-is = at-has-field .ensures; keyed-is = key-there (at-args .d .now) (at-pre .1 .0) (at-has-field2 .result) (at-has-field2 .ensures) }, ((at-pre .1 .1 .0 .0, at-pre .1 .1 .0 .1, subst (λ (n : ℕ). all (fitsIn n) (recordIn (at-args .part .now)) ≡ true) (sym (at-scratch .given)) (at-pre .1 .1 .0 .2)), at-pre .1 .1 .1 .1)))
+    ((record { described = at-pre .0; mandatory-are = at-read2 .ensures; unique-are = at-read3 .ensures; kinds-are = at-read .ensures; limited-is = at-has-field .ensures; keyed-is = key-there (at-args .d .now) (at-pre .0) (at-has-field2 .result) (at-has-field2 .ensures) }, ((at-pre .1 .0 .0, at-pre .1 .0 .1, subst (λ (n : ℕ). all (fitsIn n) (recordIn (at-args .part .now)) ≡ true) (sym (at-scratch .given)) (at-pre .1 .0 .2)), at-pre .1 .1 .1)))
 
 same-length : tie.Need-same-length
 same-length c =

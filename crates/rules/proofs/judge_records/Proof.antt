@@ -20,11 +20,11 @@ use Rattle.rules.proofs.judge_rows.Reads as judge-rows-reads
 use Rattle.rules.proofs.tallies.lesser.Reads as lesser-reads
 
 abbrev Inv-loop : tie.InvT-loop
-Inv-loop table d needed needsets single singlesets b part scratch₀ entries₀ count from₀ worst₀ scratch entries from worst =
+Inv-loop d needed needsets single singlesets b part scratch₀ entries₀ count from₀ worst₀ scratch entries from worst =
     (length scratch ≡ length scratch₀) × (length entries ≡ length entries₀) × (from ≤ b .kinds .count) × (least worst (partNo d from (b .kinds .count - from) (records (readOf part))) ≡ partNo d 0 (b .kinds .count) (records (readOf part)))
 
 abbrev μ-loop : tie.MeasureT-loop
-μ-loop table d needed needsets single singlesets b part scratch₀ entries₀ count from₀ worst₀ scratch entries from worst =
+μ-loop d needed needsets single singlesets b part scratch₀ entries₀ count from₀ worst₀ scratch entries from worst =
     b .kinds .count - from
 
 loop-holds : tie.Need-loop-holds Inv-loop μ-loop
@@ -37,7 +37,7 @@ judge-rows-requires c κs =
     let at-pre = c .before .before .before .before .before .before .before .before .before .before .before .before .pre in
     let at-loop = c .before .before .loop in
     let at-args = c .before .before .before .before .before .before .before .before .before .before .before .before .args in
-    (at-pre .0, ((at-pre .1 .0, at-loop .inv .2), ((at-pre .1 .1 .0 .0, at-pre .1 .1 .0 .1, subst (λ (n : ℕ). all (fitsIn n) (recordIn (at-args .part .now)) ≡ true) (sym (at-loop .inv .0)) (at-pre .1 .1 .0 .2)), omega (arith, at-loop .inv .1, at-pre .1 .1 .1))))
+    (((at-pre .0, at-loop .inv .2), ((at-pre .1 .0 .0, at-pre .1 .0 .1, subst (λ (n : ℕ). all (fitsIn n) (recordIn (at-args .part .now)) ≡ true) (sym (at-loop .inv .0)) (at-pre .1 .0 .2)), omega (arith, at-loop .inv .1, at-pre .1 .1))))
 
 lesser-requires : tie.Need-lesser-requires Inv-loop μ-loop
 lesser-requires c κs = search needs
@@ -65,7 +65,7 @@ returns c =
     let d = at-args .d .now in
     let rs = records (readOf (at-args .part .now)) in
     record {
-      number-is = chunk-last d rs (at-args .b .kinds .count) (at-loop .worst) (at-loop .from) (at-loop .inv .3) (at-judge-rows .result) (at-judge-rows .ensures) (at-lesser .result) (at-lesser .ensures) (at-if1 .taken) ∙ part-all d rs (at-args .b .kinds .count) (at-pre .1 .0 .kinds-are .count);
+      number-is = chunk-last d rs (at-args .b .kinds .count) (at-loop .worst) (at-loop .from) (at-loop .inv .3) (at-judge-rows .result) (at-judge-rows .ensures) (at-lesser .result) (at-lesser .ensures) (at-if1 .taken) ∙ part-all d rs (at-args .b .kinds .count) (at-pre .0 .kinds-are .count);
       count-is = at-judge-rows .ensures .count-is;
     }
 

@@ -21,7 +21,7 @@ judge-members-requires : tie.Need-judge-members-requires
 judge-members-requires c κs =
     let at-pre = c .before .before .before .before .before .before .pre in
     let at-args = c .before .before .before .before .before .before .args in
-    (at-pre .0, (described-by (at-args .d .now) (at-pre .1 .0 .0) (at-pre .1 .0 .1), ((at-pre .1 .1 .0 .0, at-pre .1 .1 .0 .1, values-fit (length (at-args .scratch .now)) (at-pre .1 .1 .1 .0) (at-args .part .now) (at-pre .1 .1 .0 .2)), at-pre .1 .1 .1)))
+    ((described-by (at-args .d .now) (at-pre .0 .0) (at-pre .0 .1), ((at-pre .1 .0 .0, at-pre .1 .0 .1, values-fit (length (at-args .scratch .now)) (at-pre .1 .1 .0) (at-args .part .now) (at-pre .1 .0 .2)), at-pre .1 .1)))
 
 same-length : tie.Need-same-length
 same-length c = search needs
@@ -44,7 +44,7 @@ judge-whole-requires c κs =
     let at-if1 = c .before .before .if1 in
     let at-scratch = c .before .before .before .before .before .before .before .scratch in
     let at-entries = c .before .before .before .before .before .entries in
-    (at-pre .0, ((at-pre .1 .0 .0, at-pre .1 .0 .1, at-judge-members .ensures .count-is), ((at-pre .1 .1 .0 .0, at-pre .1 .1 .0 .1, have-keys (recordIn (at-args .d .now)) (records (readOf (at-args .part .now))) (at-judge-members .result .number) (at-judge-members .ensures .number-is) (at-if1 .left)), (omega (arith, at-scratch .given, at-pre .1 .1 .1 .0), omega (arith, at-entries .given, at-pre .1 .1 .1 .1)))))
+    (((at-pre .0 .0, at-pre .0 .1, at-judge-members .ensures .count-is), ((at-pre .1 .0 .0, at-pre .1 .0 .1, have-keys (recordIn (at-args .d .now)) (records (readOf (at-args .part .now))) (at-judge-members .result .number) (at-judge-members .ensures .number-is) (at-if1 .left)), (omega (arith, at-scratch .given, at-pre .1 .1 .0), omega (arith, at-entries .given, at-pre .1 .1 .1)))))
 
 same-length-3 : tie.Need-same-length-3
 same-length-3 c = search needs

@@ -16,7 +16,7 @@ use Rattle.descriptors.proofs.size_met.Reads as size-met-reads
 keys-apart-requires : tie.Need-keys-apart-requires
 keys-apart-requires c κs =
     let at-pre = c .before .before .before .before .before .before .pre in
-    (at-pre .0, ((at-pre .1 .0 .0, at-pre .1 .0 .1), (at-pre .1 .1 .0, at-pre .1 .1 .1)))
+    (((at-pre .0 .0, at-pre .0 .1), (at-pre .1 .0, at-pre .1 .1)))
 
 same-length : tie.Need-same-length
 same-length c = search needs
@@ -35,7 +35,7 @@ size-met-requires : tie.Need-size-met-requires
 size-met-requires c κs =
     let at-pre = c .before .before .before .before .before .before .before .before .before .before .before .before .before .pre in
     let at-scratch = c .before .before .before .before .before .scratch in
-    (at-pre .0, (at-pre .1 .0 .0 .reads, (at-pre .1 .0 .0 .fits, omega (arith, at-scratch .given, at-pre .1 .1 .1 .0))))
+    ((at-pre .0 .0 .reads, (at-pre .0 .0 .fits, omega (arith, at-scratch .given, at-pre .1 .1 .0))))
 
 same-length-3 : tie.Need-same-length-3
 same-length-3 c = search needs
@@ -51,7 +51,7 @@ returns-2 c =
     let at-pre = c .before .before .before .before .before .before .before .before .before .before .before .before .before .before .before .before .before .pre in
     let at-size-met = c .before .before .before .size-met in
     let at-if2 = c .if2 in
-    size-stop (recordIn (at-args .d .now)) (records (readOf (at-args .part .now))) (at-keys-apart .result) (at-keys-apart .ensures) (at-if1 .taken) (at-args .count) (at-pre .1 .0 .2) (at-size-met .result) (at-size-met .ensures .0) (at-if2 .left)
+    size-stop (recordIn (at-args .d .now)) (records (readOf (at-args .part .now))) (at-keys-apart .result) (at-keys-apart .ensures) (at-if1 .taken) (at-args .count) (at-pre .0 .2) (at-size-met .result) (at-size-met .ensures .0) (at-if2 .left)
 
 same-length-5 : tie.Need-same-length-5
 same-length-5 c = search needs
@@ -67,7 +67,7 @@ returns-3 c =
     let at-pre = c .before .before .before .before .before .before .before .before .before .before .before .before .before .before .before .before .before .pre in
     let at-size-met = c .before .before .before .size-met in
     let at-if2 = c .if2 in
-    whole-passes (recordIn (at-args .d .now)) (records (readOf (at-args .part .now))) (at-keys-apart .result) (at-keys-apart .ensures) (at-if1 .taken) (at-args .count) (at-pre .1 .0 .2) (at-size-met .result) (at-size-met .ensures .0) (at-if2 .taken)
+    whole-passes (recordIn (at-args .d .now)) (records (readOf (at-args .part .now))) (at-keys-apart .result) (at-keys-apart .ensures) (at-if1 .taken) (at-args .count) (at-pre .0 .2) (at-size-met .result) (at-size-met .ensures .0) (at-if2 .taken)
 
 pub judge-whole-spec : {M : Type 1} → statement M
 judge-whole-spec =

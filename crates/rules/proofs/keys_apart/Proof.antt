@@ -32,7 +32,7 @@ slice-aggregate-next-value c = search needs
 next-value-requires : tie.Need-next-value-requires
 next-value-requires c κs =
     let at-pre = c .before .before .before .before .before .pre in
-    (at-pre .0, (omega arith, at-pre .1 .0 .0 .reads))
+    ((omega arith, at-pre .0 .0 .reads))
 
 enum-known-v : tie.Need-enum-known-v
 enum-known-v c = search needs
@@ -75,8 +75,8 @@ copy-value-requires c κs =
     let at-v = c .before .before .before .v in
     let at-pre = c .before .before .before .before .before .before .before .before .before .before .before .pre in
     let h = value-told (at-args .d .now) (text "%key") 0 (at-next-value .result) (at-next-value .ensures) (at-v .given .1) in
-    let f = fits-at (at-args .d .now) (described-by (at-args .d .now) (at-pre .1 .0 .0) (at-pre .1 .0 .1)) (text "%key") 0 in
-    omega (arith, f, ap (λ (vs : List Bytes). length (getD vs 0 [])) (h .values), at-pre .1 .1 .1 .0)
+    let f = fits-at (at-args .d .now) (described-by (at-args .d .now) (at-pre .0 .0) (at-pre .0 .1)) (text "%key") 0 in
+    omega (arith, f, ap (λ (vs : List Bytes). length (getD vs 0 [])) (h .values), at-pre .1 .1 .0)
 
 slice-reshare-prefix-next-word : tie.Need-slice-reshare-prefix-next-word
 slice-reshare-prefix-next-word c =
@@ -86,9 +86,9 @@ slice-reshare-prefix-next-word c =
     let at-pre = c .before .before .before .before .before .before .before .before .before .before .before .before .before .before .pre in
     let at-copy-value = c .before .before .copy-value in
     let h = value-told (at-args .d .now) (text "%key") 0 (at-next-value .result) (at-next-value .ensures) (at-v .given .1) in
-    let f = fits-at (at-args .d .now) (described-by (at-args .d .now) (at-pre .1 .0 .0) (at-pre .1 .0 .1)) (text "%key") 0 in
+    let f = fits-at (at-args .d .now) (described-by (at-args .d .now) (at-pre .0 .0) (at-pre .0 .1)) (text "%key") 0 in
     let g = at-v .given .0 in
-    let fit : length (valueFrom (span (g .0) (g .1 .0) (at-args .d .now))) ≤ length (at-args .scratch .now) = omega (arith, f, ap (λ (vs : List Bytes). length (getD vs 0 [])) (h .values), at-pre .1 .1 .1 .0) in
+    let fit : length (valueFrom (span (g .0) (g .1 .0) (at-args .d .now))) ≤ length (at-args .scratch .now) = omega (arith, f, ap (λ (vs : List Bytes). length (getD vs 0 [])) (h .values), at-pre .1 .1 .0) in
     decoded-inside (valueFrom (span (g .0) (g .1 .0) (at-args .d .now))) (at-args .scratch .now) _ (at-copy-value .result) (at-copy-value .ensures .0) (at-copy-value .ensures .1) fit
 
 slice-aggregate-next-word : tie.Need-slice-aggregate-next-word
@@ -122,7 +122,7 @@ returns-2 c =
     let h = value-told (at-args .d .now) (text "%key") 0 (at-next-value .result) (at-next-value .ensures) (at-v .given .1) in
     let g = at-v .given .0 in
     let q = decoded-all (valueFrom (span (g .0) (g .1 .0) (at-args .d .now))) (at-args .scratch .now) _ (at-copy-value .result) (at-copy-value .ensures .0) (at-copy-value .ensures .1) in
-    no-word (at-args .d .now) (at-args .part .now) (g .0) (g .1 .0) h _ q (key-once-named (at-args .d .now) (at-pre .1 .0 .0)) (not-found _ 0 (at-next-word .ensures) (at-enum-told2 .given .1))
+    no-word (at-args .d .now) (at-args .part .now) (g .0) (g .1 .0) h _ q (key-once-named (at-args .d .now) (at-pre .0 .0)) (not-found _ 0 (at-next-word .ensures) (at-enum-told2 .given .1))
 
 sub-keys-distinct : tie.Need-sub-keys-distinct
 sub-keys-distinct c =
@@ -146,9 +146,9 @@ part-keys-distinct-end c =
     let at-next-word = c .before .before .before .before .next-word in
     let at-w = c .before .before .w in
     let h = value-told (at-args .d .now) (text "%key") 0 (at-next-value .result) (at-next-value .ensures) (at-v .given .1) in
-    let f = fits-at (at-args .d .now) (described-by (at-args .d .now) (at-pre .1 .0 .0) (at-pre .1 .0 .1)) (text "%key") 0 in
+    let f = fits-at (at-args .d .now) (described-by (at-args .d .now) (at-pre .0 .0) (at-pre .0 .1)) (text "%key") 0 in
     let g = at-v .given .0 in
-    let fit : length (valueFrom (span (g .0) (g .1 .0) (at-args .d .now))) ≤ length (at-args .scratch .now) = omega (arith, f, ap (λ (vs : List Bytes). length (getD vs 0 [])) (h .values), at-pre .1 .1 .1 .0) in
+    let fit : length (valueFrom (span (g .0) (g .1 .0) (at-args .d .now))) ≤ length (at-args .scratch .now) = omega (arith, f, ap (λ (vs : List Bytes). length (getD vs 0 [])) (h .values), at-pre .1 .1 .0) in
     let inside = decoded-inside (valueFrom (span (g .0) (g .1 .0) (at-args .d .now))) (at-args .scratch .now) _ (at-copy-value .result) (at-copy-value .ensures .0) (at-copy-value .ensures .1) fit in
     let long = decoded-length (valueFrom (span (g .0) (g .1 .0) (at-args .d .now))) (at-args .scratch .now) _ (at-copy-value .result) (at-copy-value .ensures .0) (at-copy-value .ensures .1) in
     let q = found _ 0 (at-next-word .ensures) (at-w .given .1) (omega arith) in
@@ -170,8 +170,8 @@ keys-distinct-requires c κs =
     let long = decoded-length (valueFrom (span (g .0) (g .1 .0) (at-args .d .now))) (at-args .scratch .now) _ (at-copy-value .result) (at-copy-value .ensures .0) (at-copy-value .ensures .1) in
     let q = found _ 0 (at-next-word .ensures) (at-w .given .1) (omega arith) in
     let here = word-span _ (at-copy-value .result) (x .0) (x .1 .0) (omega (arith, q .2, long)) (q .3) in
-    let room = key-room (at-args .d .now) (at-args .part .now) (g .0) (g .1 .0) h _ u _ _ here (key-few (at-args .d .now) (described-by (at-args .d .now) (at-pre .1 .0 .0) (at-pre .1 .0 .1))) (at-pre .1 .1 .0 .0) (at-pre .1 .1 .0 .1) (at-pre .1 .1 .0 .2) in
-    (at-pre .0, ((at-pre .1 .1 .0 .0, at-pre .1 .1 .0 .1), omega (arith, room, at-pre .1 .1 .1 .1)))
+    let room = key-room (at-args .d .now) (at-args .part .now) (g .0) (g .1 .0) h _ u _ _ here (key-few (at-args .d .now) (described-by (at-args .d .now) (at-pre .0 .0) (at-pre .0 .1))) (at-pre .1 .0 .0) (at-pre .1 .0 .1) (at-pre .1 .0 .2) in
+    (((at-pre .1 .0 .0, at-pre .1 .0 .1), omega (arith, room, at-pre .1 .1 .1)))
 
 same-length-2 : tie.Need-same-length-2
 same-length-2 c = search needs
@@ -196,7 +196,7 @@ returns-3 c =
     let long = decoded-length (valueFrom (span (g .0) (g .1 .0) (at-args .d .now))) (at-args .scratch .now) _ (at-copy-value .result) (at-copy-value .ensures .0) (at-copy-value .ensures .1) in
     let q = found _ 0 (at-next-word .ensures) (at-w .given .1) (omega arith) in
     let here = word-span _ (at-copy-value .result) (x .0) (x .1 .0) (omega (arith, q .2, long)) (q .3) in
-    key-values (at-args .d .now) (at-args .part .now) (g .0) (g .1 .0) h _ u _ _ here (key-few (at-args .d .now) (described-by (at-args .d .now) (at-pre .1 .0 .0) (at-pre .1 .0 .1))) (at-keys-distinct .result) (at-keys-distinct .ensures)
+    key-values (at-args .d .now) (at-args .part .now) (g .0) (g .1 .0) h _ u _ _ here (key-few (at-args .d .now) (described-by (at-args .d .now) (at-pre .0 .0) (at-pre .0 .1))) (at-keys-distinct .result) (at-keys-distinct .ensures)
 
 pub keys-apart-spec : {M : Type 1} → statement M
 keys-apart-spec =

@@ -14,10 +14,9 @@ is-readable-requires c κs = search needs
 
 dump-records-requires : tie.Need-dump-records-requires
 dump-records-requires c κs =
-    let at-pre = c .before .before .before .pre in
     let at-is-readable = c .before .is-readable in
     let at-if1 = c .if1 in
-    (at-pre, sym (at-is-readable .ensures) ∙ at-if1 .taken)
+    (sym (at-is-readable .ensures) ∙ at-if1 .taken)
 
 slice-aggregate-write-all : tie.Need-slice-aggregate-write-all
 slice-aggregate-write-all c = search needs

@@ -16,10 +16,10 @@ use Rattle.test_dump.proofs.dump_record.Reads as dump-record-reads
 use Rattle.records.proofs.next_record.Reads as next-record-reads
 
 abbrev Inv-loop : tie.InvT-loop
-Inv-loop table s i₀ i = (i ≤ length s) × (isReadable (drop i s) ≡ true)
+Inv-loop s i₀ i = (i ≤ length s) × (isReadable (drop i s) ≡ true)
 
 abbrev μ-loop : tie.MeasureT-loop
-μ-loop table s i₀ i = length s - i
+μ-loop s i₀ i = length s - i
 
 loop-holds : tie.Need-loop-holds Inv-loop μ-loop
 loop-holds c = search needs
@@ -35,10 +35,9 @@ part-next-record-end c = search needs
 
 next-record-requires : tie.Need-next-record-requires Inv-loop μ-loop
 next-record-requires c κs =
-    let at-pre = c .before .before .before .pre in
     let at-args = c .before .before .before .args in
     let at-loop = c .before .loop in
-    (at-pre .0, part-readable (at-args .s .now) (at-loop .i) (at-loop .inv .1))
+    (part-readable (at-args .s .now) (at-loop .i) (at-loop .inv .1))
 
 enum-known-r : tie.Need-enum-known-r Inv-loop μ-loop
 enum-known-r c = search needs
@@ -95,8 +94,7 @@ dump-record-requires c κs =
     let at-loop = c .before .before .before .before .before .before .before .before .loop in
     let at-next-record = c .before .before .before .before .before .before .next-record in
     let at-r = c .before .before .before .before .r in
-    let at-pre = c .before .before .before .before .before .before .before .before .before .before .pre in
-    let m = meets (at-args .s .now) (at-loop .i) (at-next-record .result) (at-loop .inv .0) (at-loop .inv .1) (at-next-record .ensures) (at-r .given .1) in (at-pre .0, reads-readable (m .stand .own-reads))
+    let m = meets (at-args .s .now) (at-loop .i) (at-next-record .result) (at-loop .inv .0) (at-loop .inv .1) (at-next-record .ensures) (at-r .given .1) in (reads-readable (m .stand .own-reads))
 
 add-i : tie.Need-add-i Inv-loop μ-loop
 add-i c =

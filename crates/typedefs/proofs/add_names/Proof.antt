@@ -17,25 +17,24 @@ use Rattle.terms.proofs.entry.Reads as entry-reads
 use Rattle.typedefs.proofs.next_value.Reads as next-value-reads
 
 abbrev Inv-loop : tie.InvT-loop
-Inv-loop table d entries₀ rows₀ i₀ count₀ t11 entries rows i count = Placed d entries₀ rows entries count i × (count ≤ length (valuesFrom d (text "%typedef") 0)) × (length entries ≡ length entries₀)
+Inv-loop d entries₀ rows₀ i₀ count₀ t11 entries rows i count = Placed d entries₀ rows entries count i × (count ≤ length (valuesFrom d (text "%typedef") 0)) × (length entries ≡ length entries₀)
 
 abbrev μ-loop : tie.MeasureT-loop
-μ-loop table d entries₀ rows₀ i₀ count₀ t11 entries rows i count = length d - i
+μ-loop d entries₀ rows₀ i₀ count₀ t11 entries rows i count = length d - i
 
 loop-holds : tie.Need-loop-holds Inv-loop μ-loop
 loop-holds c =
     let at-args = c .before .before .args in
     let at-pre = c .before .before .pre in
-    (placed-start (at-args .d .now) (at-args .entries .now) _ (at-pre .1 .0 .0) refl (at-pre .1 .1 .1), omega arith, refl)
+    (placed-start (at-args .d .now) (at-args .entries .now) _ (at-pre .0 .0) refl (at-pre .1 .1), omega arith, refl)
 
 slice-aggregate-next-value : tie.Need-slice-aggregate-next-value Inv-loop μ-loop
 slice-aggregate-next-value c = search needs
 
 next-value-requires : tie.Need-next-value-requires Inv-loop μ-loop
 next-value-requires c κs =
-    let at-pre = c .before .before .before .before .pre in
     let at-loop = c .before .loop in
-    (at-pre .0, (at-loop .inv .0 .passed .inside, at-loop .inv .0 .passed .readable))
+    ((at-loop .inv .0 .passed .inside, at-loop .inv .0 .passed .readable))
 
 enum-known-v : tie.Need-enum-known-v Inv-loop μ-loop
 enum-known-v c = search needs
@@ -55,7 +54,7 @@ returns c =
     let at-pre = c .before .before .before .before .before .before .before .pre in
     let at-next-value = c .before .before .next-value in
     let at-enum-told = c .enum-told in
-    placed-end (at-args .d .now) (at-args .entries .now) (at-loop .rows) (at-loop .entries) (at-loop .count) (at-loop .i) (at-loop .inv .0) (at-pre .1 .1 .0) (at-loop .inv .1) (value-told (at-args .d .now) (text "%typedef") (at-loop .i) (at-next-value .result) (at-next-value .ensures) (at-enum-told .given .1))
+    placed-end (at-args .d .now) (at-args .entries .now) (at-loop .rows) (at-loop .entries) (at-loop .count) (at-loop .i) (at-loop .inv .0) (at-pre .1 .0) (at-loop .inv .1) (value-told (at-args .d .now) (text "%typedef") (at-loop .i) (at-next-value .result) (at-next-value .ensures) (at-enum-told .given .1))
 
 pass-requires : tie.Need-pass-requires Inv-loop μ-loop
 pass-requires c κs =
@@ -72,7 +71,7 @@ mul-rows c =
     let at-next-value = c .before .before .before .before .next-value in
     let at-v = c .before .before .v in
     let at-pre = c .before .before .before .before .before .before .before .before .before .pre in
-    let h = value-told (at-args .d .now) (text "%typedef") (at-loop .i) (at-next-value .result) (at-next-value .ensures) (at-v .given .1) in omega (arith, passed-inside (at-args .d .now) (text "%typedef") (at-loop .count) (at-loop .i) (at-loop .inv .0 .passed) _ _ h, at-pre .1 .1 .0)
+    let h = value-told (at-args .d .now) (text "%typedef") (at-loop .i) (at-next-value .result) (at-next-value .ensures) (at-v .given .1) in omega (arith, passed-inside (at-args .d .now) (text "%typedef") (at-loop .count) (at-loop .i) (at-loop .inv .0 .passed) _ _ h, at-pre .1 .0)
 
 array-write-rows : tie.Need-array-write-rows Inv-loop μ-loop
 array-write-rows c =
@@ -81,7 +80,7 @@ array-write-rows c =
     let at-next-value = c .before .before .before .before .next-value in
     let at-v = c .before .before .v in
     let at-pre = c .before .before .before .before .before .before .before .before .before .pre in
-    let h = value-told (at-args .d .now) (text "%typedef") (at-loop .i) (at-next-value .result) (at-next-value .ensures) (at-v .given .1) in omega (arith, passed-inside (at-args .d .now) (text "%typedef") (at-loop .count) (at-loop .i) (at-loop .inv .0 .passed) _ _ h, at-pre .1 .1 .0)
+    let h = value-told (at-args .d .now) (text "%typedef") (at-loop .i) (at-next-value .result) (at-next-value .ensures) (at-v .given .1) in omega (arith, passed-inside (at-args .d .now) (text "%typedef") (at-loop .count) (at-loop .i) (at-loop .inv .0 .passed) _ _ h, at-pre .1 .0)
 
 cast-entry : tie.Need-cast-entry Inv-loop μ-loop
 cast-entry c =
@@ -90,7 +89,7 @@ cast-entry c =
     let at-next-value = c .before .before .before .before .next-value in
     let at-v = c .before .before .v in
     let at-pre = c .before .before .before .before .before .before .before .before .before .pre in
-    let h = value-told (at-args .d .now) (text "%typedef") (at-loop .i) (at-next-value .result) (at-next-value .ensures) (at-v .given .1) in omega (arith, passed-inside (at-args .d .now) (text "%typedef") (at-loop .count) (at-loop .i) (at-loop .inv .0 .passed) _ _ h, at-pre .1 .1 .0)
+    let h = value-told (at-args .d .now) (text "%typedef") (at-loop .i) (at-next-value .result) (at-next-value .ensures) (at-v .given .1) in omega (arith, passed-inside (at-args .d .now) (text "%typedef") (at-loop .count) (at-loop .i) (at-loop .inv .0 .passed) _ _ h, at-pre .1 .0)
 
 entry-requires : tie.Need-entry-requires Inv-loop μ-loop
 entry-requires c κs =
@@ -101,7 +100,7 @@ entry-requires c κs =
     let at-pass = c .pass in
     let at-pre = c .before .before .before .before .before .before .before .before .before .pre in
     let h = value-told (at-args .d .now) (text "%typedef") (at-loop .i) (at-next-value .result) (at-next-value .ensures) (at-v .given .1) in
-    (omega (arith, start-inside (at-args .d .now) (at-args .entries .now) (at-loop .rows) (at-loop .entries) (at-loop .count) (at-loop .i) (at-loop .inv .0) _ _ h (at-pass .result) (at-pass .ensures .0), at-pre .1 .0 .1), omega (arith, passed-inside (at-args .d .now) (text "%typedef") (at-loop .count) (at-loop .i) (at-loop .inv .0 .passed) _ _ h, at-pre .1 .1 .0))
+    (omega (arith, start-inside (at-args .d .now) (at-args .entries .now) (at-loop .rows) (at-loop .entries) (at-loop .count) (at-loop .i) (at-loop .inv .0) _ _ h (at-pass .result) (at-pass .ensures .0), at-pre .0 .1), omega (arith, passed-inside (at-args .d .now) (text "%typedef") (at-loop .count) (at-loop .i) (at-loop .inv .0 .passed) _ _ h, at-pre .1 .0))
 
 mul-entries : tie.Need-mul-entries Inv-loop μ-loop
 mul-entries c =
@@ -110,7 +109,7 @@ mul-entries c =
     let at-next-value = c .before .before .before .before .before .next-value in
     let at-v = c .before .before .before .v in
     let at-pre = c .before .before .before .before .before .before .before .before .before .before .pre in
-    let h = value-told (at-args .d .now) (text "%typedef") (at-loop .i) (at-next-value .result) (at-next-value .ensures) (at-v .given .1) in omega (arith, passed-inside (at-args .d .now) (text "%typedef") (at-loop .count) (at-loop .i) (at-loop .inv .0 .passed) _ _ h, at-pre .1 .1 .0)
+    let h = value-told (at-args .d .now) (text "%typedef") (at-loop .i) (at-next-value .result) (at-next-value .ensures) (at-v .given .1) in omega (arith, passed-inside (at-args .d .now) (text "%typedef") (at-loop .count) (at-loop .i) (at-loop .inv .0 .passed) _ _ h, at-pre .1 .0)
 
 slice-write-entries : tie.Need-slice-write-entries Inv-loop μ-loop
 slice-write-entries c =
@@ -119,7 +118,7 @@ slice-write-entries c =
     let at-next-value = c .before .before .before .before .before .next-value in
     let at-v = c .before .before .before .v in
     let at-pre = c .before .before .before .before .before .before .before .before .before .before .pre in
-    let h = value-told (at-args .d .now) (text "%typedef") (at-loop .i) (at-next-value .result) (at-next-value .ensures) (at-v .given .1) in omega (arith, passed-inside (at-args .d .now) (text "%typedef") (at-loop .count) (at-loop .i) (at-loop .inv .0 .passed) _ _ h, at-pre .1 .1 .0, at-pre .1 .1 .2, at-loop .inv .2)
+    let h = value-told (at-args .d .now) (text "%typedef") (at-loop .i) (at-next-value .result) (at-next-value .ensures) (at-v .given .1) in omega (arith, passed-inside (at-args .d .now) (text "%typedef") (at-loop .count) (at-loop .i) (at-loop .inv .0 .passed) _ _ h, at-pre .1 .0, at-pre .1 .2, at-loop .inv .2)
 
 add-count : tie.Need-add-count Inv-loop μ-loop
 add-count c =
@@ -128,7 +127,7 @@ add-count c =
     let at-next-value = c .before .before .before .before .before .next-value in
     let at-v = c .before .before .before .v in
     let at-pre = c .before .before .before .before .before .before .before .before .before .before .pre in
-    let h = value-told (at-args .d .now) (text "%typedef") (at-loop .i) (at-next-value .result) (at-next-value .ensures) (at-v .given .1) in omega (arith, passed-inside (at-args .d .now) (text "%typedef") (at-loop .count) (at-loop .i) (at-loop .inv .0 .passed) _ _ h, at-pre .1 .1 .0)
+    let h = value-told (at-args .d .now) (text "%typedef") (at-loop .i) (at-next-value .result) (at-next-value .ensures) (at-v .given .1) in omega (arith, passed-inside (at-args .d .now) (text "%typedef") (at-loop .count) (at-loop .i) (at-loop .inv .0 .passed) _ _ h, at-pre .1 .0)
 
 loop-less : tie.Need-loop-less Inv-loop μ-loop
 loop-less c =
@@ -149,7 +148,7 @@ loop-again c =
     let at-entry = c .entry in
     let h = value-told (at-args .d .now) (text "%typedef") (at-loop .i) (at-next-value .result) (at-next-value .ensures) (at-v .given .1) in
     let l = passed-inside (at-args .d .now) (text "%typedef") (at-loop .count) (at-loop .i) (at-loop .inv .0 .passed) _ _ h in
-    (placed-more (at-args .d .now) (at-args .entries .now) (at-loop .rows) (at-loop .entries) (at-loop .count) (at-loop .i) (at-loop .inv .0) _ _ h (at-pass .result) (at-pass .ensures .0) (omega (arith, l, at-pre .1 .1 .0, at-pre .1 .1 .2, at-loop .inv .2)) (omega (arith, l, at-pre .1 .1 .0)) (at-entry .result) (at-entry .ensures .1) (at-entry .ensures .2), omega (arith, l), simp length-set (at-loop .inv .2))
+    (placed-more (at-args .d .now) (at-args .entries .now) (at-loop .rows) (at-loop .entries) (at-loop .count) (at-loop .i) (at-loop .inv .0) _ _ h (at-pass .result) (at-pass .ensures .0) (omega (arith, l, at-pre .1 .0, at-pre .1 .2, at-loop .inv .2)) (omega (arith, l, at-pre .1 .0)) (at-entry .result) (at-entry .ensures .1) (at-entry .ensures .2), omega (arith, l), simp length-set (at-loop .inv .2))
 
 pub add-names-spec : {M : Type 1} → statement M
 add-names-spec =

@@ -23,24 +23,23 @@ use Rattle.typedefs.proofs.next_value.Reads as next-value-reads
 use Rattle.typedefs.proofs.type_well.Reads as type-well-reads
 
 abbrev Inv-loop : tie.InvT-loop
-Inv-loop table d names targets scratch₀ i₀ t10 scratch i = (i ≤ length d) × (isReadable (drop i d) ≡ true) × (length scratch ≡ length scratch₀) × (fitFrom (length scratch₀) d (text "%type") i ≡ true) × (all (wellBy (namesFrom d 0) targets) (valuesFrom d (text "%type") 0) ≡ all (wellBy (namesFrom d 0) targets) (valuesFrom d (text "%type") i))
+Inv-loop d names targets scratch₀ i₀ t10 scratch i = (i ≤ length d) × (isReadable (drop i d) ≡ true) × (length scratch ≡ length scratch₀) × (fitFrom (length scratch₀) d (text "%type") i ≡ true) × (all (wellBy (namesFrom d 0) targets) (valuesFrom d (text "%type") 0) ≡ all (wellBy (namesFrom d 0) targets) (valuesFrom d (text "%type") i))
 
 abbrev μ-loop : tie.MeasureT-loop
-μ-loop table d names targets scratch₀ i₀ t10 scratch i = length d - i
+μ-loop d names targets scratch₀ i₀ t10 scratch i = length d - i
 
 loop-holds : tie.Need-loop-holds Inv-loop μ-loop
 loop-holds c =
     let at-pre = c .before .before .before .pre in
-    (omega arith, at-pre .1 .0 .0, refl, at-pre .1 .1, refl)
+    (omega arith, at-pre .0 .0, refl, at-pre .1, refl)
 
 slice-aggregate-next-value : tie.Need-slice-aggregate-next-value Inv-loop μ-loop
 slice-aggregate-next-value c = search needs
 
 next-value-requires : tie.Need-next-value-requires Inv-loop μ-loop
 next-value-requires c κs =
-    let at-pre = c .before .before .before .before .before .pre in
     let at-loop = c .before .loop in
-    (at-pre .0, (at-loop .inv .0, at-loop .inv .1))
+    ((at-loop .inv .0, at-loop .inv .1))
 
 enum-known-v : tie.Need-enum-known-v Inv-loop μ-loop
 enum-known-v c = search needs
@@ -73,7 +72,7 @@ type-well-requires c κs =
     let g = at-v .given in
     let h = value-told d (text "%type") (at-loop .i) (at-next-value .result) (at-next-value .ensures) (g .1) in
     let f = fit-here (length (at-args .scratch .now)) (valuesFrom d (text "%type") (at-loop .i)) (valueFrom (span (g .0 .0) (g .0 .1 .0) d)) (valuesFrom d (text "%type") (g .0 .1 .0)) (at-loop .inv .3) (h .values) in
-    (at-pre .0, (at-pre .1 .0 .1, (omega (arith, h .value-there), omega (arith, f .0, at-loop .inv .2, ap length (h .ends-itself)))))
+    ((at-pre .0 .1, (omega (arith, h .value-there), omega (arith, f .0, at-loop .inv .2, ap length (h .ends-itself)))))
 
 same-length-2 : tie.Need-same-length-2 Inv-loop μ-loop
 same-length-2 c =

@@ -27,24 +27,23 @@ use Rattle.typedefs.proofs.name_good.Reads as name-good-reads
 use Rattle.typedefs.proofs.next_value.Reads as next-value-reads
 
 abbrev Inv-loop : tie.InvT-loop
-Inv-loop table d scratch₀ i₀ t9 scratch i = (i ≤ length d) × (isReadable (drop i d) ≡ true) × (length scratch ≡ length scratch₀) × (fitFrom (length scratch₀) d (text "%typedef") i ≡ true) × (all isTypedefName (namesFrom d 0) ≡ all isTypedefName (namesFrom d i))
+Inv-loop d scratch₀ i₀ t9 scratch i = (i ≤ length d) × (isReadable (drop i d) ≡ true) × (length scratch ≡ length scratch₀) × (fitFrom (length scratch₀) d (text "%typedef") i ≡ true) × (all isTypedefName (namesFrom d 0) ≡ all isTypedefName (namesFrom d i))
 
 abbrev μ-loop : tie.MeasureT-loop
-μ-loop table d scratch₀ i₀ t9 scratch i = length d - i
+μ-loop d scratch₀ i₀ t9 scratch i = length d - i
 
 loop-holds : tie.Need-loop-holds Inv-loop μ-loop
 loop-holds c =
     let at-pre = c .before .before .pre in
-    (omega arith, at-pre .1 .0, refl, at-pre .1 .1, refl)
+    (omega arith, at-pre .0, refl, at-pre .1, refl)
 
 slice-aggregate-next-value : tie.Need-slice-aggregate-next-value Inv-loop μ-loop
 slice-aggregate-next-value c = search needs
 
 next-value-requires : tie.Need-next-value-requires Inv-loop μ-loop
 next-value-requires c κs =
-    let at-pre = c .before .before .before .before .pre in
     let at-loop = c .before .loop in
-    (at-pre .0, (at-loop .inv .0, at-loop .inv .1))
+    ((at-loop .inv .0, at-loop .inv .1))
 
 enum-known-v : tie.Need-enum-known-v Inv-loop μ-loop
 enum-known-v c = search needs
@@ -123,9 +122,7 @@ slice-aggregate-name-good c =
     decoded-length (valueFrom (span (g .0 .0) (g .0 .1 .0) (at-args .d .now))) (at-loop .scratch) _ (at-copy-value .result) (at-copy-value .ensures .0) (at-copy-value .ensures .1)
 
 name-good-requires : tie.Need-name-good-requires Inv-loop μ-loop
-name-good-requires c κs =
-    let at-pre = c .before .before .before .before .before .before .before .before .before .before .before .before .before .before .pre in
-    at-pre .0
+name-good-requires c κs = search needs
 
 same-length-2 : tie.Need-same-length-2 Inv-loop μ-loop
 same-length-2 c =

@@ -18,21 +18,20 @@ use Rattle.lines.proofs.same_bytes.Reads as same-bytes-reads
 use Rattle.records.proofs.next_field.Reads as next-field-reads
 
 abbrev Inv-loop : tie.InvT-loop
-Inv-loop table s name i at₀ at = (i ≤ at) × (at ≤ length s) × (isReadable (drop at s) ≡ true) × (valuesFrom s name i ≡ valuesFrom s name at)
+Inv-loop s name i at₀ at = (i ≤ at) × (at ≤ length s) × (isReadable (drop at s) ≡ true) × (valuesFrom s name i ≡ valuesFrom s name at)
 
 abbrev μ-loop : tie.MeasureT-loop
-μ-loop table s name i at₀ at = length s - at
+μ-loop s name i at₀ at = length s - at
 
 loop-holds : tie.Need-loop-holds Inv-loop μ-loop
 loop-holds c =
     let at-pre = c .before .before .pre in
-    (omega arith, at-pre .1 .0, at-pre .1 .1, refl)
+    (omega arith, at-pre .0, at-pre .1, refl)
 
 next-field-requires : tie.Need-next-field-requires Inv-loop μ-loop
 next-field-requires c κs =
-    let at-pre = c .before .before .before .pre in
     let at-loop = c .loop in
-    (at-pre .0, (at-loop .inv .1, at-loop .inv .2))
+    ((at-loop .inv .1, at-loop .inv .2))
 
 enum-known-f : tie.Need-enum-known-f Inv-loop μ-loop
 enum-known-f c = search needs

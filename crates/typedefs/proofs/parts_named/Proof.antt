@@ -19,10 +19,10 @@ use Rattle.words.proofs.is_name.Reads as is-name-reads
 use Rattle.words.proofs.part_end.Reads as part-end-reads
 
 abbrev Inv-loop : tie.InvT-loop
-Inv-loop table s i₀ i = (i ≤ length s) × (all isName (split 44 s) ≡ all isName (split 44 (drop i s)))
+Inv-loop s i₀ i = (i ≤ length s) × (all isName (split 44 s) ≡ all isName (split 44 (drop i s)))
 
 abbrev μ-loop : tie.MeasureT-loop
-μ-loop table s i₀ i = length s - i
+μ-loop s i₀ i = length s - i
 
 loop-holds : tie.Need-loop-holds Inv-loop μ-loop
 loop-holds c = (omega arith, refl)

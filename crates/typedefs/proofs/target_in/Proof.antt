@@ -19,9 +19,7 @@ use Rattle.typedefs.proofs.index_from.Reads as index-from-reads
 use Rattle.types.proofs.type_of.Reads as type-of-reads
 
 type-of-requires : tie.Need-type-of-requires
-type-of-requires c κs =
-    let at-pre = c .before .before .pre in
-    at-pre .0
+type-of-requires c κs = search needs
 
 enum-known-t : tie.Need-enum-known-t
 enum-known-t c = search needs
@@ -66,7 +64,7 @@ part-index-from-end c =
 index-from-requires : tie.Need-index-from-requires
 index-from-requires c κs =
     let at-pre = c .before .before .before .before .before .before .before .before .before .before .pre in
-    (at-pre .1, omega arith)
+    (at-pre, omega arith)
 
 returns-2 : tie.Need-returns-2
 returns-2 c =

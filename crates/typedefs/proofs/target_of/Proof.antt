@@ -35,14 +35,14 @@ copy-value-requires : tie.Need-copy-value-requires
 copy-value-requires c κs =
     let at-args = c .before .before .before .before .args in
     let at-pre = c .before .before .before .before .pre in
-    subst (λ (x : Bytes). length (valueFrom x) ≤ length (at-args .scratch .now)) (sym (rest (at-args .d .now) (at-args .value))) (at-pre .1 .1 .1)
+    subst (λ (x : Bytes). length (valueFrom x) ≤ length (at-args .scratch .now)) (sym (rest (at-args .d .now) (at-args .value))) (at-pre .1 .1)
 
 slice-reshare-prefix-behind-word : tie.Need-slice-reshare-prefix-behind-word
 slice-reshare-prefix-behind-word c =
     let at-args = c .before .before .before .before .before .before .before .args in
     let at-copy-value = c .before .before .copy-value in
     let at-pre = c .before .before .before .before .before .before .before .pre in
-    decoded-inside (valueFrom (span (at-args .value) (length (at-args .d .now)) (at-args .d .now))) (at-args .scratch .now) _ (at-copy-value .result) (at-copy-value .ensures .0) (at-copy-value .ensures .1) (subst (λ (x : Bytes). length (valueFrom x) ≤ length (at-args .scratch .now)) (sym (rest (at-args .d .now) (at-args .value))) (at-pre .1 .1 .1))
+    decoded-inside (valueFrom (span (at-args .value) (length (at-args .d .now)) (at-args .d .now))) (at-args .scratch .now) _ (at-copy-value .result) (at-copy-value .ensures .0) (at-copy-value .ensures .1) (subst (λ (x : Bytes). length (valueFrom x) ≤ length (at-args .scratch .now)) (sym (rest (at-args .d .now) (at-args .value))) (at-pre .1 .1))
 
 slice-aggregate-behind-word : tie.Need-slice-aggregate-behind-word
 slice-aggregate-behind-word c =
@@ -74,12 +74,12 @@ part-target-in-end c =
     let at-args = c .before .before .before .before .before .before .before .before .before .before .args in
     let at-copy-value = c .before .before .before .before .before .copy-value in
     let at-pre = c .before .before .before .before .before .before .before .before .before .before .pre in
-    decoded-inside (valueFrom (span (at-args .value) (length (at-args .d .now)) (at-args .d .now))) (at-args .scratch .now) _ (at-copy-value .result) (at-copy-value .ensures .0) (at-copy-value .ensures .1) (subst (λ (x : Bytes). length (valueFrom x) ≤ length (at-args .scratch .now)) (sym (rest (at-args .d .now) (at-args .value))) (at-pre .1 .1 .1))
+    decoded-inside (valueFrom (span (at-args .value) (length (at-args .d .now)) (at-args .d .now))) (at-args .scratch .now) _ (at-copy-value .result) (at-copy-value .ensures .0) (at-copy-value .ensures .1) (subst (λ (x : Bytes). length (valueFrom x) ≤ length (at-args .scratch .now)) (sym (rest (at-args .d .now) (at-args .value))) (at-pre .1 .1))
 
 target-in-requires : tie.Need-target-in-requires
 target-in-requires c κs =
     let at-pre = c .before .before .before .before .before .before .before .before .before .before .before .pre in
-    (at-pre .0, at-pre .1 .0)
+    (at-pre .0)
 
 same-length : tie.Need-same-length
 same-length c = search needs

@@ -37,14 +37,14 @@ copy-value-requires : tie.Need-copy-value-requires
 copy-value-requires c κs =
     let at-args = c .before .before .before .before .before .args in
     let at-pre = c .before .before .before .before .before .pre in
-    subst (λ (x : Bytes). length (valueFrom x) ≤ length (at-args .scratch .now)) (sym (rest (at-args .d .now) (at-args .value))) (at-pre .1 .1 .1)
+    subst (λ (x : Bytes). length (valueFrom x) ≤ length (at-args .scratch .now)) (sym (rest (at-args .d .now) (at-args .value))) (at-pre .1 .1)
 
 slice-reshare-prefix-names-well : tie.Need-slice-reshare-prefix-names-well
 slice-reshare-prefix-names-well c =
     let at-args = c .before .before .before .before .before .before .before .before .args in
     let at-copy-value = c .before .before .copy-value in
     let at-pre = c .before .before .before .before .before .before .before .before .pre in
-    decoded-inside (valueFrom (span (at-args .value) (length (at-args .d .now)) (at-args .d .now))) (at-args .scratch .now) _ (at-copy-value .result) (at-copy-value .ensures .0) (at-copy-value .ensures .1) (subst (λ (x : Bytes). length (valueFrom x) ≤ length (at-args .scratch .now)) (sym (rest (at-args .d .now) (at-args .value))) (at-pre .1 .1 .1))
+    decoded-inside (valueFrom (span (at-args .value) (length (at-args .d .now)) (at-args .d .now))) (at-args .scratch .now) _ (at-copy-value .result) (at-copy-value .ensures .0) (at-copy-value .ensures .1) (subst (λ (x : Bytes). length (valueFrom x) ≤ length (at-args .scratch .now)) (sym (rest (at-args .d .now) (at-args .value))) (at-pre .1 .1))
 
 slice-aggregate-names-well : tie.Need-slice-aggregate-names-well
 slice-aggregate-names-well c =
@@ -53,9 +53,7 @@ slice-aggregate-names-well c =
     decoded-length (valueFrom (span (at-args .value) (length (at-args .d .now)) (at-args .d .now))) (at-args .scratch .now) _ (at-copy-value .result) (at-copy-value .ensures .0) (at-copy-value .ensures .1)
 
 names-well-requires : tie.Need-names-well-requires
-names-well-requires c κs =
-    let at-pre = c .before .before .before .before .before .before .before .before .before .pre in
-    at-pre .0
+names-well-requires c κs = search needs
 
 same-length : tie.Need-same-length
 same-length c = search needs
@@ -76,7 +74,7 @@ target-of-requires : tie.Need-target-of-requires
 target-of-requires c κs =
     let at-pre = c .before .before .before .before .before .before .before .before .before .before .before .before .pre in
     let at-scratch = c .before .before .before .before .before .scratch in
-    (at-pre .0, (at-pre .1 .0, (at-pre .1 .1 .0, omega (arith, at-scratch .given, at-pre .1 .1 .1))))
+    ((at-pre .0, (at-pre .1 .0, omega (arith, at-scratch .given, at-pre .1 .1))))
 
 target-ends-requires : tie.Need-target-ends-requires
 target-ends-requires c κs = search needs

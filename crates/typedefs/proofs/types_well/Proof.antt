@@ -31,7 +31,7 @@ use Rattle.typedefs.proofs.read_targets.Reads as read-targets-reads
 names-good-requires : tie.Need-names-good-requires
 names-good-requires c κs =
     let at-pre = c .before .before .before .pre in
-    (at-pre .0, (at-pre .1 .0 .0, at-pre .1 .1 .0 .1))
+    ((at-pre .0 .0, at-pre .1 .0 .1))
 
 same-length : tie.Need-same-length
 same-length c =
@@ -49,7 +49,7 @@ returns c =
     let ns = namesFrom d 0 in
     let ts = map (targetIn ns) vs in
     let ends = all (endsIn ts) (upFrom (length ts) 0) in
-    sym (not-defined (fieldsOf (readOf d)) (defined-by vs (at-pre .1 .1 .0 .0) (at-names-good .result) (distinct ns) ends (at-names-good .ensures) refl refl ∙ ap (λ (t : Bool). (t && distinct ns) && ends) (not-true (at-names-good .result) (at-if1 .taken))))
+    sym (not-defined (fieldsOf (readOf d)) (defined-by vs (at-pre .1 .0 .0) (at-names-good .result) (distinct ns) ends (at-names-good .ensures) refl refl ∙ ap (λ (t : Bool). (t && distinct ns) && ends) (not-true (at-names-good .result) (at-if1 .taken))))
 
 read-names-requires : tie.Need-read-names-requires
 read-names-requires c κs =
@@ -57,7 +57,7 @@ read-names-requires c κs =
     let at-args = c .before .before .before .before .before .before .before .args in
     let at-names-good = c .before .before .before .names-good in
     let at-if1 = c .if1 in
-    (at-pre .0, (at-pre .1 .0, (at-pre .1 .1 .0 .0, type-names (namesFrom (at-args .d .now) 0) (sym (at-names-good .ensures) ∙ not-false (at-names-good .result) (at-if1 .left)))))
+    ((at-pre .0, (at-pre .1 .0 .0, type-names (namesFrom (at-args .d .now) 0) (sym (at-names-good .ensures) ∙ not-false (at-names-good .result) (at-if1 .left)))))
 
 names-apart-requires : tie.Need-names-apart-requires
 names-apart-requires c κs =
@@ -65,7 +65,7 @@ names-apart-requires c κs =
     let at-args = c .before .before .before .before .before .before .before .before .before .args in
     let at-scratch = c .before .before .before .before .scratch in
     let at-pre = c .before .before .before .before .before .before .before .before .before .pre in
-    (at-read-names .ensures, ap (λ (m : ℕ). fitFrom m (at-args .d .now) (text "%typedef") 0) (at-scratch .given) ∙ at-pre .1 .1 .0 .1)
+    (at-read-names .ensures, ap (λ (m : ℕ). fitFrom m (at-args .d .now) (text "%typedef") 0) (at-scratch .given) ∙ at-pre .1 .0 .1)
 
 same-length-2 : tie.Need-same-length-2
 same-length-2 c =
@@ -86,7 +86,7 @@ returns-2 c =
     let ns = namesFrom d 0 in
     let ts = map (targetIn ns) vs in
     let ends = all (endsIn ts) (upFrom (length ts) 0) in
-    sym (not-defined (fieldsOf (readOf d)) (defined-by vs (at-pre .1 .1 .0 .0) (at-names-good .result) (at-names-apart .result) ends (at-names-good .ensures) (at-names-apart .ensures) refl
+    sym (not-defined (fieldsOf (readOf d)) (defined-by vs (at-pre .1 .0 .0) (at-names-good .result) (at-names-apart .result) ends (at-names-good .ensures) (at-names-apart .ensures) refl
     ∙ ap (λ (t : Bool). (t && at-names-apart .result) && ends) (not-false (at-names-good .result) (at-if1 .left)) ∙ ap (λ (t : Bool). (true && t) && ends) (not-true (at-names-apart .result) (at-if2 .taken))))
 
 read-targets-requires : tie.Need-read-targets-requires
@@ -96,7 +96,7 @@ read-targets-requires c κs =
     let at-args = c .before .before .before .before .before .before .before .before .before .before .before .before .before .before .args in
     let at-scratch2 = c .before .before .before .scratch2 in
     let at-scratch = c .before .before .before .before .before .before .before .before .before .scratch in
-    (at-pre .0, (at-read-names .ensures, ap (λ (m : ℕ). fitFrom m (at-args .d .now) (text "%typedef") 0) (at-scratch2 .given ∙ at-scratch .given) ∙ at-pre .1 .1 .0 .1))
+    ((at-read-names .ensures, ap (λ (m : ℕ). fitFrom m (at-args .d .now) (text "%typedef") 0) (at-scratch2 .given ∙ at-scratch .given) ∙ at-pre .1 .0 .1))
 
 array-share-prefix-rows : tie.Need-array-share-prefix-rows
 array-share-prefix-rows c =
@@ -132,7 +132,7 @@ returns-3 c =
     let d = at-args .d .now in
     let vs = valuesFrom d (text "%typedef") 0 in
     let e = ap (λ (xs : List ℕ). all (endsIn xs) (upFrom (length xs) 0)) (at-read-targets .ensures .2) in
-    sym (not-defined (fieldsOf (readOf d)) (defined-by vs (at-pre .1 .1 .0 .0) (at-names-good .result) (at-names-apart .result) (at-all-end .result) (at-names-good .ensures) (at-names-apart .ensures) (at-all-end .ensures ∙ e)
+    sym (not-defined (fieldsOf (readOf d)) (defined-by vs (at-pre .1 .0 .0) (at-names-good .result) (at-names-apart .result) (at-all-end .result) (at-names-good .ensures) (at-names-apart .ensures) (at-all-end .ensures ∙ e)
     ∙ ap (λ (t : Bool). (t && at-names-apart .result) && at-all-end .result) (not-false (at-names-good .result) (at-if1 .left)) ∙ ap (λ (t : Bool). (true && t) && at-all-end .result) (not-false (at-names-apart .result) (at-if2 .left)) ∙ not-true (at-all-end .result) (at-if3 .taken)))
 
 all-well-requires : tie.Need-all-well-requires
@@ -143,7 +143,7 @@ all-well-requires c κs =
     let at-scratch3 = c .before .before .before .before .before .before .scratch3 in
     let at-scratch2 = c .before .before .before .before .before .before .before .before .before .before .before .scratch2 in
     let at-scratch = c .before .before .before .before .before .before .before .before .before .before .before .before .before .before .before .before .before .scratch in
-    (at-pre .0, ((at-pre .1 .0 .0, at-read-names .ensures), ap (λ (m : ℕ). fitFrom m (at-args .d .now) (text "%type") 0) (at-scratch3 .given ∙ at-scratch2 .given ∙ at-scratch .given) ∙ at-pre .1 .1 .1))
+    (((at-pre .0 .0, at-read-names .ensures), ap (λ (m : ℕ). fitFrom m (at-args .d .now) (text "%type") 0) (at-scratch3 .given ∙ at-scratch2 .given ∙ at-scratch .given) ∙ at-pre .1 .1))
 
 same-length-4 : tie.Need-same-length-4
 same-length-4 c =
@@ -170,7 +170,7 @@ returns-4 c =
     let ns = namesFrom d 0 in
     let e = ap (λ (xs : List ℕ). all (endsIn xs) (upFrom (length xs) 0)) (at-read-targets .ensures .2) in
     at-all-well .ensures ∙ ap (λ (xs : List ℕ). all (wellBy ns xs) (valuesFrom d (text "%type") 0)) (at-read-targets .ensures .2)
-    ∙ sym (well-types (fieldsOf (readOf d)) (at-pre .1 .1 .0 .0) (defined-by vs (at-pre .1 .1 .0 .0) (at-names-good .result) (at-names-apart .result) (at-all-end .result) (at-names-good .ensures) (at-names-apart .ensures) (at-all-end .ensures ∙ e)
+    ∙ sym (well-types (fieldsOf (readOf d)) (at-pre .1 .0 .0) (defined-by vs (at-pre .1 .0 .0) (at-names-good .result) (at-names-apart .result) (at-all-end .result) (at-names-good .ensures) (at-names-apart .ensures) (at-all-end .ensures ∙ e)
     ∙ ap (λ (t : Bool). (t && at-names-apart .result) && at-all-end .result) (not-false (at-names-good .result) (at-if1 .left)) ∙ ap (λ (t : Bool). (true && t) && at-all-end .result) (not-false (at-names-apart .result) (at-if2 .left)) ∙ not-false (at-all-end .result) (at-if3 .left)))
 
 pub types-well-spec : {M : Type 1} → statement M

@@ -9,10 +9,14 @@ use Rattle.words.proofs.is_name.Reads as reads
 use Rattle.words.proofs.is_name.Lts as lts
 use Rattle.format.proofs.is_first.Reads as is-first-reads
 use Rattle.words.proofs.later_bytes.Reads as later-bytes-reads
+use Rattle.format.proofs.classes.Reads as classes-reads
+
+classes-requires : tie.Need-classes-requires
+classes-requires c κs = search needs
 
 returns : tie.Need-returns
 returns c =
-    let at-args = c .before .before .args in
+    let at-args = c .before .before .before .args in
     let at-if1 = c .if1 in
     sym (name-not-empty (at-args .s .now) (at-if1 .taken))
 
@@ -27,15 +31,15 @@ later-bytes-requires c κs = search needs
 
 returns-2 : tie.Need-returns-2
 returns-2 c =
-    let at-args = c .before .before .before .before .before .before .args in
-    let at-is-first = c .before .before .is-first in
-    let at-if2 = c .before .if2 in
+    let at-args = c .before .before .before .before .before .before .before .before .before .args in
+    let at-is-first = c .before .before .before .is-first in
+    let at-if2 = c .before .before .if2 in
     let at-later-bytes = c .later-bytes in
     rw (name-by (at-args .s .now) (omega arith), ← at-is-first .ensures, at-if2 .taken, ← at-later-bytes .ensures)
 
 returns-3 : tie.Need-returns-3
 returns-3 c =
-    let at-args = c .before .before .before .before .before .args in
+    let at-args = c .before .before .before .before .before .before .before .args in
     let at-is-first = c .before .is-first in
     let at-if2 = c .if2 in
     rw (name-by (at-args .s .now) (omega arith), ← at-is-first .ensures, at-if2 .left)
@@ -44,6 +48,7 @@ pub is-name-spec : {M : Type 1} → statement M
 is-name-spec =
     tie.close
     (tie.spec
+    classes-requires
     returns
     shared-slice-read-is-first
     is-first-requires

@@ -12,10 +12,14 @@ use Rattle.words.proofs.is_type_name.Reads as reads
 use Rattle.words.proofs.is_type_name.Lts as lts
 use Rattle.format.proofs.class_of.Reads as class-of-reads
 use Rattle.words.proofs.later_bytes.Reads as later-bytes-reads
+use Rattle.format.proofs.classes.Reads as classes-reads
+
+classes-requires : tie.Need-classes-requires
+classes-requires c κs = search needs
 
 returns : tie.Need-returns
 returns c =
-    let at-args = c .before .before .args in
+    let at-args = c .before .before .before .args in
     let at-if1 = c .if1 in
     sym (type-name-not-empty (at-args .s .now) (at-if1 .taken))
 
@@ -30,17 +34,17 @@ later-bytes-requires c κs = search needs
 
 returns-2 : tie.Need-returns-2
 returns-2 c =
-    let at-args = c .before .before .before .before .before .before .args in
-    let at-shared-slice-known2 = c .before .before .before .shared-slice-known2 in
-    let at-class-of = c .before .before .class-of in
-    let at-if2 = c .before .if2 in
+    let at-args = c .before .before .before .before .before .before .before .before .before .args in
+    let at-shared-slice-known2 = c .before .before .before .before .shared-slice-known2 in
+    let at-class-of = c .before .before .before .class-of in
+    let at-if2 = c .before .before .if2 in
     let at-later-bytes = c .later-bytes in
     let s = at-args .s .now in
     rw (type-name-by s (omega arith), letter-class (getD s 0 0) (omega (arith, at-shared-slice-known2 .given 0)), ← at-class-of .ensures, eq-eqb _ _ (at-if2 .taken), ← at-later-bytes .ensures)
 
 returns-3 : tie.Need-returns-3
 returns-3 c =
-    let at-args = c .before .before .before .before .before .args in
+    let at-args = c .before .before .before .before .before .before .before .args in
     let at-shared-slice-known2 = c .before .before .shared-slice-known2 in
     let at-class-of = c .before .class-of in
     let at-if2 = c .if2 in
@@ -51,6 +55,7 @@ pub is-type-name-spec : {M : Type 1} → statement M
 is-type-name-spec =
     tie.close
     (tie.spec
+    classes-requires
     returns
     shared-slice-read-class-of
     class-of-requires

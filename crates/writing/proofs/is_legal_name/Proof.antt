@@ -9,10 +9,14 @@ use Rattle.writing.proofs.is_legal_name.Reads as reads
 use Rattle.writing.proofs.is_legal_name.Lts as lts
 use Rattle.lines.proofs.byte.Reads as byte-reads
 use Rattle.lines.proofs.name_len.Reads as name-len-reads
+use Rattle.format.proofs.classes.Reads as classes-reads
+
+classes-requires : tie.Need-classes-requires
+classes-requires c κs = search needs
 
 returns : tie.Need-returns
 returns c =
-    let at-args = c .before .before .args in
+    let at-args = c .before .before .before .args in
     let at-if1 = c .if1 in
     sym (name-long (at-args .s .now) (at-if1 .taken))
 
@@ -21,7 +25,7 @@ byte-requires c κs = search needs
 
 returns-2 : tie.Need-returns-2
 returns-2 c =
-    let at-args = c .before .before .before .before .args in
+    let at-args = c .before .before .before .before .before .args in
     let at-byte = c .before .byte in
     let at-if2 = c .if2 in
     sym (name-special (at-args .s .now) (sym (at-byte .ensures) ∙ at-if2 .taken))
@@ -31,7 +35,7 @@ name-len-requires c κs = search needs
 
 returns-3 : tie.Need-returns-3
 returns-3 c =
-    let at-args = c .before .before .before .before .before .before .args in
+    let at-args = c .before .before .before .before .before .before .before .before .args in
     let at-name-len = c .before .name-len in
     let at-if3 = c .if3 in
     sym (name-unnamed (at-args .s .now) (sym (at-name-len .ensures) ∙ at-if3 .taken))
@@ -39,12 +43,20 @@ returns-3 c =
 returns-4 : tie.Need-returns-4
 returns-4 c =
     let at-name-len = c .before .name-len in
-    let at-args = c .before .before .before .before .before .before .args in
-    let at-if1 = c .before .before .before .before .if1 in
-    let at-if2 = c .before .before .if2 in
-    let at-byte = c .before .before .before .byte in
+    let at-args = c .before .before .before .before .before .before .before .before .args in
+    let at-if1 = c .before .before .before .before .before .if1 in
+    let at-if2 = c .before .before .before .if2 in
+    let at-byte = c .before .before .before .before .byte in
     rw (at-name-len .ensures) (sym (name-legal (at-args .s .now) (at-if1 .left) (λ q. at-if2 .left (at-byte .ensures ∙ q)) (omega (arith, at-name-len .ensures))))
 
 pub is-legal-name-spec : {M : Type 1} → statement M
 is-legal-name-spec =
-    tie.close (tie.spec returns byte-requires returns-2 name-len-requires returns-3 returns-4)
+    tie.close
+    (tie.spec
+    classes-requires
+    returns
+    byte-requires
+    returns-2
+    name-len-requires
+    returns-3
+    returns-4)

@@ -24,22 +24,21 @@ use Rattle.records.proofs.next_field.Reads as next-field-reads
 use Rattle.descriptors.proofs.shapes.field_shaped.Reads as field-shaped-reads
 
 abbrev Inv-loop : tie.InvT-loop
-Inv-loop table d scratch₀ i₀ scratch i = (i ≤ length d) × (isReadable (drop i d) ≡ true) × (all fitsField (fieldsFrom d i) ≡ true) × (length scratch ≡ length scratch₀) × (all (isShaped intBounds) (recordIn d) ≡ all (isShaped intBounds) (fieldsFrom d i))
+Inv-loop d scratch₀ i₀ scratch i = (i ≤ length d) × (isReadable (drop i d) ≡ true) × (all fitsField (fieldsFrom d i) ≡ true) × (length scratch ≡ length scratch₀) × (all (isShaped intBounds) (recordIn d) ≡ all (isShaped intBounds) (fieldsFrom d i))
 
 abbrev μ-loop : tie.MeasureT-loop
-μ-loop table d scratch₀ i₀ scratch i = length d - i
+μ-loop d scratch₀ i₀ scratch i = length d - i
 
 loop-holds : tie.Need-loop-holds Inv-loop μ-loop
 loop-holds c =
     let at-pre = c .before .before .pre in
     let at-args = c .before .before .args in
-    (omega arith, at-pre .1 .0, fits-fields (recordIn (at-args .d .now)) (at-pre .1 .1 .0), refl, refl)
+    (omega arith, at-pre .0, fits-fields (recordIn (at-args .d .now)) (at-pre .1 .0), refl, refl)
 
 next-field-requires : tie.Need-next-field-requires Inv-loop μ-loop
 next-field-requires c κs =
-    let at-pre = c .before .before .before .pre in
     let at-loop = c .loop in
-    (at-pre .0, (at-loop .inv .0, at-loop .inv .1))
+    ((at-loop .inv .0, at-loop .inv .1))
 
 enum-known-n : tie.Need-enum-known-n Inv-loop μ-loop
 enum-known-n c = search needs
@@ -129,7 +128,7 @@ field-shaped-requires c κs =
     let x = fieldBetween d (g .0) (g .1 .0) (g .1 .1 .0) (g .1 .1 .1 .0) in
     let rest = fieldsFrom d (g .1 .1 .1 .0) in
     let h = all-both fitsField (fieldsFrom d i) x rest (f .fields) (at-loop .inv .2) in
-    (at-pre .0, omega (arith, fits-value x (h .0), at-pre .1 .1 .1, at-loop .inv .3))
+    (omega (arith, fits-value x (h .0), at-pre .1 .1, at-loop .inv .3))
 
 loop-less : tie.Need-loop-less Inv-loop μ-loop
 loop-less c =

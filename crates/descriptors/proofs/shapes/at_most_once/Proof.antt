@@ -28,7 +28,7 @@ returns c =
     let at-find-field = c .before .before .find-field in
     let at-pre = c .before .before .before .before .before .pre in
     let at-enum-told = c .enum-told in
-    let p = field-told (at-args .name .now) (at-args .d .now) 1 (at-find-field .result) (at-pre .1) (at-find-field .ensures) (at-enum-told .given .1) in
+    let p = field-told (at-args .name .now) (at-args .d .now) 1 (at-find-field .result) (at-pre) (at-find-field .ensures) (at-enum-told .given .1) in
     sym (lt-leb (length (valuesOf (at-args .name .now) (fieldsOf (readOf (at-args .d .now))))) 1 (p .there))
 
 returns-2 : tie.Need-returns-2
@@ -37,7 +37,7 @@ returns-2 c =
     let at-find-field = c .before .before .find-field in
     let at-pre = c .before .before .before .before .before .pre in
     let at-enum-told2 = c .enum-told2 in
-    let p = field-told (at-args .name .now) (at-args .d .now) 1 (at-find-field .result) (at-pre .1) (at-find-field .ensures) (at-enum-told2 .given .1) in
+    let p = field-told (at-args .name .now) (at-args .d .now) 1 (at-find-field .result) (at-pre) (at-find-field .ensures) (at-enum-told2 .given .1) in
     sym (le-leb (length (valuesOf (at-args .name .now) (fieldsOf (readOf (at-args .d .now))))) 1 p)
 
 pub at-most-once-spec : {M : Type 1} → statement M

@@ -14,16 +14,16 @@ use Rattle.descriptors.proofs.shapes.described_well.Lts as lts
 use Rattle.descriptors.proofs.shapes.head_of.Reads as head-of-reads
 
 abbrev Inv-loop : tie.InvT-loop
-Inv-loop table s starts ends count scratch₀ from₀ to₀ n₀ scratch from to n = WalkAt s starts ends count n from to × (length scratch ≡ length scratch₀)
+Inv-loop s starts ends count scratch₀ from₀ to₀ n₀ scratch from to n = WalkAt s starts ends count n from to × (length scratch ≡ length scratch₀)
 
 abbrev μ-loop : tie.MeasureT-loop
-μ-loop table s starts ends count scratch₀ from₀ to₀ n₀ scratch from to n = count - n
+μ-loop s starts ends count scratch₀ from₀ to₀ n₀ scratch from to n = count - n
 
 loop-holds : tie.Need-loop-holds Inv-loop μ-loop
 loop-holds c =
     let at-args = c .before .before .before .before .args in
     let at-pre = c .before .before .before .before .pre in
-    (walk-starts (at-args .s .now) (at-args .starts .now) (at-args .ends .now) (at-args .count) _ _ refl refl (at-pre .1 .0 .0) (at-pre .1 .0 .1) (at-pre .1 .1 .0), refl)
+    (walk-starts (at-args .s .now) (at-args .starts .now) (at-args .ends .now) (at-args .count) _ _ refl refl (at-pre .0 .0) (at-pre .0 .1) (at-pre .1 .0), refl)
 
 mul-a : tie.Need-mul-a Inv-loop μ-loop
 mul-a c = search needs
@@ -73,7 +73,7 @@ head-of-requires c κs =
     let at-loop = c .before .before .before .before .before .before .loop in
     let at-loop-test = c .before .before .before .before .before .loop-test in
     let at-pre = c .before .before .before .before .before .before .before .before .before .before .before .pre in
-    let r = row (at-args .s .now) (at-args .starts .now) (at-args .ends .now) (at-args .count) (at-loop .n) (at-loop .from) (at-loop .to) (at-loop .inv .0) (at-loop-test .taken) in (at-pre .0, ((omega (arith, r .filled), omega (arith, r .within, r .inside)), (r .own, (part-fits (at-args .s .now) (at-args .starts .now) (at-args .ends .now) (at-args .count) (at-loop .n) (at-loop .from) (at-loop .to) (at-loop .inv .0) (at-loop-test .taken), (at-loop .inv .0 .places, omega (arith, at-pre .1 .1 .1, at-loop .inv .1))))))
+    let r = row (at-args .s .now) (at-args .starts .now) (at-args .ends .now) (at-args .count) (at-loop .n) (at-loop .from) (at-loop .to) (at-loop .inv .0) (at-loop-test .taken) in (((omega (arith, r .filled), omega (arith, r .within, r .inside)), (r .own, (part-fits (at-args .s .now) (at-args .starts .now) (at-args .ends .now) (at-args .count) (at-loop .n) (at-loop .from) (at-loop .to) (at-loop .inv .0) (at-loop-test .taken), (at-loop .inv .0 .places, omega (arith, at-pre .1 .1, at-loop .inv .1))))))
 
 enum-known-h : tie.Need-enum-known-h Inv-loop μ-loop
 enum-known-h c = search needs

@@ -40,7 +40,7 @@ returns c =
     let at-args = c .before .before .before .before .before .before .before .before .before .before .args in
     let at-copy-value = c .before .before .before .before .copy-value in
     let at-pre = c .before .before .before .before .before .before .before .before .before .before .pre in
-    ((λ k. at-text-holds .ensures ∙ ap (holds (at-content-of .result)) (decoded-all (valueFrom (at-args .value .now)) (at-args .scratch .now) (at-copy-value .last .1 .0) (at-copy-value .result) (at-copy-value .ensures .0) (at-copy-value .ensures .1)) ∙ sym (at-content-of .ensures (valueFrom (at-args .value .now)) k)), scratch-length (valueFrom (at-args .value .now)) (at-args .scratch .now) (at-copy-value .last .1 .0) (at-copy-value .result) (at-copy-value .ensures .0) (at-copy-value .ensures .1) (at-pre .1))
+    ((λ k. at-text-holds .ensures ∙ ap (holds (at-content-of .result)) (decoded-all (valueFrom (at-args .value .now)) (at-args .scratch .now) (at-copy-value .last .1 .0) (at-copy-value .result) (at-copy-value .ensures .0) (at-copy-value .ensures .1)) ∙ sym (at-content-of .ensures (valueFrom (at-args .value .now)) k)), scratch-length (valueFrom (at-args .value .now)) (at-args .scratch .now) (at-copy-value .last .1 .0) (at-copy-value .result) (at-copy-value .ensures .0) (at-copy-value .ensures .1) (at-pre))
 
 pub field-shaped-spec : {M : Type 1} → statement M
 field-shaped-spec =

@@ -28,7 +28,7 @@ returns c =
     let at-find-field = c .before .before .before .find-field in
     let at-pre = c .before .before .before .before .before .before .pre in
     let g = at-f .given in
-    rec-found (at-args .d .now) (g .0 .0) (g .0 .1 .0) (g .0 .1 .1 .0) (field-told (text "%rec") (at-args .d .now) 0 (at-find-field .result) (at-pre .1) (at-find-field .ensures) (g .1))
+    rec-found (at-args .d .now) (g .0 .0) (g .0 .1 .0) (g .0 .1 .1 .0) (field-told (text "%rec") (at-args .d .now) 0 (at-find-field .result) (at-pre) (at-find-field .ensures) (g .1))
 
 returns-2 : tie.Need-returns-2
 returns-2 c =
@@ -36,7 +36,7 @@ returns-2 c =
     let at-find-field = c .before .before .find-field in
     let at-pre = c .before .before .before .before .before .pre in
     let at-enum-told = c .enum-told in
-    rec-missing (at-args .d .now) (field-told (text "%rec") (at-args .d .now) 0 (at-find-field .result) (at-pre .1) (at-find-field .ensures) (at-enum-told .given .1))
+    rec-missing (at-args .d .now) (field-told (text "%rec") (at-args .d .now) 0 (at-find-field .result) (at-pre) (at-find-field .ensures) (at-enum-told .given .1))
 
 pub rec-value-spec : {M : Type 1} → statement M
 rec-value-spec =

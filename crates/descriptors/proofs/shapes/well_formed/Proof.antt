@@ -14,7 +14,7 @@ use Rattle.descriptors.proofs.shapes.at_most_once.Reads as at-most-once
 all-shaped-requires : tie.Need-all-shaped-requires
 all-shaped-requires c κs =
     let at-pre = c .before .before .before .pre in
-    (at-pre .0, (at-pre .1 .0, (at-pre .1 .1 .0, at-pre .1 .1 .1)))
+    ((at-pre .0, (at-pre .1 .0, at-pre .1 .1)))
 
 slice-aggregate-at-most-once : tie.Need-slice-aggregate-at-most-once
 slice-aggregate-at-most-once c = search needs

@@ -13,22 +13,21 @@ use Rattle.typedefs.proofs.next_value.Reads as next-value-reads
 use Rattle.dictionary.proofs.wordsets.add_value.Reads as add-value-reads
 
 abbrev Inv-loop : tie.InvT-loop
-Inv-loop table d name entries₀ n₀ i₀ entries n i = ListLeft d name entries₀ entries n i
+Inv-loop d name entries₀ n₀ i₀ entries n i = ListLeft d name entries₀ entries n i
 
 abbrev μ-loop : tie.MeasureT-loop
-μ-loop table d name entries₀ n₀ i₀ entries n i = length d - i
+μ-loop d name entries₀ n₀ i₀ entries n i = length d - i
 
 loop-holds : tie.Need-loop-holds Inv-loop μ-loop
 loop-holds c =
     let at-args = c .before .before .before .args in
     let at-pre = c .before .before .before .pre in
-    list-start (at-args .d .now) (at-args .name .now) (at-args .entries .now) (at-pre .1 .0 .0) (at-pre .1 .1 .0 .0) (at-pre .1 .1 .0 .1) (at-pre .1 .1 .1)
+    list-start (at-args .d .now) (at-args .name .now) (at-args .entries .now) (at-pre .0 .0) (at-pre .1 .0 .0) (at-pre .1 .0 .1) (at-pre .1 .1)
 
 next-value-requires : tie.Need-next-value-requires Inv-loop μ-loop
 next-value-requires c κs =
-    let at-pre = c .before .before .before .before .pre in
     let at-loop = c .loop in
-    (at-pre .0, (at-loop .inv .inside, at-loop .inv .readable))
+    ((at-loop .inv .inside, at-loop .inv .readable))
 
 enum-known-v : tie.Need-enum-known-v Inv-loop μ-loop
 enum-known-v c = search needs
@@ -59,7 +58,7 @@ add-value-requires c κs =
     let at-pre = c .before .before .before .before .before .before .before .before .before .pre in
     let h = value-told (at-args .d .now) (at-args .name .now) (at-loop .i) (at-next-value .result) (at-next-value .ensures) (at-v .given .1) in
     let g = at-v .given .0 in
-    ((omega (arith, h .value-there), at-pre .1 .0 .1), ((list-few (at-args .d .now) (at-args .name .now) (at-args .entries .now) (at-loop .entries) (at-loop .n) (at-loop .i) (at-loop .inv) (g .0) (g .1 .0) h, list-room (at-args .d .now) (at-args .name .now) (at-args .entries .now) (at-loop .entries) (at-loop .n) (at-loop .i) (at-loop .inv) (g .0) (g .1 .0) h), list-names (at-args .d .now) (at-args .name .now) (at-args .entries .now) (at-loop .entries) (at-loop .n) (at-loop .i) (at-loop .inv) (g .0) (g .1 .0) h))
+    ((omega (arith, h .value-there), at-pre .0 .1), ((list-few (at-args .d .now) (at-args .name .now) (at-args .entries .now) (at-loop .entries) (at-loop .n) (at-loop .i) (at-loop .inv) (g .0) (g .1 .0) h, list-room (at-args .d .now) (at-args .name .now) (at-args .entries .now) (at-loop .entries) (at-loop .n) (at-loop .i) (at-loop .inv) (g .0) (g .1 .0) h), list-names (at-args .d .now) (at-args .name .now) (at-args .entries .now) (at-loop .entries) (at-loop .n) (at-loop .i) (at-loop .inv) (g .0) (g .1 .0) h))
 
 loop-less : tie.Need-loop-less Inv-loop μ-loop
 loop-less c =

@@ -16,21 +16,20 @@ use Rattle.edits.proofs.acts.count_fields.Lts as lts
 use Rattle.records.proofs.next_field.Reads as next-field-reads
 
 abbrev Inv-loop : tie.InvT-loop
-Inv-loop table s i₀ n₀ i n = (i ≤ length s) × (isReadable (drop i s) ≡ true) × (n ≤ i) × (length (recordIn s) ≡ n + length (recordIn (drop i s)))
+Inv-loop s i₀ n₀ i n = (i ≤ length s) × (isReadable (drop i s) ≡ true) × (n ≤ i) × (length (recordIn s) ≡ n + length (recordIn (drop i s)))
 
 abbrev μ-loop : tie.MeasureT-loop
-μ-loop table s i₀ n₀ i n = length s - i
+μ-loop s i₀ n₀ i n = length s - i
 
 loop-holds : tie.Need-loop-holds Inv-loop μ-loop
 loop-holds c =
     let at-pre = c .before .pre in
-    (omega arith, at-pre .1, omega arith, omega arith)
+    (omega arith, at-pre, omega arith, omega arith)
 
 next-field-requires : tie.Need-next-field-requires Inv-loop μ-loop
 next-field-requires c κs =
-    let at-pre = c .before .before .pre in
     let at-loop = c .loop in
-    (at-pre .0, (at-loop .inv .0, at-loop .inv .1))
+    ((at-loop .inv .0, at-loop .inv .1))
 
 enum-known-f : tie.Need-enum-known-f Inv-loop μ-loop
 enum-known-f c = search needs
@@ -51,7 +50,7 @@ add-n : tie.Need-add-n Inv-loop μ-loop
 add-n c =
     let at-good = c .before .before .before .before .before .before .good in
     let at-loop = c .before .before .before .before .loop in
-    omega (arith, at-good .1 .0 .0, at-loop .inv .0, at-loop .inv .2)
+    omega (arith, at-good .0 .0, at-loop .inv .0, at-loop .inv .2)
 
 loop-less : tie.Need-loop-less Inv-loop μ-loop
 loop-less c =

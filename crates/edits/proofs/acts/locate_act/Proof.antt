@@ -37,7 +37,7 @@ find-record-requires : tie.Need-find-record-requires
 find-record-requires c κs =
     let at-pre = c .before .before .before .pre in
     let at-args = c .before .before .before .args in
-    (at-pre .0, part-readable (at-args .s .now) (at-args .begin) (at-pre .1 .0 .2))
+    (part-readable (at-args .s .now) (at-args .begin) (at-pre .0 .2))
 
 enum-known-f : tie.Need-enum-known-f
 enum-known-f c = search needs
@@ -52,7 +52,7 @@ returns c =
     let at-find-record = c .before .before .find-record in
     let at-enum-told = c .enum-told in
     let a = at-args in
-    let p = at-pre .1 .0 in
+    let p = at-pre .0 in
     let g = record-placed (a .s .now) (a .begin) (a .row) (at-find-record .result) (at-find-record .ensures) (at-enum-told .given .1) in
     record-missing (a .s .now) (a .begin) (a .row) (p .0) (p .1) (p .2) (a .req .now) (actOf (a .req .now) (a .act)) g
 
@@ -64,7 +64,7 @@ add-first c =
     let at-f = c .before .before .f in
     let at-good = c .before .before .before .before .before .before .before .before .good in
     let a = at-args in
-    let p = at-pre .1 .0 in
+    let p = at-pre .0 in
     let g = record-placed (a .s .now) (a .begin) (a .row) (at-find-record .result) (at-find-record .ensures) (at-f .given .1) in
     let i = record-inside (a .s .now) (a .begin) (a .row) (p .0) (p .1) (p .2) (at-f .given .0 .0) g in
     omega (arith, at-good .1 .0 .0, i .0, i .1)
@@ -77,7 +77,7 @@ add-last c =
     let at-f = c .before .before .before .f in
     let at-good = c .before .before .before .before .before .before .before .before .before .good in
     let a = at-args in
-    let p = at-pre .1 .0 in
+    let p = at-pre .0 in
     let g = record-placed (a .s .now) (a .begin) (a .row) (at-find-record .result) (at-find-record .ensures) (at-f .given .1) in
     let i = record-inside (a .s .now) (a .begin) (a .row) (p .0) (p .1) (p .2) (at-f .given .0 .0) g in
     omega (arith, at-good .1 .0 .0, i .0, i .1)
@@ -93,7 +93,7 @@ returns-2 c =
     let at-f = c .before .before .before .before .before .f in
     let at-enum-told2 = c .enum-told2 in
     let a = at-args in
-    let p = at-pre .1 .0 in
+    let p = at-pre .0 in
     let g = record-placed (a .s .now) (a .begin) (a .row) (at-find-record .result) (at-find-record .ensures) (at-f .given .1) in
     act-as (a .s .now) (a .req .now) (a .begin) (a .row) (Located.At (Splice.Unfield (a .begin + at-f .given .0 .0 .start) (a .begin + at-f .given .0 .0 .end))) (at-enum-told2 .given .1) (delete-located (a .s .now) (a .begin) (a .row) (p .0) (p .1) (p .2) (at-f .given .0 .0) g (a .req .now))
 
@@ -105,7 +105,7 @@ is-legal-pair-requires c κs =
     let at-pre = c .before .before .before .before .before .before .before .before .before .before .before .before .pre in
     let at-args = c .before .before .before .before .before .before .before .before .before .before .before .before .args in
     let at-act = c .before .act in
-    (at-pre .0, subst (InAct (at-args .req .now)) (at-act .given .1) (at-pre .1 .1 .1))
+    (subst (InAct (at-args .req .now)) (at-act .given .1) (at-pre .1 .1))
 
 returns-3 : tie.Need-returns-3
 returns-3 c =
@@ -117,7 +117,7 @@ returns-3 c =
     let at-is-legal-pair = c .before .is-legal-pair in
     let at-if1 = c .if1 in
     let a = at-args in
-    let p = at-pre .1 .0 in
+    let p = at-pre .0 in
     let h = at-act .given in
     let g = record-placed (a .s .now) (a .begin) (a .row) (at-find-record .result) (at-find-record .ensures) (at-f .given .1) in
     act-as (a .s .now) (a .req .now) (a .begin) (a .row) (Located.Refused 25) (h .1) (add-illegal (a .s .now) (a .begin) (a .row) (p .0) (p .1) (p .2) (at-f .given .0 .0) g (a .req .now) (pairOf (a .req .now) (h .0 .0) (h .0 .1 .0)) (sym (at-is-legal-pair .ensures) ∙ not-true (at-is-legal-pair .result) (at-if1 .taken)))
@@ -132,11 +132,11 @@ returns-4 c =
     let at-is-legal-pair = c .before .is-legal-pair in
     let at-if1 = c .if1 in
     let a = at-args in
-    let p = at-pre .1 .0 in
+    let p = at-pre .0 in
     let h = at-act .given in
     let g = record-placed (a .s .now) (a .begin) (a .row) (at-find-record .result) (at-find-record .ensures) (at-f .given .1) in
-    let i = subst (InAct (a .req .now)) (h .1) (at-pre .1 .1 .1) in
-    act-as (a .s .now) (a .req .now) (a .begin) (a .row) (Located.At (Splice.Field (a .begin + at-f .given .0 .0 .end) 0 (h .0 .0) (h .0 .1 .0))) (h .1) (add-located (a .s .now) (a .begin) (a .row) (p .0) (p .1) (p .2) (at-f .given .0 .0) g (a .req .now) (h .0 .0) (h .0 .1 .0) (at-pre .1 .1 .0) (i .0) (i .1) (sym (at-is-legal-pair .ensures) ∙ not-false (at-is-legal-pair .result) (at-if1 .left)))
+    let i = subst (InAct (a .req .now)) (h .1) (at-pre .1 .1) in
+    act-as (a .s .now) (a .req .now) (a .begin) (a .row) (Located.At (Splice.Field (a .begin + at-f .given .0 .0 .end) 0 (h .0 .0) (h .0 .1 .0))) (h .1) (add-located (a .s .now) (a .begin) (a .row) (p .0) (p .1) (p .2) (at-f .given .0 .0) g (a .req .now) (h .0 .0) (h .0 .1 .0) (at-pre .1 .0) (i .0) (i .1) (sym (at-is-legal-pair .ensures) ∙ not-false (at-is-legal-pair .result) (at-if1 .left)))
 
 enum-known-act-2 : tie.Need-enum-known-act-2
 enum-known-act-2 c = search needs
@@ -148,7 +148,7 @@ sub-find-field c =
     let at-find-record = c .before .before .before .before .before .before .before .before .find-record in
     let at-f = c .before .before .before .before .before .before .f in
     let a = at-args in
-    let p = at-pre .1 .0 in
+    let p = at-pre .0 in
     let g = record-placed (a .s .now) (a .begin) (a .row) (at-find-record .result) (at-find-record .ensures) (at-f .given .1) in
     let i = record-inside (a .s .now) (a .begin) (a .row) (p .0) (p .1) (p .2) (at-f .given .0 .0) g in
     omega (arith, i .0)
@@ -160,7 +160,7 @@ part-find-field-start c =
     let at-find-record = c .before .before .before .before .before .before .before .before .find-record in
     let at-f = c .before .before .before .before .before .before .f in
     let a = at-args in
-    let p = at-pre .1 .0 in
+    let p = at-pre .0 in
     let g = record-placed (a .s .now) (a .begin) (a .row) (at-find-record .result) (at-find-record .ensures) (at-f .given .1) in
     let i = record-inside (a .s .now) (a .begin) (a .row) (p .0) (p .1) (p .2) (at-f .given .0 .0) g in
     omega (arith, i .0)
@@ -172,7 +172,7 @@ part-find-field-end c =
     let at-find-record = c .before .before .before .before .before .before .before .before .find-record in
     let at-f = c .before .before .before .before .before .before .f in
     let a = at-args in
-    let p = at-pre .1 .0 in
+    let p = at-pre .0 in
     let g = record-placed (a .s .now) (a .begin) (a .row) (at-find-record .result) (at-find-record .ensures) (at-f .given .1) in
     let i = record-inside (a .s .now) (a .begin) (a .row) (p .0) (p .1) (p .2) (at-f .given .0 .0) g in
     omega (arith, i .1)
@@ -182,21 +182,21 @@ sub-find-field-2 c =
     let at-args = c .before .before .before .before .before .before .before .before .before .before .before .before .before .args in
     let at-act2 = c .before .before .act2 in
     let at-pre = c .before .before .before .before .before .before .before .before .before .before .before .before .before .pre in
-    omega (arith, subst (InAct (at-args .req .now)) (at-act2 .given .1) (at-pre .1 .1 .1) .0 .0)
+    omega (arith, subst (InAct (at-args .req .now)) (at-act2 .given .1) (at-pre .1 .1) .0 .0)
 
 part-find-field-start-2 : tie.Need-part-find-field-start-2
 part-find-field-start-2 c =
     let at-args = c .before .before .before .before .before .before .before .before .before .before .before .before .before .args in
     let at-act2 = c .before .before .act2 in
     let at-pre = c .before .before .before .before .before .before .before .before .before .before .before .before .before .pre in
-    omega (arith, subst (InAct (at-args .req .now)) (at-act2 .given .1) (at-pre .1 .1 .1) .0 .0)
+    omega (arith, subst (InAct (at-args .req .now)) (at-act2 .given .1) (at-pre .1 .1) .0 .0)
 
 part-find-field-end-2 : tie.Need-part-find-field-end-2
 part-find-field-end-2 c =
     let at-args = c .before .before .before .before .before .before .before .before .before .before .before .before .before .args in
     let at-act2 = c .before .before .act2 in
     let at-pre = c .before .before .before .before .before .before .before .before .before .before .before .before .before .pre in
-    omega (arith, subst (InAct (at-args .req .now)) (at-act2 .given .1) (at-pre .1 .1 .1) .0 .1)
+    omega (arith, subst (InAct (at-args .req .now)) (at-act2 .given .1) (at-pre .1 .1) .0 .1)
 
 find-field-requires : tie.Need-find-field-requires
 find-field-requires c κs =
@@ -205,9 +205,9 @@ find-field-requires c κs =
     let at-find-record = c .before .before .before .before .before .before .before .before .before .before .find-record in
     let at-f = c .before .before .before .before .before .before .before .before .f in
     let a = at-args in
-    let p = at-pre .1 .0 in
+    let p = at-pre .0 in
     let g = record-placed (a .s .now) (a .begin) (a .row) (at-find-record .result) (at-find-record .ensures) (at-f .given .1) in
-    (at-pre .0, record-readable (a .s .now) (a .begin) (a .row) (p .0) (p .1) (p .2) (at-f .given .0 .0) g)
+    (record-readable (a .s .now) (a .begin) (a .row) (p .0) (p .1) (p .2) (at-f .given .0 .0) g)
 
 enum-known-g : tie.Need-enum-known-g
 enum-known-g c = search needs
@@ -225,7 +225,7 @@ returns-5 c =
     let at-find-field = c .before .before .find-field in
     let at-enum-told3 = c .enum-told3 in
     let a = at-args in
-    let p = at-pre .1 .0 in
+    let p = at-pre .0 in
     let h = at-act2 .given in
     let g = record-placed (a .s .now) (a .begin) (a .row) (at-find-record .result) (at-find-record .ensures) (at-f .given .1) in
     act-as (a .s .now) (a .req .now) (a .begin) (a .row) (Located.Refused 23) (h .1) (field-missing (a .s .now) (a .begin) (a .row) (p .0) (p .1) (p .2) (at-f .given .0 .0) g (a .req .now) (bytesOf (a .req .now) (h .0 .0)) (h .0 .1 .0) (changeOf (a .req .now) (h .0 .1 .1 .0)) (sym (at-find-field .ensures) ∙ at-enum-told3 .given .1))
@@ -241,15 +241,15 @@ add-locate-change c =
     let at-find-field = c .before .before .before .find-field in
     let at-good = c .before .before .before .before .before .before .before .before .before .before .before .before .before .before .before .before .before .before .good in
     let a = at-args in
-    let p = at-pre .1 .0 in
+    let p = at-pre .0 in
     let h = at-act2 .given in
     let k = at-g .given in
     let g = record-placed (a .s .now) (a .begin) (a .row) (at-find-record .result) (at-find-record .ensures) (at-f .given .1) in
     let i = field-inside (a .s .now) (a .begin) (a .row) (p .0) (p .1) (p .2) (at-f .given .0 .0) g (bytesOf (a .req .now) (h .0 .0)) (h .0 .1 .0) (k .0 .0) (k .0 .1 .0) (k .0 .1 .1 .0) (sym (at-find-field .ensures) ∙ k .1) in
     omega (arith, at-good .1 .0 .0, i .0, i .1)
 
-add-t35 : tie.Need-add-t35
-add-t35 c =
+add-t34 : tie.Need-add-t34
+add-t34 c =
     let at-args = c .before .before .before .before .before .before .before .before .before .before .before .before .before .before .before .before .before .before .args in
     let at-pre = c .before .before .before .before .before .before .before .before .before .before .before .before .before .before .before .before .before .before .pre in
     let at-act2 = c .before .before .before .before .before .before .before .act2 in
@@ -259,7 +259,7 @@ add-t35 c =
     let at-find-field = c .before .before .before .find-field in
     let at-good = c .before .before .before .before .before .before .before .before .before .before .before .before .before .before .before .before .before .before .good in
     let a = at-args in
-    let p = at-pre .1 .0 in
+    let p = at-pre .0 in
     let h = at-act2 .given in
     let k = at-g .given in
     let g = record-placed (a .s .now) (a .begin) (a .row) (at-find-record .result) (at-find-record .ensures) (at-f .given .1) in
@@ -273,7 +273,7 @@ sub-locate-change c =
     let at-find-record = c .before .before .before .before .before .before .before .before .before .before .before .before .before .before .find-record in
     let at-f = c .before .before .before .before .before .before .before .before .before .before .before .before .f in
     let a = at-args in
-    let p = at-pre .1 .0 in
+    let p = at-pre .0 in
     let g = record-placed (a .s .now) (a .begin) (a .row) (at-find-record .result) (at-find-record .ensures) (at-f .given .1) in
     let i = record-inside (a .s .now) (a .begin) (a .row) (p .0) (p .1) (p .2) (at-f .given .0 .0) g in
     omega (arith, i .0)
@@ -285,7 +285,7 @@ part-locate-change-start c =
     let at-find-record = c .before .before .before .before .before .before .before .before .before .before .before .before .before .before .find-record in
     let at-f = c .before .before .before .before .before .before .before .before .before .before .before .before .f in
     let a = at-args in
-    let p = at-pre .1 .0 in
+    let p = at-pre .0 in
     let g = record-placed (a .s .now) (a .begin) (a .row) (at-find-record .result) (at-find-record .ensures) (at-f .given .1) in
     let i = record-inside (a .s .now) (a .begin) (a .row) (p .0) (p .1) (p .2) (at-f .given .0 .0) g in
     omega (arith, i .0)
@@ -297,7 +297,7 @@ part-locate-change-end c =
     let at-find-record = c .before .before .before .before .before .before .before .before .before .before .before .before .before .before .find-record in
     let at-f = c .before .before .before .before .before .before .before .before .before .before .before .before .f in
     let a = at-args in
-    let p = at-pre .1 .0 in
+    let p = at-pre .0 in
     let g = record-placed (a .s .now) (a .begin) (a .row) (at-find-record .result) (at-find-record .ensures) (at-f .given .1) in
     let i = record-inside (a .s .now) (a .begin) (a .row) (p .0) (p .1) (p .2) (at-f .given .0 .0) g in
     omega (arith, i .1)
@@ -312,13 +312,13 @@ locate-change-requires c κs =
     let at-f = c .before .before .before .before .before .before .before .before .before .before .before .before .before .f in
     let at-find-field = c .before .before .before .before .find-field in
     let a = at-args in
-    let p = at-pre .1 .0 in
+    let p = at-pre .0 in
     let h = at-act2 .given in
     let k = at-g .given in
     let g = record-placed (a .s .now) (a .begin) (a .row) (at-find-record .result) (at-find-record .ensures) (at-f .given .1) in
     let i = field-inside (a .s .now) (a .begin) (a .row) (p .0) (p .1) (p .2) (at-f .given .0 .0) g (bytesOf (a .req .now) (h .0 .0)) (h .0 .1 .0) (k .0 .0) (k .0 .1 .0) (k .0 .1 .1 .0) (sym (at-find-field .ensures) ∙ k .1) in
-    let j = subst (InAct (a .req .now)) (h .1) (at-pre .1 .1 .1) in
-    (at-pre .0, ((record-readable (a .s .now) (a .begin) (a .row) (p .0) (p .1) (p .2) (at-f .given .0 .0) g, omega (arith, i .0)), j))
+    let j = subst (InAct (a .req .now)) (h .1) (at-pre .1 .1) in
+    (((record-readable (a .s .now) (a .begin) (a .row) (p .0) (p .1) (p .2) (at-f .given .0 .0) g, omega (arith, i .0)), j))
 
 returns-6 : tie.Need-returns-6
 returns-6 c =
@@ -331,12 +331,12 @@ returns-6 c =
     let at-locate-change = c .locate-change in
     let at-find-field = c .before .before .before .before .before .find-field in
     let a = at-args in
-    let p = at-pre .1 .0 in
+    let p = at-pre .0 in
     let h = at-act2 .given in
     let k = at-g .given in
     let g = record-placed (a .s .now) (a .begin) (a .row) (at-find-record .result) (at-find-record .ensures) (at-f .given .1) in
-    let j = subst (InAct (a .req .now)) (h .1) (at-pre .1 .1 .1) in
-    act-as (a .s .now) (a .req .now) (a .begin) (a .row) (at-locate-change .result) (h .1) (subst (LocatesIn (a .s .now) (a .req .now) (a .begin) (Edit.on (a .row) (actOf (a .req .now) (ReadAct.Change (h .0 .0) (h .0 .1 .0) (h .0 .1 .1 .0))))) (sym (at-locate-change .ensures)) (change-located (a .s .now) (a .begin) (a .row) (p .0) (p .1) (p .2) (at-f .given .0 .0) g (a .req .now) (h .0 .0) (h .0 .1 .0) (k .0 .0) (k .0 .1 .0) (k .0 .1 .1 .0) (j .0) (sym (at-find-field .ensures) ∙ k .1) (h .0 .1 .1 .0) (at-pre .1 .1 .0) (j .1)))
+    let j = subst (InAct (a .req .now)) (h .1) (at-pre .1 .1) in
+    act-as (a .s .now) (a .req .now) (a .begin) (a .row) (at-locate-change .result) (h .1) (subst (LocatesIn (a .s .now) (a .req .now) (a .begin) (Edit.on (a .row) (actOf (a .req .now) (ReadAct.Change (h .0 .0) (h .0 .1 .0) (h .0 .1 .1 .0))))) (sym (at-locate-change .ensures)) (change-located (a .s .now) (a .begin) (a .row) (p .0) (p .1) (p .2) (at-f .given .0 .0) g (a .req .now) (h .0 .0) (h .0 .1 .0) (k .0 .0) (k .0 .1 .0) (k .0 .1 .1 .0) (j .0) (sym (at-find-field .ensures) ∙ k .1) (h .0 .1 .1 .0) (at-pre .1 .0) (j .1)))
 
 pub locate-act-spec : {M : Type 1} → statement M
 locate-act-spec =
@@ -369,7 +369,7 @@ locate-act-spec =
     enum-told-3
     returns-5
     add-locate-change
-    add-t35
+    add-t34
     sub-locate-change
     part-locate-change-start
     part-locate-change-end

@@ -31,26 +31,24 @@ sub-is-legal-value c =
     let at-args = c .before .before .before .before .before .before .args in
     let at-change = c .before .change in
     let at-pre = c .before .before .before .before .before .before .pre in
-    omega (arith, subst (InChange (at-args .req .now)) (at-change .given .1) (at-pre .1 .1 .1) .0)
+    omega (arith, subst (InChange (at-args .req .now)) (at-change .given .1) (at-pre .1 .1) .0)
 
 part-is-legal-value-start : tie.Need-part-is-legal-value-start
 part-is-legal-value-start c =
     let at-args = c .before .before .before .before .before .before .args in
     let at-change = c .before .change in
     let at-pre = c .before .before .before .before .before .before .pre in
-    omega (arith, subst (InChange (at-args .req .now)) (at-change .given .1) (at-pre .1 .1 .1) .0)
+    omega (arith, subst (InChange (at-args .req .now)) (at-change .given .1) (at-pre .1 .1) .0)
 
 part-is-legal-value-end : tie.Need-part-is-legal-value-end
 part-is-legal-value-end c =
     let at-args = c .before .before .before .before .before .before .args in
     let at-change = c .before .change in
     let at-pre = c .before .before .before .before .before .before .pre in
-    omega (arith, subst (InChange (at-args .req .now)) (at-change .given .1) (at-pre .1 .1 .1) .1)
+    omega (arith, subst (InChange (at-args .req .now)) (at-change .given .1) (at-pre .1 .1) .1)
 
 is-legal-value-requires : tie.Need-is-legal-value-requires
-is-legal-value-requires c κs =
-    let at-pre = c .before .before .before .before .before .before .before .pre in
-    at-pre .0
+is-legal-value-requires c κs = search needs
 
 returns : tie.Need-returns
 returns c =
@@ -78,7 +76,7 @@ enum-told c = search needs
 count-fields-requires : tie.Need-count-fields-requires
 count-fields-requires c κs =
     let at-pre = c .before .before .before .before .before .pre in
-    (at-pre .0, at-pre .1 .0 .0)
+    (at-pre .0 .0)
 
 returns-3 : tie.Need-returns-3
 returns-3 c =
@@ -110,26 +108,24 @@ sub-is-legal-name c =
     let at-args = c .before .before .before .before .before .before .args in
     let at-change2 = c .before .change2 in
     let at-pre = c .before .before .before .before .before .before .pre in
-    omega (arith, subst (InChange (at-args .req .now)) (at-change2 .given .1) (at-pre .1 .1 .1) .0)
+    omega (arith, subst (InChange (at-args .req .now)) (at-change2 .given .1) (at-pre .1 .1) .0)
 
 part-is-legal-name-start : tie.Need-part-is-legal-name-start
 part-is-legal-name-start c =
     let at-args = c .before .before .before .before .before .before .args in
     let at-change2 = c .before .change2 in
     let at-pre = c .before .before .before .before .before .before .pre in
-    omega (arith, subst (InChange (at-args .req .now)) (at-change2 .given .1) (at-pre .1 .1 .1) .0)
+    omega (arith, subst (InChange (at-args .req .now)) (at-change2 .given .1) (at-pre .1 .1) .0)
 
 part-is-legal-name-end : tie.Need-part-is-legal-name-end
 part-is-legal-name-end c =
     let at-args = c .before .before .before .before .before .before .args in
     let at-change2 = c .before .change2 in
     let at-pre = c .before .before .before .before .before .before .pre in
-    omega (arith, subst (InChange (at-args .req .now)) (at-change2 .given .1) (at-pre .1 .1 .1) .1)
+    omega (arith, subst (InChange (at-args .req .now)) (at-change2 .given .1) (at-pre .1 .1) .1)
 
 is-legal-name-requires : tie.Need-is-legal-name-requires
-is-legal-name-requires c κs =
-    let at-pre = c .before .before .before .before .before .before .before .pre in
-    at-pre .0
+is-legal-name-requires c κs = search needs
 
 returns-5 : tie.Need-returns-5
 returns-5 c =
@@ -142,8 +138,8 @@ returns-5 c =
     let n = a .name in
     sym (ap (changeAt (a .own .now) (a .req .now) n f) (at-change2 .given .1) ∙ ap (λ (b : Bool). pick b (Located.At (Splice.Name (f .start) (n .end - n .start) (at-change2 .given .0 .0))) (Located.Refused 25)) (sym (at-is-legal-name .ensures) ∙ not-true (at-is-legal-name .result) (at-if3 .taken)))
 
-sub-t27 : tie.Need-sub-t27
-sub-t27 c = search needs
+sub-t26 : tie.Need-sub-t26
+sub-t26 c = search needs
 
 returns-6 : tie.Need-returns-6
 returns-6 c =
@@ -178,5 +174,5 @@ locate-change-spec =
     part-is-legal-name-end
     is-legal-name-requires
     returns-5
-    sub-t27
+    sub-t26
     returns-6)

@@ -39,7 +39,7 @@ returns c =
     let at-find-set = c .before .before .find-set in
     let at-enum-told = c .enum-told in
     let a = at-args in
-    set-missing (a .s .now) (a .req .now) (askedBy (a .req .now) (a .q)) (at-pre .1 .0 .0) (sym (at-find-set .ensures) ∙ at-enum-told .given .1)
+    set-missing (a .s .now) (a .req .now) (askedBy (a .req .now) (a .q)) (at-pre .0 .0) (sym (at-find-set .ensures) ∙ at-enum-told .given .1)
 
 enum-known-edit : tie.Need-enum-known-edit
 enum-known-edit c = search needs
@@ -55,9 +55,9 @@ locate-insert-requires c κs =
     let s = a .s .now in
     let req = a .req .now in
     let set = bytesOf req (a .q .set) in
-    let m = set-told s set (at-find-set .result) (at-pre .1 .0 .0) (at-find-set .ensures) (at-f .given .1) in
-    let i = subst (InEdit req) (at-edit .given .1) (at-pre .1 .1 .1) in
-    (at-pre .0, ((at-pre .1 .0 .0, m .inside, m .readable), (at-pre .1 .0 .2, i)))
+    let m = set-told s set (at-find-set .result) (at-pre .0 .0) (at-find-set .ensures) (at-f .given .1) in
+    let i = subst (InEdit req) (at-edit .given .1) (at-pre .1 .1) in
+    (((at-pre .0 .0, m .inside, m .readable), (at-pre .0 .2, i)))
 
 returns-2 : tie.Need-returns-2
 returns-2 c =
@@ -85,9 +85,9 @@ locate-act-requires c κs =
     let s = a .s .now in
     let req = a .req .now in
     let set = bytesOf req (a .q .set) in
-    let m = set-told s set (at-find-set .result) (at-pre .1 .0 .0) (at-find-set .ensures) (at-f .given .1) in
-    let i = subst (InEdit req) (at-edit2 .given .1) (at-pre .1 .1 .1) in
-    (at-pre .0, ((at-pre .1 .0 .0, m .inside, m .readable), (at-pre .1 .0 .2, i)))
+    let m = set-told s set (at-find-set .result) (at-pre .0 .0) (at-find-set .ensures) (at-f .given .1) in
+    let i = subst (InEdit req) (at-edit2 .given .1) (at-pre .1 .1) in
+    (((at-pre .0 .0, m .inside, m .readable), (at-pre .0 .2, i)))
 
 returns-3 : tie.Need-returns-3
 returns-3 c =

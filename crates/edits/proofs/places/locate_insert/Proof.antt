@@ -21,8 +21,8 @@ use Rattle.requests.proofs.weigh.Reads as weigh-reads
 weigh-requires : tie.Need-weigh-requires
 weigh-requires c κs =
     let at-pre = c .before .before .pre in
-    let p = at-pre .1 .1 in
-    (at-pre .0, ((p .0, omega (arith, p .1 .0)), p .1 .1))
+    let p = at-pre .1 in
+    (((p .0, omega (arith, p .1 .0)), p .1 .1))
 
 enum-known-w : tie.Need-enum-known-w
 enum-known-w c = search needs
@@ -37,7 +37,7 @@ returns c =
     let at-enum-told = c .enum-told in
     let at-weigh = c .before .before .weigh in
     let a = at-args in
-    let p = at-pre .1 .0 in
+    let p = at-pre .0 in
     let w = subst (Weighs (pairsAt (a .req .now) (a .from))) (at-enum-told .given .1) (at-weigh .ensures) in
     insert-illegal (a .s .now) (a .begin) 0 (p .0) (p .1) (p .2) (a .req .now) (pairsAt (a .req .now) (a .from)) w
 
@@ -54,16 +54,16 @@ set-end-requires : tie.Need-set-end-requires
 set-end-requires c κs =
     let at-pre = c .before .before .before .before .before .before .before .pre in
     let at-args = c .before .before .before .before .before .before .before .args in
-    (at-pre .0, part-readable (at-args .s .now) (at-args .begin) (at-pre .1 .0 .2))
+    (part-readable (at-args .s .now) (at-args .begin) (at-pre .0 .2))
 
-add-t10 : tie.Need-add-t10
-add-t10 c =
+add-t9 : tie.Need-add-t9
+add-t9 c =
     let at-args = c .before .before .before .before .before .before .before .before .args in
     let at-pre = c .before .before .before .before .before .before .before .before .pre in
     let at-set-end = c .set-end in
     let at-good = c .before .before .before .before .before .before .before .before .good in
     let a = at-args in
-    let p = at-pre .1 .0 in
+    let p = at-pre .0 in
     let e = at-set-end .ensures ∙ ap (λ (y : Bytes). setEnd 0 (placesOf y)) (rest (a .s .now) (a .begin)) in
     omega (arith, at-good .1 .0 .0, end-inside _ (p .2), e, p .1, length-drop (a .begin) (a .s .now))
 
@@ -76,10 +76,10 @@ returns-2 c =
     let at-weigh = c .before .before .before .before .before .weigh in
     let a = at-args in
     let g = at-w .given in
-    let p = at-pre .1 .0 in
+    let p = at-pre .0 in
     let e = at-set-end .ensures ∙ ap (λ (y : Bytes). setEnd 0 (placesOf y)) (rest (a .s .now) (a .begin)) in
     let w = subst (Weighs (pairsAt (a .req .now) (a .from))) (g .1) (at-weigh .ensures) in
-    insert-located (a .s .now) (a .begin) 0 (p .0) (p .1) (p .2) (a .req .now) (at-set-end .result) (a .from) (g .0 .0) (g .0 .1 .0) e (at-pre .1 .1 .1 .1) w
+    insert-located (a .s .now) (a .begin) 0 (p .0) (p .1) (p .2) (a .req .now) (at-set-end .result) (a .from) (g .0 .0) (g .0 .1 .0) e (at-pre .1 .1 .1) w
 
 pub locate-insert-spec : {M : Type 1} → statement M
 locate-insert-spec =
@@ -93,5 +93,5 @@ locate-insert-spec =
     part-set-end-start
     part-set-end-end
     set-end-requires
-    add-t10
+    add-t9
     returns-2)

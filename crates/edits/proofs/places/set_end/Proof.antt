@@ -17,16 +17,16 @@ use Rattle.edits.proofs.places.set_end.Lts as lts
 use Rattle.records.proofs.next_record.Reads as next-record-reads
 
 abbrev Inv-loop : tie.InvT-loop
-Inv-loop table s i₀ i = (i ≤ length s) × (isReadable (drop i s) ≡ true) × (setEnd 0 (placesOf s) ≡ setEnd i (placesAt s i))
+Inv-loop s i₀ i = (i ≤ length s) × (isReadable (drop i s) ≡ true) × (setEnd 0 (placesOf s) ≡ setEnd i (placesAt s i))
 
 abbrev μ-loop : tie.MeasureT-loop
-μ-loop table s i₀ i = length s - i
+μ-loop s i₀ i = length s - i
 
 loop-holds : tie.Need-loop-holds Inv-loop μ-loop
 loop-holds c =
     let at-pre = c .before .pre in
     let at-args = c .before .args in
-    (omega arith, at-pre .1, ap (setEnd 0) (places-all (at-args .s .now)))
+    (omega arith, at-pre, ap (setEnd 0) (places-all (at-args .s .now)))
 
 sub-next-record : tie.Need-sub-next-record Inv-loop μ-loop
 sub-next-record c = search needs
@@ -39,10 +39,9 @@ part-next-record-end c = search needs
 
 next-record-requires : tie.Need-next-record-requires Inv-loop μ-loop
 next-record-requires c κs =
-    let at-pre = c .before .before .before .pre in
     let at-args = c .before .before .before .args in
     let at-loop = c .before .loop in
-    (at-pre .0, part-readable (at-args .s .now) (at-loop .i) (at-loop .inv .1))
+    (part-readable (at-args .s .now) (at-loop .i) (at-loop .inv .1))
 
 enum-known-r : tie.Need-enum-known-r Inv-loop μ-loop
 enum-known-r c = search needs

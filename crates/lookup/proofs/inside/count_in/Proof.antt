@@ -29,7 +29,7 @@ returns c =
     let at-find-set = c .before .before .find-set in
     let at-pre = c .before .before .before .before .before .pre in
     let at-enum-told = c .enum-told in
-    sym (count-missing (at-args .s .now) (at-args .set .now) (set-told (at-args .s .now) (at-args .set .now) (at-find-set .result) (at-pre .1) (at-find-set .ensures) (at-enum-told .given .1)))
+    sym (count-missing (at-args .s .now) (at-args .set .now) (set-told (at-args .s .now) (at-args .set .now) (at-find-set .result) (at-pre) (at-find-set .ensures) (at-enum-told .given .1)))
 
 sub-count-records : tie.Need-sub-count-records
 sub-count-records c =
@@ -37,7 +37,7 @@ sub-count-records c =
     let at-find-set = c .before .before .before .find-set in
     let at-pre = c .before .before .before .before .before .before .pre in
     let at-f = c .before .f in
-    let t = set-told (at-args .s .now) (at-args .set .now) (at-find-set .result) (at-pre .1) (at-find-set .ensures) (at-f .given .1) in omega (arith, t .inside)
+    let t = set-told (at-args .s .now) (at-args .set .now) (at-find-set .result) (at-pre) (at-find-set .ensures) (at-f .given .1) in omega (arith, t .inside)
 
 part-count-records-start : tie.Need-part-count-records-start
 part-count-records-start c =
@@ -45,7 +45,7 @@ part-count-records-start c =
     let at-find-set = c .before .before .before .find-set in
     let at-pre = c .before .before .before .before .before .before .pre in
     let at-f = c .before .f in
-    let t = set-told (at-args .s .now) (at-args .set .now) (at-find-set .result) (at-pre .1) (at-find-set .ensures) (at-f .given .1) in omega (arith, t .inside)
+    let t = set-told (at-args .s .now) (at-args .set .now) (at-find-set .result) (at-pre) (at-find-set .ensures) (at-f .given .1) in omega (arith, t .inside)
 
 part-count-records-end : tie.Need-part-count-records-end
 part-count-records-end c = search needs
@@ -56,7 +56,7 @@ count-records-requires c κs =
     let at-find-set = c .before .before .before .before .find-set in
     let at-pre = c .before .before .before .before .before .before .before .pre in
     let at-f = c .before .before .f in
-    let t = set-told (at-args .s .now) (at-args .set .now) (at-find-set .result) (at-pre .1) (at-find-set .ensures) (at-f .given .1) in (at-pre .0, part-readable (at-args .s .now) (at-f .given .0 .0) (t .readable))
+    let t = set-told (at-args .s .now) (at-args .set .now) (at-find-set .result) (at-pre) (at-find-set .ensures) (at-f .given .1) in (part-readable (at-args .s .now) (at-f .given .0 .0) (t .readable))
 
 returns-2 : tie.Need-returns-2
 returns-2 c =
@@ -65,7 +65,7 @@ returns-2 c =
     let at-pre = c .before .before .before .before .before .before .before .before .pre in
     let at-f = c .before .before .before .f in
     let at-count-records = c .count-records in
-    let t = set-told (at-args .s .now) (at-args .set .now) (at-find-set .result) (at-pre .1) (at-find-set .ensures) (at-f .given .1) in sym (count-found (at-args .s .now) (at-args .set .now) (at-f .given .0 .0) (at-count-records .result) t (at-count-records .ensures ∙ ap (λ (x : _). countBefore (placesOf x)) (rest (at-args .s .now) (at-f .given .0 .0))))
+    let t = set-told (at-args .s .now) (at-args .set .now) (at-find-set .result) (at-pre) (at-find-set .ensures) (at-f .given .1) in sym (count-found (at-args .s .now) (at-args .set .now) (at-f .given .0 .0) (at-count-records .result) t (at-count-records .ensures ∙ ap (λ (x : _). countBefore (placesOf x)) (rest (at-args .s .now) (at-f .given .0 .0))))
 
 pub count-in-spec : {M : Type 1} → statement M
 count-in-spec =

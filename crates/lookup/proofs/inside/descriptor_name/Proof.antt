@@ -28,7 +28,7 @@ slice-aggregate-find-field c = search needs
 find-field-requires : tie.Need-find-field-requires
 find-field-requires c κs =
     let at-pre = c .before .before .before .pre in
-    (at-pre .0, at-pre .1)
+    (at-pre)
 
 enum-known-f : tie.Need-enum-known-f
 enum-known-f c = search needs
@@ -42,7 +42,7 @@ returns c =
     let at-find-field = c .before .before .find-field in
     let at-pre = c .before .before .before .before .before .before .pre in
     let at-enum-told = c .enum-told in
-    titled-none (valuesOf (text "%rec") (recordIn (at-args .d .now))) (at-args .out .now) (field-told (text "%rec") (at-args .d .now) 0 (at-find-field .result) (at-pre .1) (at-find-field .ensures) (at-enum-told .given .1))
+    titled-none (valuesOf (text "%rec") (recordIn (at-args .d .now))) (at-args .out .now) (field-told (text "%rec") (at-args .d .now) 0 (at-find-field .result) (at-pre) (at-find-field .ensures) (at-enum-told .given .1))
 
 sub-word-start : tie.Need-sub-word-start
 sub-word-start c =
@@ -50,7 +50,7 @@ sub-word-start c =
     let at-find-field = c .before .before .before .find-field in
     let at-pre = c .before .before .before .before .before .before .before .pre in
     let at-f = c .before .f in
-    let p = field-told (text "%rec") (at-args .d .now) 0 (at-find-field .result) (at-pre .1) (at-find-field .ensures) (at-f .given .1) in omega (arith, p .within, p .inside)
+    let p = field-told (text "%rec") (at-args .d .now) 0 (at-find-field .result) (at-pre) (at-find-field .ensures) (at-f .given .1) in omega (arith, p .within, p .inside)
 
 part-word-start-start : tie.Need-part-word-start-start
 part-word-start-start c =
@@ -58,7 +58,7 @@ part-word-start-start c =
     let at-find-field = c .before .before .before .find-field in
     let at-pre = c .before .before .before .before .before .before .before .pre in
     let at-f = c .before .f in
-    let p = field-told (text "%rec") (at-args .d .now) 0 (at-find-field .result) (at-pre .1) (at-find-field .ensures) (at-f .given .1) in omega (arith, p .within, p .inside)
+    let p = field-told (text "%rec") (at-args .d .now) 0 (at-find-field .result) (at-pre) (at-find-field .ensures) (at-f .given .1) in omega (arith, p .within, p .inside)
 
 part-word-start-end : tie.Need-part-word-start-end
 part-word-start-end c =
@@ -66,7 +66,7 @@ part-word-start-end c =
     let at-find-field = c .before .before .before .find-field in
     let at-pre = c .before .before .before .before .before .before .before .pre in
     let at-f = c .before .f in
-    let p = field-told (text "%rec") (at-args .d .now) 0 (at-find-field .result) (at-pre .1) (at-find-field .ensures) (at-f .given .1) in omega (arith, p .within, p .inside)
+    let p = field-told (text "%rec") (at-args .d .now) 0 (at-find-field .result) (at-pre) (at-find-field .ensures) (at-f .given .1) in omega (arith, p .within, p .inside)
 
 word-start-requires : tie.Need-word-start-requires
 word-start-requires c κs = search needs
@@ -77,7 +77,7 @@ sub-word-len c =
     let at-find-field = c .before .before .before .before .before .find-field in
     let at-pre = c .before .before .before .before .before .before .before .before .before .pre in
     let at-f = c .before .before .before .f in
-    let p = field-told (text "%rec") (at-args .d .now) 0 (at-find-field .result) (at-pre .1) (at-find-field .ensures) (at-f .given .1) in omega (arith, p .within, p .inside)
+    let p = field-told (text "%rec") (at-args .d .now) 0 (at-find-field .result) (at-pre) (at-find-field .ensures) (at-f .given .1) in omega (arith, p .within, p .inside)
 
 part-word-len-start : tie.Need-part-word-len-start
 part-word-len-start c =
@@ -85,7 +85,7 @@ part-word-len-start c =
     let at-find-field = c .before .before .before .before .before .find-field in
     let at-pre = c .before .before .before .before .before .before .before .before .before .pre in
     let at-f = c .before .before .before .f in
-    let p = field-told (text "%rec") (at-args .d .now) 0 (at-find-field .result) (at-pre .1) (at-find-field .ensures) (at-f .given .1) in omega (arith, p .within, p .inside)
+    let p = field-told (text "%rec") (at-args .d .now) 0 (at-find-field .result) (at-pre) (at-find-field .ensures) (at-f .given .1) in omega (arith, p .within, p .inside)
 
 part-word-len-end : tie.Need-part-word-len-end
 part-word-len-end c =
@@ -93,7 +93,7 @@ part-word-len-end c =
     let at-find-field = c .before .before .before .before .before .find-field in
     let at-pre = c .before .before .before .before .before .before .before .before .before .pre in
     let at-f = c .before .before .before .f in
-    let p = field-told (text "%rec") (at-args .d .now) 0 (at-find-field .result) (at-pre .1) (at-find-field .ensures) (at-f .given .1) in omega (arith, p .within, p .inside)
+    let p = field-told (text "%rec") (at-args .d .now) 0 (at-find-field .result) (at-pre) (at-find-field .ensures) (at-f .given .1) in omega (arith, p .within, p .inside)
 
 word-len-requires : tie.Need-word-len-requires
 word-len-requires c κs = search needs
@@ -107,7 +107,7 @@ returns-2 c =
     let at-word-start = c .before .before .before .word-start in
     let at-word-len = c .before .word-len in
     let at-if1 = c .if1 in
-    let g = at-f .given in let p = field-told (text "%rec") (at-args .d .now) 0 (at-find-field .result) (at-pre .1) (at-find-field .ensures) (g .1) in let w : Bytes = front notGap (valueFrom (drop (at-word-start .result) (take (g .0 .1 .1 .0 - g .0 .1 .0) (drop (g .0 .1 .0) (at-args .d .now))))) in titled-long (at-args .d .now) (valuesOf (text "%rec") (recordIn (at-args .d .now))) (g .0 .0) (g .0 .1 .0) (g .0 .1 .1 .0) (at-args .out .now) w p (ap (front notGap) (at-word-start .ensures)) (omega (arith, at-word-len .ensures, at-if1 .taken))
+    let g = at-f .given in let p = field-told (text "%rec") (at-args .d .now) 0 (at-find-field .result) (at-pre) (at-find-field .ensures) (g .1) in let w : Bytes = front notGap (valueFrom (drop (at-word-start .result) (take (g .0 .1 .1 .0 - g .0 .1 .0) (drop (g .0 .1 .0) (at-args .d .now))))) in titled-long (at-args .d .now) (valuesOf (text "%rec") (recordIn (at-args .d .now))) (g .0 .0) (g .0 .1 .0) (g .0 .1 .1 .0) (at-args .out .now) w p (ap (front notGap) (at-word-start .ensures)) (omega (arith, at-word-len .ensures, at-if1 .taken))
 
 sub-copy-word : tie.Need-sub-copy-word
 sub-copy-word c =
@@ -115,7 +115,7 @@ sub-copy-word c =
     let at-find-field = c .before .before .before .before .before .before .before .before .find-field in
     let at-pre = c .before .before .before .before .before .before .before .before .before .before .before .before .pre in
     let at-f = c .before .before .before .before .before .before .f in
-    let p = field-told (text "%rec") (at-args .d .now) 0 (at-find-field .result) (at-pre .1) (at-find-field .ensures) (at-f .given .1) in omega (arith, p .within, p .inside)
+    let p = field-told (text "%rec") (at-args .d .now) 0 (at-find-field .result) (at-pre) (at-find-field .ensures) (at-f .given .1) in omega (arith, p .within, p .inside)
 
 part-copy-word-start : tie.Need-part-copy-word-start
 part-copy-word-start c =
@@ -123,7 +123,7 @@ part-copy-word-start c =
     let at-find-field = c .before .before .before .before .before .before .before .before .find-field in
     let at-pre = c .before .before .before .before .before .before .before .before .before .before .before .before .pre in
     let at-f = c .before .before .before .before .before .before .f in
-    let p = field-told (text "%rec") (at-args .d .now) 0 (at-find-field .result) (at-pre .1) (at-find-field .ensures) (at-f .given .1) in omega (arith, p .within, p .inside)
+    let p = field-told (text "%rec") (at-args .d .now) 0 (at-find-field .result) (at-pre) (at-find-field .ensures) (at-f .given .1) in omega (arith, p .within, p .inside)
 
 part-copy-word-end : tie.Need-part-copy-word-end
 part-copy-word-end c =
@@ -131,7 +131,7 @@ part-copy-word-end c =
     let at-find-field = c .before .before .before .before .before .before .before .before .find-field in
     let at-pre = c .before .before .before .before .before .before .before .before .before .before .before .before .pre in
     let at-f = c .before .before .before .before .before .before .f in
-    let p = field-told (text "%rec") (at-args .d .now) 0 (at-find-field .result) (at-pre .1) (at-find-field .ensures) (at-f .given .1) in omega (arith, p .within, p .inside)
+    let p = field-told (text "%rec") (at-args .d .now) 0 (at-find-field .result) (at-pre) (at-find-field .ensures) (at-f .given .1) in omega (arith, p .within, p .inside)
 
 copy-word-requires : tie.Need-copy-word-requires
 copy-word-requires c κs =
@@ -152,7 +152,7 @@ returns-3 c =
     let at-word-len = c .before .before .before .before .before .before .word-len in
     let at-if1 = c .before .before .before .before .before .if1 in
     let at-copy-word = c .before .before .copy-word in
-    let g = at-f .given in let p = field-told (text "%rec") (at-args .d .now) 0 (at-find-field .result) (at-pre .1) (at-find-field .ensures) (g .1) in let w : Bytes = front notGap (valueFrom (drop (at-word-start .result) (take (g .0 .1 .1 .0 - g .0 .1 .0) (drop (g .0 .1 .0) (at-args .d .now))))) in titled-first (at-args .d .now) (valuesOf (text "%rec") (recordIn (at-args .d .now))) (g .0 .0) (g .0 .1 .0) (g .0 .1 .1 .0) (at-args .out .now) w p (ap (front notGap) (at-word-start .ensures)) (omega (arith, at-word-len .ensures, at-if1 .left)) ∙ (λ i. record { result = Answer.value (sym (at-word-len .ensures) i); out = sym (at-copy-word .ensures) i })
+    let g = at-f .given in let p = field-told (text "%rec") (at-args .d .now) 0 (at-find-field .result) (at-pre) (at-find-field .ensures) (g .1) in let w : Bytes = front notGap (valueFrom (drop (at-word-start .result) (take (g .0 .1 .1 .0 - g .0 .1 .0) (drop (g .0 .1 .0) (at-args .d .now))))) in titled-first (at-args .d .now) (valuesOf (text "%rec") (recordIn (at-args .d .now))) (g .0 .0) (g .0 .1 .0) (g .0 .1 .1 .0) (at-args .out .now) w p (ap (front notGap) (at-word-start .ensures)) (omega (arith, at-word-len .ensures, at-if1 .left)) ∙ (λ i. record { result = Answer.value (sym (at-word-len .ensures) i); out = sym (at-copy-word .ensures) i })
 
 pub descriptor-name-spec : {M : Type 1} → statement M
 descriptor-name-spec =

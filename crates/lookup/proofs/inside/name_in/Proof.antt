@@ -24,7 +24,7 @@ sub-find-descriptor c = search needs
 find-descriptor-requires : tie.Need-find-descriptor-requires
 find-descriptor-requires c κs =
     let at-pre = c .before .before .before .pre in
-    (at-pre .0, at-pre .1)
+    (at-pre)
 
 enum-known-f : tie.Need-enum-known-f
 enum-known-f c = search needs
@@ -39,7 +39,7 @@ returns-2 c =
     let at-find-descriptor = c .before .before .find-descriptor in
     let at-pre = c .before .before .before .before .before .before .pre in
     let at-enum-told = c .enum-told in
-    name-missing (at-args .s .now) (at-args .k) (at-args .out .now) (at-args .k - 1) (omega (arith, at-if1 .left)) (descriptor-told (at-args .s .now) (at-args .k - 1) (at-find-descriptor .result) (at-pre .1) (at-find-descriptor .ensures) (at-enum-told .given .1))
+    name-missing (at-args .s .now) (at-args .k) (at-args .out .now) (at-args .k - 1) (omega (arith, at-if1 .left)) (descriptor-told (at-args .s .now) (at-args .k - 1) (at-find-descriptor .result) (at-pre) (at-find-descriptor .ensures) (at-enum-told .given .1))
 
 sub-descriptor-name : tie.Need-sub-descriptor-name
 sub-descriptor-name c =
@@ -47,7 +47,7 @@ sub-descriptor-name c =
     let at-find-descriptor = c .before .before .before .find-descriptor in
     let at-pre = c .before .before .before .before .before .before .before .pre in
     let at-f = c .before .f in
-    let t = descriptor-told (at-args .s .now) (at-args .k - 1) (at-find-descriptor .result) (at-pre .1) (at-find-descriptor .ensures) (at-f .given .1) in omega (arith, t .stand .filled)
+    let t = descriptor-told (at-args .s .now) (at-args .k - 1) (at-find-descriptor .result) (at-pre) (at-find-descriptor .ensures) (at-f .given .1) in omega (arith, t .stand .filled)
 
 part-descriptor-name-start : tie.Need-part-descriptor-name-start
 part-descriptor-name-start c =
@@ -55,7 +55,7 @@ part-descriptor-name-start c =
     let at-find-descriptor = c .before .before .before .find-descriptor in
     let at-pre = c .before .before .before .before .before .before .before .pre in
     let at-f = c .before .f in
-    let t = descriptor-told (at-args .s .now) (at-args .k - 1) (at-find-descriptor .result) (at-pre .1) (at-find-descriptor .ensures) (at-f .given .1) in omega (arith, t .stand .filled)
+    let t = descriptor-told (at-args .s .now) (at-args .k - 1) (at-find-descriptor .result) (at-pre) (at-find-descriptor .ensures) (at-f .given .1) in omega (arith, t .stand .filled)
 
 part-descriptor-name-end : tie.Need-part-descriptor-name-end
 part-descriptor-name-end c =
@@ -63,7 +63,7 @@ part-descriptor-name-end c =
     let at-find-descriptor = c .before .before .before .find-descriptor in
     let at-pre = c .before .before .before .before .before .before .before .pre in
     let at-f = c .before .f in
-    let t = descriptor-told (at-args .s .now) (at-args .k - 1) (at-find-descriptor .result) (at-pre .1) (at-find-descriptor .ensures) (at-f .given .1) in omega (arith, t .stand .within, t .stand .inside)
+    let t = descriptor-told (at-args .s .now) (at-args .k - 1) (at-find-descriptor .result) (at-pre) (at-find-descriptor .ensures) (at-f .given .1) in omega (arith, t .stand .within, t .stand .inside)
 
 descriptor-name-requires : tie.Need-descriptor-name-requires
 descriptor-name-requires c κs =
@@ -71,7 +71,7 @@ descriptor-name-requires c κs =
     let at-find-descriptor = c .before .before .before .before .before .find-descriptor in
     let at-pre = c .before .before .before .before .before .before .before .before .before .pre in
     let at-f = c .before .before .before .f in
-    let t = descriptor-told (at-args .s .now) (at-args .k - 1) (at-find-descriptor .result) (at-pre .1) (at-find-descriptor .ensures) (at-f .given .1) in (at-pre .0, reads-readable (t .stand .own-reads))
+    let t = descriptor-told (at-args .s .now) (at-args .k - 1) (at-find-descriptor .result) (at-pre) (at-find-descriptor .ensures) (at-f .given .1) in (reads-readable (t .stand .own-reads))
 
 same-length : tie.Need-same-length
 same-length c = search needs
@@ -84,7 +84,7 @@ returns-3 c =
     let at-f = c .before .before .before .before .before .before .f in
     let at-if1 = c .before .before .before .before .before .before .before .before .before .if1 in
     let at-descriptor-name = c .before .before .descriptor-name in
-    let t = descriptor-told (at-args .s .now) (at-args .k - 1) (at-find-descriptor .result) (at-pre .1) (at-find-descriptor .ensures) (at-f .given .1) in name-found (at-args .s .now) (at-args .k) (at-args .out .now) (at-args .k - 1) (omega (arith, at-if1 .left)) (at-f .given .0 .0) t ∙ at-descriptor-name .ensures
+    let t = descriptor-told (at-args .s .now) (at-args .k - 1) (at-find-descriptor .result) (at-pre) (at-find-descriptor .ensures) (at-f .given .1) in name-found (at-args .s .now) (at-args .k) (at-args .out .now) (at-args .k - 1) (omega (arith, at-if1 .left)) (at-f .given .0 .0) t ∙ at-descriptor-name .ensures
 
 pub name-in-spec : {M : Type 1} → statement M
 name-in-spec =

@@ -31,7 +31,7 @@ returns c =
     let at-find-set = c .before .before .find-set in
     let at-pre = c .before .before .before .before .before .pre in
     let at-enum-told = c .enum-told in
-    (sym (view-missing (at-args .s .now) (at-args .set .now) (at-args .row) (set-told (at-args .s .now) (at-args .set .now) (at-find-set .result) (at-pre .1) (at-find-set .ensures) (at-enum-told .given .1))), tt)
+    (sym (view-missing (at-args .s .now) (at-args .set .now) (at-args .row) (set-told (at-args .s .now) (at-args .set .now) (at-find-set .result) (at-pre) (at-find-set .ensures) (at-enum-told .given .1))), tt)
 
 sub-find-record : tie.Need-sub-find-record
 sub-find-record c =
@@ -39,7 +39,7 @@ sub-find-record c =
     let at-find-set = c .before .before .before .find-set in
     let at-pre = c .before .before .before .before .before .before .pre in
     let at-f = c .before .f in
-    let t = set-told (at-args .s .now) (at-args .set .now) (at-find-set .result) (at-pre .1) (at-find-set .ensures) (at-f .given .1) in omega (arith, t .inside)
+    let t = set-told (at-args .s .now) (at-args .set .now) (at-find-set .result) (at-pre) (at-find-set .ensures) (at-f .given .1) in omega (arith, t .inside)
 
 part-find-record-start : tie.Need-part-find-record-start
 part-find-record-start c =
@@ -47,7 +47,7 @@ part-find-record-start c =
     let at-find-set = c .before .before .before .find-set in
     let at-pre = c .before .before .before .before .before .before .pre in
     let at-f = c .before .f in
-    let t = set-told (at-args .s .now) (at-args .set .now) (at-find-set .result) (at-pre .1) (at-find-set .ensures) (at-f .given .1) in omega (arith, t .inside)
+    let t = set-told (at-args .s .now) (at-args .set .now) (at-find-set .result) (at-pre) (at-find-set .ensures) (at-f .given .1) in omega (arith, t .inside)
 
 part-find-record-end : tie.Need-part-find-record-end
 part-find-record-end c = search needs
@@ -58,7 +58,7 @@ find-record-requires c κs =
     let at-find-set = c .before .before .before .before .find-set in
     let at-pre = c .before .before .before .before .before .before .before .pre in
     let at-f = c .before .before .f in
-    let t = set-told (at-args .s .now) (at-args .set .now) (at-find-set .result) (at-pre .1) (at-find-set .ensures) (at-f .given .1) in (at-pre .0, part-readable (at-args .s .now) (at-f .given .0 .0) (t .readable))
+    let t = set-told (at-args .s .now) (at-args .set .now) (at-find-set .result) (at-pre) (at-find-set .ensures) (at-f .given .1) in (part-readable (at-args .s .now) (at-f .given .0 .0) (t .readable))
 
 enum-known-g : tie.Need-enum-known-g
 enum-known-g c = search needs
@@ -74,7 +74,7 @@ returns-2 c =
     let at-f = c .before .before .before .before .before .f in
     let at-find-record = c .before .before .find-record in
     let at-enum-told2 = c .enum-told2 in
-    let t = set-told (at-args .s .now) (at-args .set .now) (at-find-set .result) (at-pre .1) (at-find-set .ensures) (at-f .given .1) in let x = at-find-record .ensures ∙ ap (λ (y : Bytes). recordPlace (placesOf y) (at-args .row)) (rest (at-args .s .now) (at-f .given .0 .0)) in let r = record-told (drop (at-f .given .0 .0) (at-args .s .now)) (at-args .row) (at-find-record .result) (t .readable) x (at-enum-told2 .given .1) in (sym (view-past (at-args .s .now) (at-args .set .now) (at-args .row) (at-f .given .0 .0) t r), tt)
+    let t = set-told (at-args .s .now) (at-args .set .now) (at-find-set .result) (at-pre) (at-find-set .ensures) (at-f .given .1) in let x = at-find-record .ensures ∙ ap (λ (y : Bytes). recordPlace (placesOf y) (at-args .row)) (rest (at-args .s .now) (at-f .given .0 .0)) in let r = record-told (drop (at-f .given .0 .0) (at-args .s .now)) (at-args .row) (at-find-record .result) (t .readable) x (at-enum-told2 .given .1) in (sym (view-past (at-args .s .now) (at-args .set .now) (at-args .row) (at-f .given .0 .0) t r), tt)
 
 add-start : tie.Need-add-start
 add-start c =
@@ -85,7 +85,7 @@ add-start c =
     let at-find-record = c .before .before .before .before .find-record in
     let at-g = c .before .before .g in
     let at-good = c .before .before .before .before .before .before .before .before .before .before .before .before .good in
-    let t = set-told (at-args .s .now) (at-args .set .now) (at-find-set .result) (at-pre .1) (at-find-set .ensures) (at-f .given .1) in let x = at-find-record .ensures ∙ ap (λ (y : Bytes). recordPlace (placesOf y) (at-args .row)) (rest (at-args .s .now) (at-f .given .0 .0)) in let r = record-told (drop (at-f .given .0 .0) (at-args .s .now)) (at-args .row) (at-find-record .result) (t .readable) x (at-g .given .1) in omega (arith, at-good .1 .0 .0, t .inside, r .stand .filled, r .stand .within, r .stand .inside, length-drop (at-f .given .0 .0) (at-args .s .now))
+    let t = set-told (at-args .s .now) (at-args .set .now) (at-find-set .result) (at-pre) (at-find-set .ensures) (at-f .given .1) in let x = at-find-record .ensures ∙ ap (λ (y : Bytes). recordPlace (placesOf y) (at-args .row)) (rest (at-args .s .now) (at-f .given .0 .0)) in let r = record-told (drop (at-f .given .0 .0) (at-args .s .now)) (at-args .row) (at-find-record .result) (t .readable) x (at-g .given .1) in omega (arith, at-good .0 .0, t .inside, r .stand .filled, r .stand .within, r .stand .inside, length-drop (at-f .given .0 .0) (at-args .s .now))
 
 add-end : tie.Need-add-end
 add-end c =
@@ -96,7 +96,7 @@ add-end c =
     let at-find-record = c .before .before .before .before .before .find-record in
     let at-g = c .before .before .before .g in
     let at-good = c .before .before .before .before .before .before .before .before .before .before .before .before .before .good in
-    let t = set-told (at-args .s .now) (at-args .set .now) (at-find-set .result) (at-pre .1) (at-find-set .ensures) (at-f .given .1) in let x = at-find-record .ensures ∙ ap (λ (y : Bytes). recordPlace (placesOf y) (at-args .row)) (rest (at-args .s .now) (at-f .given .0 .0)) in let r = record-told (drop (at-f .given .0 .0) (at-args .s .now)) (at-args .row) (at-find-record .result) (t .readable) x (at-g .given .1) in omega (arith, at-good .1 .0 .0, t .inside, r .stand .filled, r .stand .within, r .stand .inside, length-drop (at-f .given .0 .0) (at-args .s .now))
+    let t = set-told (at-args .s .now) (at-args .set .now) (at-find-set .result) (at-pre) (at-find-set .ensures) (at-f .given .1) in let x = at-find-record .ensures ∙ ap (λ (y : Bytes). recordPlace (placesOf y) (at-args .row)) (rest (at-args .s .now) (at-f .given .0 .0)) in let r = record-told (drop (at-f .given .0 .0) (at-args .s .now)) (at-args .row) (at-find-record .result) (t .readable) x (at-g .given .1) in omega (arith, at-good .0 .0, t .inside, r .stand .filled, r .stand .within, r .stand .inside, length-drop (at-f .given .0 .0) (at-args .s .now))
 
 returns-3 : tie.Need-returns-3
 returns-3 c =
@@ -106,7 +106,7 @@ returns-3 c =
     let at-f = c .before .before .before .before .before .before .before .before .f in
     let at-find-record = c .before .before .before .before .before .find-record in
     let at-g = c .before .before .before .g in
-    let t = set-told (at-args .s .now) (at-args .set .now) (at-find-set .result) (at-pre .1) (at-find-set .ensures) (at-f .given .1) in let x = at-find-record .ensures ∙ ap (λ (y : Bytes). recordPlace (placesOf y) (at-args .row)) (rest (at-args .s .now) (at-f .given .0 .0)) in let r = record-told (drop (at-f .given .0 .0) (at-args .s .now)) (at-args .row) (at-find-record .result) (t .readable) x (at-g .given .1) in (sym (view-found (at-args .s .now) (at-args .set .now) (at-args .row) (at-f .given .0 .0) t (at-g .given .0 .0) (at-pre .1) (sym (at-find-set .ensures) ∙ at-f .given .1) (sym x ∙ at-g .given .1) r), (omega (arith, r .stand .filled), omega (arith, t .inside, r .stand .within, r .stand .inside, length-drop (at-f .given .0 .0) (at-args .s .now))))
+    let t = set-told (at-args .s .now) (at-args .set .now) (at-find-set .result) (at-pre) (at-find-set .ensures) (at-f .given .1) in let x = at-find-record .ensures ∙ ap (λ (y : Bytes). recordPlace (placesOf y) (at-args .row)) (rest (at-args .s .now) (at-f .given .0 .0)) in let r = record-told (drop (at-f .given .0 .0) (at-args .s .now)) (at-args .row) (at-find-record .result) (t .readable) x (at-g .given .1) in (sym (view-found (at-args .s .now) (at-args .set .now) (at-args .row) (at-f .given .0 .0) t (at-g .given .0 .0) (at-pre) (sym (at-find-set .ensures) ∙ at-f .given .1) (sym x ∙ at-g .given .1) r), (omega (arith, r .stand .filled), omega (arith, t .inside, r .stand .within, r .stand .inside, length-drop (at-f .given .0 .0) (at-args .s .now))))
 
 pub view-in-spec : {M : Type 1} → statement M
 view-in-spec =

@@ -22,16 +22,16 @@ use Rattle.requests.proofs.pairs.pair_at.Reads as pair-at-reads
 use Rattle.requests.proofs.pairs.pair_len.Reads as pair-len-reads
 
 abbrev Inv-loop : tie.InvT-loop
-Inv-loop table req from i₀ len₀ count₀ i len count = (i ≤ length req) × (isSome (pairsFrom req i) ≡ true) × (len ≤ 3 * i) × (count ≤ i) × (all isLegalPair (pairsAt req from) ≡ all isLegalPair (pairsAt req i)) × (len + length (writtenAll (pairsAt req i)) ≡ length (writtenAll (pairsAt req from))) × (count + length (pairsAt req i) ≡ length (pairsAt req from))
+Inv-loop req from i₀ len₀ count₀ i len count = (i ≤ length req) × (isSome (pairsFrom req i) ≡ true) × (len ≤ 3 * i) × (count ≤ i) × (all isLegalPair (pairsAt req from) ≡ all isLegalPair (pairsAt req i)) × (len + length (writtenAll (pairsAt req i)) ≡ length (writtenAll (pairsAt req from))) × (count + length (pairsAt req i) ≡ length (pairsAt req from))
 
 abbrev μ-loop : tie.MeasureT-loop
-μ-loop table req from i₀ len₀ count₀ i len count = length req - i
+μ-loop req from i₀ len₀ count₀ i len count = length req - i
 
 loop-holds : tie.Need-loop-holds Inv-loop μ-loop
 loop-holds c =
     let at-pre = c .before .pre in
     let at-args = c .before .args in
-    (at-pre .1 .0 .1, at-pre .1 .1, omega arith, omega arith, refl, zero-add (length (writtenAll (pairsAt (at-args .req .now) (at-args .from)))), zero-add (length (pairsAt (at-args .req .now) (at-args .from))))
+    (at-pre .0 .1, at-pre .1, omega arith, omega arith, refl, zero-add (length (writtenAll (pairsAt (at-args .req .now) (at-args .from)))), zero-add (length (pairsAt (at-args .req .now) (at-args .from))))
 
 pair-at-requires : tie.Need-pair-at-requires Inv-loop μ-loop
 pair-at-requires c κs = search needs
@@ -56,8 +56,7 @@ is-legal-pair-requires c κs =
     let at-loop = c .before .before .before .before .loop in
     let at-pair-at = c .before .before .before .pair-at in
     let at-p = c .before .p in
-    let at-pre = c .before .before .before .before .before .before .pre in
-    let h = pair-found (at-args .req .now) (at-loop .i) (at-pair-at .result) (at-p .given .0 .0) (at-p .given .0 .1 .0) (at-p .given .0 .1 .1 .0) (at-pair-at .ensures) (at-p .given .1) in (at-pre .0, (h .3, h .5))
+    let h = pair-found (at-args .req .now) (at-loop .i) (at-pair-at .result) (at-p .given .0 .0) (at-p .given .0 .1 .0) (at-p .given .0 .1 .1 .0) (at-pair-at .ensures) (at-p .given .1) in ((h .3, h .5))
 
 returns-2 : tie.Need-returns-2 Inv-loop μ-loop
 returns-2 c =
@@ -76,7 +75,7 @@ pair-len-requires c κs =
     let at-pair-at = c .before .before .before .before .before .pair-at in
     let at-p = c .before .before .before .p in
     let at-pre = c .before .before .before .before .before .before .before .before .pre in
-    let h = pair-found (at-args .req .now) (at-loop .i) (at-pair-at .result) (at-p .given .0 .0) (at-p .given .0 .1 .0) (at-p .given .0 .1 .1 .0) (at-pair-at .ensures) (at-p .given .1) in (at-pre .1 .0 .0, (h .3, h .5))
+    let h = pair-found (at-args .req .now) (at-loop .i) (at-pair-at .result) (at-p .given .0 .0) (at-p .given .0 .1 .0) (at-p .given .0 .1 .1 .0) (at-pair-at .ensures) (at-p .given .1) in (at-pre .0 .0, (h .3, h .5))
 
 add-len : tie.Need-add-len Inv-loop μ-loop
 add-len c =
@@ -86,7 +85,7 @@ add-len c =
     let at-p = c .before .before .before .before .p in
     let at-pair-len = c .pair-len in
     let at-pre = c .before .before .before .before .before .before .before .before .before .pre in
-    let h = pair-found (at-args .req .now) (at-loop .i) (at-pair-at .result) (at-p .given .0 .0) (at-p .given .0 .1 .0) (at-p .given .0 .1 .1 .0) (at-pair-at .ensures) (at-p .given .1) in omega (arith, pair-size (at-args .req .now) (at-loop .i) (at-p .given .0 .0) (at-p .given .0 .1 .0) (at-p .given .0 .1 .1 .0) h, at-pair-len .ensures, at-loop .inv .2, at-pre .1 .0 .0, h .5 .1, h .6)
+    let h = pair-found (at-args .req .now) (at-loop .i) (at-pair-at .result) (at-p .given .0 .0) (at-p .given .0 .1 .0) (at-p .given .0 .1 .1 .0) (at-pair-at .ensures) (at-p .given .1) in omega (arith, pair-size (at-args .req .now) (at-loop .i) (at-p .given .0 .0) (at-p .given .0 .1 .0) (at-p .given .0 .1 .1 .0) h, at-pair-len .ensures, at-loop .inv .2, at-pre .0 .0, h .5 .1, h .6)
 
 add-count : tie.Need-add-count Inv-loop μ-loop
 add-count c =
@@ -95,7 +94,7 @@ add-count c =
     let at-pair-at = c .before .before .before .before .before .before .pair-at in
     let at-p = c .before .before .before .before .p in
     let at-pre = c .before .before .before .before .before .before .before .before .before .pre in
-    let h = pair-found (at-args .req .now) (at-loop .i) (at-pair-at .result) (at-p .given .0 .0) (at-p .given .0 .1 .0) (at-p .given .0 .1 .1 .0) (at-pair-at .ensures) (at-p .given .1) in omega (arith, at-loop .inv .3, at-loop .inv .0, at-pre .1 .0 .0)
+    let h = pair-found (at-args .req .now) (at-loop .i) (at-pair-at .result) (at-p .given .0 .0) (at-p .given .0 .1 .0) (at-p .given .0 .1 .1 .0) (at-pair-at .ensures) (at-p .given .1) in omega (arith, at-loop .inv .3, at-loop .inv .0, at-pre .0 .0)
 
 loop-less : tie.Need-loop-less Inv-loop μ-loop
 loop-less c =

@@ -29,17 +29,17 @@ use Rattle.rules.proofs.tallies.recall.Reads as recall-reads
 use Rattle.rules.proofs.tallies.start.Reads as start-reads
 
 abbrev Inv-loop : tie.InvT-loop
-Inv-loop table d names needed needsets single singlesets marks r s scratch₀ tables from to mandatory seen₀ t₀ fields₀ typed₀ a₀ i₀ scratch seen t fields typed a i =
+Inv-loop d names needed needsets single singlesets marks r s scratch₀ tables from to mandatory seen₀ t₀ fields₀ typed₀ a₀ i₀ scratch seen t fields typed a i =
     (length scratch ≡ length scratch₀) × (length seen ≡ 16) × AllSeen (recordIn d) (r .tables .from) (r .tables .names .next) s seen × Walked d (r .tables .from) (r .enums .next - r .tables .from) s t fields typed (a .number) (a .count) i × (all (fitsIn (length scratch₀)) (fieldsFrom s i) ≡ true)
 
 abbrev μ-loop : tie.MeasureT-loop
-μ-loop table d names needed needsets single singlesets marks r s scratch₀ tables from to mandatory seen₀ t₀ fields₀ typed₀ a₀ i₀ scratch seen t fields typed a i =
+μ-loop d names needed needsets single singlesets marks r s scratch₀ tables from to mandatory seen₀ t₀ fields₀ typed₀ a₀ i₀ scratch seen t fields typed a i =
     length s - i
 
 look-up-requires : tie.Need-look-up-requires Inv-loop μ-loop
 look-up-requires c κs =
     let at-pre = c .before .before .before .before .before .before .before .before .before .before .pre in
-    (at-pre .1 .0 .tables-are, (omega arith, omega arith))
+    (at-pre .0 .tables-are, (omega arith, omega arith))
 
 start-requires : tie.Need-start-requires Inv-loop μ-loop
 start-requires c κs = search needs
@@ -50,7 +50,7 @@ loop-holds c =
     let at-look-up = c .before .look-up in
     let at-start = c .start in
     let at-pre = c .before .before .before .before .before .before .before .before .before .before .before .before .pre in
-    (refl, refl, seen-start (recordIn (at-args .d .now)) (at-args .r .tables .from) (at-args .r .tables .names .next) (at-args .s .now) (at-look-up .result) (at-look-up .ensures .0), walk-start (at-args .d .now) (at-args .r .tables .from) (at-args .r .enums .next - at-args .r .tables .from) (at-args .s .now) (at-start .result) (at-start .ensures) (at-pre .1 .1 .0), at-pre .1 .1 .2)
+    (refl, refl, seen-start (recordIn (at-args .d .now)) (at-args .r .tables .from) (at-args .r .tables .names .next) (at-args .s .now) (at-look-up .result) (at-look-up .ensures .0), walk-start (at-args .d .now) (at-args .r .tables .from) (at-args .r .enums .next - at-args .r .tables .from) (at-args .s .now) (at-start .result) (at-start .ensures) (at-pre .1 .0), at-pre .1 .2)
 
 sub-read-piece : tie.Need-sub-read-piece Inv-loop μ-loop
 sub-read-piece c =
@@ -81,7 +81,7 @@ add-i c =
     let at-read-piece = c .before .before .before .read-piece in
     let at-p = c .before .p in
     let at-pre = c .before .before .before .before .before .before .before .before .before .before .before .before .before .before .before .before .before .before .pre in
-    let h = steps (at-args .s .now) (at-loop .i) (at-read-piece .result) (at-loop .inv .3 .readable) (at-read-piece .ensures) (at-p .given .1) in omega (arith, h .1 .inside, at-pre .1 .1 .1)
+    let h = steps (at-args .s .now) (at-loop .i) (at-read-piece .result) (at-loop .inv .3 .readable) (at-read-piece .ensures) (at-p .given .1) in omega (arith, h .1 .inside, at-pre .1 .1)
 
 loop-less : tie.Need-loop-less Inv-loop μ-loop
 loop-less c =
@@ -109,7 +109,7 @@ closed-requires c κs =
     let at-args = c .before .before .before .before .before .before .before .before .before .before .before .before .before .before .before .before .before .before .args in
     let at-pre = c .before .before .before .before .before .before .before .before .before .before .before .before .before .before .before .before .before .before .pre in
     let at-loop = c .before .before .before .before .before .loop in
-    (few-mandatory (at-args .d .now) (at-args .names .now) (at-args .needed .now) (at-args .needsets .now) (at-args .single .now) (at-args .singlesets .now) (at-args .marks .now) (at-args .r) (at-pre .1 .0), omega (arith, at-loop .inv .3 .fewer, at-loop .inv .3 .inside, at-pre .1 .1 .1))
+    (few-mandatory (at-args .d .now) (at-args .names .now) (at-args .needed .now) (at-args .needsets .now) (at-args .single .now) (at-args .singlesets .now) (at-args .marks .now) (at-args .r) (at-pre .0), omega (arith, at-loop .inv .3 .fewer, at-loop .inv .3 .inside, at-pre .1 .1))
 
 start-requires-2 : tie.Need-start-requires-2 Inv-loop μ-loop
 start-requires-2 c κs = search needs
@@ -121,7 +121,7 @@ add-i-2 c =
     let at-read-piece = c .before .before .before .before .before .read-piece in
     let at-p2 = c .before .before .before .p2 in
     let at-pre = c .before .before .before .before .before .before .before .before .before .before .before .before .before .before .before .before .before .before .before .before .pre in
-    let h = steps (at-args .s .now) (at-loop .i) (at-read-piece .result) (at-loop .inv .3 .readable) (at-read-piece .ensures) (at-p2 .given .1) in omega (arith, h .1 .inside, at-pre .1 .1 .1)
+    let h = steps (at-args .s .now) (at-loop .i) (at-read-piece .result) (at-loop .inv .3 .readable) (at-read-piece .ensures) (at-p2 .given .1) in omega (arith, h .1 .inside, at-pre .1 .1)
 
 loop-less-2 : tie.Need-loop-less-2 Inv-loop μ-loop
 loop-less-2 c =
@@ -142,7 +142,7 @@ loop-again-2 c =
     let at-start2 = c .start2 in
     let h = steps (at-args .s .now) (at-loop .i) (at-read-piece .result) (at-loop .inv .3 .readable) (at-read-piece .ensures) (at-p2 .given .1) in
     let k = at-p2 .given .0 .0 in
-    (at-loop .inv .0, at-loop .inv .1, at-loop .inv .2, walk-blank (at-args .d .now) (at-args .r .tables .from) (at-args .r .enums .next - at-args .r .tables .from) (at-args .s .now) (at-loop .t) (at-loop .fields) (at-loop .typed) (at-loop .a .number) (at-loop .a .count) (at-loop .i) (at-loop .inv .3) (at-closed .result .number) _ (at-closed .result .count) (open-no (at-args .d .now) (at-args .names .now) (at-args .needed .now) (at-args .needsets .now) (at-args .single .now) (at-args .singlesets .now) (at-args .marks .now) (at-args .r) (at-pre .1 .0) (at-loop .inv .3 .opened) (at-loop .t) (at-loop .inv .3 .tallied)) (at-closed .ensures .0) (at-closed .ensures .1) (h .0) k (at-start2 .result) (at-start2 .ensures) (h .1), sym (ap (all (fitsIn (length (at-args .scratch .now)))) (record-blank (at-args .s .now) (at-loop .i) (h .0) k (h .1))) ∙ at-loop .inv .4)
+    (at-loop .inv .0, at-loop .inv .1, at-loop .inv .2, walk-blank (at-args .d .now) (at-args .r .tables .from) (at-args .r .enums .next - at-args .r .tables .from) (at-args .s .now) (at-loop .t) (at-loop .fields) (at-loop .typed) (at-loop .a .number) (at-loop .a .count) (at-loop .i) (at-loop .inv .3) (at-closed .result .number) _ (at-closed .result .count) (open-no (at-args .d .now) (at-args .names .now) (at-args .needed .now) (at-args .needsets .now) (at-args .single .now) (at-args .singlesets .now) (at-args .marks .now) (at-args .r) (at-pre .0) (at-loop .inv .3 .opened) (at-loop .t) (at-loop .inv .3 .tallied)) (at-closed .ensures .0) (at-closed .ensures .1) (h .0) k (at-start2 .result) (at-start2 .ensures) (h .1), sym (ap (all (fitsIn (length (at-args .scratch .now)))) (record-blank (at-args .s .now) (at-loop .i) (h .0) k (h .1))) ∙ at-loop .inv .4)
 
 enum-known-p-3 : tie.Need-enum-known-p-3 Inv-loop μ-loop
 enum-known-p-3 c = search needs
@@ -162,7 +162,7 @@ add-recall c =
     let at-read-piece = c .before .before .before .before .read-piece in
     let at-p3 = c .before .before .p3 in
     let at-pre = c .before .before .before .before .before .before .before .before .before .before .before .before .before .before .before .before .before .before .before .pre in
-    let h = steps (at-args .s .now) (at-loop .i) (at-read-piece .result) (at-loop .inv .3 .readable) (at-read-piece .ensures) (at-p3 .given .1) in omega (arith, h .passed .inside, h .name-inside, at-pre .1 .1 .1)
+    let h = steps (at-args .s .now) (at-loop .i) (at-read-piece .result) (at-loop .inv .3 .readable) (at-read-piece .ensures) (at-p3 .given .1) in omega (arith, h .passed .inside, h .name-inside, at-pre .1 .1)
 
 recall-requires : tie.Need-recall-requires Inv-loop μ-loop
 recall-requires c κs =
@@ -171,7 +171,7 @@ recall-requires c κs =
     let at-read-piece = c .before .before .before .before .read-piece in
     let at-p3 = c .before .before .p3 in
     let at-pre = c .before .before .before .before .before .before .before .before .before .before .before .before .before .before .before .before .before .before .before .pre in
-    let h = steps (at-args .s .now) (at-loop .i) (at-read-piece .result) (at-loop .inv .3 .readable) (at-read-piece .ensures) (at-p3 .given .1) in (at-pre .1 .0 .tables-are, ((omega arith, omega (arith, h .passed .inside, h .name-inside)), at-loop .inv .2 _ _ (omega arith)))
+    let h = steps (at-args .s .now) (at-loop .i) (at-read-piece .result) (at-loop .inv .3 .readable) (at-read-piece .ensures) (at-p3 .given .1) in (at-pre .0 .tables-are, ((omega arith, omega (arith, h .passed .inside, h .name-inside)), at-loop .inv .2 _ _ (omega arith)))
 
 mul-seen : tie.Need-mul-seen Inv-loop μ-loop
 mul-seen c = search needs
@@ -191,7 +191,7 @@ add-v c =
     let at-read-piece = c .before .before .before .before .before .before .read-piece in
     let at-p3 = c .before .before .before .before .p3 in
     let at-pre = c .before .before .before .before .before .before .before .before .before .before .before .before .before .before .before .before .before .before .before .before .before .pre in
-    let h = steps (at-args .s .now) (at-loop .i) (at-read-piece .result) (at-loop .inv .3 .readable) (at-read-piece .ensures) (at-p3 .given .1) in omega (arith, h .passed .inside, h .value-inside, at-pre .1 .1 .1)
+    let h = steps (at-args .s .now) (at-loop .i) (at-read-piece .result) (at-loop .inv .3 .readable) (at-read-piece .ensures) (at-p3 .given .1) in omega (arith, h .passed .inside, h .value-inside, at-pre .1 .1)
 
 add-e : tie.Need-add-e Inv-loop μ-loop
 add-e c =
@@ -200,7 +200,7 @@ add-e c =
     let at-read-piece = c .before .before .before .before .before .before .read-piece in
     let at-p3 = c .before .before .before .before .p3 in
     let at-pre = c .before .before .before .before .before .before .before .before .before .before .before .before .before .before .before .before .before .before .before .before .before .pre in
-    let h = steps (at-args .s .now) (at-loop .i) (at-read-piece .result) (at-loop .inv .3 .readable) (at-read-piece .ensures) (at-p3 .given .1) in omega (arith, h .passed .inside, at-pre .1 .1 .1)
+    let h = steps (at-args .s .now) (at-loop .i) (at-read-piece .result) (at-loop .inv .3 .readable) (at-read-piece .ensures) (at-p3 .given .1) in omega (arith, h .passed .inside, at-pre .1 .1)
 
 sub-value-met : tie.Need-sub-value-met Inv-loop μ-loop
 sub-value-met c =
@@ -236,13 +236,13 @@ value-met-requires c κs =
     let h = steps (at-args .s .now) (at-loop .i) (at-read-piece .result) (at-loop .inv .3 .readable) (at-read-piece .ensures) (at-p3 .given .1) in
     let g = at-p3 .given .0 in
     let f = fits-here (length (at-args .scratch .now)) _ _ _ (record-field (at-args .s .now) (at-loop .i) (g .0) (g .1 .0) (g .1 .1 .0) h) (at-loop .inv .4) in
-    (at-pre .0, ((at-pre .1 .0 .kinds-are, types-within (at-args .d .now) (at-args .names .now) (at-args .needed .now) (at-args .needsets .now) (at-args .single .now) (at-args .singlesets .now) (at-args .marks .now) (at-args .r) (at-pre .1 .0)), (at-pre .1 .0 .enums-are, omega (arith, f .0, at-loop .inv .0))))
+    (((at-pre .0 .kinds-are, types-within (at-args .d .now) (at-args .names .now) (at-args .needed .now) (at-args .needsets .now) (at-args .single .now) (at-args .singlesets .now) (at-args .marks .now) (at-args .r) (at-pre .0)), (at-pre .0 .enums-are, omega (arith, f .0, at-loop .inv .0))))
 
 add-fields : tie.Need-add-fields Inv-loop μ-loop
 add-fields c =
     let at-loop = c .before .before .before .before .before .before .before .before .before .before .before .before .before .loop in
     let at-pre = c .before .before .before .before .before .before .before .before .before .before .before .before .before .before .before .before .before .before .before .before .before .before .before .before .before .before .pre in
-    omega (arith, at-loop .inv .3 .fewer, at-loop .inv .3 .inside, at-pre .1 .1 .1)
+    omega (arith, at-loop .inv .3 .fewer, at-loop .inv .3 .inside, at-pre .1 .1)
 
 loop-less-3 : tie.Need-loop-less-3 Inv-loop μ-loop
 loop-less-3 c =
@@ -270,7 +270,7 @@ loop-again-3 c =
     let rules = recordIn (at-args .d .now) in
     let f = fits-here (length (at-args .scratch .now)) _ _ _ (record-field (at-args .s .now) (at-loop .i) (g .0) (g .1 .0) (g .1 .1 .0) h) (at-loop .inv .4) in
     let stands = subst (λ (n : Bytes). Stands rules from next n (at-recall .result)) (at-recall .ensures .1) (at-recall .ensures .0 .stands) in
-    let ok = field-met (at-args .d .now) from next (at-args .r .enums .next) _ (at-recall .result) (at-value-met .result) stands (at-pre .1 .0 .enums-are .begins) (at-pre .1 .0 .enums-are .within) (at-value-met .ensures) in (
+    let ok = field-met (at-args .d .now) from next (at-args .r .enums .next) _ (at-recall .result) (at-value-met .result) stands (at-pre .0 .enums-are .begins) (at-pre .0 .enums-are .within) (at-value-met .ensures) in (
       at-scratch .given ∙ at-loop .inv .0,
       length-set (at-loop .seen) _ (at-recall .result) ∙ at-loop .inv .1,
       seen-set rules from next (at-args .s .now) (at-loop .seen) _ (at-recall .result) (at-loop .inv .1) (omega arith) (at-recall .ensures .0) (at-loop .inv .2),
@@ -286,7 +286,7 @@ closed-requires-2 c κs =
     let at-args = c .before .before .before .before .before .before .before .before .before .before .before .before .before .before .before .before .before .args in
     let at-pre = c .before .before .before .before .before .before .before .before .before .before .before .before .before .before .before .before .before .pre in
     let at-loop = c .before .before .before .before .loop in
-    (few-mandatory (at-args .d .now) (at-args .names .now) (at-args .needed .now) (at-args .needsets .now) (at-args .single .now) (at-args .singlesets .now) (at-args .marks .now) (at-args .r) (at-pre .1 .0), omega (arith, at-loop .inv .3 .fewer, at-loop .inv .3 .inside, at-pre .1 .1 .1))
+    (few-mandatory (at-args .d .now) (at-args .names .now) (at-args .needed .now) (at-args .needsets .now) (at-args .single .now) (at-args .singlesets .now) (at-args .marks .now) (at-args .r) (at-pre .0), omega (arith, at-loop .inv .3 .fewer, at-loop .inv .3 .inside, at-pre .1 .1))
 
 with-types-requires : tie.Need-with-types-requires Inv-loop μ-loop
 with-types-requires c κs = search needs
@@ -308,7 +308,7 @@ returns c =
     let e = steps (at-args .s .now) (at-loop .i) (at-read-piece .result) (at-loop .inv .3 .readable) (at-read-piece .ensures) (at-enum-told .given .1) in
     let from = at-args .r .tables .from in
     let m = at-args .r .enums .next - from in
-    let q = open-no (at-args .d .now) (at-args .names .now) (at-args .needed .now) (at-args .needsets .now) (at-args .single .now) (at-args .singlesets .now) (at-args .marks .now) (at-args .r) (at-pre .1 .0) (at-loop .inv .3 .opened) (at-loop .t) (at-loop .inv .3 .tallied) in (
+    let q = open-no (at-args .d .now) (at-args .names .now) (at-args .needed .now) (at-args .needsets .now) (at-args .single .now) (at-args .singlesets .now) (at-args .marks .now) (at-args .r) (at-pre .0) (at-loop .inv .3 .opened) (at-loop .t) (at-loop .inv .3 .tallied) in (
       walk-end (at-args .d .now) from m (at-args .s .now) (at-loop .t) (at-loop .fields) (at-loop .typed) (at-loop .a .number) (at-loop .a .count) (at-loop .i) (at-loop .inv .3) (at-closed2 .result .number) _ (at-closed2 .result .count) q (at-closed2 .ensures .0) (at-closed2 .ensures .1) e (at-with-types .result) (at-with-types .ensures),
       walk-count (at-args .d .now) from m (at-args .s .now) (at-loop .t) (at-loop .fields) (at-loop .typed) (at-loop .a .number) (at-loop .a .count) (at-loop .i) (at-loop .inv .3) (at-closed2 .result .number) _ (at-closed2 .result .count) q (at-closed2 .ensures .0) (at-closed2 .ensures .1) e,
     )

@@ -27,7 +27,7 @@ returns c =
     let at-next-word = c .before .before .next-word in
     let at-enum-told2 = c .enum-told2 in
     let at-pre = c .before .before .before .before .pre in
-    let k = found (at-args .s .now) (at-args .end) (at-next-word .ensures) (at-enum-told2 .given .1) (at-pre .1 .1) in
+    let k = found (at-args .s .now) (at-args .end) (at-next-word .ensures) (at-enum-told2 .given .1) (at-pre .1) in
     told-fault (at-args .s .now) (ap (aliasOf (span (at-args .start) (at-args .end) (at-args .s .now))) (k .3))
 
 sub-is-type-name : tie.Need-sub-is-type-name
@@ -51,7 +51,7 @@ returns-2 c =
     let at-if1 = c .if1 in
     let at-pre = c .before .before .before .before .before .before .before .pre in
     let n = not-found (at-args .s .now) (at-args .end) (at-next-word .ensures) (at-enum-told .given .1) in
-    record { answers = sym (ap (aliasOf (span (at-args .start) (at-args .end) (at-args .s .now))) n ∙ rw (← at-is-type-name .ensures, at-if1 .taken)); sound = at-pre .1 }
+    record { answers = sym (ap (aliasOf (span (at-args .start) (at-args .end) (at-args .s .now))) n ∙ rw (← at-is-type-name .ensures, at-if1 .taken)); sound = at-pre }
 
 returns-3 : tie.Need-returns-3
 returns-3 c =

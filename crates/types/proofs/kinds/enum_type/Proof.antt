@@ -26,7 +26,7 @@ returns c =
     let at-pre = c .before .before .before .before .pre in
     let at-is-enum = c .before .is-enum in
     let at-if1 = c .if1 in
-    told-enum (at-args .s .now) (at-args .at) (at-pre .1) (sym (at-is-enum .ensures) ∙ at-if1 .taken)
+    told-enum (at-args .s .now) (at-args .at) (at-pre) (sym (at-is-enum .ensures) ∙ at-if1 .taken)
 
 returns-2 : tie.Need-returns-2
 returns-2 c =
@@ -34,7 +34,7 @@ returns-2 c =
     let at-pre = c .before .before .before .before .pre in
     let at-is-enum = c .before .is-enum in
     let at-if1 = c .if1 in
-    told-no-enum (at-args .s .now) (at-args .at) (at-pre .1) (sym (at-is-enum .ensures) ∙ at-if1 .left)
+    told-no-enum (at-args .s .now) (at-args .at) (at-pre) (sym (at-is-enum .ensures) ∙ at-if1 .left)
 
 pub enum-type-spec : {M : Type 1} → statement M
 enum-type-spec =

@@ -122,9 +122,8 @@ alias-of-requires c κs =
     let at-args = c .before .before .before .before .before .before .before .before .before .args in
     let at-next-word = c .before .before .before .before .before .before .before .next-word in
     let at-w = c .before .before .before .before .before .w in
-    let at-pre = c .before .before .before .before .before .before .before .before .before .pre in
     let f = found (at-args .s .now) 0 (at-next-word .ensures) (at-w .given .1) (omega arith) in
-    (at-pre, (omega arith, f .2))
+    ((omega arith, f .2))
 
 returns-3 : tie.Need-returns-3
 returns-3 c =

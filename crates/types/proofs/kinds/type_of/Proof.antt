@@ -54,11 +54,10 @@ same-bytes-requires c κs = search needs
 
 enum-type-requires : tie.Need-enum-type-requires
 enum-type-requires c κs =
-    let at-pre = c .before .before .before .before .before .before .before .pre in
     let at-gap-end = c .before .before .before .before .before .gap-end in
     let at-head-end = c .before .before .before .before .head-end in
     let at-args = c .before .before .before .before .before .before .before .args in
-    (at-pre, omega (arith, at-gap-end .ensures, at-head-end .ensures, run-end-le beforeComment (at-args .s .now) (at-gap-end .result) (omega (arith, run-end-le isGap (at-args .s .now) 0 (omega arith), at-gap-end .ensures))))
+    (omega (arith, at-gap-end .ensures, at-head-end .ensures, run-end-le beforeComment (at-args .s .now) (at-gap-end .result) (omega (arith, run-end-le isGap (at-args .s .now) 0 (omega arith), at-gap-end .ensures))))
 
 plain-type-requires : tie.Need-plain-type-requires
 plain-type-requires c κs = search needs

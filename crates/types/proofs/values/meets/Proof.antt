@@ -93,7 +93,7 @@ sub-has-symbol c =
     let at-args = c .before .before .before .before .before .before .args in
     let at-k3 = c .before .k3 in
     let at-pre = c .before .before .before .before .before .before .pre in
-    let t = sound-shape (at-args .text .now) (at-k3 .given .1) (at-pre .1) in
+    let t = sound-shape (at-args .text .now) (at-k3 .given .1) (at-pre) in
     omega (arith, t .0, t .1)
 
 part-has-symbol-start : tie.Need-part-has-symbol-start
@@ -101,7 +101,7 @@ part-has-symbol-start c =
     let at-args = c .before .before .before .before .before .before .args in
     let at-k3 = c .before .k3 in
     let at-pre = c .before .before .before .before .before .before .pre in
-    let t = sound-shape (at-args .text .now) (at-k3 .given .1) (at-pre .1) in
+    let t = sound-shape (at-args .text .now) (at-k3 .given .1) (at-pre) in
     omega (arith, t .0, t .1)
 
 part-has-symbol-end : tie.Need-part-has-symbol-end
@@ -109,7 +109,7 @@ part-has-symbol-end c =
     let at-args = c .before .before .before .before .before .before .args in
     let at-k3 = c .before .k3 in
     let at-pre = c .before .before .before .before .before .before .pre in
-    let t = sound-shape (at-args .text .now) (at-k3 .given .1) (at-pre .1) in
+    let t = sound-shape (at-args .text .now) (at-k3 .given .1) (at-pre) in
     omega (arith, t .0, t .1)
 
 sub-has-symbol-2 : tie.Need-sub-has-symbol-2
@@ -126,7 +126,7 @@ has-symbol-requires c κs =
     let at-args = c .before .before .before .before .before .before .before .before .args in
     let at-k3 = c .before .before .before .k3 in
     let at-pre = c .before .before .before .before .before .before .before .before .pre in
-    let t = sound-shape (at-args .text .now) (at-k3 .given .1) (at-pre .1) in
+    let t = sound-shape (at-args .text .now) (at-k3 .given .1) (at-pre) in
     t .2
 
 enum-told-4 : tie.Need-enum-told-4
