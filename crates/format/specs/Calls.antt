@@ -1,5 +1,6 @@
 -- The answer of each call: its result and every buffer after it.
-use Prim.Native.Nat.{ℕ, zero, suc, _-_, max}
+use Prim.Native.Nat.{ℕ, zero, suc, _+_, _-_, max}
+use mathlib.Core.Bool.{Bool, _&&_}
 use mathlib.Core.List.{List, [], _∷_, _++_, map}
 use mathlib.Core.Option.{Option, none, some}
 use lib.Dec.{leb, ltb}
@@ -13,7 +14,7 @@ use Rattle.format.specs.Limits.{fileBytes, recordFields}
 use Rattle.format.specs.Written.{Pair, writtenAll, isLegalPair}
 use Rattle.format.specs.Edits.{Edit}
 use Rattle.format.specs.Questions.{Row, firstNo, nameOf, verdict}
-use Rattle.format.specs.Requests.{Request, requestOf}
+use Rattle.format.specs.Requests.{Tagged, Request, requestOf, taggedBytes}
 use Rattle.format.specs.Plain.{plainOf, indexOf, Sought, soughtMembers, soughtRecord, foundRows, Step, step}
 
 -- a number, "marked as no refusal", or a refusal's number
@@ -167,3 +168,24 @@ unfoldable pub editAnswer : Bytes → ℕ → Bytes → Filled
 editAnswer buffer used request =
     let s : Step = step (length buffer) (plainOf (readOf (take used buffer))) request in
     edited (thenNo (verdict buffer used) (s .number)) (bytesOf (s .file .pieces)) buffer used
+
+-- A request under construction: the place behind its last field, and the buffer that it stands in.
+pub record Built : Type 0 where
+  pub next : ℕ
+  pub out : Bytes
+
+-- room for a tag, a length of two bytes and so many bytes of contents at a place of a buffer
+abbrev pub hasRoom : ℕ → ℕ → ℕ → Bool
+hasRoom room at n = leb n 65535 && leb (at + (3 + n)) room
+
+-- one field more, at a place; the bytes before and behind it stay. Without room none changes, and the place is one that has no room.
+unfoldable pub fieldAnswer : Bytes → ℕ → Tagged → Built
+fieldAnswer out at f =
+    pick (hasRoom (length out) at (length (f .contents)))
+    (record { next = at + length (taggedBytes f); out = take at out ++ over (taggedBytes f) (drop at out) })
+    (record { next = length out + 1; out = out })
+
+-- fields one after another, each at the place that the one before gave
+abbrev pub built : List Tagged → Built → Built
+built [] b = b
+built (f ∷ fs) b = built fs (fieldAnswer (b .out) (b .next) f)

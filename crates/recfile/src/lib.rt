@@ -1,7 +1,8 @@
 // The calls for C: slices are a pointer and a length, a refusal's number goes through a pointer (0: accepted). include/recfile.h says the same in C.
 ghost use mathlib.Core.Path.{_≡_};
 ghost use lib.ListN.{length};
-ghost use Rattle.format.specs.Calls.{numberIn, valueOr, checkAnswer, countAnswer, fetchAnswer, viewAnswer, writeAnswer, editAnswer};
+ghost use Rattle.format.specs.Requests.{tag as tagOf};
+ghost use Rattle.format.specs.Calls.{numberIn, valueOr, checkAnswer, countAnswer, fetchAnswer, viewAnswer, writeAnswer, editAnswer, nameAnswer, fieldAnswer};
 use editor::Edited;
 use lookup::Counted;
 use lookup::Fetched;
@@ -58,6 +59,32 @@ pub extern "C" fn recfile_fetch(
         }
         Fetched::Refused(k) => {
             *number = k;
+            0
+        }
+    }
+}
+
+// The length of the name of a set, by its place in the file, that was put into out, 0 where it is refused.
+#[no_mangle]
+pub extern "C" fn recfile_set_name(
+    buf: &[u8],
+    used: usize,
+    set: usize,
+    out: &mut [u8],
+    number: &mut u32,
+) -> usize
+    ensures { λ r. ⌜ (r ≡ valueOr 0 (nameAnswer (now (buf .entry)) used set (now (out .entry)) .result))
+        × (now (number .exit) ≡ numberIn (nameAnswer (now (buf .entry)) used set (now (out .entry)) .result))
+        × (now (out .exit) ≡ nameAnswer (now (buf .entry)) used set (now (out .entry)) .out) ⌝ }
+{
+    let s = lookup::set_name(buf, used, set, &mut *out);
+    match s {
+        Fetched::Length(len) => {
+            *number = 0;
+            len
+        }
+        Fetched::Refused(no) => {
+            *number = no;
             0
         }
     }
@@ -135,4 +162,17 @@ pub extern "C" fn recfile_edit(
             used
         }
     }
+}
+
+// One tagged field at a place of a request under construction: the byte behind it. Without room nothing is written, and it is one more than the request's length.
+#[no_mangle]
+pub extern "C" fn recfile_request_field(
+    request: &mut [u8],
+    at: usize,
+    tag: u8,
+    contents: &[u8],
+) -> usize
+    ensures { λ r. ⌜ record { next = r; out = now (request .exit) } ≡ fieldAnswer (now (request .entry)) at (tagOf tag (now (contents .entry))) ⌝ }
+{
+    requests::put_field(request, at, tag, contents)
 }

@@ -5,3 +5,4 @@ pub mod Pairing
 pub mod Kinding
 pub mod Weighing
 pub mod Filling
+pub mod Building

@@ -9,11 +9,13 @@ ghost use Rattle.format.specs.Calls.{writeAnswer};
 ghost use Rattle.requests.specs.Pairs.{pairsFrom, pairsAt};
 ghost use Rattle.requests.specs.Writes.{filledBy, writeNo};
 
+mod encoding;
 mod fields;
 mod kinds;
 mod pairs;
 mod refusals;
 
+pub use encoding::put_field;
 pub use kinds::Act;
 pub use kinds::Change;
 pub use kinds::Edit;
