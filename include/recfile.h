@@ -1,41 +1,28 @@
 /* Recfiles on a card: check, look up, write and edit a file that lies in a buffer.
  *
- * The file is the first `used` bytes of a buffer of `len` bytes. No call allocates, keeps anything between calls, or reads or
- * writes outside the buffers it is given. Every call returns on every input; none needs another to be made first. The calls may
- * use 160 KiB of stack.
+ * The file is the first `used` bytes of a buffer of `len` bytes. A set is named by its %rec; the default set, of the records
+ * before any descriptor, has the empty name. Records and the occurrences of a name in a record are counted from 0. Descriptors
+ * have no record number. docs/FORMAT.md says what a file and a request are.
  *
- * A call that is refused changes no byte of any buffer and gives the number of the first question that says no:
+ * Every call returns on every input; none needs another to be made first. A call that is refused changes no byte of any buffer,
+ * and gives the number of the first question that says no (enum recfile_refusal; recfile_request_field gives none).
  *
- *    0  accepted
- *    1  the used length is more than the buffer's or than 65,536
- *    2  a byte is not allowed (allowed: 9, 10, 32 to 126, 128 to 255), or the last byte is no newline
- *    3  a line is no blank line, comment, field or continuation
- *    4  a limit is passed: name 64 bytes, value 4,096 bytes, 256 fields a record, 64 descriptors; in a descriptor 32 typedefs,
- *       32 %type fields, 64 words each in all %mandatory, %prohibit, %allowed and %unique fields
- *    5  a record with a % name has no %rec, or several
- *    6  a descriptor is not well formed, or two sets have one name
- *    7  a %typedef or %type is not well formed, or a type is missing or defined in a loop
- *    8  a prohibited name
- *    9  a name that is not allowed
- *   10  a mandatory name or the key is missing
- *   11  a unique name or the key is repeated in a record
- *   12  a value does not meet its type
- *   13  two records of a set have the same key
- *   14  a set's size is not met
+ * What the caller sees to:
  *
- *   20  the request is malformed
- *   21  no such set
- *   22  no such record
- *   23  no such name or occurrence
- *   24  a record would be left without a field
- *   25  a new name or value is not legal
- *   26  the result is longer than the buffer or than 65,536 bytes
- *   27  the text is longer than the buffer it is to be put into
- *  104  the result passes a limit: 257 fields in a record
- *  108 to 114  the result fails question 8 to 14
+ * - A buffer is a pointer and a length: so many bytes, all readable, of `buf` in recfile_edit, of `out` and of the `request` of
+ *   recfile_request_field also writable. They need no alignment. A length is at most PTRDIFF_MAX, as that of any object is.
+ * - A pointer to bytes may be NULL where its length is 0. `number` and `start` are never NULL: they point to a uint32_t and a
+ *   size_t, aligned, writable and readable.
+ * - What a call writes overlaps nothing else that it is given: an `out` that lies over `buf` overwrites the file.
+ * - The stack has room. A call takes at most 160 KiB (163,840 bytes), as measured by bench/run.py.
  *
- * A set is named by its %rec; the default set, of the records before any descriptor, has the empty name. Records and the
- * occurrences of a name in a record are counted from 0. Descriptors have no record number.
+ * What the caller can rely on: no call allocates, keeps anything between calls, or reads or writes outside the buffers it is
+ * given and its own stack. So calls may run at once, in threads or one interrupting another, as long as none of them writes what
+ * another is given.
+ *
+ * The archive needs memcpy and memset of what it is linked with, and nothing else. It is for x86-64 machines, wherever
+ * `rt staticlib recfile` makes it: ELF, System V calling convention, position independent, no instruction beyond the first
+ * x86-64's (SSE2 is one of those).
  */
 #ifndef RECFILE_H
 #define RECFILE_H
@@ -43,16 +30,104 @@
 #include <stddef.h>
 #include <stdint.h>
 
+/* The version of this header. An archive made of the same sources belongs to it. */
+#define RECFILE_VERSION_MAJOR 1
+#define RECFILE_VERSION_MINOR 0
+#define RECFILE_VERSION_PATCH 0
+#define RECFILE_VERSION "1.0.0"
+
 #ifdef __cplusplus
 extern "C" {
 #endif
 
+/* Why a call is refused. */
+enum recfile_refusal {
+    RECFILE_ACCEPTED = 0,
+
+    /* the fourteen questions of a file */
+    RECFILE_REFUSED_LENGTH = 1,       /* the used length is more than the buffer's or than RECFILE_MAX_FILE */
+    RECFILE_REFUSED_BYTE = 2,         /* a byte is not allowed (allowed: 9, 10, 32 to 126, 128 to 255), or the last is no newline */
+    RECFILE_REFUSED_LINE = 3,         /* a line is no blank line, comment, field or continuation */
+    RECFILE_REFUSED_LIMIT = 4,        /* a limit below is passed */
+    RECFILE_REFUSED_REC = 5,          /* a record with a % name has no %rec, or several */
+    RECFILE_REFUSED_DESCRIPTOR = 6,   /* a descriptor is not well formed, or two sets have one name */
+    RECFILE_REFUSED_TYPE = 7,         /* a %typedef or %type is not well formed, or a type is missing or defined in a loop */
+    RECFILE_REFUSED_PROHIBITED = 8,   /* a prohibited name */
+    RECFILE_REFUSED_NOT_ALLOWED = 9,  /* a name that is not allowed */
+    RECFILE_REFUSED_MISSING = 10,     /* a mandatory name or the key is missing */
+    RECFILE_REFUSED_REPEATED = 11,    /* a unique name or the key is repeated in a record */
+    RECFILE_REFUSED_VALUE = 12,       /* a value does not meet its type */
+    RECFILE_REFUSED_KEY = 13,         /* two records of a set have the same key */
+    RECFILE_REFUSED_SIZE = 14,        /* a set's size is not met */
+
+    /* what is asked for */
+    RECFILE_REFUSED_FORM = 20,        /* the request is malformed */
+    RECFILE_REFUSED_NO_SET = 21,      /* no such set */
+    RECFILE_REFUSED_NO_RECORD = 22,   /* no such record */
+    RECFILE_REFUSED_NO_FIELD = 23,    /* no such name or occurrence */
+    RECFILE_REFUSED_EMPTIED = 24,     /* a record would be left without a field */
+    RECFILE_REFUSED_ILLEGAL = 25,     /* a new name or value is not legal */
+    RECFILE_REFUSED_LARGE = 26,       /* the result is longer than the buffer or than RECFILE_MAX_FILE */
+    RECFILE_REFUSED_ROOM = 27,        /* the text is longer than the buffer it is to be put into */
+
+    /* the questions of the result, raised by RECFILE_REFUSED_RESULT */
+    RECFILE_REFUSED_RESULT = 100,
+    RECFILE_REFUSED_RESULT_LIMIT = 104,   /* more than RECFILE_MAX_FIELDS fields in a record */
+    RECFILE_REFUSED_RESULT_PROHIBITED = 108,
+    RECFILE_REFUSED_RESULT_NOT_ALLOWED = 109,
+    RECFILE_REFUSED_RESULT_MISSING = 110,
+    RECFILE_REFUSED_RESULT_REPEATED = 111,
+    RECFILE_REFUSED_RESULT_VALUE = 112,
+    RECFILE_REFUSED_RESULT_KEY = 113,
+    RECFILE_REFUSED_RESULT_SIZE = 114
+};
+
+/* The most that there may be, in bytes or in number. */
+enum recfile_limit {
+    RECFILE_MAX_FILE = 65536,         /* bytes of a file, of a request, of a record's text */
+    RECFILE_MAX_NAME = 64,            /* bytes of a field's own name; one that a descriptor lists may be longer */
+    RECFILE_MAX_VALUE = 4096,         /* bytes of a field's value */
+    RECFILE_MAX_FIELDS = 256,         /* fields of a record */
+    RECFILE_MAX_DESCRIPTORS = 64,     /* descriptors of a file */
+    RECFILE_MAX_TYPEDEFS = 32,        /* %typedef fields of a descriptor */
+    RECFILE_MAX_TYPES = 32,           /* %type fields of a descriptor */
+    RECFILE_MAX_WORDS = 64,           /* words in all %mandatory fields of a descriptor; %prohibit, %allowed and %unique likewise */
+    RECFILE_MAX_CONTENTS = 65535      /* bytes of the contents of a request's field */
+};
+
+/* A request is tagged fields: a tag (1 byte), a length (2 bytes, high byte first), the contents. The first is the kind, and each
+ * kind has its tags in one order. */
+enum recfile_tag {
+    RECFILE_TAG_KIND = 1,             /* 1 byte */
+    RECFILE_TAG_SET = 2,              /* the set's name, empty for the default set */
+    RECFILE_TAG_RECORD = 3,           /* 2 bytes, high byte first */
+    RECFILE_TAG_NAME = 4,
+    RECFILE_TAG_OCCURRENCE = 5,       /* 2 bytes, high byte first */
+    RECFILE_TAG_VALUE = 6,
+    RECFILE_TAG_NEW_NAME = 7
+};
+
+enum recfile_kind {
+    RECFILE_KIND_INSERT = 1,          /* KIND SET, then NAME VALUE once or more: a new last record of the set */
+    RECFILE_KIND_DELETE = 2,          /* KIND SET RECORD */
+    RECFILE_KIND_ADD = 3,             /* KIND SET RECORD NAME VALUE: a new last field of the record */
+    RECFILE_KIND_SET = 4,             /* KIND SET RECORD NAME OCCURRENCE VALUE: another value */
+    RECFILE_KIND_DROP = 5,            /* KIND SET RECORD NAME OCCURRENCE */
+    RECFILE_KIND_RENAME = 6           /* KIND SET RECORD NAME OCCURRENCE NEW_NAME */
+};
+
 /* The number of the first question, 1 to 14, that says no of the file; 0 if it passes. */
 uint32_t recfile_check(const uint8_t *buf, size_t len, size_t used);
 
-/* The number of records of a set. Refused (1 to 14, 21): returns 0. */
+/* The number of records of a set. Refused (1 to 14, 21): returns 0. Here and below `*number` is the refusal's, 0 if accepted. */
 size_t recfile_count(const uint8_t *buf, size_t len, size_t used,
                      const uint8_t *set, size_t set_len, uint32_t *number);
+
+/* Puts the name of the file's set of a number at the front of `out` and returns its length; the bytes of `out` behind it stay.
+ * Set 0 is the default set, whose name is empty and which every file has; the others follow in the order of the file. Refused
+ * (1 to 14, 21, 27): returns 0, and `out` stays as it is. */
+size_t recfile_set_name(const uint8_t *buf, size_t len, size_t used, size_t set,
+                        uint8_t *out, size_t out_len, uint32_t *number);
 
 /* Puts the value of an occurrence of a name in a record of a set at the front of `out` and returns its length; the bytes of
  * `out` behind it stay. Refused (1 to 14, 21, 22, 23, 27): returns 0, and `out` stays as it is. */
@@ -67,18 +142,21 @@ size_t recfile_view(const uint8_t *buf, size_t len, size_t used,
                     const uint8_t *set, size_t set_len, size_t record,
                     size_t *start, uint32_t *number);
 
+/* Writes one tagged field of a request under construction, a buffer of `len` bytes: tag, length and contents, at `at`. Returns
+ * the byte behind them, which is the next one's `at` and, after the last, the request's length. Where they do not fit, or the
+ * contents have more than RECFILE_MAX_CONTENTS bytes, or `at` is beyond `len`, it writes nothing and returns `len + 1`; there no
+ * field fits, so that a caller may append several and look once at the end: all were written where the last result is at most
+ * `len`. It does not look at what the request asks for. */
+size_t recfile_request_field(uint8_t *request, size_t len, size_t at,
+                             uint8_t tag, const uint8_t *contents, size_t contents_len);
+
 /* Puts the text of an insert request's record at the front of `out` and returns its length; the bytes of `out` behind it stay.
  * Refused (20, 25, 26, 104, 27, asked in this order): returns 0, and `out` stays as it is. */
 size_t recfile_write(const uint8_t *request, size_t request_len,
                      uint8_t *out, size_t out_len, uint32_t *number);
 
 /* Carries out one request on the file and returns the file's new length; the bytes from there to the old length become 0, the
- * ones behind stay. Refused (1 to 14, 20 to 26, 104, 108 to 114): returns `used`, and the buffer stays as it is.
- *
- * A request is tagged fields: a tag (1 byte), a length (2 bytes, high byte first), the contents. Tags: 1 kind (1 byte), 2 set,
- * 3 record (2 bytes), 4 name, 5 occurrence (2 bytes), 6 value, 7 new name. Kinds and the order of their tags:
- *   1 insert 1 2, then one or more pairs 4 6;  2 delete 1 2 3;  3 add 1 2 3 4 6;
- *   4 set 1 2 3 4 5 6;  5 drop 1 2 3 4 5;  6 rename 1 2 3 4 5 7 */
+ * ones behind stay. Refused (1 to 14, 20 to 26, 104, 108 to 114): returns `used`, and the buffer stays as it is. */
 size_t recfile_edit(uint8_t *buf, size_t len, size_t used,
                     const uint8_t *request, size_t request_len, uint32_t *number);
 

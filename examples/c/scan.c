@@ -10,19 +10,10 @@
 
 static uint8_t book[65536];
 
-/* A tagged field at the end of a request. */
-static size_t tagged(uint8_t *request, size_t at, uint8_t tag, const char *contents, size_t len)
+/* A field of a request whose contents are text. */
+static size_t text(uint8_t *request, size_t len, size_t at, uint8_t tag, const char *contents)
 {
-    request[at] = tag;
-    request[at + 1] = (uint8_t)(len >> 8);
-    request[at + 2] = (uint8_t)len;
-    memcpy(request + at + 3, contents, len);
-    return at + 3 + len;
-}
-
-static size_t text(uint8_t *request, size_t at, uint8_t tag, const char *contents)
-{
-    return tagged(request, at, tag, contents, strlen(contents));
+    return recfile_request_field(request, len, at, tag, (const uint8_t *)contents, strlen(contents));
 }
 
 static int refused(const char *call, uint32_t number)
@@ -35,6 +26,7 @@ static int refused(const char *call, uint32_t number)
 int main(void)
 {
     const uint8_t *set = (const uint8_t *)"Scan";
+    const uint8_t insert = RECFILE_KIND_INSERT;
     size_t used = fread(book, 1, sizeof book, stdin);
     uint8_t request[256], value[64];
     uint32_t number;
@@ -43,12 +35,16 @@ int main(void)
     if (refused("check", recfile_check(book, sizeof book, used)))
         return 1;
 
-    at = tagged(request, 0, 1, "\1", 1);
-    at = text(request, at, 2, "Scan");
-    at = text(request, at, 4, "Id");
-    at = text(request, at, 6, "2");
-    at = text(request, at, 4, "Page");
-    at = text(request, at, 6, "front");
+    at = recfile_request_field(request, sizeof request, 0, RECFILE_TAG_KIND, &insert, 1);
+    at = text(request, sizeof request, at, RECFILE_TAG_SET, "Scan");
+    at = text(request, sizeof request, at, RECFILE_TAG_NAME, "Id");
+    at = text(request, sizeof request, at, RECFILE_TAG_VALUE, "2");
+    at = text(request, sizeof request, at, RECFILE_TAG_NAME, "Page");
+    at = text(request, sizeof request, at, RECFILE_TAG_VALUE, "front");
+    if (at > sizeof request) {
+        printf("the request is too long\n");
+        return 1;
+    }
     used = recfile_edit(book, sizeof book, used, request, at, &number);
     if (refused("insert", number))
         return 1;
@@ -68,7 +64,7 @@ int main(void)
         return 1;
     fwrite(book + start, 1, len, stdout);
 
-    /* the same key again is refused: 113, question 13 of the result */
+    /* the same key again is refused: RECFILE_REFUSED_RESULT_KEY */
     recfile_edit(book, sizeof book, used, request, at, &number);
     printf("the same scan again: refused, %u\n", (unsigned)number);
     return 0;

@@ -1,5 +1,8 @@
 //! A safe wrapper over the C interface of include/recfile.h.
 
+// A program need not use all of it.
+#![allow(dead_code)]
+
 mod c {
     extern "C" {
         pub fn recfile_check(buf: *const u8, len: usize, used: usize) -> u32;
@@ -11,6 +14,10 @@ mod c {
         pub fn recfile_view(
             buf: *const u8, len: usize, used: usize, set: *const u8, set_len: usize, record: usize,
             start: *mut usize, number: *mut u32,
+        ) -> usize;
+        pub fn recfile_set_name(buf: *const u8, len: usize, used: usize, set: usize, out: *mut u8, out_len: usize, number: *mut u32) -> usize;
+        pub fn recfile_request_field(
+            request: *mut u8, len: usize, at: usize, tag: u8, contents: *const u8, contents_len: usize,
         ) -> usize;
         pub fn recfile_write(request: *const u8, request_len: usize, out: *mut u8, out_len: usize, number: *mut u32) -> usize;
         pub fn recfile_edit(
@@ -49,6 +56,15 @@ impl<'a> File<'a> {
     pub fn count(&self, set: &[u8]) -> Result<usize, Refused> {
         let mut number = 0;
         let n = unsafe { c::recfile_count(self.buf.as_ptr(), self.buf.len(), self.used, set.as_ptr(), set.len(), &mut number) };
+        accepted(n, number)
+    }
+
+    /// The length of the name of the set of a number, which stands at the front of `out`; set 0 is the default set.
+    pub fn set_name(&self, set: usize, out: &mut [u8]) -> Result<usize, Refused> {
+        let mut number = 0;
+        let n = unsafe {
+            c::recfile_set_name(self.buf.as_ptr(), self.buf.len(), self.used, set, out.as_mut_ptr(), out.len(), &mut number)
+        };
         accepted(n, number)
     }
 
@@ -92,26 +108,51 @@ pub fn write(request: &[u8], out: &mut [u8]) -> Result<usize, Refused> {
     accepted(n, number)
 }
 
-/// A request, built field by field.
-pub struct Request(Vec<u8>);
+/// The tag of each field of a request.
+pub mod tag {
+    pub const KIND: u8 = 1;
+    pub const SET: u8 = 2;
+    pub const RECORD: u8 = 3;
+    pub const NAME: u8 = 4;
+    pub const OCCURRENCE: u8 = 5;
+    pub const VALUE: u8 = 6;
+    pub const NEW_NAME: u8 = 7;
+}
 
-impl Request {
-    pub fn new(kind: u8, set: &str) -> Self {
-        Request(Vec::new()).field(1, &[kind]).field(2, set.as_bytes())
+/// The kinds of a request.
+pub mod kind {
+    pub const INSERT: u8 = 1;
+    pub const DELETE: u8 = 2;
+    pub const ADD: u8 = 3;
+    pub const SET: u8 = 4;
+    pub const DROP: u8 = 5;
+    pub const RENAME: u8 = 6;
+}
+
+/// A request, built field by field at the front of a buffer.
+pub struct Request<'a> {
+    buf: &'a mut [u8],
+    at: usize,
+}
+
+impl<'a> Request<'a> {
+    pub fn new(buf: &'a mut [u8], kind: u8, set: &str) -> Self {
+        Request { buf, at: 0 }.field(tag::KIND, &[kind]).field(tag::SET, set.as_bytes())
     }
 
     pub fn field(mut self, tag: u8, contents: &[u8]) -> Self {
-        self.0.push(tag);
-        self.0.extend_from_slice(&(contents.len() as u16).to_be_bytes());
-        self.0.extend_from_slice(contents);
+        self.at = unsafe {
+            c::recfile_request_field(self.buf.as_mut_ptr(), self.buf.len(), self.at, tag, contents.as_ptr(), contents.len())
+        };
         self
     }
 
     pub fn pair(self, name: &str, value: &str) -> Self {
-        self.field(4, name.as_bytes()).field(6, value.as_bytes())
+        self.field(tag::NAME, name.as_bytes()).field(tag::VALUE, value.as_bytes())
     }
 
-    pub fn bytes(&self) -> &[u8] {
-        &self.0
+    /// The request; none where a field did not fit.
+    pub fn bytes(&self) -> Option<&[u8]> {
+        self.buf.get(..self.at)
     }
 }

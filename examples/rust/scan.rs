@@ -6,7 +6,7 @@
 
 mod recfile;
 
-use recfile::{File, Refused, Request};
+use recfile::{kind, File, Refused, Request};
 use std::io::Read;
 
 fn main() -> Result<(), Refused> {
@@ -17,8 +17,10 @@ fn main() -> Result<(), Refused> {
     let mut file = File::new(&mut book, text.len());
     file.check()?;
 
-    let insert = Request::new(1, "Scan").pair("Id", "2").pair("Page", "front");
-    file.edit(insert.bytes())?;
+    let mut room = [0u8; 256];
+    let request = Request::new(&mut room, kind::INSERT, "Scan").pair("Id", "2").pair("Page", "front");
+    let insert = request.bytes().expect("a request of at most 256 bytes");
+    file.edit(insert)?;
 
     let count = file.count(b"Scan")?;
     println!("{} scans, {} bytes", count, file.used());
@@ -29,10 +31,10 @@ fn main() -> Result<(), Refused> {
     print!("{}", String::from_utf8_lossy(file.view(b"Scan", count - 1)?));
 
     let mut line = [0u8; 256];
-    let n = recfile::write(insert.bytes(), &mut line)?;
+    let n = recfile::write(insert, &mut line)?;
     println!("its text has {} bytes", n);
 
     // the same key again is refused: 113, question 13 of the result
-    println!("the same scan again: {:?}", file.edit(insert.bytes()));
+    println!("the same scan again: {:?}", file.edit(insert));
     Ok(())
 }
