@@ -3,7 +3,7 @@
 
 Usage: python3 tests/differential/run.py [SEED [ROUNDS]]     (after `rt staticlib recfile`; needs cc; recutils if it is installed)
 
-Random, damaged and limit-sized files, such with many types, names and symbols, and such with runs of joints; every call on each of them; lists of edits with other
+Random, damaged and limit-sized files, such with many types, names and symbols, and such with runs of joints; every call on each of them; requests built field by field; lists of edits with other
 bytes behind the file. It prints how many answers were compared and stops at the first that differs, showing what was asked.
 """
 import ctypes
@@ -32,7 +32,7 @@ def load():
     subprocess.run(['cc', '-shared', '-o', shared, '-Wl,--whole-archive', archive, '-Wl,--no-whole-archive'], check=True)
     lib = ctypes.CDLL(shared)
     lib.recfile_check.restype = ctypes.c_uint32
-    for name in ('count', 'fetch', 'view', 'write', 'edit'):
+    for name in ('count', 'set_name', 'fetch', 'view', 'request_field', 'write', 'edit'):
         getattr(lib, 'recfile_' + name).restype = size
     return lib
 
@@ -56,6 +56,16 @@ class Library:
         n = self.lib.recfile_fetch(bytes(buf), size(len(buf)), size(used), name, size(len(name)), size(row), field, size(len(field)),
                                    size(occurrence), room, size(len(out)), ctypes.byref(number))
         return number.value, n, room.raw[:len(out)]
+
+    def set_name(self, buf, used, k, out):
+        number, room = ctypes.c_uint32(77), ctypes.create_string_buffer(bytes(out), max(1, len(out)))
+        n = self.lib.recfile_set_name(bytes(buf), size(len(buf)), size(used), size(k), room, size(len(out)), ctypes.byref(number))
+        return number.value, n, room.raw[:len(out)]
+
+    def request_field(self, request, at, tag, contents):
+        room = ctypes.create_string_buffer(bytes(request), max(1, len(request)))
+        n = self.lib.recfile_request_field(room, size(len(request)), size(at), ctypes.c_uint8(tag), contents, size(len(contents)))
+        return n, room.raw[:len(request)]
 
     def view(self, buf, used, name, row):
         number, start = ctypes.c_uint32(77), size(77)
@@ -85,8 +95,9 @@ class Tests:
         want = getattr(recfile, call)(*args)
         got = getattr(self.library, call)(*args)
         self.done += 1
-        number = want if call == 'check' else want[0]
-        self.numbers[number] = self.numbers.get(number, 0) + 1
+        if call != 'request_field':
+            number = want if call == 'check' else want[0]
+            self.numbers[number] = self.numbers.get(number, 0) + 1
         if got != want:
             folder = tempfile.mkdtemp(prefix='recfile-')
             for i, arg in enumerate(args):
@@ -99,6 +110,8 @@ class Tests:
         r = self.random
         for name in (b'', b'S', b'T', b'X', b'Scan'):
             self.compare('count', buf, used, name)
+        for k in (0, 1, r.choice([2, 3, 64, 65, 2 ** 64 - 1])):
+            self.compare('set_name', buf, used, k, b'\xee' * r.choice([0, 1, 4, 40]))
         for _ in range(6):
             name, row = r.choice([b'', b'S', b'T', b'U', b'Scan']), r.choice([0, 0, 1, 2, 70000, 2 ** 64 - 1])
             self.compare('view', buf, used, name, row)
@@ -114,6 +127,25 @@ class Tests:
             self.compare('write', request, b'\xee' * self.random.choice([0, 5, 200]))
             _, used, buf = self.compare('edit', buf, used, request)
         return buf, used
+
+    def build(self, parts):
+        """Fields appended one after another, in a buffer that has room for all of them or not."""
+        r = self.random
+        text = b''.join(samples.tagged(tag, contents) for tag, contents in parts)
+        request, at = b'\xee' * max(0, len(text) + r.choice([0, 0, 1, 9, -1, -r.randint(0, len(text) + 1)])), 0
+        for tag, contents in parts:
+            at, request = self.compare('request_field', request, at, tag, contents)
+        if (at <= len(request)) != (len(text) <= len(request)) or (at <= len(request) and request[:at] != text):
+            sys.exit('appended fields are not the request (seed %d): %r, %r' % (self.seed, request[:at], text))
+
+    def builds(self, rounds):
+        r = self.random
+        for _ in range(rounds):
+            self.build([(r.randrange(256), bytes(r.randrange(256) for _ in range(r.choice([0, 1, 2, 5, 255, 256, 300])))) for _ in range(r.randint(1, 6))])
+            request = bytes(r.randrange(256) for _ in range(r.choice([0, 2, 3, 20])))
+            self.compare('request_field', request, r.choice([0, 1, 17, 18, 20, 21, 2 ** 63, 2 ** 64 - 1]), r.randrange(256), bytes(r.choice([0, 1, 3])))
+        for n in (65535, 65536):
+            self.compare('request_field', bytes(70000), 7, 6, b'x' * n)
 
     def file(self, text, rounds=4):
         r = self.random
@@ -245,6 +277,7 @@ def main():
     tests = Tests(library, seed)
     tests.limits()
     tests.limit_crowds()
+    tests.builds(rounds)
     for _ in range(rounds):
         tests.file(tests.samples.file())
         tests.file(tests.damaged(tests.samples.file()))

@@ -1,16 +1,20 @@
 #!/usr/bin/env python3
-"""The examples of docs/FORMAT.md: each file, and each request on the receipt book, is refused with the number that stands there.
+"""The examples of docs/FORMAT.md: each file, and each request on the receipt book, is refused with the number that stands there; a damaged file cut into parts shows the
+numbers that stand there; and where GNU recutils is there, recfix finds a fault in the files of which the page says so.
 
 Usage: python3 tests/format/examples.py     (after `rt staticlib recfile`; needs cc)
 """
 import ctypes
 import os
 import re
+import shutil
 import subprocess
 import sys
+import tempfile
 
 ROOT = os.path.dirname(os.path.dirname(os.path.dirname(os.path.abspath(__file__))))
 size = ctypes.c_size_t
+SILENT = ('2', '4', '5', '6', '12')     # of these examples recfix says nothing
 
 
 def indented(lines):
@@ -26,6 +30,27 @@ def indented(lines):
     while out and not out[-1]:
         out.pop()
     return ('\n'.join(out) + '\n').encode()
+
+
+def recfix(text):
+    """Does GNU recfix find a fault?"""
+    with tempfile.TemporaryDirectory() as folder:
+        path = os.path.join(folder, 'card.rec')
+        with open(path, 'wb') as f:
+            f.write(text)
+        return subprocess.run(['recfix', path], capture_output=True, check=False).returncode != 0
+
+
+def parts(lib, section):
+    """The file of the section on finding a fault, cut behind its blank lines, is judged as the lines behind it say."""
+    file = indented(section[section.index('Of this file'):].split('\n'))
+    shown = indented(section[section.index('it prints'):].split('\n')).decode()
+    lines, out = file.split(b'\n')[:-1], ''
+    for k in [i + 1 for i, line in enumerate(lines) if not line.strip()] + [len(lines)]:
+        part = b''.join(line + b'\n' for line in lines[:k])
+        out += '%d check %d\n' % (k, lib.recfile_check(part, size(len(part)), size(len(part))))
+    if out != shown:
+        sys.exit('the parts of the damaged file are judged\n%sand the page says\n%s' % (out, shown))
 
 
 def main():
@@ -46,7 +71,10 @@ def main():
         got = lib.recfile_check(text, size(len(text)), size(len(text)))
         if got != int(number):
             sys.exit('the example of %s is refused with %d: %r' % (number, got, text))
+        if shutil.which('recfix') and recfix(text) == (number in SILENT):
+            sys.exit('recfix finds another fault in the example of %s than the page says' % number)
         files += 1
+    parts(lib, page[page.index('## Finding the fault by hand'):])
 
     def edit(text, room, request):
         buf, number = ctypes.create_string_buffer(text, room), ctypes.c_uint32(77)

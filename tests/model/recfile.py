@@ -409,6 +409,19 @@ def fetch(buf, used, name, row, field, occurrence, out):
         return no.number, 0, out
 
 
+def set_name(buf, used, k, out):
+    """(number, length, out after it)"""
+    try:
+        pieces, sets = passed(buf, used)
+        if k >= len(sets):
+            raise No(21)
+        if len(sets[k].name) > len(out):
+            raise No(27)
+        return 0, len(sets[k].name), sets[k].name + out[len(sets[k].name):]
+    except No as no:
+        return no.number, 0, out
+
+
 def view(buf, used, name, row):
     """(number, start, part)"""
     try:
@@ -418,6 +431,14 @@ def view(buf, used, name, row):
         return 0, start, b''.join(p.raw for p in pieces[r.fields[0]:r.fields[-1] + 1])
     except No as no:
         return no.number, 0, b''
+
+
+def request_field(request, at, tag, contents):
+    """(place behind the field, request after it)"""
+    end = at + 3 + len(contents)
+    if len(contents) > 65535 or end > len(request):
+        return len(request) + 1, request
+    return end, request[:at] + bytes([tag]) + len(contents).to_bytes(2, 'big') + contents + request[end:]
 
 
 def parse_request(req):

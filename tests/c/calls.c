@@ -1,0 +1,650 @@
+/* Every call of include/recfile.h, through its names: each refusal, each limit at both sides, each kind of request.
+ *
+ * Each buffer that a call is given has exactly its size. It lies on the heap, where valgrind sees a byte read or written outside
+ * it (and the address sanitizer one that the library's memcpy and memset touch); at the end of a page that another follows which
+ * cannot be touched; or at the front of a page behind such a one. An empty buffer is NULL. After a call each buffer that it may
+ * not change is compared with what it was.
+ *
+ * Usage: calls [heap]    (heap: only there)
+ */
+#define _DEFAULT_SOURCE
+#include <recfile.h>
+#include <stdio.h>
+#include <stdlib.h>
+#include <string.h>
+#include <sys/mman.h>
+#include <unistd.h>
+
+#define FILLER 0xEE
+
+static enum place { HEAP, END, FRONT } place;
+static unsigned answers, wrong;
+static const char *asked = "";
+
+/* A buffer of exactly `len` bytes that holds `bytes`, or filler where there are none. */
+static void *lend(const void *bytes, size_t len)
+{
+    size_t page = (size_t)sysconf(_SC_PAGESIZE), inside = (len + page - 1) / page * page;
+    uint8_t *base, *at;
+
+    if (len == 0)
+        return NULL;
+    if (place == HEAP) {
+        at = malloc(len);
+        if (at == NULL)
+            exit(2);
+    } else {
+        base = mmap(NULL, inside + 2 * page, PROT_NONE, MAP_PRIVATE | MAP_ANONYMOUS, -1, 0);
+        if (base == MAP_FAILED || mprotect(base + page, inside, PROT_READ | PROT_WRITE) != 0)
+            exit(2);
+        at = place == END ? base + page + inside - len : base + page;
+    }
+    if (bytes != NULL)
+        memcpy(at, bytes, len);
+    else
+        memset(at, FILLER, len);
+    return at;
+}
+
+static void give_back(void *at, size_t len)
+{
+    size_t page = (size_t)sysconf(_SC_PAGESIZE), inside = (len + page - 1) / page * page;
+
+    if (len == 0)
+        return;
+    if (place == HEAP)
+        free(at);
+    else
+        munmap((uint8_t *)at - page - (place == END ? inside - len : 0), inside + 2 * page);
+}
+
+static void expect(const char *what, unsigned long long got, unsigned long long wanted)
+{
+    answers++;
+    if (got != wanted) {
+        wrong++;
+        printf("%s, %s: %llu, expected %llu\n", asked, what, got, wanted);
+    }
+}
+
+/* Bytes of a buffer after a call. */
+static void same(const char *what, const void *got, const void *wanted, size_t len)
+{
+    expect(what, len == 0 || memcmp(got, wanted, len) == 0, 1);
+}
+
+static void filler(const char *what, const uint8_t *got, size_t len)
+{
+    size_t i;
+
+    for (i = 0; i < len && got[i] == FILLER; i++)
+        ;
+    expect(what, i, len);
+}
+
+/* The calls, each with buffers of its own. A file fills its buffer, but where there is a `room`. */
+
+static uint32_t check(const void *file, size_t len, size_t used)
+{
+    uint8_t *buf = lend(file, len);
+    uint32_t number = recfile_check(buf, len, used);
+
+    same("check leaves the file", buf, file, len);
+    give_back(buf, len);
+    return number;
+}
+
+static void counted(const char *file, const char *set, uint32_t number, size_t records)
+{
+    size_t len = strlen(file), set_len = strlen(set), n;
+    uint8_t *buf = lend(file, len), *name = lend(set, set_len);
+    uint32_t *told = lend(NULL, sizeof *told);
+
+    asked = "count";
+    n = recfile_count(buf, len, len, name, set_len, told);
+    expect("number", *told, number);
+    expect("records", n, records);
+    same("the file stays", buf, file, len);
+    same("the set's name stays", name, set, set_len);
+    give_back(buf, len);
+    give_back(name, set_len);
+    give_back(told, sizeof *told);
+}
+
+static void named(const char *file, size_t set, size_t room, uint32_t number, const char *text)
+{
+    size_t len = strlen(file), n, text_len = strlen(text);
+    uint8_t *buf = lend(file, len), *out = lend(NULL, room);
+    uint32_t *told = lend(NULL, sizeof *told);
+
+    asked = "set_name";
+    n = recfile_set_name(buf, len, len, set, out, room, told);
+    expect("number", *told, number);
+    expect("length", n, text_len);
+    same("name", out, text, text_len);
+    if (room > text_len)
+        filler("what is behind it stays", out + text_len, room - text_len);
+    same("the file stays", buf, file, len);
+    give_back(buf, len);
+    give_back(out, room);
+    give_back(told, sizeof *told);
+}
+
+static void fetched(const char *file, const char *set, size_t record, const char *name, size_t occurrence, size_t room, uint32_t number, const char *text)
+{
+    size_t len = strlen(file), set_len = strlen(set), name_len = strlen(name), n, text_len = strlen(text);
+    uint8_t *buf = lend(file, len), *of = lend(set, set_len), *field = lend(name, name_len), *out = lend(NULL, room);
+    uint32_t *told = lend(NULL, sizeof *told);
+
+    asked = "fetch";
+    n = recfile_fetch(buf, len, len, of, set_len, record, field, name_len, occurrence, out, room, told);
+    expect("number", *told, number);
+    expect("length", n, text_len);
+    same("value", out, text, text_len);
+    if (room > text_len)
+        filler("what is behind it stays", out + text_len, room - text_len);
+    same("the file stays", buf, file, len);
+    same("the set's name stays", of, set, set_len);
+    same("the name stays", field, name, name_len);
+    give_back(buf, len);
+    give_back(of, set_len);
+    give_back(field, name_len);
+    give_back(out, room);
+    give_back(told, sizeof *told);
+}
+
+static void viewed(const char *file, const char *set, size_t record, uint32_t number, size_t start, size_t length)
+{
+    size_t len = strlen(file), set_len = strlen(set), n;
+    uint8_t *buf = lend(file, len), *of = lend(set, set_len);
+    uint32_t *told = lend(NULL, sizeof *told);
+    size_t *from = lend(NULL, sizeof *from);
+
+    asked = "view";
+    n = recfile_view(buf, len, len, of, set_len, record, from, told);
+    expect("number", *told, number);
+    expect("length", n, length);
+    expect("start", *from, start);
+    same("the file stays", buf, file, len);
+    same("the set's name stays", of, set, set_len);
+    give_back(buf, len);
+    give_back(of, set_len);
+    give_back(told, sizeof *told);
+    give_back(from, sizeof *from);
+}
+
+static void written(const uint8_t *request, size_t request_len, size_t room, uint32_t number, const void *text, size_t text_len)
+{
+    uint8_t *asks = lend(request, request_len), *out = lend(NULL, room);
+    uint32_t *told = lend(NULL, sizeof *told);
+    size_t n;
+
+    asked = "write";
+    n = recfile_write(asks, request_len, out, room, told);
+    expect("number", *told, number);
+    expect("length", n, text_len);
+    if (text != NULL)
+        same("text", out, text, text_len);
+    if (room > text_len)
+        filler("what is behind it stays", out + text_len, room - text_len);
+    same("the request stays", asks, request, request_len);
+    give_back(asks, request_len);
+    give_back(out, room);
+    give_back(told, sizeof *told);
+}
+
+static void edited(const char *file, size_t room, const uint8_t *request, size_t request_len, uint32_t number, const char *after)
+{
+    size_t used = strlen(file), after_len = strlen(after), n, i;
+    uint8_t *before = malloc(room + 1), *buf, *asks = lend(request, request_len);
+    uint32_t *told = lend(NULL, sizeof *told);
+
+    if (before == NULL)
+        exit(2);
+    memset(before, FILLER, room + 1);
+    memcpy(before, file, used);
+    buf = lend(before, room);
+    asked = "edit";
+    n = recfile_edit(buf, room, used, asks, request_len, told);
+    expect("number", *told, number);
+    expect("length", n, after_len);
+    same("the file after it", buf, after, after_len);
+    for (i = after_len; i < used; i++)
+        before[i] = 0;
+    if (room > after_len)
+        same("what is behind it", buf + after_len, before + after_len, room - after_len);
+    same("the request stays", asks, request, request_len);
+    free(before);
+    give_back(buf, room);
+    give_back(asks, request_len);
+    give_back(told, sizeof *told);
+}
+
+/* A field at a place of a request of `len` bytes of filler. */
+static void put(size_t len, size_t at, uint8_t tag, const void *contents, size_t contents_len, size_t wanted)
+{
+    uint8_t *request = lend(NULL, len), *holds = lend(contents, contents_len);
+    size_t n;
+
+    asked = "request_field";
+    n = recfile_request_field(request, len, at, tag, holds, contents_len);
+    expect("place", n, wanted);
+    if (wanted > len) {
+        filler("nothing is written", request, len);
+    } else {
+        filler("what is before it stays", request, at);
+        expect("tag", request[at], tag);
+        expect("length", request[at + 1] * 256u + request[at + 2], contents_len);
+        same("contents", request + at + 3, contents, contents_len);
+        filler("what is behind it stays", request + wanted, len - wanted);
+    }
+    same("the contents stay", holds, contents, contents_len);
+    give_back(request, len);
+    give_back(holds, contents_len);
+}
+
+/* Requests, built by the library. */
+
+static uint8_t request[RECFILE_MAX_FILE + 8];
+static size_t end;
+
+static void bytes(uint8_t tag, const void *contents, size_t len)
+{
+    end = recfile_request_field(request, sizeof request, end, tag, contents, len);
+}
+
+static void text(uint8_t tag, const char *contents)
+{
+    bytes(tag, contents, strlen(contents));
+}
+
+static void number(uint8_t tag, unsigned n)
+{
+    uint8_t two[2] = { (uint8_t)(n >> 8), (uint8_t)n };
+
+    bytes(tag, two, 2);
+}
+
+static void begin(uint8_t kind, const char *set)
+{
+    end = 0;
+    bytes(RECFILE_TAG_KIND, &kind, 1);
+    text(RECFILE_TAG_SET, set);
+}
+
+static void insert(const char *set, const char *name, const char *value)
+{
+    begin(RECFILE_KIND_INSERT, set);
+    text(RECFILE_TAG_NAME, name);
+    text(RECFILE_TAG_VALUE, value);
+}
+
+static void delete(const char *set, unsigned record)
+{
+    begin(RECFILE_KIND_DELETE, set);
+    number(RECFILE_TAG_RECORD, record);
+}
+
+static void add(const char *set, unsigned record, const char *name, const char *value)
+{
+    begin(RECFILE_KIND_ADD, set);
+    number(RECFILE_TAG_RECORD, record);
+    text(RECFILE_TAG_NAME, name);
+    text(RECFILE_TAG_VALUE, value);
+}
+
+static void field(uint8_t kind, const char *set, unsigned record, const char *name, unsigned occurrence)
+{
+    begin(kind, set);
+    number(RECFILE_TAG_RECORD, record);
+    text(RECFILE_TAG_NAME, name);
+    number(RECFILE_TAG_OCCURRENCE, occurrence);
+}
+
+static void set(const char *of, unsigned record, const char *name, unsigned occurrence, const char *value)
+{
+    field(RECFILE_KIND_SET, of, record, name, occurrence);
+    text(RECFILE_TAG_VALUE, value);
+}
+
+static void drop(const char *of, unsigned record, const char *name, unsigned occurrence)
+{
+    field(RECFILE_KIND_DROP, of, record, name, occurrence);
+}
+
+static void rename_field(const char *of, unsigned record, const char *name, unsigned occurrence, const char *new_name)
+{
+    field(RECFILE_KIND_RENAME, of, record, name, occurrence);
+    text(RECFILE_TAG_NEW_NAME, new_name);
+}
+
+/* Refused: the file stays. */
+static void refused(const char *file, size_t room, uint32_t why)
+{
+    edited(file, room, request, end, why, file);
+}
+
+static void accepted(const char *file, size_t room, const char *after)
+{
+    edited(file, room, request, end, RECFILE_ACCEPTED, after);
+}
+
+/* Text of `n` times a piece behind a head. */
+static char *many(const char *head, const char *piece, size_t n, const char *tail)
+{
+    char *all = malloc(strlen(head) + n * strlen(piece) + strlen(tail) + 1), *at;
+
+    if (all == NULL)
+        exit(2);
+    at = all + sprintf(all, "%s", head);
+    while (n-- > 0)
+        at += sprintf(at, "%s", piece);
+    sprintf(at, "%s", tail);
+    return all;
+}
+
+/* The same with the number of each put into the piece. */
+static char *numbered(const char *head, const char *piece, size_t n)
+{
+    char *all = malloc(strlen(head) + n * (strlen(piece) + 8) + 1), *at;
+    size_t i;
+
+    if (all == NULL)
+        exit(2);
+    at = all + sprintf(all, "%s", head);
+    for (i = 0; i < n; i++) {
+        const char *c;
+        for (c = piece; *c; c++)
+            at += *c == '@' ? sprintf(at, "%u", (unsigned)i) : sprintf(at, "%c", *c);
+    }
+    return all;
+}
+
+static void at_limit(const char *what, char *held, char *passed)
+{
+    asked = what;
+    expect("at the limit", check(held, strlen(held), strlen(held)), RECFILE_ACCEPTED);
+    expect("one more", check(passed, strlen(passed), strlen(passed)), RECFILE_REFUSED_LIMIT);
+    free(held);
+    free(passed);
+}
+
+static const char book[] = "%rec: Scan\n%key: Id\n%type: Id int\n%mandatory: Page\n\nId: 1\nPage: front\n# folded\nPage: back\n";
+
+static void files(void)
+{
+    static const struct { uint32_t number; const char *text; } faults[] = {
+        { RECFILE_ACCEPTED, "" },
+        { RECFILE_ACCEPTED, book },
+        { RECFILE_REFUSED_BYTE, "Id: 1" },
+        { RECFILE_REFUSED_BYTE, "Id: \177\n" },
+        { RECFILE_REFUSED_LINE, "Page front\n" },
+        { RECFILE_REFUSED_REC, "%key: Id\n" },
+        { RECFILE_REFUSED_DESCRIPTOR, "%rec: Scan\n%key: Id Page\n" },
+        { RECFILE_REFUSED_TYPE, "%rec: Scan\n%typedef: T U\n%typedef: U T\n" },
+        { RECFILE_REFUSED_PROHIBITED, "%rec: Scan\n%prohibit: Draft\n\nDraft: yes\n" },
+        { RECFILE_REFUSED_NOT_ALLOWED, "%rec: Scan\n%allowed: Id\n\nPage: 1\n" },
+        { RECFILE_REFUSED_MISSING, "%rec: Scan\n%key: Id\n\nPage: 1\n" },
+        { RECFILE_REFUSED_REPEATED, "%rec: Scan\n%key: Id\n\nId: 1\nId: 2\n" },
+        { RECFILE_REFUSED_VALUE, "%rec: Scan\n%type: Id int\n\nId: 08\n" },
+        { RECFILE_REFUSED_KEY, "%rec: Scan\n%key: Id\n\nId: 1\n\nId: 1\n" },
+        { RECFILE_REFUSED_SIZE, "%rec: Scan\n%size: 1\n" },
+    };
+    static const char *const lists[] = { "%rec: S\n%mandatory:", "%rec: S\n%prohibit:", "%rec: S\n%allowed:", "%rec: S\n%unique:" };
+    size_t i;
+    char *text;
+
+    for (i = 0; i < sizeof faults / sizeof *faults; i++) {
+        asked = faults[i].text;
+        expect("check", check(faults[i].text, strlen(faults[i].text), strlen(faults[i].text)), faults[i].number);
+        if (faults[i].number != RECFILE_ACCEPTED) {
+            counted(faults[i].text, "Scan", faults[i].number, 0);
+            named(faults[i].text, 0, 9, faults[i].number, "");
+            fetched(faults[i].text, "Scan", 0, "Id", 0, 9, faults[i].number, "");
+            viewed(faults[i].text, "Scan", 0, faults[i].number, 0, 0);
+            delete("Scan", 0);
+            refused(faults[i].text, strlen(faults[i].text) + 9, faults[i].number);
+        }
+    }
+
+    asked = "the used length";
+    expect("of an empty buffer", check("", 0, 1), RECFILE_REFUSED_LENGTH);
+    expect("past the buffer", check(book, sizeof book - 1, sizeof book), RECFILE_REFUSED_LENGTH);
+    expect("the largest", check(book, sizeof book - 1, SIZE_MAX), RECFILE_REFUSED_LENGTH);
+    text = many("", "\n", RECFILE_MAX_FILE + 1, "");
+    expect("at the limit", check(text, RECFILE_MAX_FILE, RECFILE_MAX_FILE), RECFILE_ACCEPTED);
+    expect("one more", check(text, RECFILE_MAX_FILE + 1, RECFILE_MAX_FILE + 1), RECFILE_REFUSED_LENGTH);
+    free(text);
+
+    at_limit("a name", many("", "N", RECFILE_MAX_NAME, ": 1\n"), many("", "N", RECFILE_MAX_NAME + 1, ": 1\n"));
+    at_limit("a value", many("A: ", "x", RECFILE_MAX_VALUE, "\n"), many("A: ", "x", RECFILE_MAX_VALUE + 1, "\n"));
+    at_limit("fields", many("", "A: 1\n", RECFILE_MAX_FIELDS, ""), many("", "A: 1\n", RECFILE_MAX_FIELDS + 1, ""));
+    at_limit("descriptors", numbered("", "%rec: S@\n\n", RECFILE_MAX_DESCRIPTORS), numbered("", "%rec: S@\n\n", RECFILE_MAX_DESCRIPTORS + 1));
+    at_limit("typedefs", numbered("%rec: S\n", "%typedef: T@ int\n", RECFILE_MAX_TYPEDEFS), numbered("%rec: S\n", "%typedef: T@ int\n", RECFILE_MAX_TYPEDEFS + 1));
+    at_limit("%type fields", many("%rec: S\n", "%type: A int\n", RECFILE_MAX_TYPES, ""), many("%rec: S\n", "%type: A int\n", RECFILE_MAX_TYPES + 1, ""));
+    for (i = 0; i < sizeof lists / sizeof *lists; i++)
+        at_limit(lists[i], many(lists[i], " A", RECFILE_MAX_WORDS, "\n"), many(lists[i], " A", RECFILE_MAX_WORDS + 1, "\n"));
+}
+
+static void lookups(void)
+{
+    counted("", "", RECFILE_ACCEPTED, 0);
+    counted(book, "", RECFILE_ACCEPTED, 0);
+    counted(book, "Scan", RECFILE_ACCEPTED, 1);
+    counted(book, "Scans", RECFILE_REFUSED_NO_SET, 0);
+
+    named("", 0, 0, RECFILE_ACCEPTED, "");
+    named("", 1, 0, RECFILE_REFUSED_NO_SET, "");
+    named(book, 0, 5, RECFILE_ACCEPTED, "");
+    named(book, 1, 4, RECFILE_ACCEPTED, "Scan");
+    named(book, 1, 9, RECFILE_ACCEPTED, "Scan");
+    named(book, 1, 3, RECFILE_REFUSED_ROOM, "");
+    named(book, 1, 0, RECFILE_REFUSED_ROOM, "");
+    named(book, 2, 9, RECFILE_REFUSED_NO_SET, "");
+    named(book, SIZE_MAX, 9, RECFILE_REFUSED_NO_SET, "");
+    named("%rec: B\n\n%rec: A\n", 1, 1, RECFILE_ACCEPTED, "B");
+    named("%rec: B\n\n%rec: A\n", 2, 1, RECFILE_ACCEPTED, "A");
+
+    fetched(book, "Scan", 0, "Page", 1, 4, RECFILE_ACCEPTED, "back");
+    fetched(book, "Scan", 0, "Page", 0, 7, RECFILE_ACCEPTED, "front");
+    fetched(book, "Scan", 0, "Page", 0, 4, RECFILE_REFUSED_ROOM, "");
+    fetched(book, "Scan", 0, "Page", 2, 9, RECFILE_REFUSED_NO_FIELD, "");
+    fetched(book, "Scan", 0, "", 0, 9, RECFILE_REFUSED_NO_FIELD, "");
+    fetched(book, "Scan", 0, "Page", SIZE_MAX, 9, RECFILE_REFUSED_NO_FIELD, "");
+    fetched(book, "Scan", 1, "Page", 0, 9, RECFILE_REFUSED_NO_RECORD, "");
+    fetched(book, "Scan", SIZE_MAX, "Page", 0, 9, RECFILE_REFUSED_NO_RECORD, "");
+    fetched(book, "", 0, "Page", 0, 9, RECFILE_REFUSED_NO_RECORD, "");
+    fetched(book, "S", 0, "Page", 0, 9, RECFILE_REFUSED_NO_SET, "");
+    fetched("A:\n", "", 0, "A", 0, 0, RECFILE_ACCEPTED, "");
+    fetched("", "", 0, "", 0, 0, RECFILE_REFUSED_NO_RECORD, "");
+
+    viewed(book, "Scan", 0, RECFILE_ACCEPTED, 52, sizeof book - 1 - 52);
+    viewed(book, "Scan", 1, RECFILE_REFUSED_NO_RECORD, 0, 0);
+    viewed(book, "S", 0, RECFILE_REFUSED_NO_SET, 0, 0);
+    viewed("A: 1\n", "", 0, RECFILE_ACCEPTED, 0, 5);
+    viewed("", "", 0, RECFILE_REFUSED_NO_RECORD, 0, 0);
+}
+
+static void fields(void)
+{
+    uint8_t *large = malloc(RECFILE_MAX_CONTENTS + 1);
+
+    if (large == NULL)
+        exit(2);
+    memset(large, 'x', RECFILE_MAX_CONTENTS + 1);
+    put(0, 0, RECFILE_TAG_SET, NULL, 0, 1);
+    put(2, 0, RECFILE_TAG_SET, NULL, 0, 3);
+    put(3, 0, RECFILE_TAG_SET, NULL, 0, 3);
+    put(3, 1, RECFILE_TAG_SET, NULL, 0, 4);
+    put(7, 0, RECFILE_TAG_SET, "Scan", 4, 7);
+    put(6, 0, RECFILE_TAG_SET, "Scan", 4, 7);
+    put(20, 5, 255, "Scan", 4, 12);
+    put(20, 13, 0, "Scan", 4, 20);
+    put(20, 14, 0, "Scan", 4, 21);
+    put(20, 20, RECFILE_TAG_SET, NULL, 0, 21);
+    put(20, 21, RECFILE_TAG_SET, NULL, 0, 21);
+    put(20, SIZE_MAX, RECFILE_TAG_SET, "Scan", 4, 21);
+    put(20, SIZE_MAX - 6, RECFILE_TAG_SET, "Scan", 4, 21);
+    put(RECFILE_MAX_CONTENTS + 3, 0, RECFILE_TAG_VALUE, large, RECFILE_MAX_CONTENTS, RECFILE_MAX_CONTENTS + 3);
+    put(RECFILE_MAX_CONTENTS + 9, 6, RECFILE_TAG_VALUE, large, RECFILE_MAX_CONTENTS, RECFILE_MAX_CONTENTS + 9);
+    put(RECFILE_MAX_CONTENTS + 9, 0, RECFILE_TAG_VALUE, large, RECFILE_MAX_CONTENTS + 1, RECFILE_MAX_CONTENTS + 10);
+    free(large);
+}
+
+static void writes(void)
+{
+    char *value = many("", "x", RECFILE_MAX_VALUE, ""), *long_value = many("", "x", RECFILE_MAX_VALUE + 1, "");
+    char *name = many("", "N", RECFILE_MAX_NAME, ""), *long_name = many("", "N", RECFILE_MAX_NAME + 1, "");
+    char *newlines = many("", "\n", RECFILE_MAX_VALUE, ""), *fields = many("", "A: 1\n", RECFILE_MAX_FIELDS, "");
+    size_t i, rest;
+
+    insert("", "A", "1\n2");
+    written(request, end, 9, RECFILE_ACCEPTED, "A: 1\n+ 2\n", 9);
+    written(request, end, 20, RECFILE_ACCEPTED, "A: 1\n+ 2\n", 9);
+    written(request, end, 8, RECFILE_REFUSED_ROOM, NULL, 0);
+    written(request, end, 0, RECFILE_REFUSED_ROOM, NULL, 0);
+    written(request, end - 1, 20, RECFILE_REFUSED_FORM, NULL, 0);
+    written(NULL, 0, 20, RECFILE_REFUSED_FORM, NULL, 0);
+    written(NULL, 0, 0, RECFILE_REFUSED_FORM, NULL, 0);
+    begin(RECFILE_KIND_INSERT, "");
+    written(request, end, 20, RECFILE_REFUSED_FORM, NULL, 0);
+    delete("", 0);
+    written(request, end, 20, RECFILE_REFUSED_FORM, NULL, 0);
+    insert("", "", "1");
+    written(request, end, 20, RECFILE_REFUSED_ILLEGAL, NULL, 0);
+    insert("", "%A", "1");
+    written(request, end, 20, RECFILE_REFUSED_ILLEGAL, NULL, 0);
+    insert("", "A", "1\\");
+    written(request, end, 20, RECFILE_REFUSED_ILLEGAL, NULL, 0);
+    insert("", name, value);
+    written(request, end, RECFILE_MAX_NAME + RECFILE_MAX_VALUE + 3, RECFILE_ACCEPTED, NULL, RECFILE_MAX_NAME + RECFILE_MAX_VALUE + 3);
+    insert("", long_name, value);
+    written(request, end, 20, RECFILE_REFUSED_ILLEGAL, NULL, 0);
+    insert("", name, long_value);
+    written(request, end, 20, RECFILE_REFUSED_ILLEGAL, NULL, 0);
+
+    begin(RECFILE_KIND_INSERT, "");
+    for (i = 0; i < RECFILE_MAX_FIELDS; i++) {
+        text(RECFILE_TAG_NAME, "A");
+        text(RECFILE_TAG_VALUE, "1");
+    }
+    written(request, end, strlen(fields), RECFILE_ACCEPTED, fields, strlen(fields));
+    text(RECFILE_TAG_NAME, "A");
+    text(RECFILE_TAG_VALUE, "1");
+    written(request, end, 2 * strlen(fields), RECFILE_REFUSED_RESULT_LIMIT, NULL, 0);
+
+    begin(RECFILE_KIND_INSERT, "");
+    for (i = 0; i < 6; i++) {
+        text(RECFILE_TAG_NAME, "A");
+        text(RECFILE_TAG_VALUE, newlines);
+    }
+    written(request, end, 2 * RECFILE_MAX_FILE, RECFILE_REFUSED_LARGE, NULL, 0);
+
+    /* a request at its limit, and one byte more */
+    for (rest = 0; rest < 2; rest++) {
+        begin(RECFILE_KIND_INSERT, "");
+        while (RECFILE_MAX_FILE - end > RECFILE_MAX_VALUE + 7) {
+            text(RECFILE_TAG_NAME, "A");
+            text(RECFILE_TAG_VALUE, value);
+        }
+        text(RECFILE_TAG_NAME, "A");
+        bytes(RECFILE_TAG_VALUE, value, RECFILE_MAX_FILE - end - 3 + rest);
+        asked = "a request at its limit";
+        expect("length", end, RECFILE_MAX_FILE + rest);
+        if (rest == 0)
+            written(request, end, RECFILE_MAX_FILE - 7 - 3 * 16, RECFILE_ACCEPTED, NULL, RECFILE_MAX_FILE - 7 - 3 * 16);
+        else
+            written(request, end, RECFILE_MAX_FILE, RECFILE_REFUSED_FORM, NULL, 0);
+    }
+    free(value);
+    free(long_value);
+    free(name);
+    free(long_name);
+    free(newlines);
+    free(fields);
+}
+
+static void edits(void)
+{
+    static const char rules[] = "%rec: S\n%prohibit: P\n%allowed: A B C P\n%mandatory: A\n%unique: A\n%type: B int\n%key: C\n%size: 2\n\nA: 1\nB: 2\nC: 3\n\nA: 1\nC: 4\n";
+    char *full = many("", "A: 1\n", RECFILE_MAX_FIELDS, ""), *almost = many("", "A: 1\n", RECFILE_MAX_FIELDS - 1, "");
+    size_t len = sizeof book - 1;
+
+    /* the six kinds */
+    insert("Scan", "Id", "2");
+    text(RECFILE_TAG_NAME, "Page");
+    text(RECFILE_TAG_VALUE, "p");
+    accepted(book, len + 15, "%rec: Scan\n%key: Id\n%type: Id int\n%mandatory: Page\n\nId: 1\nPage: front\n# folded\nPage: back\n\nId: 2\nPage: p\n");
+    accepted(book, len + 99, "%rec: Scan\n%key: Id\n%type: Id int\n%mandatory: Page\n\nId: 1\nPage: front\n# folded\nPage: back\n\nId: 2\nPage: p\n");
+    refused(book, len + 14, RECFILE_REFUSED_LARGE);
+    refused(book, len, RECFILE_REFUSED_LARGE);
+    delete("Scan", 0);
+    accepted(book, len, "%rec: Scan\n%key: Id\n%type: Id int\n%mandatory: Page\n\n# folded\n");
+    add("Scan", 0, "Note", "x");
+    accepted(book, len + 8, "%rec: Scan\n%key: Id\n%type: Id int\n%mandatory: Page\n\nId: 1\nPage: front\n# folded\nPage: back\nNote: x\n");
+    set("Scan", 0, "Page", 1, "a\nb");
+    accepted(book, len + 2, "%rec: Scan\n%key: Id\n%type: Id int\n%mandatory: Page\n\nId: 1\nPage: front\n# folded\nPage: a\n+ b\n");
+    drop("Scan", 0, "Page", 0);
+    accepted(book, len, "%rec: Scan\n%key: Id\n%type: Id int\n%mandatory: Page\n\nId: 1\n# folded\nPage: back\n");
+    rename_field("Scan", 0, "Page", 1, "Side");
+    accepted(book, len, "%rec: Scan\n%key: Id\n%type: Id int\n%mandatory: Page\n\nId: 1\nPage: front\n# folded\nSide: back\n");
+    insert("", "A", "");
+    accepted("", 5, "A: \n");
+    refused("", 0, RECFILE_REFUSED_LARGE);
+
+    /* what is asked for */
+    edited(book, len, NULL, 0, RECFILE_REFUSED_FORM, book);
+    edited("", 0, NULL, 0, RECFILE_REFUSED_FORM, "");
+    begin(9, "Scan");
+    refused(book, len, RECFILE_REFUSED_FORM);
+    delete("X", 0);
+    refused(book, len, RECFILE_REFUSED_NO_SET);
+    delete("Scan", 1);
+    refused(book, len, RECFILE_REFUSED_NO_RECORD);
+    delete("", 0);
+    refused("", 0, RECFILE_REFUSED_NO_RECORD);
+    drop("Scan", 0, "Page", 2);
+    refused(book, len, RECFILE_REFUSED_NO_FIELD);
+    drop("", 0, "A", 0);
+    refused("A: 1\n", 5, RECFILE_REFUSED_EMPTIED);
+    set("Scan", 0, "Page", 0, "x\\");
+    refused(book, len + 9, RECFILE_REFUSED_ILLEGAL);
+
+    /* the result */
+    add("", 0, "A", "1");
+    accepted(almost, RECFILE_MAX_FILE, full);
+    refused(full, RECFILE_MAX_FILE, RECFILE_REFUSED_RESULT_LIMIT);
+    add("S", 1, "P", "5");
+    refused(rules, sizeof rules + 99, RECFILE_REFUSED_RESULT_PROHIBITED);
+    add("S", 1, "D", "5");
+    refused(rules, sizeof rules + 99, RECFILE_REFUSED_RESULT_NOT_ALLOWED);
+    drop("S", 0, "A", 0);
+    refused(rules, sizeof rules + 99, RECFILE_REFUSED_RESULT_MISSING);
+    add("S", 0, "A", "5");
+    refused(rules, sizeof rules + 99, RECFILE_REFUSED_RESULT_REPEATED);
+    set("S", 0, "B", 0, "x");
+    refused(rules, sizeof rules + 99, RECFILE_REFUSED_RESULT_VALUE);
+    set("S", 1, "C", 0, "3");
+    refused(rules, sizeof rules + 99, RECFILE_REFUSED_RESULT_KEY);
+    delete("S", 1);
+    refused(rules, sizeof rules + 99, RECFILE_REFUSED_RESULT_SIZE);
+    asked = "the result's questions";
+    expect("are raised", RECFILE_REFUSED_RESULT_SIZE - RECFILE_REFUSED_SIZE, RECFILE_REFUSED_RESULT);
+    free(full);
+    free(almost);
+}
+
+int main(int argc, char **argv)
+{
+    int last = argc > 1 && strcmp(argv[1], "heap") == 0 ? HEAP : FRONT;
+
+    for (place = HEAP; (int)place <= last; place++) {
+        files();
+        lookups();
+        fields();
+        writes();
+        edits();
+    }
+    printf("%u answers, %u wrong\n", answers, wrong);
+    return wrong != 0;
+}
