@@ -1,3 +1,2 @@
 -- What one edit and a list of them answer.
-pub mod Answers
 pub mod Lists

@@ -3,16 +3,16 @@ ghost use mathlib.Core.Path.{_≡_};
 ghost use Prim.Native.Nat.{ℕ, _≤_, min};
 ghost use lib.ListN.{length, take, drop};
 ghost use Rattle.format.specs.Limits.{fileBytes};
-ghost use Rattle.format.specs.Calls.{numberIn, valueOr, checkAnswer, editAnswer};
+ghost use Rattle.format.specs.Calls.{checkAnswer, editAnswer, filledBy};
 ghost use Rattle.format.proofs.Judging.{textNo};
 ghost use Rattle.format.proofs.Results.{editNo};
 ghost use Rattle.edits.specs.Splices.{madeBy, Sound};
-ghost use Rattle.editor.specs.Answers.{editedAnswer, editedBy};
 ghost use Rattle.editor.specs.Lists.{fewest, editsIn, ranBy, Leaves};
 use edits::Located;
 use edits::Splice;
+use format::Answer;
 use format::File;
-use requests::Refusal;
+use format::Refusal;
 use requests::RequestOf;
 
 // The number of the text that a splice makes of s, questions 2 to 14. It is made in a copy.
@@ -45,88 +45,55 @@ fn edit_no(x: Splice, s: &[u8], req: &[u8], room: usize, copy: &mut [u8]) -> u32
     Refusal::RESULT + n
 }
 
-// The new length, or a refusal's number.
-pub enum Edited {
-    Length(usize),
-    Refused(u32),
-}
-
 // One request to a file that passes, in the first `used` bytes of buf, with room for a copy of it. A refusal writes nothing.
-pub fn edit_passing(buf: &mut [u8], used: usize, req: &[u8], copy: &mut [u8]) -> Edited
+pub fn edit_passing(buf: &mut [u8], used: usize, req: &[u8], copy: &mut [u8]) -> Answer
     requires { ⌜ checkAnswer (now buf) used ≡ 0 ⌝ }
     requires { ⌜ fileBytes ≤ length (now copy) ⌝ }
-    ensures { λ r. ⌜ editedBy r (now (buf .exit)) ≡ editAnswer (now (buf .entry)) used (now (req .entry)) ⌝ }
+    ensures { λ r. ⌜ filledBy r (now (buf .exit)) ≡ editAnswer (now (buf .entry)) used (now (req .entry)) ⌝ }
 {
     let r = requests::request_of(req);
     let RequestOf::Is(q) = r else {
-        return Edited::Refused(Refusal::FORM);
+        return Answer::Refused(Refusal::FORM);
     };
     let l = edits::locate(&buf[..used], req, q);
     match l {
         Located::Refused(k) => {
-            return Edited::Refused(k);
+            return Answer::Refused(k);
         }
         Located::At(x) => {
             let room = buf.len();
             let n = edit_no(x, &buf[..used], req, room, &mut *copy);
             if n != 0 {
-                return Edited::Refused(n);
+                return Answer::Refused(n);
             }
             let new = edits::carry_out(x, buf, used, req);
-            return Edited::Length(new);
+            return Answer::Value(new);
         }
     }
 }
 
 // One request to a file of which the check's number k is known.
-fn edit_judged(buf: &mut [u8], used: usize, req: &[u8], k: u32, copy: &mut [u8]) -> Edited
+fn edit_judged(buf: &mut [u8], used: usize, req: &[u8], k: u32, copy: &mut [u8]) -> Answer
     requires { ⌜ checkAnswer (now buf) used ≡ k ⌝ }
     requires { ⌜ fileBytes ≤ length (now copy) ⌝ }
-    ensures { λ r. ⌜ editedBy r (now (buf .exit)) ≡ editAnswer (now (buf .entry)) used (now (req .entry)) ⌝ }
+    ensures { λ r. ⌜ filledBy r (now (buf .exit)) ≡ editAnswer (now (buf .entry)) used (now (req .entry)) ⌝ }
 {
     if k != 0 {
-        return Edited::Refused(k);
+        return Answer::Refused(k);
     }
     edit_passing(buf, used, req, &mut *copy)
 }
 
 // One request to the file in the first `used` bytes of buf. A refusal writes nothing.
-pub fn edit(buf: &mut [u8], used: usize, req: &[u8]) -> Edited
-    ensures { λ r. ⌜ editedBy r (now (buf .exit)) ≡ editAnswer (now (buf .entry)) used (now (req .entry)) ⌝ }
+pub fn edit(buf: &mut [u8], used: usize, req: &[u8]) -> Answer
+    ensures { λ r. ⌜ filledBy r (now (buf .exit)) ≡ editAnswer (now (buf .entry)) used (now (req .entry)) ⌝ }
 {
     let mut copy = [0u8; File::BYTES];
     let k = integrity::check_with(buf, used, &mut copy);
     edit_judged(buf, used, req, k, &mut copy)
 }
 
-// The number that an edit tells, 0 if accepted.
-fn number_of(e: Edited) -> u32
-    ensures { λ r. ⌜ r ≡ numberIn (editedAnswer e) ⌝ }
-{
-    match e {
-        Edited::Length(_) => {
-            return 0;
-        }
-        Edited::Refused(k) => {
-            return k;
-        }
-    }
-}
-
-// The file's length after an edit; it had `used` bytes before.
-fn length_of(e: Edited, used: usize) -> usize
-    ensures { λ r. ⌜ r ≡ valueOr used (editedAnswer e) ⌝ }
-{
-    match e {
-        Edited::Length(n) => {
-            return n;
-        }
-        Edited::Refused(_) => {
-            return used;
-        }
-    }
-}
-
+// The lesser of two numbers.
 fn least(a: usize, b: usize) -> usize
     ensures { λ r. ⌜ r ≡ min a b ⌝ }
 {
@@ -162,8 +129,8 @@ pub fn edit_all(
         let size = least(sizes[i], requests.len() - at);
         let end = at + size;
         let e = edit_judged(buf, n, &requests[at..end], k, &mut copy);
-        n = length_of(e, n);
-        numbers[i] = number_of(e);
+        n = e.value_or(n);
+        numbers[i] = e.number();
         lengths[i] = n;
         at = end;
         i += 1;

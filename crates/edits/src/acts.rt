@@ -12,12 +12,12 @@ ghost use Rattle.requests.specs.Kinds.{actOf, InAct, InChange};
 ghost use Rattle.edits.specs.Places.{changeAt, LocatesIn};
 use super::Located;
 use super::Splice;
+use format::Refusal;
 use records::FoundField;
 use records::FoundRecord;
 use records::NextField;
 use requests::Act;
 use requests::Change;
-use requests::Refusal;
 use words::Span;
 
 // How many fields a part has.

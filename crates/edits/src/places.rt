@@ -12,10 +12,10 @@ ghost use Rattle.edits.specs.Places.{askedBy, Locates, LocatesIn};
 use super::Located;
 use super::Splice;
 use super::acts::locate_act;
+use format::Refusal;
 use records::FoundSet;
 use records::NextRecord;
 use requests::Edit;
-use requests::Refusal;
 use requests::Request;
 use requests::Weighed;
 

@@ -15,6 +15,7 @@ use Rattle.format.specs.Written.{Pair, writtenAll, isLegalPair}
 use Rattle.format.specs.Edits.{Edit}
 use Rattle.format.specs.Questions.{Row, firstNo, nameOf, verdict}
 use Rattle.format.specs.Requests.{Tagged, Request, requestOf, taggedBytes}
+use Rattle.format.specs.declared.Answer.{Answer as Reply}
 use Rattle.format.specs.Plain.{plainOf, indexOf, Sought, soughtMembers, soughtRecord, foundRows, Step, step}
 
 -- a number, "marked as no refusal", or a refusal's number
@@ -25,6 +26,11 @@ pub data Answer : Type 0 where
 abbrev pub answer : ℕ → ℕ → Answer
 answer zero n = value n
 answer (suc k) n = refusal (suc k)
+
+-- what the code answers, in these words
+abbrev pub answered : Reply → Answer
+answered (Reply.Value n) = value n
+answered (Reply.Refused k) = refusal k
 
 -- the same in two numbers: the refusal's, 0 if there is none, and the value, or another in its place
 abbrev pub numberIn : Answer → ℕ
@@ -64,6 +70,9 @@ countAnswer buffer used set = let q : Sought = soughtSet (setsIn buffer used) se
 pub record Filled : Type 0 where
   pub result : Answer
   pub out : Bytes
+
+abbrev pub filledBy : Reply → Bytes → Filled
+filledBy r out = record { result = answered r; out = out }
 
 abbrev pub leaves : Answer → Bytes → Bytes → Bytes
 leaves (value n) new old = new

@@ -4,267 +4,51 @@ ghost use mathlib.Core.Bool.{_&&_};
 ghost use lib.Dec.{leb};
 ghost use Rattle.format.specs.Bytes.{classOf, classTable};
 ghost use Rattle.format.specs.Lines.{isFirst, isLater};
+ghost use Rattle.format.specs.Calls.{answered, numberIn, valueOr};
 ghost use Rattle.format.specs.Limits.{fileBytes, nameBytes, valueBytes, recordFields, typedefs, typeFields, listWords};
 
-// The class of each byte: 1 letter, 2 digit, 3 blank, 4 newline, 5 underscore, 6 percent, 7 another allowed byte, 0 none.
-const CLASSES: [u8; 256] = [
-    0,
-    0,
-    0,
-    0,
-    0,
-    0,
-    0,
-    0,
-    0,
-    3,
-    4,
-    0,
-    0,
-    0,
-    0,
-    0,
-    0,
-    0,
-    0,
-    0,
-    0,
-    0,
-    0,
-    0,
-    0,
-    0,
-    0,
-    0,
-    0,
-    0,
-    0,
-    0,
-    3,
-    7,
-    7,
-    7,
-    7,
-    6,
-    7,
-    7,
-    7,
-    7,
-    7,
-    7,
-    7,
-    7,
-    7,
-    7,
-    2,
-    2,
-    2,
-    2,
-    2,
-    2,
-    2,
-    2,
-    2,
-    2,
-    7,
-    7,
-    7,
-    7,
-    7,
-    7,
-    7,
-    1,
-    1,
-    1,
-    1,
-    1,
-    1,
-    1,
-    1,
-    1,
-    1,
-    1,
-    1,
-    1,
-    1,
-    1,
-    1,
-    1,
-    1,
-    1,
-    1,
-    1,
-    1,
-    1,
-    1,
-    1,
-    1,
-    7,
-    7,
-    7,
-    7,
-    5,
-    7,
-    1,
-    1,
-    1,
-    1,
-    1,
-    1,
-    1,
-    1,
-    1,
-    1,
-    1,
-    1,
-    1,
-    1,
-    1,
-    1,
-    1,
-    1,
-    1,
-    1,
-    1,
-    1,
-    1,
-    1,
-    1,
-    1,
-    7,
-    7,
-    7,
-    7,
-    0,
-    7,
-    7,
-    7,
-    7,
-    7,
-    7,
-    7,
-    7,
-    7,
-    7,
-    7,
-    7,
-    7,
-    7,
-    7,
-    7,
-    7,
-    7,
-    7,
-    7,
-    7,
-    7,
-    7,
-    7,
-    7,
-    7,
-    7,
-    7,
-    7,
-    7,
-    7,
-    7,
-    7,
-    7,
-    7,
-    7,
-    7,
-    7,
-    7,
-    7,
-    7,
-    7,
-    7,
-    7,
-    7,
-    7,
-    7,
-    7,
-    7,
-    7,
-    7,
-    7,
-    7,
-    7,
-    7,
-    7,
-    7,
-    7,
-    7,
-    7,
-    7,
-    7,
-    7,
-    7,
-    7,
-    7,
-    7,
-    7,
-    7,
-    7,
-    7,
-    7,
-    7,
-    7,
-    7,
-    7,
-    7,
-    7,
-    7,
-    7,
-    7,
-    7,
-    7,
-    7,
-    7,
-    7,
-    7,
-    7,
-    7,
-    7,
-    7,
-    7,
-    7,
-    7,
-    7,
-    7,
-    7,
-    7,
-    7,
-    7,
-    7,
-    7,
-    7,
-    7,
-    7,
-    7,
-    7,
-    7,
-    7,
-    7,
-    7,
-    7,
-    7,
-    7,
-    7,
-    7,
-    7,
-    7,
-    7,
-    7,
-    7,
-    7,
-    7,
-    7,
-    7,
-    7,
-    7,
-    7,
-];
+mod refusals;
+
+pub use refusals::Refusal;
+
+// The classes of bytes. Bytes of no class are not allowed in a file.
+pub struct Class {}
+
+impl Class {
+    pub const NONE: u8 = 0;
+
+    pub const LETTER: u8 = 1;
+
+    pub const DIGIT: u8 = 2;
+
+    pub const BLANK: u8 = 3;
+
+    pub const NEWLINE: u8 = 4;
+
+    pub const UNDERSCORE: u8 = 5;
+
+    pub const PERCENT: u8 = 6;
+
+    pub const OTHER: u8 = 7;
+}
+
+// The class of each byte, 16 bytes a line.
+const CLASSES: [u8; 256] = *b"\x00\x00\x00\x00\x00\x00\x00\x00\x00\x03\x04\x00\x00\x00\x00\x00\
+    \x00\x00\x00\x00\x00\x00\x00\x00\x00\x00\x00\x00\x00\x00\x00\x00\
+    \x03\x07\x07\x07\x07\x06\x07\x07\x07\x07\x07\x07\x07\x07\x07\x07\
+    \x02\x02\x02\x02\x02\x02\x02\x02\x02\x02\x07\x07\x07\x07\x07\x07\
+    \x07\x01\x01\x01\x01\x01\x01\x01\x01\x01\x01\x01\x01\x01\x01\x01\
+    \x01\x01\x01\x01\x01\x01\x01\x01\x01\x01\x01\x07\x07\x07\x07\x05\
+    \x07\x01\x01\x01\x01\x01\x01\x01\x01\x01\x01\x01\x01\x01\x01\x01\
+    \x01\x01\x01\x01\x01\x01\x01\x01\x01\x01\x01\x07\x07\x07\x07\x00\
+    \x07\x07\x07\x07\x07\x07\x07\x07\x07\x07\x07\x07\x07\x07\x07\x07\
+    \x07\x07\x07\x07\x07\x07\x07\x07\x07\x07\x07\x07\x07\x07\x07\x07\
+    \x07\x07\x07\x07\x07\x07\x07\x07\x07\x07\x07\x07\x07\x07\x07\x07\
+    \x07\x07\x07\x07\x07\x07\x07\x07\x07\x07\x07\x07\x07\x07\x07\x07\
+    \x07\x07\x07\x07\x07\x07\x07\x07\x07\x07\x07\x07\x07\x07\x07\x07\
+    \x07\x07\x07\x07\x07\x07\x07\x07\x07\x07\x07\x07\x07\x07\x07\x07\
+    \x07\x07\x07\x07\x07\x07\x07\x07\x07\x07\x07\x07\x07\x07\x07\x07\
+    \x07\x07\x07\x07\x07\x07\x07\x07\x07\x07\x07\x07\x07\x07\x07\x07";
 
 // The table, to be lent to the readers: an array that is copied once is cheaper than a constant that is indexed.
 pub fn classes() -> [u8; 256]
@@ -287,7 +71,7 @@ pub fn is_first(table: &[u8; 256], b: u8) -> bool
     ensures { λ r. ⌜ r ≡ isFirst b ⌝ }
 {
     let k = class_of(table, b);
-    k == 1 || k == 6
+    k == Class::LETTER || k == Class::PERCENT
 }
 
 // May a name go on with this byte?
@@ -296,10 +80,38 @@ pub fn is_later(table: &[u8; 256], b: u8) -> bool
     ensures { λ r. ⌜ r ≡ isLater b ⌝ }
 {
     let k = class_of(table, b);
-    if k == 1 {
+    if k == Class::LETTER {
         return true;
     }
-    k == 2 || k == 5
+    k == Class::DIGIT || k == Class::UNDERSCORE
+}
+
+// What a call answers: a number, or that of its refusal.
+pub enum Answer {
+    Value(usize),
+    Refused(u32),
+}
+
+impl Answer {
+    // The number of the refusal, 0 if there is none.
+    pub fn number(self) -> u32
+        ensures { λ r. ⌜ r ≡ numberIn (answered self) ⌝ }
+    {
+        match self {
+            Answer::Value(_) => 0,
+            Answer::Refused(k) => k,
+        }
+    }
+
+    // The number that is answered, another where it is refused.
+    pub fn value_or(self, other: usize) -> usize
+        ensures { λ r. ⌜ r ≡ valueOr other (answered self) ⌝ }
+    {
+        match self {
+            Answer::Value(n) => n,
+            Answer::Refused(_) => other,
+        }
+    }
 }
 
 // A file, by its used length.
@@ -341,13 +153,13 @@ impl Record {
 
     pub const VALUE: usize = 4096;
 
-    pub fn new() -> Self
-        ensures { λ r. ⌜ (r .fields ≡ 0) × (r .name ≡ 0) × (r .value ≡ 0) ⌝ }
+    pub fn new(fields: usize, name: usize, value: usize) -> Self
+        ensures { λ r. ⌜ r ≡ record { fields = fields; name = name; value = value } ⌝ }
     {
         Self {
-            fields: 0,
-            name: 0,
-            value: 0,
+            fields,
+            name,
+            value,
         }
     }
 

@@ -18,6 +18,7 @@ ghost use Rattle.integrity.specs.Stages.{Granted};
 use dense::make_dense;
 use dense::may_join;
 use format::File;
+use format::Refusal;
 use limits::Bounded;
 use rules::tallies;
 
@@ -27,7 +28,7 @@ mod dense;
 fn is_allowed(b: u8) -> bool
     ensures { λ r. ⌜ r ≡ isAllowed b ⌝ }
 {
-    (b >= 32) & (b != 127) | (b == 9) | (b == 10)
+    (b >= b' ') & (b != 127) | (b == b'\t') | (b == b'\n')
 }
 
 // Are all bytes allowed?
@@ -52,7 +53,7 @@ fn is_ended(s: &[u8]) -> bool
     if len == 0 {
         return true;
     }
-    s[len - 1] == 10
+    s[len - 1] == b'\n'
 }
 
 // Question 2: are all bytes allowed, and is the text empty or ended by a newline?
@@ -147,10 +148,10 @@ fn judge_described(
 {
     let mut scratch = [0u8; 4096];
     if descriptors::described_well(s, starts, ends, count, &mut scratch) {} else {
-        return 6;
+        return Refusal::DESCRIPTOR;
     }
     if types_defined(s, starts, ends, count, &mut scratch) {} else {
-        return 7;
+        return Refusal::TYPE;
     }
     let mut entries = [0u32; 16384];
     judge_sets(s, starts, ends, afters, count, &mut scratch, &mut entries)
@@ -167,9 +168,9 @@ fn judge_lines(s: &[u8]) -> u32
     let mut afters = [0usize; 64];
     let b = limits::bounds_of(s, &mut starts, &mut ends, &mut afters);
     match b {
-        Bounded::Fault => 3,
-        Bounded::Past => 4,
-        Bounded::Unnamed => 5,
+        Bounded::Fault => Refusal::LINE,
+        Bounded::Past => Refusal::LIMIT,
+        Bounded::Unnamed => Refusal::REC,
         Bounded::Heads(count) => judge_described(s, &starts, &ends, &afters, count),
     }
 }
@@ -182,7 +183,7 @@ fn judge(s: &[u8]) -> u32
     if is_text(s) {
         return judge_lines(s);
     }
-    2
+    Refusal::BYTE
 }
 
 // The same of the text of `used` bytes at the front of a slice, which is spent: the text is made dense first.
@@ -191,10 +192,10 @@ fn judge_dense(text: &mut [u8], used: usize) -> u32
     ensures { λ r. ⌜ r ≡ textNo (take used (now (text .entry))) ⌝ }
 {
     if !is_text(&text[..used]) {
-        return 2;
+        return Refusal::BYTE;
     }
     if !records::is_readable(&text[..used]) {
-        return 3;
+        return Refusal::LINE;
     }
     let n = make_dense(text, used);
     judge_lines(&text[..n])
@@ -230,7 +231,7 @@ pub fn check_with(buf: &[u8], used: usize, copy: &mut [u8]) -> u32
 {
     let f = File::new(used);
     if !f.fits(buf.len()) {
-        return 1;
+        return Refusal::LENGTH;
     }
     judge_kept(&buf[0..used], copy)
 }

@@ -9,6 +9,7 @@ ghost use Rattle.format.specs.Calls.{over};
 ghost use Rattle.lines.specs.Line.{lineLen, firstLine, GoesOn, nameLen};
 ghost use Rattle.lines.specs.Piece.{extentOf, nextOf, isFault};
 ghost use Rattle.lines.specs.Value.{valueFrom, Unfolds};
+use format::Class;
 
 // The byte at i, 0 past the end.
 pub fn byte(s: &[u8], i: usize) -> u8
@@ -40,7 +41,7 @@ pub fn line_len(s: &[u8]) -> usize
 {
     let mut i = 0;
     while i < s.len() {
-        if s[i] == 10 {
+        if s[i] == b'\n' {
             return i;
         }
         i += 1;
@@ -56,7 +57,7 @@ fn line_end(s: &[u8], i: usize) -> usize
 {
     let mut at = i;
     loop {
-        if s[at] == 10 {
+        if s[at] == b'\n' {
             return at;
         }
         at += 1;
@@ -71,10 +72,10 @@ pub fn blank_line(table: &[u8; 256], s: &[u8]) -> bool
     let mut i = 0;
     while i < s.len() {
         let k = format::class_of(table, s[i]);
-        if k == 4 {
+        if k == Class::NEWLINE {
             return true;
         }
-        if k != 3 {
+        if k != Class::BLANK {
             return false;
         }
         i += 1;
@@ -137,7 +138,7 @@ fn field_extent(s: &[u8], at: usize) -> Extent
     let mut i = at;
     loop {
         let e = line_end(s, i);
-        let taken = s[e - 1] == 92;
+        let taken = s[e - 1] == b'\\';
         i = e + 1;
         if i == s.len() {
             if taken {
@@ -146,7 +147,7 @@ fn field_extent(s: &[u8], at: usize) -> Extent
             return Extent::Size(i);
         }
         if taken {} else {
-            if s[i] != 43 {
+            if s[i] != b'+' {
                 return Extent::Size(i);
             }
         }
@@ -178,15 +179,15 @@ fn next_field(table: &[u8; 256], s: &[u8]) -> Next
     ensures { λ r. ⌜ r ≡ nextOf (now (s .entry)) ⌝ }
 {
     let name = name_end(table, s);
-    if s[name] != 58 {
+    if s[name] != b':' {
         return Next::Fault;
     }
     let k = format::class_of(table, s[name + 1]);
     let mut value = name + 2;
-    if k == 4 {
+    if k == Class::NEWLINE {
         value = name + 1;
     } else {
-        if k != 3 {
+        if k != Class::BLANK {
             return Next::Fault;
         }
     }
@@ -207,13 +208,13 @@ pub fn next_piece(table: &[u8; 256], s: &[u8]) -> Next
         return Next::End;
     }
     let b = s[0];
-    if b == 10 {
+    if b == b'\n' {
         return Next::Blank { size: 1 };
     }
     if format::is_first(table, b) {
         return next_field(table, s);
     }
-    if b == 35 {
+    if b == b'#' {
         let n = line_len(s);
         return Next::Comment { size: n + 1 };
     }
@@ -231,7 +232,7 @@ fn name_to_colon(s: &[u8]) -> usize
     ensures { λ r. ⌜ r ≡ nameLen (now (s .entry)) ⌝ }
 {
     let mut i = 1;
-    while s[i] != 58 {
+    while s[i] != b':' {
         i += 1;
     }
     i
@@ -246,7 +247,7 @@ fn read_field(s: &[u8]) -> Next
 {
     let name = name_to_colon(s);
     let mut value = name + 1;
-    if s[value] != 10 {
+    if s[value] != b'\n' {
         value += 1;
     }
     let e = field_extent(s, value);
@@ -266,14 +267,14 @@ pub fn read_piece(s: &[u8]) -> Next
         return Next::End;
     }
     let b = s[0];
-    if b == 10 {
+    if b == b'\n' {
         return Next::Blank { size: 1 };
     }
-    if 35 < b {
+    if b'#' < b {
         return read_field(s);
     }
     let n = line_end(s, 0);
-    if b == 35 {
+    if b == b'#' {
         return Next::Comment { size: n + 1 };
     }
     Next::Blank { size: n + 1 }
@@ -292,23 +293,23 @@ fn plain_byte(s: &[u8], i: usize) -> Decoded
     ensures { λ r. ⌜ Unfolds (now (s .entry)) i r ⌝ }
 {
     let b = s[i];
-    if b != 10 {
+    if b != b'\n' {
         return Decoded::Byte {
             byte: b,
             next: i + 1,
         };
     }
-    if byte(s, i + 1) != 43 {
+    if byte(s, i + 1) != b'+' {
         return Decoded::End;
     }
-    if byte(s, i + 2) == 32 {
+    if byte(s, i + 2) == b' ' {
         return Decoded::Byte {
-            byte: 10,
+            byte: b'\n',
             next: i + 3,
         };
     }
     Decoded::Byte {
-        byte: 10,
+        byte: b'\n',
         next: i + 2,
     }
 }
@@ -319,10 +320,10 @@ pub fn value_byte(s: &[u8], i: usize) -> Decoded
 {
     let mut at = i;
     while at < s.len() {
-        if s[at] != 92 {
+        if s[at] != b'\\' {
             return plain_byte(s, at);
         }
-        if byte(s, at + 1) != 10 {
+        if byte(s, at + 1) != b'\n' {
             return plain_byte(s, at);
         }
         at += 2;

@@ -1,6 +1,5 @@
 // Checks the recfile on standard input and, where it passes, lists its sets in file order, each with its number of records.
-use lookup::Counted;
-use lookup::Fetched;
+use format::Answer;
 
 fn main() {
     let mut file = [0u8; 65537];
@@ -25,7 +24,7 @@ fn list_sets(file: &[u8], used: usize) {
     let mut k = 0;
     while k <= format::Descriptor::COUNT {
         let f = lookup::set_name(file, used, k, name);
-        let Fetched::Length(n) = f else {
+        let Answer::Value(n) = f else {
             return;
         };
         list_set(file, used, &name[..n]);
@@ -35,7 +34,7 @@ fn list_sets(file: &[u8], used: usize) {
 
 fn list_set(file: &[u8], used: usize, name: &[u8]) {
     let c = lookup::count(file, used, name);
-    let Counted::Records(n) = c else {
+    let Answer::Value(n) = c else {
         return;
     };
     if name.len() == 0 {

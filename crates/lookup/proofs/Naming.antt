@@ -16,7 +16,7 @@ use Rattle.format.specs.Sets.{RecSet, valuesOf}
 use Rattle.format.specs.Words.{notGap, firstWord}
 use Rattle.format.specs.Questions.{firstNo, nameOf}
 use Rattle.format.specs.Plain.{foundRows}
-use Rattle.format.specs.Calls.{Answer, answer, thenNo, setsIn, lookupNo, leaves, over, Filled, filled, soughtOrder, nameAnswer}
+use Rattle.format.specs.Calls.{Answer, answer, thenNo, setsIn, lookupNo, leaves, over, Filled, filled, soughtOrder, nameAnswer, answered}
 use Rattle.lines.specs.Value.{valueFrom}
 use Rattle.lines.proofs.Decoding.{value-length}
 use Rattle.records.specs.Places.{isReadable, Placed, placesOf}
@@ -28,8 +28,8 @@ use Rattle.records.proofs.Readings.{reads-of}
 use Rattle.records.proofs.Searches.{placesAt, Stand, Met}
 use Rattle.records.proofs.Members.{sets-places, Stands, stands, others, othersBy, others-enter}
 use Rattle.records.proofs.Fields.{FieldFound}
-use Rattle.lookup.specs.declared.inside.Fetched.{Fetched}
-use Rattle.lookup.specs.Answers.{fetchedAnswer, setsFrom, nameIn}
+use Rattle.format.specs.declared.Answer.{Answer as Reply}
+use Rattle.lookup.specs.Answers.{setsFrom, nameIn}
 use Rattle.lookup.proofs.Looking.{filled-long, filled-fits}
 use Rattle.lookup.specs.Names.{titled, descriptorBy, descriptorAt}
 
@@ -181,10 +181,10 @@ unfolding InsideIf
 over-inside zero t out = omega (arith, length-append t (drop (length t) out))
 over-inside (suc k) t out = tt
 
-pub name-inside : (buffer : Bytes) (used k : ℕ) (out : Bytes) (x : Fetched) {n : ℕ} (o : Bytes) → nameAnswer buffer used k out ≡ record { result = fetchedAnswer x; out = o } → x ≡ Fetched.Length n → n ≤ length o
+pub name-inside : (buffer : Bytes) (used k : ℕ) (out : Bytes) (x : Reply) {n : ℕ} (o : Bytes) → nameAnswer buffer used k out ≡ record { result = answered x; out = o } → x ≡ Reply.Value n → n ≤ length o
 unfolding nameAnswer InsideIf
 name-inside buffer used k out x {n} o e f =
     let ss : List RecSet = setsIn buffer used in
     let v : Bytes = getD (map nameOf ss) k [] in
     let i = over-inside (thenNo (lookupNo buffer used (soughtOrder ss k)) (pick (leb (length v) (length out)) 0 27)) v out in
-    subst (λ (y : Fetched). InsideIf (fetchedAnswer y) o) f (subst (λ (y : Filled). InsideIf (y .result) (y .out)) e i)
+    subst (λ (y : Reply). InsideIf (answered y) o) f (subst (λ (y : Filled). InsideIf (y .result) (y .out)) e i)

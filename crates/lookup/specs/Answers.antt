@@ -8,17 +8,8 @@ use Rattle.format.specs.Sets.{valuesOf, groups, RecSet, setsOf}
 use Rattle.format.specs.Questions.{firstNo, nameOf}
 use Rattle.format.specs.Plain.{Sought, soughtMembers, soughtRecord, foundRows}
 use Rattle.format.specs.Calls.{Answer, answer, soughtSet, Filled, filled, soughtField, soughtOrder, Viewed, viewedAt, soughtRow}
-use Rattle.lookup.specs.declared.inside.Counted.{Counted}
-use Rattle.lookup.specs.declared.inside.Fetched.{Fetched}
+use Rattle.format.specs.declared.Answer.{Answer as Reply}
 use Rattle.lookup.specs.declared.inside.Seen.{Seen}
-
-abbrev pub countedAnswer : Counted → Answer
-countedAnswer (Counted.Records n) = Answer.value n
-countedAnswer (Counted.Refused k) = Answer.refusal k
-
-abbrev pub fetchedAnswer : Fetched → Answer
-fetchedAnswer (Fetched.Length n) = Answer.value n
-fetchedAnswer (Fetched.Refused k) = Answer.refusal k
 
 -- a view as a place of the text
 abbrev pub seenAnswer : Bytes → Seen → Viewed

@@ -7,12 +7,14 @@ ghost use Prim.Native.Nat.{_≤_};
 ghost use lib.ListN.{length, drop};
 ghost use Rattle.format.specs.Sets.{valuesOf};
 ghost use Rattle.format.specs.Words.{notGap};
-ghost use Rattle.format.specs.Calls.{over};
+ghost use Rattle.format.specs.Calls.{over, answered};
 ghost use Rattle.lines.specs.Value.{valueFrom};
 ghost use Rattle.records.specs.Places.{isReadable, placesOf};
 ghost use Rattle.records.specs.Walk.{recordIn};
-ghost use Rattle.lookup.specs.Answers.{countedAnswer, fetchedAnswer, seenAnswer, SeenInside, countIn, fetchIn, viewIn, nameIn};
+ghost use Rattle.lookup.specs.Answers.{seenAnswer, SeenInside, countIn, fetchIn, viewIn, nameIn};
 ghost use Rattle.lookup.specs.Names.{descriptorAt, titled};
+use format::Answer;
+use format::Refusal;
 use lines::Decoded;
 use records::FoundField;
 use records::FoundRecord;
@@ -20,23 +22,17 @@ use records::FoundSet;
 use records::NextRecord;
 use records::Place;
 
-// The number of records of a set, or a refusal's number.
-pub enum Counted {
-    Records(usize),
-    Refused(u32),
-}
-
 // The count of a set in a readable text.
-pub fn count_in(s: &[u8], set: &[u8]) -> Counted
+pub fn count_in(s: &[u8], set: &[u8]) -> Answer
     requires { ⌜ isReadable (now s) ≡ true ⌝ }
-    ensures { λ r. ⌜ countedAnswer r ≡ countIn (now (s .entry)) (now (set .entry)) ⌝ }
+    ensures { λ r. ⌜ answered r ≡ countIn (now (s .entry)) (now (set .entry)) ⌝ }
 {
     let f = records::find_set(s, set);
     let FoundSet::At(a) = f else {
-        return Counted::Refused(21);
+        return Answer::Refused(Refusal::SET);
     };
     let n = records::count_records(&s[a..]);
-    Counted::Records(n)
+    Answer::Value(n)
 }
 
 // A record of a set, from its first field's first byte to the byte behind its last field, or a refusal's number.
@@ -52,21 +48,15 @@ pub fn view_in(s: &[u8], set: &[u8], row: usize) -> Seen
 {
     let f = records::find_set(s, set);
     let FoundSet::At(a) = f else {
-        return Seen::Refused(21);
+        return Seen::Refused(Refusal::SET);
     };
     let g = records::find_record(&s[a..], row);
     let FoundRecord::At(p) = g else {
-        return Seen::Refused(22);
+        return Seen::Refused(Refusal::RECORD);
     };
     let start = a + p.start;
     let end = a + p.end;
     Seen::At { start, end }
-}
-
-// The length of a fetched value, or a refusal's number.
-pub enum Fetched {
-    Length(usize),
-    Refused(u32),
 }
 
 // The value of an occurrence of a name in a record of a set of a readable text, put into out.
@@ -77,17 +67,17 @@ pub fn fetch_in(
     name: &[u8],
     occurrence: usize,
     out: &mut [u8],
-) -> Fetched
+) -> Answer
     requires { ⌜ isReadable (now s) ≡ true ⌝ }
-    ensures { λ r. ⌜ fetchIn (now (s .entry)) (now (set .entry)) row (now (name .entry)) occurrence (now (out .entry)) ≡ record { result = fetchedAnswer r; out = now (out .exit) } ⌝ }
+    ensures { λ r. ⌜ fetchIn (now (s .entry)) (now (set .entry)) row (now (name .entry)) occurrence (now (out .entry)) ≡ record { result = answered r; out = now (out .exit) } ⌝ }
 {
     let f = records::find_set(s, set);
     let FoundSet::At(a) = f else {
-        return Fetched::Refused(21);
+        return Answer::Refused(Refusal::SET);
     };
     let g = records::find_record(&s[a..], row);
     let FoundRecord::At(p) = g else {
-        return Fetched::Refused(22);
+        return Answer::Refused(Refusal::RECORD);
     };
     let b = a + p.start;
     let e = a + p.end;
@@ -98,16 +88,16 @@ pub fn fetch_in(
         end,
     } = h
     else {
-        return Fetched::Refused(23);
+        return Answer::Refused(Refusal::FIELD);
     };
     let v = b + value;
     let w = b + end;
     let n = lines::value_len(&s[v..w]);
     if out.len() < n {
-        return Fetched::Refused(27);
+        return Answer::Refused(Refusal::ROOM);
     }
     lines::copy_value(&s[v..w], &mut *out);
-    Fetched::Length(n)
+    Answer::Value(n)
 }
 
 // Where descriptor k stands.
@@ -180,9 +170,9 @@ fn copy_word(s: &[u8], i: usize, out: &mut [u8])
 }
 
 // The name of the set that a descriptor, which fills d, opens, put into out.
-fn descriptor_name(d: &[u8], out: &mut [u8]) -> Fetched
+fn descriptor_name(d: &[u8], out: &mut [u8]) -> Answer
     requires { ⌜ isReadable (now d) ≡ true ⌝ }
-    ensures { λ r. ⌜ titled (valuesOf (text "%rec") (recordIn (now (d .entry)))) (now (out .entry)) ≡ record { result = fetchedAnswer r; out = now (out .exit) } ⌝ }
+    ensures { λ r. ⌜ titled (valuesOf (text "%rec") (recordIn (now (d .entry)))) (now (out .entry)) ≡ record { result = answered r; out = now (out .exit) } ⌝ }
 {
     let f = records::find_field(d, b"%rec", 0);
     let FoundField::At {
@@ -191,28 +181,28 @@ fn descriptor_name(d: &[u8], out: &mut [u8]) -> Fetched
         end,
     } = f
     else {
-        return Fetched::Refused(21);
+        return Answer::Refused(Refusal::SET);
     };
     let i = records::word_start(&d[value..end]);
     let n = word_len(&d[value..end], i);
     if out.len() < n {
-        return Fetched::Refused(27);
+        return Answer::Refused(Refusal::ROOM);
     }
     copy_word(&d[value..end], i, &mut *out);
-    Fetched::Length(n)
+    Answer::Value(n)
 }
 
 // The name of set k of a readable text, in file order, put into out.
-pub fn name_in(s: &[u8], k: usize, out: &mut [u8]) -> Fetched
+pub fn name_in(s: &[u8], k: usize, out: &mut [u8]) -> Answer
     requires { ⌜ isReadable (now s) ≡ true ⌝ }
-    ensures { λ r. ⌜ nameIn (now (s .entry)) k (now (out .entry)) ≡ record { result = fetchedAnswer r; out = now (out .exit) } ⌝ }
+    ensures { λ r. ⌜ nameIn (now (s .entry)) k (now (out .entry)) ≡ record { result = answered r; out = now (out .exit) } ⌝ }
 {
     if k == 0 {
-        return Fetched::Length(0);
+        return Answer::Value(0);
     }
     let f = find_descriptor(s, k - 1);
     let FoundRecord::At(p) = f else {
-        return Fetched::Refused(21);
+        return Answer::Refused(Refusal::SET);
     };
     let a = p.start;
     let e = p.end;

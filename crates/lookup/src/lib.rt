@@ -1,22 +1,21 @@
 // The calls count, fetch, view and the sets' names, of any buffer: the file's own questions come first.
 ghost use mathlib.Core.Path.{_≡_};
 ghost use lib.ListN.{take};
-ghost use Rattle.format.specs.Calls.{numberIn, countAnswer, fetchAnswer, nameAnswer, viewAnswer};
-ghost use Rattle.lookup.specs.Answers.{countedAnswer, fetchedAnswer, seenAnswer, SeenInside};
+ghost use Rattle.format.specs.Calls.{numberIn, countAnswer, fetchAnswer, nameAnswer, viewAnswer, answered};
+ghost use Rattle.lookup.specs.Answers.{seenAnswer, SeenInside};
+use format::Answer;
 
 mod inside;
 
-pub use inside::Counted;
-pub use inside::Fetched;
 pub use inside::Seen;
 
 // The number of records of a set of the file at the front of a buffer.
-pub fn count(buf: &[u8], used: usize, set: &[u8]) -> Counted
-    ensures { λ r. ⌜ countedAnswer r ≡ countAnswer (now (buf .entry)) used (now (set .entry)) ⌝ }
+pub fn count(buf: &[u8], used: usize, set: &[u8]) -> Answer
+    ensures { λ r. ⌜ answered r ≡ countAnswer (now (buf .entry)) used (now (set .entry)) ⌝ }
 {
     let n = integrity::check(buf, used);
     if n != 0 {
-        return Counted::Refused(n);
+        return Answer::Refused(n);
     }
     inside::count_in(&buf[0..used], set)
 }
@@ -30,12 +29,12 @@ pub fn fetch(
     name: &[u8],
     occurrence: usize,
     out: &mut [u8],
-) -> Fetched
-    ensures { λ r. ⌜ fetchAnswer (now (buf .entry)) used (now (set .entry)) row (now (name .entry)) occurrence (now (out .entry)) ≡ record { result = fetchedAnswer r; out = now (out .exit) } ⌝ }
+) -> Answer
+    ensures { λ r. ⌜ fetchAnswer (now (buf .entry)) used (now (set .entry)) row (now (name .entry)) occurrence (now (out .entry)) ≡ record { result = answered r; out = now (out .exit) } ⌝ }
 {
     let n = integrity::check(buf, used);
     if n != 0 {
-        return Fetched::Refused(n);
+        return Answer::Refused(n);
     }
     inside::fetch_in(&buf[0..used], set, row, name, occurrence, &mut *out)
 }
@@ -69,12 +68,12 @@ pub fn view<'a>(buf: &'a [u8], used: usize, set: &[u8], row: usize, number: &mut
 }
 
 // The name of set k, in file order and the default set first, put into out; what stands behind it there stays. 21 says that there are not so many sets.
-pub fn set_name(buf: &[u8], used: usize, k: usize, out: &mut [u8]) -> Fetched
-    ensures { λ r. ⌜ nameAnswer (now (buf .entry)) used k (now (out .entry)) ≡ record { result = fetchedAnswer r; out = now (out .exit) } ⌝ }
+pub fn set_name(buf: &[u8], used: usize, k: usize, out: &mut [u8]) -> Answer
+    ensures { λ r. ⌜ nameAnswer (now (buf .entry)) used k (now (out .entry)) ≡ record { result = answered r; out = now (out .exit) } ⌝ }
 {
     let n = integrity::check(buf, used);
     if n != 0 {
-        return Fetched::Refused(n);
+        return Answer::Refused(n);
     }
     inside::name_in(&buf[0..used], k, &mut *out)
 }

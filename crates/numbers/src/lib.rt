@@ -109,8 +109,8 @@ fn unsigned_of(s: &[u8], from: usize, limit: u64) -> Natural
     requires { ⌜ from ≤ 1 ⌝ }
     ensures { λ r. ⌜ naturalAnswer r ≡ upToLimit limit (unsigned (drop from (now (s .entry)))) ⌝ }
 {
-    if lines::byte(s, from) == 48 {
-        if lines::byte(s, from + 1) == 120 {
+    if lines::byte(s, from) == b'0' {
+        if lines::byte(s, from + 1) == b'x' {
             return natural_of(s, from + 2, 16, limit);
         }
         return natural_of(s, from, 8, limit);
@@ -122,7 +122,7 @@ fn unsigned_of(s: &[u8], from: usize, limit: u64) -> Natural
 fn int_within(s: &[u8], ends: Ends) -> IntOf
     ensures { λ r. ⌜ intAnswer r ≡ intOf (boundsIn ends) (now (s .entry)) ⌝ }
 {
-    if lines::byte(s, 0) == 45 {
+    if lines::byte(s, 0) == b'-' {
         let m = unsigned_of(s, 1, ends.least);
         match m {
             Natural::Of(n) => IntOf::Value(Whole::Minus(n)),
@@ -184,7 +184,7 @@ pub fn at_most(a: Whole, b: Whole) -> bool
 fn is_decimal(s: &[u8]) -> bool
     ensures { λ r. ⌜ r ≡ isSome (decimalIn false (now (s .entry))) ⌝ }
 {
-    let e = words::part_end(s, 0, 46);
+    let e = words::part_end(s, 0, b'.');
     if are_digits(&s[0..e], 10) {
         if e < s.len() {
             are_digits(&s[e + 1..], 10)
@@ -200,7 +200,7 @@ fn is_decimal(s: &[u8]) -> bool
 pub fn is_real(s: &[u8]) -> bool
     ensures { λ r. ⌜ r ≡ isReal (now (s .entry)) ⌝ }
 {
-    if lines::byte(s, 0) == 45 {
+    if lines::byte(s, 0) == b'-' {
         is_decimal(&s[1..])
     } else {
         is_decimal(s)

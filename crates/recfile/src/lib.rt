@@ -3,11 +3,7 @@ ghost use mathlib.Core.Path.{_≡_};
 ghost use lib.ListN.{length};
 ghost use Rattle.format.specs.Requests.{tag as tagOf};
 ghost use Rattle.format.specs.Calls.{numberIn, valueOr, checkAnswer, countAnswer, fetchAnswer, viewAnswer, writeAnswer, editAnswer, nameAnswer, fieldAnswer};
-use editor::Edited;
-use lookup::Counted;
-use lookup::Fetched;
 use lookup::Seen;
-use requests::Written;
 
 // The number of the first question that says no of the file in the first `used` bytes of a buffer, else 0.
 #[no_mangle]
@@ -22,17 +18,9 @@ pub extern "C" fn recfile_check(buf: &[u8], used: usize) -> u32
 pub extern "C" fn recfile_count(buf: &[u8], used: usize, set: &[u8], number: &mut u32) -> usize
     ensures { λ r. ⌜ (r ≡ valueOr 0 (countAnswer (now (buf .entry)) used (now (set .entry)))) × (now (number .exit) ≡ numberIn (countAnswer (now (buf .entry)) used (now (set .entry)))) ⌝ }
 {
-    let c = lookup::count(buf, used, set);
-    match c {
-        Counted::Records(n) => {
-            *number = 0;
-            n
-        }
-        Counted::Refused(k) => {
-            *number = k;
-            0
-        }
-    }
+    let count = lookup::count(buf, used, set);
+    *number = count.number();
+    count.value_or(0)
 }
 
 // The length of the value that was put into out, 0 where it is refused.
@@ -51,17 +39,9 @@ pub extern "C" fn recfile_fetch(
         × (now (number .exit) ≡ numberIn (fetchAnswer (now (buf .entry)) used (now (set .entry)) row (now (name .entry)) occurrence (now (out .entry)) .result))
         × (now (out .exit) ≡ fetchAnswer (now (buf .entry)) used (now (set .entry)) row (now (name .entry)) occurrence (now (out .entry)) .out) ⌝ }
 {
-    let f = lookup::fetch(buf, used, set, row, name, occurrence, &mut *out);
-    match f {
-        Fetched::Length(n) => {
-            *number = 0;
-            n
-        }
-        Fetched::Refused(k) => {
-            *number = k;
-            0
-        }
-    }
+    let fetched = lookup::fetch(buf, used, set, row, name, occurrence, &mut *out);
+    *number = fetched.number();
+    fetched.value_or(0)
 }
 
 // The length of the name of a set, by its place in the file, that was put into out, 0 where it is refused.
@@ -77,17 +57,9 @@ pub extern "C" fn recfile_set_name(
         × (now (number .exit) ≡ numberIn (nameAnswer (now (buf .entry)) used set (now (out .entry)) .result))
         × (now (out .exit) ≡ nameAnswer (now (buf .entry)) used set (now (out .entry)) .out) ⌝ }
 {
-    let s = lookup::set_name(buf, used, set, &mut *out);
-    match s {
-        Fetched::Length(len) => {
-            *number = 0;
-            len
-        }
-        Fetched::Refused(no) => {
-            *number = no;
-            0
-        }
-    }
+    let named = lookup::set_name(buf, used, set, &mut *out);
+    *number = named.number();
+    named.value_or(0)
 }
 
 // The length of the part of the file that a record stands in, and where that begins; both 0 where it is refused.
@@ -126,17 +98,9 @@ pub extern "C" fn recfile_write(request: &[u8], out: &mut [u8], number: &mut u32
         × (now (number .exit) ≡ numberIn (writeAnswer (now (request .entry)) (now (out .entry)) .result))
         × (now (out .exit) ≡ writeAnswer (now (request .entry)) (now (out .entry)) .out) ⌝ }
 {
-    let w = requests::write_record(request, &mut *out);
-    match w {
-        Written::Len(n) => {
-            *number = 0;
-            n
-        }
-        Written::Refused(k) => {
-            *number = k;
-            0
-        }
-    }
+    let written = requests::write_record(request, &mut *out);
+    *number = written.number();
+    written.value_or(0)
 }
 
 // One edit: the file's length after it, which is `used` where it is refused.
@@ -151,17 +115,9 @@ pub extern "C" fn recfile_edit(
         × (now (number .exit) ≡ numberIn (editAnswer (now (buf .entry)) used (now (request .entry)) .result))
         × (now (buf .exit) ≡ editAnswer (now (buf .entry)) used (now (request .entry)) .out) ⌝ }
 {
-    let e = editor::edit(&mut *buf, used, request);
-    match e {
-        Edited::Length(n) => {
-            *number = 0;
-            n
-        }
-        Edited::Refused(k) => {
-            *number = k;
-            used
-        }
-    }
+    let edited = editor::edit(&mut *buf, used, request);
+    *number = edited.number();
+    edited.value_or(used)
 }
 
 // One tagged field at a place of a request under construction: the byte behind it. Without room nothing is written, and it is one more than the request's length.

@@ -20,29 +20,29 @@ use Rattle.format.specs.Sets.{setsOf}
 use Rattle.format.specs.Requests.{Request as Asked, requestOf}
 use Rattle.format.specs.Written.{Pair, writtenAll, newField, isLegalPair}
 use Rattle.format.specs.Edits.{Edit}
-use Rattle.format.specs.Calls.{Answer, answer, Filled, leaves, over, filled, insertOf, writtenBy, writeAnswer}
+use Rattle.format.specs.Calls.{Answer, answer, Filled, leaves, over, filled, insertOf, writtenBy, writeAnswer, filledBy}
 use Rattle.format.proofs.Grouping.{HasPairs, setBy}
 use Rattle.format.proofs.Requested.{request-pairs}
 use Rattle.requests.proofs.kinds.Edit.{the-type}
 use Rattle.requests.specs.declared.kinds.Edit.{Edit as ReadEdit}
 use Rattle.requests.specs.declared.kinds.Request.{Request}
 use Rattle.requests.specs.declared.kinds.RequestOf.{RequestOf}
-use Rattle.requests.specs.declared.Written.{Written}
+use Rattle.format.specs.declared.Answer.{Answer as Reply}
 use Rattle.requests.specs.Pairs.{pairsAt}
 use Rattle.requests.specs.Kinds.{editOf, requestAnswer, InEdit, Inside}
 use Rattle.requests.proofs.Kinding.{request-long}
 use Rattle.requests.proofs.Weighing.{asked-illegal}
-use Rattle.requests.specs.Writes.{filledBy, writeNo}
+use Rattle.requests.specs.Writes.{writeNo}
 
 -- a number or a refusal
 abbrev pub filledAs : ℕ → Bytes → Bytes → Filled
 filledAs n text out = record { result = answer n (length text); out = leaves (answer n (length text)) (over text out) out }
 
-pub filled-refused : (n : ℕ) (text out : Bytes) → (n ≡ 0 → ⊥) → filledBy (Written.Refused n) out ≡ filledAs n text out
+pub filled-refused : (n : ℕ) (text out : Bytes) → (n ≡ 0 → ⊥) → filledBy (Reply.Refused n) out ≡ filledAs n text out
 filled-refused zero text out h = absurd (h refl)
 filled-refused (suc n) text out h = refl
 
-pub filled-written : (n k : ℕ) (text out after : Bytes) → k ≡ length text → after ≡ over text out → n ≡ 0 → filledBy (Written.Len k) after ≡ filledAs n text out
+pub filled-written : (n k : ℕ) (text out after : Bytes) → k ≡ length text → after ≡ over text out → n ≡ 0 → filledBy (Reply.Value k) after ≡ filledAs n text out
 filled-written n k text out after l a e = rw (l, a, e)
 
 module _ (s out : Bytes) where
@@ -50,7 +50,7 @@ module _ (s out : Bytes) where
   abbrev answered : Option Asked → Filled
   answered x = writtenBy (onward (λ (q : Asked). insertOf (q .edit)) x) out
 
-  pub write-fault : requestAnswer s RequestOf.Fault ≡ requestOf s → filledBy (Written.Refused 20) out ≡ writeAnswer s out
+  pub write-fault : requestAnswer s RequestOf.Fault ≡ requestOf s → filledBy (Reply.Refused 20) out ≡ writeAnswer s out
   unfolding writeAnswer
   write-fault e = ap answered e
 
@@ -59,10 +59,10 @@ module _ (s out : Bytes) where
     unfolding writeAnswer
     by-asked = ap answered e
 
-    pub write-other : OneOf (1 ∷ []) (tagOf the-type (q .edit)) → filledBy (Written.Refused 20) out ≡ writeAnswer s out
+    pub write-other : OneOf (1 ∷ []) (tagOf the-type (q .edit)) → filledBy (Reply.Refused 20) out ≡ writeAnswer s out
     write-other h = go (q .edit) h ∙ by-asked
       where
-        go : (a : ReadEdit) → OneOf (1 ∷ []) (tagOf the-type a) → filledBy (Written.Refused 20) out ≡ writtenBy (insertOf (editOf s a)) out
+        go : (a : ReadEdit) → OneOf (1 ∷ []) (tagOf the-type a) → filledBy (Reply.Refused 20) out ≡ writtenBy (insertOf (editOf s a)) out
         go (ReadEdit.Insert i) k = absurd (miss (1 ∷ []) 0 tt k)
         go (ReadEdit.On r a) k = refl
 
@@ -134,5 +134,5 @@ module _ (s out after : Bytes) (n : ℕ) (e : record { result = Answer.value n; 
   by-request (some q) h = by-edit q (q .edit) h refl (request-pairs s q h) (asked-value (some q) h)
 
 -- where the answer of `write_record` is a length
-pub write-reads-back : (s out after : Bytes) (r : Written) (n : ℕ) → filledBy r after ≡ writeAnswer s out → r ≡ Written.Len n → ReadsBack s (take n after)
-write-reads-back s out after r n e l = by-request s out after n (ap (λ (x : Written). filledBy x after) (sym l) ∙ e) (requestOf s) refl
+pub write-reads-back : (s out after : Bytes) (r : Reply) (n : ℕ) → filledBy r after ≡ writeAnswer s out → r ≡ Reply.Value n → ReadsBack s (take n after)
+write-reads-back s out after r n e l = by-request s out after n (ap (λ (x : Reply). filledBy x after) (sym l) ∙ e) (requestOf s) refl

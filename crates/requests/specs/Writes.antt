@@ -7,14 +7,7 @@ use Rattle.format.specs.Bytes.{Bytes, pick}
 use Rattle.format.specs.Questions.{firstNo}
 use Rattle.format.specs.Written.{Pair, writtenAll}
 use Rattle.format.specs.Calls.{Answer, thenNo, Filled, writeRows}
-use Rattle.requests.specs.declared.Written.{Written}
-
-abbrev pub writtenAnswer : Written → Answer
-writtenAnswer (Written.Len n) = Answer.value n
-writtenAnswer (Written.Refused k) = Answer.refusal k
-
-abbrev pub filledBy : Written → Bytes → Filled
-filledBy r out = record { result = writtenAnswer r; out = out }
+use Rattle.format.specs.declared.Answer.{Answer as Reply}
 
 -- what is asked before it: of the pairs, and then whether their text fits
 abbrev pub writeNo : List Pair → ℕ → ℕ

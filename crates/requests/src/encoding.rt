@@ -44,7 +44,7 @@ pub fn put_field(request: &mut [u8], at: usize, tag: u8, contents: &[u8]) -> usi
     ensures { λ r. ⌜ record { next = r; out = now (request .exit) } ≡ fieldAnswer (now (request .entry)) at (tagOf tag (now (contents .entry))) ⌝ }
 {
     let n = contents.len();
-    if has_room(request.len(), at, n) {} else {
+    if !has_room(request.len(), at, n) {
         return request.len() + 1;
     }
     put_tagged(&mut request[at..], tag, contents);

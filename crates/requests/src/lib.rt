@@ -5,15 +5,18 @@ ghost use Prim.Native.Nat.{_≤_};
 ghost use lib.ListN.{length};
 ghost use Rattle.format.specs.Bytes.{isSome};
 ghost use Rattle.format.specs.Limits.{fileBytes};
-ghost use Rattle.format.specs.Calls.{writeAnswer};
+ghost use Rattle.format.specs.Calls.{writeAnswer, filledBy};
 ghost use Rattle.requests.specs.Pairs.{pairsFrom, pairsAt};
-ghost use Rattle.requests.specs.Writes.{filledBy, writeNo};
+ghost use Rattle.requests.specs.Writes.{writeNo};
+use format::Answer;
+use format::File;
+use format::Record;
+use format::Refusal;
 
 mod encoding;
 mod fields;
 mod kinds;
 mod pairs;
-mod refusals;
 
 pub use encoding::put_field;
 pub use kinds::Act;
@@ -26,13 +29,6 @@ pub use pairs::Weighed;
 pub use pairs::is_legal_pair;
 pub use pairs::put_pairs;
 pub use pairs::weigh;
-pub use refusals::Refusal;
-
-// A length, or a refusal's number.
-pub enum Written {
-    Len(usize),
-    Refused(u32),
-}
 
 // The number of the first question about pairs that says no, else 0.
 fn write_no(req: &[u8], from: usize, room: usize) -> u32
@@ -44,11 +40,11 @@ fn write_no(req: &[u8], from: usize, room: usize) -> u32
     let Weighed::Sums { len, count } = w else {
         return Refusal::ILLEGAL;
     };
-    if len > format::File::BYTES {
+    if len > File::BYTES {
         return Refusal::LARGE;
     }
-    if count > format::Record::FIELDS {
-        return Refusal::FIELDS;
+    if count > Record::FIELDS {
+        return Refusal::RESULT_LIMIT;
     }
     if len > room {
         return Refusal::ROOM;
@@ -57,20 +53,20 @@ fn write_no(req: &[u8], from: usize, room: usize) -> u32
 }
 
 // The text of an insert's record at the front of out, or a refusal, which leaves out as it is.
-pub fn write_record(req: &[u8], out: &mut [u8]) -> Written
+pub fn write_record(req: &[u8], out: &mut [u8]) -> Answer
     ensures { λ r. ⌜ filledBy r (now (out .exit)) ≡ writeAnswer (now (req .entry)) (now (out .entry)) ⌝ }
 {
     let q = request_of(req);
     let RequestOf::Is(request) = q else {
-        return Written::Refused(Refusal::FORM);
+        return Answer::Refused(Refusal::FORM);
     };
     let edit = request.edit;
     let Edit::Insert { start } = edit else {
-        return Written::Refused(Refusal::FORM);
+        return Answer::Refused(Refusal::FORM);
     };
     let n = write_no(req, start, out.len());
     if n != 0 {
-        return Written::Refused(n);
+        return Answer::Refused(n);
     }
-    Written::Len(put_pairs(req, start, out))
+    Answer::Value(put_pairs(req, start, out))
 }

@@ -123,7 +123,7 @@ pub fn weigh(req: &[u8], from: usize) -> Weighed
         let Pair::At { name, value, next } = p else {
             return Weighed::Sums { len, count };
         };
-        if is_legal_pair(req, name, value) {} else {
+        if !is_legal_pair(req, name, value) {
             return Weighed::Illegal;
         }
         len += pair_len(req, name, value);

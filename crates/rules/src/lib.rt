@@ -22,6 +22,7 @@ ghost use Rattle.rules.specs.Described.{IsRules, AllFit};
 ghost use Rattle.rules.specs.Chunks.{IsBook, HaveKeys, Chunked, SetAsked};
 use dictionary::wordsets;
 use dictionary::wordsets::Words;
+use format::Refusal;
 use kinds::Kinds;
 use members::Asked;
 use members::Rulebook;
@@ -254,10 +255,10 @@ fn judge_whole(d: &[u8], count: usize, part: &[u8], scratch: &mut [u8], entries:
     ensures { λ n. ⌜ n ≡ firstNo (wholeRows intBounds) (ruled (recordIn (now (d .entry))) (records (readOf (now (part .entry))))) ⌝ }
 {
     if keys_apart(d, part, &mut *scratch, &mut *entries) {} else {
-        return 13;
+        return Refusal::KEY;
     }
     if descriptors::size_met(d, count, &mut *scratch) {} else {
-        return 14;
+        return Refusal::SIZE;
     }
     0
 }

@@ -20,6 +20,7 @@ ghost use Rattle.rules.specs.Members.{IsRulebook, fitsIn, partNo};
 use super::tallies;
 use super::tallies::Tables;
 use super::tallies::Tally;
+use format::Refusal;
 use kinds::Kinds;
 use lines::Next;
 use symbols::Symbols;
@@ -62,7 +63,7 @@ fn with_types(worst: u32, typed: bool) -> u32
     if typed {
         return worst;
     }
-    tallies::lesser(worst, 12)
+    tallies::lesser(worst, Refusal::VALUE)
 }
 
 // Does the value that begins where s does meet the kinds of the rows in a set of tags? Most names have no type, and their values are not looked at.

@@ -14,6 +14,7 @@ ghost use Rattle.rules.specs.Tallies.{hasAll, empty, counted, tallyNo};
 ghost use Rattle.rules.specs.Seen.{IsTables, SeenAt};
 use dictionary::Dictionary;
 use dictionary::wordsets::Words;
+use format::Refusal;
 
 // Whether a prohibited name and one that is not allowed occur; the mandatory words that occur; the unique words that occur, and those that do
 // so twice, each as the set of their places in the list; and how often the key occurs, up to 2.
@@ -201,22 +202,22 @@ pub fn number(t: Tally, limited: bool, keyed: bool, mandatory: usize) -> u32
     ensures { λ r. ⌜ r ≡ tallyNo t limited keyed mandatory ⌝ }
 {
     if t.prohibited {
-        return 8;
+        return Refusal::PROHIBITED;
     }
     if limited & t.other {
-        return 9;
+        return Refusal::NOT_ALLOWED;
     }
     if has_all(t.present, mandatory) {} else {
-        return 10;
+        return Refusal::MISSING;
     }
     if keyed & (t.keys == 0) {
-        return 10;
+        return Refusal::MISSING;
     }
     if t.twice != 0 {
-        return 11;
+        return Refusal::REPEATED;
     }
     if keyed & (1 < t.keys) {
-        return 11;
+        return Refusal::REPEATED;
     }
     0
 }

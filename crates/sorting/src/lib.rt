@@ -25,10 +25,10 @@ fn wide_byte(x: u8) -> usize
 pub fn is_word_byte(b: u8) -> bool
     ensures { λ r. ⌜ r ≡ isWordByte b ⌝ }
 {
-    if 44 < b {
+    if b',' < b {
         return true;
     }
-    b == 37
+    b == b'%'
 }
 
 // Does a text end before this byte?
@@ -315,7 +315,7 @@ fn fill_bucket(entries: &mut [u32], next: &mut [u32], b: usize, e: usize)
         if e <= i {
             return;
         }
-        if settle(&mut *entries, &mut *next, i) {} else {
+        if !settle(&mut *entries, &mut *next, i) {
             return;
         }
     }

@@ -7,10 +7,7 @@
 // Each call prints its number, a length or count, and the checksum of the buffer that it may write, or of the part that it shows.
 ghost use mathlib.Core.Path.{_≡_};
 ghost use lib.ListN.{length};
-use editor::Edited;
-use lookup::Counted;
-use lookup::Fetched;
-use requests::Written;
+use format::Answer;
 
 // What the buffer holds; more says that there was a frame.
 struct State {
@@ -95,11 +92,11 @@ fn edit(buf: &mut [u8], used: usize, frame: &[u8]) -> usize {
     let n = test_frames::expand(frame, 1, &mut request);
     let e = editor::edit(buf, used, &request[..n]);
     match e {
-        Edited::Length(length) => {
+        Answer::Value(length) => {
             tell(0, length, test_frames::digest(buf));
             return length;
         }
-        Edited::Refused(number) => {
+        Answer::Refused(number) => {
             tell(number, used, test_frames::digest(buf));
             return used;
         }
@@ -167,10 +164,10 @@ fn look(buf: &[u8], used: usize, kind: usize, frame: &[u8]) {
 fn count(buf: &[u8], used: usize, set: &[u8]) {
     let c = lookup::count(buf, used, set);
     match c {
-        Counted::Records(n) => {
+        Answer::Value(n) => {
             tell(0, n, 1);
         }
-        Counted::Refused(number) => {
+        Answer::Refused(number) => {
             tell(number, 0, 1);
         }
     }
@@ -201,12 +198,12 @@ fn fill(buf: &[u8], used: usize, kind: usize, frame: &[u8], out: &mut [u8]) {
     tell_fetched(f, test_frames::digest(out));
 }
 
-fn tell_fetched(f: Fetched, digest: usize) {
+fn tell_fetched(f: Answer, digest: usize) {
     match f {
-        Fetched::Length(n) => {
+        Answer::Value(n) => {
             tell(0, n, digest);
         }
-        Fetched::Refused(number) => {
+        Answer::Refused(number) => {
             tell(number, 0, digest);
         }
     }
@@ -217,10 +214,10 @@ fn write(frame: &[u8], out: &mut [u8]) {
     let n = test_frames::expand(frame, 13, &mut request);
     let w = requests::write_record(&request[..n], out);
     match w {
-        Written::Len(length) => {
+        Answer::Value(length) => {
             tell(0, length, test_frames::digest(out));
         }
-        Written::Refused(number) => {
+        Answer::Refused(number) => {
             tell(number, 0, test_frames::digest(out));
         }
     }

@@ -67,7 +67,7 @@ fn head_end(s: &[u8], i: usize) -> usize
         if words::is_gap(s[e]) {
             return e;
         }
-        if s[e] == 40 {
+        if s[e] == b'(' {
             return e;
         }
         e += 1;

@@ -8,6 +8,7 @@ ghost use Rattle.format.specs.Types.{uncomment, isSymbolByte, isSymbol};
 ghost use Rattle.words.specs.Spans.{runEnd};
 ghost use Rattle.types.specs.Meaning.{isRead, symbolsIn};
 ghost use Rattle.types.specs.Symbols.{notParen, isPlain, symbolsAt, NextSymbol, areSymbols, isEnum};
+use format::Class;
 
 // May a symbol go on with this byte?
 fn symbol_byte(table: &[u8; 256], b: u8) -> bool
@@ -17,7 +18,7 @@ fn symbol_byte(table: &[u8; 256], b: u8) -> bool
     if format::is_later(table, b) {
         true
     } else {
-        b == 45
+        b == b'-'
     }
 }
 
@@ -47,10 +48,10 @@ fn is_symbol(table: &[u8; 256], s: &[u8]) -> bool
         return false;
     }
     let k = format::class_of(table, s[0]);
-    if k == 1 {
+    if k == Class::LETTER {
         return symbol_bytes(table, s, 1);
     }
-    if k == 2 {
+    if k == Class::DIGIT {
         symbol_bytes(table, s, 1)
     } else {
         false
@@ -64,7 +65,7 @@ fn is_plain(b: u8) -> bool
     if words::is_gap(b) {
         return false;
     }
-    if b == 40 { false } else { b != 41 }
+    if b == b'(' { false } else { b != b')' }
 }
 
 // The end of the bytes from i on that are neither gaps nor parentheses.
@@ -90,10 +91,10 @@ fn paren_at(s: &[u8], i: usize) -> usize
 {
     let mut e = i;
     while e < s.len() {
-        if s[e] == 40 {
+        if s[e] == b'(' {
             return e;
         }
-        if s[e] == 41 {
+        if s[e] == b')' {
             return e;
         }
         e += 1;
@@ -114,15 +115,15 @@ fn next_symbol(s: &[u8], i: usize) -> Symbol
 {
     let mut at = words::gap_end(s, i);
     while at < s.len() {
-        if s[at] == 41 {
+        if s[at] == b')' {
             return Symbol::Fault;
         }
-        if s[at] != 40 {
+        if s[at] != b'(' {
             let end = plain_end(s, at);
             return Symbol::At { start: at, end };
         }
         let close = paren_at(s, at + 1);
-        if lines::byte(s, close) != 41 {
+        if lines::byte(s, close) != b')' {
             return Symbol::Fault;
         }
         at = words::gap_end(s, close + 1);

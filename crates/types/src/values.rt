@@ -11,6 +11,7 @@ ghost use Rattle.words.specs.Spans.{span};
 ghost use Rattle.numbers.specs.Meaning.{intIn};
 ghost use Rattle.types.specs.Meaning.{Sound, meetsIn};
 use super::Shape;
+use super::fixed::is_among;
 use super::symbols::has_symbol;
 use numbers::IntOf;
 use numbers::Whole;
@@ -19,22 +20,7 @@ use numbers::Whole;
 fn is_truth(s: &[u8]) -> bool
     ensures { λ r. ⌜ r ≡ among (now (s .entry)) truths ⌝ }
 {
-    if lines::same_bytes(s, b"yes") {
-        return true;
-    }
-    if lines::same_bytes(s, b"no") {
-        return true;
-    }
-    if lines::same_bytes(s, b"0") {
-        return true;
-    }
-    if lines::same_bytes(s, b"1") {
-        return true;
-    }
-    if lines::same_bytes(s, b"true") {
-        return true;
-    }
-    lines::same_bytes(s, b"false")
+    is_among(s, b"yes no 0 1 true false")
 }
 
 // Hex digits from start to end, and a dash behind them?
@@ -43,7 +29,7 @@ fn dashed(s: &[u8], start: usize, end: usize) -> bool
     ensures { λ r. ⌜ r ≡ (areDigits 16 (span start end (now (s .entry))) && eqb (getD (now (s .entry)) end 0) 45) ⌝ }
 {
     if numbers::are_digits(&s[start..end], 16) {
-        s[end] == 45
+        s[end] == b'-'
     } else {
         false
     }
@@ -56,16 +42,16 @@ fn is_uuid(s: &[u8]) -> bool
     if s.len() != 36 {
         return false;
     }
-    if dashed(s, 0, 8) {} else {
+    if !dashed(s, 0, 8) {
         return false;
     }
-    if dashed(s, 9, 13) {} else {
+    if !dashed(s, 9, 13) {
         return false;
     }
-    if dashed(s, 14, 18) {} else {
+    if !dashed(s, 14, 18) {
         return false;
     }
-    if dashed(s, 19, 23) {} else {
+    if !dashed(s, 19, 23) {
         return false;
     }
     numbers::are_digits(&s[24..36], 16)

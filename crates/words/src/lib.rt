@@ -7,15 +7,16 @@ ghost use Rattle.format.specs.Bytes.{classTable, all};
 ghost use Rattle.format.specs.Lines.{isLater, isName};
 ghost use Rattle.format.specs.Words.{isGap, notGap, trim, isTypeName};
 ghost use Rattle.words.specs.Spans.{span, runEnd, notByte, wordAt};
+use format::Class;
 
 // Is this byte a blank or a newline?
 pub fn is_gap(b: u8) -> bool
     ensures { λ r. ⌜ r ≡ isGap b ⌝ }
 {
-    if b == 32 {
+    if b == b' ' {
         return true;
     }
-    b == 9 || b == 10
+    b == b'\t' || b == b'\n'
 }
 
 // The end of the blanks and newlines from i on.
@@ -145,7 +146,7 @@ pub fn is_type_name(s: &[u8]) -> bool
     if s.len() == 0 {
         return false;
     }
-    if format::class_of(&table, s[0]) == 1 {
+    if format::class_of(&table, s[0]) == Class::LETTER {
         later_bytes(&table, s, 1)
     } else {
         false

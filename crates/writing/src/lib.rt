@@ -9,13 +9,15 @@ ghost use Rattle.format.specs.Limits.{fileBytes};
 ghost use Rattle.format.specs.Written.{indent, written, isLegalName, isLegalValue};
 ghost use Rattle.format.specs.Calls.{over};
 ghost use Rattle.writing.specs.Value.{isPlainFrom};
+use format::Class;
+use format::Record;
 
 // Is it a name of at most 64 bytes that does not begin with `%`?
 pub fn is_legal_name(s: &[u8]) -> bool
     ensures { λ r. ⌜ r ≡ isLegalName (now (s .entry)) ⌝ }
 {
     let table = format::classes();
-    if s.len() > format::Record::NAME {
+    if s.len() > Record::NAME {
         return false;
     }
     if lines::byte(s, 0) == b'%' {
@@ -38,10 +40,10 @@ fn is_plain(table: &[u8; 256], s: &[u8]) -> bool
     while i < s.len() {
         let b = s[i];
         let k = format::class_of(table, b);
-        if k == 0 {
+        if k == Class::NONE {
             return false;
         }
-        if k == 4 {
+        if k == Class::NEWLINE {
             if slash {
                 return false;
             }
@@ -57,7 +59,7 @@ pub fn is_legal_value(s: &[u8]) -> bool
     ensures { λ r. ⌜ r ≡ isLegalValue (now (s .entry)) ⌝ }
 {
     let table = format::classes();
-    if s.len() > format::Record::VALUE {
+    if s.len() > Record::VALUE {
         return false;
     }
     is_plain(&table, s)

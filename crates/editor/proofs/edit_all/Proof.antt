@@ -15,8 +15,8 @@ use Rattle.editor.proofs.edit_all.Reads as reads
 use Rattle.editor.proofs.edit_all.Lts as lts
 use Rattle.editor.proofs.edit_judged.Reads as edit-judged-reads
 use Rattle.editor.proofs.least.Reads as least-reads
-use Rattle.editor.proofs.length_of.Reads as length-of-reads
-use Rattle.editor.proofs.number_of.Reads as number-of-reads
+use Rattle.format.proofs.Answer.value_or.Reads as value-or-reads
+use Rattle.format.proofs.Answer.number.Reads as number-reads
 use Rattle.integrity.proofs.check_with.Reads as check-with-reads
 
 abbrev Inv-loop : tie.InvT-loop
@@ -79,11 +79,11 @@ edit-judged-requires c κs =
     let at-loop = c .before .before .before .before .before .before .loop in
     (at-loop .inv .1, omega (arith, at-loop .inv .0))
 
-length-of-requires : tie.Need-length-of-requires Inv-loop μ-loop
-length-of-requires c κs = search needs
+value-or-requires : tie.Need-value-or-requires Inv-loop μ-loop
+value-or-requires c κs = search needs
 
-number-of-requires : tie.Need-number-of-requires Inv-loop μ-loop
-number-of-requires c κs = search needs
+number-requires : tie.Need-number-requires Inv-loop μ-loop
+number-requires c κs = search needs
 
 mul-numbers : tie.Need-mul-numbers Inv-loop μ-loop
 mul-numbers c =
@@ -109,17 +109,17 @@ loop-less c = omega arith
 
 loop-again : tie.Need-loop-again Inv-loop μ-loop
 loop-again c =
-    let at-number-of = c .number-of in
-    let at-length-of = c .before .length-of in
+    let at-number = c .number in
+    let at-value-or = c .before .value-or in
     let at-edit-judged = c .before .before .before .before .before .edit-judged in
     let at-least3 = c .before .before .before .before .before .before .before .before .before .least3 in
     let at-loop = c .before .before .before .before .before .before .before .before .before .before .before .before .loop in
     let at-args = c .before .before .before .before .before .before .before .before .before .before .before .before .before .before .before .before .before .before .before .before .before .before .before .before .args in
     let at-check-with = c .before .before .before .before .before .before .before .before .before .before .before .before .before .before .check-with in
-    let e : Edited = record { number = at-number-of .result; length = at-length-of .result; buffer = at-edit-judged .last .0 } in
+    let e : Edited = record { number = at-number .result; length = at-value-or .result; buffer = at-edit-judged .last .0 } in
     let size : ℕ = at-least3 .result in
     let z : (at-loop .at + size) - at-loop .at ≡ size = omega arith in
-    let a : e ≡ editOf (at-loop .buf) (at-loop .n) (take size (drop (at-loop .at) (at-args .requests .now))) = (λ j. record { number = at-number-of .ensures j; length = at-length-of .ensures j; buffer = at-edit-judged .last .0 }) ∙ ap (λ (x : Filled). editedOf (at-loop .n) x) (at-edit-judged .ensures) ∙ ap (λ (k : ℕ). editOf (at-loop .buf) (at-loop .n) (take k (drop (at-loop .at) (at-args .requests .now)))) z in
+    let a : e ≡ editOf (at-loop .buf) (at-loop .n) (take size (drop (at-loop .at) (at-args .requests .now))) = (λ j. record { number = at-number .ensures j; length = at-value-or .ensures j; buffer = at-edit-judged .last .0 }) ∙ ap (λ (x : Filled). editedOf (at-loop .n) x) (at-edit-judged .ensures) ∙ ap (λ (k : ℕ). editOf (at-loop .buf) (at-loop .n) (take k (drop (at-loop .at) (at-args .requests .now)))) z in
     (omega arith, number-stays (at-loop .buf) (at-loop .n) (take size (drop (at-loop .at) (at-args .requests .now))) (at-check-with .result) (at-loop .inv .1) e a, omega arith, omega arith, omega arith, simp length-set (omega arith), simp length-set (omega arith), reached-more (at-args .buf .now) (at-args .used) (at-args .requests .now) (at-args .sizes .now) (at-args .numbers .now) (at-args .lengths .now) (at-loop .i) (at-loop .buf) (at-loop .n) (at-loop .at) (at-loop .numbers) (at-loop .lengths) (at-loop .inv .7) (omega arith) size (at-least3 .ensures) e a (omega arith) (omega arith))
 
 same-length : tie.Need-same-length Inv-loop μ-loop
@@ -158,8 +158,8 @@ edit-all-spec =
     part-edit-judged-end
     slice-aggregate-edit-judged
     edit-judged-requires
-    length-of-requires
-    number-of-requires
+    value-or-requires
+    number-requires
     mul-numbers
     slice-write-numbers
     mul-lengths

@@ -58,17 +58,6 @@ settle-requires c κs =
     let at-pre = c .before .before .before .before .before .before .before .before .before .pre in
     omega (arith, at-loop .inv .1, at-pre .0)
 
-loop-less : tie.Need-loop-less Inv-loop μ-loop
-loop-less c = search needs
-
-loop-again : tie.Need-loop-again Inv-loop μ-loop
-loop-again c =
-    let at-args = c .before .before .before .before .before .before .before .before .before .before .before .before .before .before .before .args in
-    let at-loop = c .before .before .before .before .before .before .before .before .before .before .before .before .loop in
-    let at-settle = c .before .before .before .before .before .settle in
-    let at-next = c .before .before .next in
-    (moved-on (at-args .entries .now) (at-loop .entries) (at-settle .last .0) (at-loop .inv .0) (at-settle .ensures), at-next .given ∙ at-loop .inv .1)
-
 same-length-3 : tie.Need-same-length-3 Inv-loop μ-loop
 same-length-3 c =
     let at-args = c .before .before .before .before .before .before .before .before .before .before .before .before .before .before .before .args in
@@ -88,6 +77,17 @@ returns-2 c =
     let at-loop = c .before .before .before .before .before .before .before .before .before .before .before .before .loop in
     let at-settle = c .before .before .before .before .before .settle in
     moved-on (at-args .entries .now) (at-loop .entries) (at-settle .last .0) (at-loop .inv .0) (at-settle .ensures)
+
+loop-less : tie.Need-loop-less Inv-loop μ-loop
+loop-less c = search needs
+
+loop-again : tie.Need-loop-again Inv-loop μ-loop
+loop-again c =
+    let at-args = c .before .before .before .before .before .before .before .before .before .before .before .before .before .before .before .args in
+    let at-loop = c .before .before .before .before .before .before .before .before .before .before .before .before .loop in
+    let at-settle = c .before .before .before .before .before .settle in
+    let at-next = c .before .before .next in
+    (moved-on (at-args .entries .now) (at-loop .entries) (at-settle .last .0) (at-loop .inv .0) (at-settle .ensures), at-next .given ∙ at-loop .inv .1)
 
 same-length-5 : tie.Need-same-length-5 Inv-loop μ-loop
 same-length-5 c =
@@ -120,11 +120,11 @@ fill-bucket-spec =
     same-length-2
     returns
     settle-requires
-    loop-less
-    loop-again
     same-length-3
     same-length-4
     returns-2
+    loop-less
+    loop-again
     same-length-5
     same-length-6
     returns-3)

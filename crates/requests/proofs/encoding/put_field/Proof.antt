@@ -1,4 +1,5 @@
 -- `requests::encoding::put_field` meets its contract: with room, the part that begins at the place gets the field.
+use borrow.Author.Tests.{not-true, not-false}
 use native.Mathlib.Omega.{arith}
 use mathlib.Core.Path.{sym, _∙_}
 use lib.ListN.{length, length-take, length-drop}
@@ -23,21 +24,21 @@ returns c =
     let at-args = c .before .before .before .before .args in
     let at-has-room = c .before .has-room in
     let at-if1 = c .if1 in
-    sym (field-left (at-args .request .now) (at-args .at) (tag (at-args .tag) (at-args .contents .now)) (sym (at-has-room .ensures) ∙ at-if1 .left))
+    sym (field-left (at-args .request .now) (at-args .at) (tag (at-args .tag) (at-args .contents .now)) (sym (at-has-room .ensures) ∙ not-true (at-has-room .result) (at-if1 .taken)))
 
 sub-put-tagged : tie.Need-sub-put-tagged
 sub-put-tagged c =
     let at-args = c .before .before .before .before .args in
     let at-has-room = c .before .has-room in
     let at-if1 = c .if1 in
-    omega (arith, room-is (length (at-args .request .now)) (at-args .at) (length (at-args .contents .now)) (sym (at-has-room .ensures) ∙ at-if1 .taken) .1)
+    omega (arith, room-is (length (at-args .request .now)) (at-args .at) (length (at-args .contents .now)) (sym (at-has-room .ensures) ∙ not-false (at-has-room .result) (at-if1 .left)) .1)
 
 part-put-tagged-start : tie.Need-part-put-tagged-start
 part-put-tagged-start c =
     let at-args = c .before .before .before .before .args in
     let at-has-room = c .before .has-room in
     let at-if1 = c .if1 in
-    omega (arith, room-is (length (at-args .request .now)) (at-args .at) (length (at-args .contents .now)) (sym (at-has-room .ensures) ∙ at-if1 .taken) .1)
+    omega (arith, room-is (length (at-args .request .now)) (at-args .at) (length (at-args .contents .now)) (sym (at-has-room .ensures) ∙ not-false (at-has-room .result) (at-if1 .left)) .1)
 
 part-put-tagged-end : tie.Need-part-put-tagged-end
 part-put-tagged-end c = search needs
@@ -47,21 +48,21 @@ put-tagged-requires c κs =
     let at-args = c .before .before .before .before .before .args in
     let at-has-room = c .before .before .has-room in
     let at-if1 = c .before .if1 in
-    let r = room-is (length (at-args .request .now)) (at-args .at) (length (at-args .contents .now)) (sym (at-has-room .ensures) ∙ at-if1 .taken) in (r .0, simp (length-take, length-drop) (omega (arith, r .1)))
+    let r = room-is (length (at-args .request .now)) (at-args .at) (length (at-args .contents .now)) (sym (at-has-room .ensures) ∙ not-false (at-has-room .result) (at-if1 .left)) in (r .0, simp (length-take, length-drop) (omega (arith, r .1)))
 
 add-result-2 : tie.Need-add-result-2
 add-result-2 c =
     let at-args = c .before .before .before .before .before .before .before .before .args in
     let at-has-room = c .before .before .before .before .before .has-room in
     let at-if1 = c .before .before .before .before .if1 in
-    omega (arith, room-is (length (at-args .request .now)) (at-args .at) (length (at-args .contents .now)) (sym (at-has-room .ensures) ∙ at-if1 .taken) .1)
+    omega (arith, room-is (length (at-args .request .now)) (at-args .at) (length (at-args .contents .now)) (sym (at-has-room .ensures) ∙ not-false (at-has-room .result) (at-if1 .left)) .1)
 
 add-result-3 : tie.Need-add-result-3
 add-result-3 c =
     let at-args = c .before .before .before .before .before .before .before .before .args in
     let at-has-room = c .before .before .before .before .before .has-room in
     let at-if1 = c .before .before .before .before .if1 in
-    omega (arith, room-is (length (at-args .request .now)) (at-args .at) (length (at-args .contents .now)) (sym (at-has-room .ensures) ∙ at-if1 .taken) .1)
+    omega (arith, room-is (length (at-args .request .now)) (at-args .at) (length (at-args .contents .now)) (sym (at-has-room .ensures) ∙ not-false (at-has-room .result) (at-if1 .left)) .1)
 
 same-length : tie.Need-same-length
 same-length c = search needs
@@ -72,7 +73,7 @@ returns-2 c =
     let at-has-room = c .before .before .before .before .before .has-room in
     let at-if1 = c .before .before .before .before .if1 in
     let at-put-tagged = c .before .before .put-tagged in
-    field-built (at-args .request .now) (at-args .at) (at-args .tag) (at-args .contents .now) _ (sym (at-has-room .ensures) ∙ at-if1 .taken) (at-put-tagged .ensures)
+    field-built (at-args .request .now) (at-args .at) (at-args .tag) (at-args .contents .now) _ (sym (at-has-room .ensures) ∙ not-false (at-has-room .result) (at-if1 .left)) (at-put-tagged .ensures)
 
 pub put-field-spec : {M : Type 1} → statement M
 put-field-spec =

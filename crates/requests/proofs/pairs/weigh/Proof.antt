@@ -1,5 +1,6 @@
 -- `requests::pairs::weigh` meets its contract. The invariant: what was summed and the pairs from i on make up the whole sums; the length is at most 3 for each byte passed.
 -- The measure is what is left of the request.
+use borrow.Author.Tests.{not-true, not-false}
 use borrow.Author.Needs.{needs}
 use Prim.Native.Nat.{_+_, _-_, _*_, _≤_}
 use native.Mathlib.Nat.{zero-add}
@@ -66,7 +67,7 @@ returns-2 c =
     let at-p = c .before .before .before .p in
     let at-is-legal-pair = c .before .is-legal-pair in
     let at-if1 = c .if1 in
-    let h = pair-found (at-args .req .now) (at-loop .i) (at-pair-at .result) (at-p .given .0 .0) (at-p .given .0 .1 .0) (at-p .given .0 .1 .1 .0) (at-pair-at .ensures) (at-p .given .1) in at-loop .inv .4 ∙ first-illegal (pairsAt (at-args .req .now) (at-loop .i)) (pairsAt (at-args .req .now) (at-p .given .0 .1 .1 .0)) (pairOf (at-args .req .now) (at-p .given .0 .0) (at-p .given .0 .1 .0)) (list-more (at-args .req .now) (at-loop .i) (at-p .given .0 .0) (at-p .given .0 .1 .0) (at-p .given .0 .1 .1 .0) h (at-loop .inv .1)) (sym (at-is-legal-pair .ensures) ∙ at-if1 .left)
+    let h = pair-found (at-args .req .now) (at-loop .i) (at-pair-at .result) (at-p .given .0 .0) (at-p .given .0 .1 .0) (at-p .given .0 .1 .1 .0) (at-pair-at .ensures) (at-p .given .1) in at-loop .inv .4 ∙ first-illegal (pairsAt (at-args .req .now) (at-loop .i)) (pairsAt (at-args .req .now) (at-p .given .0 .1 .1 .0)) (pairOf (at-args .req .now) (at-p .given .0 .0) (at-p .given .0 .1 .0)) (list-more (at-args .req .now) (at-loop .i) (at-p .given .0 .0) (at-p .given .0 .1 .0) (at-p .given .0 .1 .1 .0) h (at-loop .inv .1)) (sym (at-is-legal-pair .ensures) ∙ not-true (at-is-legal-pair .result) (at-if1 .taken))
 
 pair-len-requires : tie.Need-pair-len-requires Inv-loop μ-loop
 pair-len-requires c κs =
@@ -118,7 +119,7 @@ loop-again c =
       sym (some-more (at-args .req .now) (at-loop .i) (at-p .given .0 .0) (at-p .given .0 .1 .0) (at-p .given .0 .1 .1 .0) h) ∙ at-loop .inv .1,
       omega (arith, pair-size (at-args .req .now) (at-loop .i) (at-p .given .0 .0) (at-p .given .0 .1 .0) (at-p .given .0 .1 .1 .0) h, at-pair-len .ensures, at-loop .inv .2),
       omega (arith, at-loop .inv .3, h .2, h .3 .0, h .4, h .5 .0, h .5 .1, h .6),
-      at-loop .inv .4 ∙ first-legal (pairsAt (at-args .req .now) (at-loop .i)) (pairsAt (at-args .req .now) (at-p .given .0 .1 .1 .0)) (pairOf (at-args .req .now) (at-p .given .0 .0) (at-p .given .0 .1 .0)) (list-more (at-args .req .now) (at-loop .i) (at-p .given .0 .0) (at-p .given .0 .1 .0) (at-p .given .0 .1 .1 .0) h (at-loop .inv .1)) (sym (at-is-legal-pair .ensures) ∙ at-if1 .taken),
+      at-loop .inv .4 ∙ first-legal (pairsAt (at-args .req .now) (at-loop .i)) (pairsAt (at-args .req .now) (at-p .given .0 .1 .1 .0)) (pairOf (at-args .req .now) (at-p .given .0 .0) (at-p .given .0 .1 .0)) (list-more (at-args .req .now) (at-loop .i) (at-p .given .0 .0) (at-p .given .0 .1 .0) (at-p .given .0 .1 .1 .0) h (at-loop .inv .1)) (sym (at-is-legal-pair .ensures) ∙ not-false (at-is-legal-pair .result) (at-if1 .left)),
       omega (arith, first-length (pairsAt (at-args .req .now) (at-loop .i)) (pairsAt (at-args .req .now) (at-p .given .0 .1 .1 .0)) (pairOf (at-args .req .now) (at-p .given .0 .0) (at-p .given .0 .1 .0)) (list-more (at-args .req .now) (at-loop .i) (at-p .given .0 .0) (at-p .given .0 .1 .0) (at-p .given .0 .1 .1 .0) h (at-loop .inv .1)), at-pair-len .ensures, at-loop .inv .5),
       omega (arith, first-count (pairsAt (at-args .req .now) (at-loop .i)) (pairsAt (at-args .req .now) (at-p .given .0 .1 .1 .0)) (pairOf (at-args .req .now) (at-p .given .0 .0) (at-p .given .0 .1 .0)) (list-more (at-args .req .now) (at-loop .i) (at-p .given .0 .0) (at-p .given .0 .1 .0) (at-p .given .0 .1 .1 .0) h (at-loop .inv .1)), at-loop .inv .6),
     )

@@ -1,4 +1,5 @@
 -- `types::values::is_uuid` meets its contract.
+use borrow.Author.Tests.{not-true, not-false}
 use mathlib.Core.Path.{sym, _∙_}
 use Rattle.types.proofs.Uuids.{uuid-length, uuid-by}
 use borrow.Author.Needs.{needs}
@@ -24,7 +25,7 @@ returns-2 c =
     let at-if1 = c .before .before .if1 in
     let at-dashed = c .before .dashed in
     let at-if2 = c .if2 in
-    sym (uuid-by (at-args .s .now) (at-if1 .left) ∙ rw (← at-dashed .ensures, at-if2 .left))
+    sym (uuid-by (at-args .s .now) (at-if1 .left) ∙ rw (← at-dashed .ensures, not-true (at-dashed .result) (at-if2 .taken)))
 
 dashed-requires-2 : tie.Need-dashed-requires-2
 dashed-requires-2 c κs = search needs
@@ -37,7 +38,7 @@ returns-3 c =
     let at-if2 = c .before .before .if2 in
     let at-dashed2 = c .before .dashed2 in
     let at-if3 = c .if3 in
-    sym (uuid-by (at-args .s .now) (at-if1 .left) ∙ rw (← at-dashed .ensures, at-if2 .taken, ← at-dashed2 .ensures, at-if3 .left))
+    sym (uuid-by (at-args .s .now) (at-if1 .left) ∙ rw (← at-dashed .ensures, not-false (at-dashed .result) (at-if2 .left), ← at-dashed2 .ensures, not-true (at-dashed2 .result) (at-if3 .taken)))
 
 dashed-requires-3 : tie.Need-dashed-requires-3
 dashed-requires-3 c κs = search needs
@@ -52,7 +53,7 @@ returns-4 c =
     let at-if3 = c .before .before .if3 in
     let at-dashed3 = c .before .dashed3 in
     let at-if4 = c .if4 in
-    sym (uuid-by (at-args .s .now) (at-if1 .left) ∙ rw (← at-dashed .ensures, at-if2 .taken, ← at-dashed2 .ensures, at-if3 .taken, ← at-dashed3 .ensures, at-if4 .left))
+    sym (uuid-by (at-args .s .now) (at-if1 .left) ∙ rw (← at-dashed .ensures, not-false (at-dashed .result) (at-if2 .left), ← at-dashed2 .ensures, not-false (at-dashed2 .result) (at-if3 .left), ← at-dashed3 .ensures, not-true (at-dashed3 .result) (at-if4 .taken)))
 
 dashed-requires-4 : tie.Need-dashed-requires-4
 dashed-requires-4 c κs = search needs
@@ -69,7 +70,7 @@ returns-5 c =
     let at-if4 = c .before .before .if4 in
     let at-dashed4 = c .before .dashed4 in
     let at-if5 = c .if5 in
-    sym (uuid-by (at-args .s .now) (at-if1 .left) ∙ rw (← at-dashed .ensures, at-if2 .taken, ← at-dashed2 .ensures, at-if3 .taken, ← at-dashed3 .ensures, at-if4 .taken, ← at-dashed4 .ensures, at-if5 .left))
+    sym (uuid-by (at-args .s .now) (at-if1 .left) ∙ rw (← at-dashed .ensures, not-false (at-dashed .result) (at-if2 .left), ← at-dashed2 .ensures, not-false (at-dashed2 .result) (at-if3 .left), ← at-dashed3 .ensures, not-false (at-dashed3 .result) (at-if4 .left), ← at-dashed4 .ensures, not-true (at-dashed4 .result) (at-if5 .taken)))
 
 sub-are-digits : tie.Need-sub-are-digits
 sub-are-digits c = search needs
@@ -96,7 +97,7 @@ returns-6 c =
     let at-dashed4 = c .before .before .before .dashed4 in
     let at-if5 = c .before .before .if5 in
     let at-are-digits = c .are-digits in
-    sym (uuid-by (at-args .s .now) (at-if1 .left) ∙ rw (← at-dashed .ensures, at-if2 .taken, ← at-dashed2 .ensures, at-if3 .taken, ← at-dashed3 .ensures, at-if4 .taken, ← at-dashed4 .ensures, at-if5 .taken, ← at-are-digits .ensures))
+    sym (uuid-by (at-args .s .now) (at-if1 .left) ∙ rw (← at-dashed .ensures, not-false (at-dashed .result) (at-if2 .left), ← at-dashed2 .ensures, not-false (at-dashed2 .result) (at-if3 .left), ← at-dashed3 .ensures, not-false (at-dashed3 .result) (at-if4 .left), ← at-dashed4 .ensures, not-false (at-dashed4 .result) (at-if5 .left), ← at-are-digits .ensures))
 
 pub is-uuid-spec : {M : Type 1} → statement M
 is-uuid-spec =
