@@ -30,7 +30,7 @@ module _ (d : Bytes) (from : ℕ) (l k : List ℕ) (n : ℕ) (a : Adding d l 0 (
   all-terms : termsOf d (take (r .count) m) ++ rowTerms (r .next) (drop (r .next) vs) ≡ listTerms (recordIn d) ++ rowTerms from (drop from vs)
   all-terms = b .adding .terms ∙ ap (λ (ts : List Term). ts ++ rowTerms from (drop from vs)) (sym (append-nil (termsOf d (take n k))) ∙ a .terms)
 
-  pub made : (p : List ℕ) (t : Table) → Holds d (take (r .count) m) p t → n + 4097 ≤ length k → IsDictionary d from (p ++ drop (r .count) m) (record { table = t; next = r .next })
+  pub made : (p : List ℕ) (t : Table) → Holds d (take (r .count) m) p t → n + 4097 ≤ length k → IsDictionary d (p ++ drop (r .count) m) (record { table = t; from = from; next = r .next })
   made p t h room = record {
     table = table-front d p (drop (r .count) m) t (h .table);
     begins = b .begins;

@@ -41,10 +41,10 @@ pub record Known (rules : Record) (from to : ℕ) (w : Bytes) (x : ℕ) : Type 0
   pub key-is : inSet 36 x ≡ among w (key rules)
   pub typed-is : (k : ℕ) → from ≤ k → k < to → inSet k x ≡ among w (typedNames (typeValue rules k))
 
--- a table of a descriptor's terms; those of the `%type` fields from the next on are left
-pub record IsDictionary (d : Bytes) (from : ℕ) (l : List ℕ) (r : Dictionary) : Type 0 where
+-- a table of a descriptor's terms, of its `%type` fields those from one on; those from the next on are left
+pub record IsDictionary (d : Bytes) (l : List ℕ) (r : Dictionary) : Type 0 where
   pub table : IsTable d l (r .table)
-  pub begins : from ≤ r .next
+  pub begins : r .from ≤ r .next
   pub within : r .next ≤ length (valuesFrom d (text "%type") 0)
-  pub some : from < length (valuesFrom d (text "%type") 0) → from < r .next
-  pub terms : (w : Bytes) (k : ℕ) → tagged w k (termsOf d (take (r .table .count) l) ++ rowTerms (r .next) (drop (r .next) (valuesFrom d (text "%type") 0))) ≡ tagged w k (listTerms (recordIn d) ++ rowTerms from (drop from (valuesFrom d (text "%type") 0)))
+  pub some : r .from < length (valuesFrom d (text "%type") 0) → r .from < r .next
+  pub terms : (w : Bytes) (k : ℕ) → tagged w k (termsOf d (take (r .table .count) l) ++ rowTerms (r .next) (drop (r .next) (valuesFrom d (text "%type") 0))) ≡ tagged w k (listTerms (recordIn d) ++ rowTerms (r .from) (drop (r .from) (valuesFrom d (text "%type") 0)))

@@ -172,9 +172,10 @@ fn add_types(d: &[u8], from: usize, entries: &mut [u32], n: usize) -> Added
     }
 }
 
-// The table of a dictionary, and the first `%type` field behind those that it has.
+// The table of a dictionary, the first `%type` field that it has, and the first behind those.
 pub struct Dictionary {
     pub table: Table,
+    pub from: usize,
     pub next: usize,
 }
 
@@ -182,7 +183,7 @@ pub struct Dictionary {
 pub fn read(d: &[u8], from: usize, entries: &mut [u32]) -> Dictionary
     requires { ⌜ Described (now d) ⌝ }
     requires { ⌜ (from ≤ length (valuesFrom (now d) (text "%type") 0)) × (4354 ≤ length (now entries)) ⌝ }
-    ensures { λ r. ⌜ IsDictionary (now (d .entry)) from (now (entries .exit)) r ⌝ }
+    ensures { λ r. ⌜ IsDictionary (now (d .entry)) (now (entries .exit)) r × (r .from ≡ from) ⌝ }
 {
     let n = add_lists(d, &mut *entries);
     let a = add_types(d, from, &mut *entries, n);
@@ -190,15 +191,16 @@ pub fn read(d: &[u8], from: usize, entries: &mut [u32]) -> Dictionary
     let t = terms::build(d, &mut entries[..count]);
     Dictionary {
         table: t,
+        from,
         next: a.next,
     }
 }
 
 // What a name is to the set: the tags of the lists and of the `%type` fields that name it.
-pub fn look_up(d: &[u8], from: usize, entries: &[u32], r: Dictionary, name: &[u8]) -> u64
+pub fn look_up(d: &[u8], entries: &[u32], r: Dictionary, name: &[u8]) -> u64
     requires { ⌜ Described (now d) ⌝ }
-    requires { ⌜ IsDictionary (now d) from (now entries) r ⌝ }
-    ensures { λ x. ⌜ Known (recordIn (now (d .entry))) from (r .next) (now (name .entry)) x ⌝ }
+    requires { ⌜ IsDictionary (now d) (now entries) r ⌝ }
+    ensures { λ x. ⌜ Known (recordIn (now (d .entry))) (r .from) (r .next) (now (name .entry)) x ⌝ }
 {
     let t = r.table;
     terms::find(d, entries, t, name)

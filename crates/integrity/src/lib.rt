@@ -20,7 +20,7 @@ use dense::may_join;
 use format::File;
 use format::Refusal;
 use limits::Bounded;
-use rules::tallies;
+use rules::questions;
 
 mod dense;
 
@@ -127,7 +127,7 @@ fn judge_sets(
         let b = afters[k];
         let next = members_end(starts, k + 1, count, s.len());
         let n = rules::judge_set(&s[a..e], &s[b..next], &mut *scratch, &mut *entries);
-        worst = tallies::lesser(worst, n);
+        worst = questions::lesser(worst, n);
         k += 1;
     }
     worst

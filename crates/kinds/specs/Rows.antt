@@ -19,10 +19,11 @@ use Rattle.terms.specs.Sets.{inSet}
 use Rattle.dictionary.specs.Known.{typeValue}
 use Rattle.readings.specs.Readings.{metBy}
 use Rattle.symbols.specs.Enums.{typeAt, enumIn}
-use Rattle.symbols.specs.Rows.{TextAt, leaderOf}
+use Rattle.symbols.specs.Rows.{TextAt, leaderOf, IsSymbols}
 use Rattle.kinds.specs.Meets.{meetsKind, kindOf}
 use Rattle.kinds.specs.declared.Row.{Row}
 use Rattle.kinds.specs.declared.Kinds.{Kinds}
+use Rattle.kinds.specs.declared.Typed.{Typed}
 
 -- the targets of a descriptor's typedefs
 abbrev pub targetsOf : Bytes → List ℕ
@@ -69,6 +70,12 @@ pub record IsKinds (d : Bytes) (r : Kinds) : Type 0 where
   pub rows-long : length (r .rows) ≡ 32
   pub texts-long : length (r .texts) ≡ 32
   pub row : (k : ℕ) → k < r .count → IsKind d (kindOf d (typeValue (recordIn d) k)) (getD (r .rows) k anyRow .kind) (getD (r .texts) k 0)
+
+-- those kinds, and a table of the symbols of some of them
+pub record IsTyped (d : Bytes) (l : List ℕ) (t : Typed) : Type 0 where
+  pub kinds-are : IsKinds d (t .kinds)
+  pub symbols-are : IsSymbols d (t .kinds .texts) l (t .symbols)
+  pub within : t .symbols .next ≤ t .kinds .count
 
 -- is a value a symbol of row k, if x tells of which texts it is one
 unfoldable pub isSymbol : List ℕ → ℕ → ℕ → ℕ → Bool

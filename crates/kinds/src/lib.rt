@@ -18,7 +18,7 @@ ghost use Rattle.symbols.specs.Enums.{typeAt};
 ghost use Rattle.terms.specs.Sets.{inSet};
 ghost use Rattle.symbols.specs.Rows.{leaderOf, Leads, IsSymbols, Found};
 ghost use Rattle.kinds.specs.Meets.{rowsMet};
-ghost use Rattle.kinds.specs.Rows.{targetsOf, TypeAt, EndAt, textOf, IsKinds, isSymbol, rowsAsk};
+ghost use Rattle.kinds.specs.Rows.{targetsOf, TypeAt, EndAt, textOf, IsKinds, IsTyped, isSymbol, rowsAsk};
 use format::Descriptor;
 use format::File;
 use numbers::IntOf;
@@ -127,22 +127,14 @@ pub fn read(d: &[u8], scratch: &mut [u8]) -> Kinds
 }
 
 // The rows of whose texts a value is a symbol, blanks and newlines around it aside.
-fn texts_with(
-    d: &[u8],
-    texts: &[usize],
-    from: usize,
-    to: usize,
-    entries: &[u32],
-    enums: Symbols,
-    v: &[u8],
-) -> u64
-    requires { ⌜ IsSymbols (now d) (now texts) from to (now entries) enums ⌝ }
-    ensures { λ x. ⌜ Found (now (d .entry)) (now (texts .entry)) from (enums .next) (trim (now (v .entry))) x ⌝ }
+fn texts_with(d: &[u8], texts: &[usize], entries: &[u32], symbols: Symbols, v: &[u8]) -> u64
+    requires { ⌜ IsSymbols (now d) (now texts) (now entries) symbols ⌝ }
+    ensures { λ x. ⌜ Found (now (d .entry)) (now (texts .entry)) (symbols .from) (symbols .next) (trim (now (v .entry))) x ⌝ }
 {
     let t = words::trimmed(v);
     let a = t.start;
     let e = t.end;
-    symbols::look_up(d, texts, from, to, entries, enums, &v[a..e])
+    symbols::look_up(d, texts, entries, symbols, &v[a..e])
 }
 
 // Is a value a symbol of a row, if it is known of which texts it is one?
@@ -161,22 +153,23 @@ fn is_symbol(texts: &[usize], from: usize, row: usize, found: u64) -> bool
     false
 }
 
-// Does a value meet the kinds of the rows in a set of tags, from one row on before another? x is what it is as an int, found of which texts it is a symbol.
-fn rows_met(
-    kinds: Kinds,
-    from: usize,
-    next: usize,
-    found: u64,
-    tags: u64,
-    v: &[u8],
-    x: IntOf,
-) -> bool
-    requires { ⌜ (from ≤ next) × (next ≤ 32) × (length (kinds .rows) ≡ 32) × (length (kinds .texts) ≡ 32) ⌝ }
+// What a value is held against: the kinds of a descriptor, and the symbols of those from one row on.
+pub struct Typed {
+    pub kinds: Kinds,
+    pub symbols: Symbols,
+}
+
+// Does a value meet the kinds in a set of tags, of the rows that have their symbols? x is what it is as an int, found of which texts it is a symbol.
+fn rows_met(typed: Typed, found: u64, tags: u64, v: &[u8], x: IntOf) -> bool
+    requires { ⌜ (typed .symbols .from ≤ typed .symbols .next) × (typed .symbols .next ≤ 32) × (length (typed .kinds .rows) ≡ 32) × (length (typed .kinds .texts) ≡ 32) ⌝ }
     requires { ⌜ intAnswer x ≡ intOf intBounds (trim (now v)) ⌝ }
-    requires { ⌜ Leads (kinds .texts) from next found ⌝ }
-    ensures { λ r. ⌜ r ≡ rowsAsk kinds from found tags (now (v .entry)) from (next - from) ⌝ }
+    requires { ⌜ Leads (typed .kinds .texts) (typed .symbols .from) (typed .symbols .next) found ⌝ }
+    ensures { λ r. ⌜ r ≡ rowsAsk (typed .kinds) (typed .symbols .from) found tags (now (v .entry)) (typed .symbols .from) (typed .symbols .next - typed .symbols .from) ⌝ }
 {
+    let kinds = typed.kinds;
     let texts = kinds.texts;
+    let from = typed.symbols.from;
+    let next = typed.symbols.next;
     let mut k = from;
     while k < next {
         if terms::has(tags, k as u64) {
@@ -195,27 +188,24 @@ fn rows_met(
     true
 }
 
-// Does the value that begins where s does meet the kinds of the rows in a set of tags, from one row on before the first that is not in a table of symbols?
+// Does the value that begins where s does meet the kinds in a set of tags, of the rows that have their symbols?
 pub fn value_met(
     d: &[u8],
-    kinds: Kinds,
-    from: usize,
-    to: usize,
     entries: &[u32],
-    enums: Symbols,
+    typed: Typed,
     tags: u64,
     s: &[u8],
     scratch: &mut [u8],
 ) -> bool
-    requires { ⌜ IsKinds (now d) kinds × (to ≤ kinds .count) ⌝ }
-    requires { ⌜ IsSymbols (now d) (kinds .texts) from to (now entries) enums ⌝ }
+    requires { ⌜ IsTyped (now d) (now entries) typed ⌝ }
     requires { ⌜ length (valueFrom (now s)) ≤ length (now scratch) ⌝ }
-    ensures { λ r. ⌜ r ≡ rowsMet (now (d .entry)) tags from (enums .next - from) (valueFrom (now (s .entry))) ⌝ }
+    ensures { λ r. ⌜ r ≡ rowsMet (now (d .entry)) tags (typed .symbols .from) (typed .symbols .next - typed .symbols .from) (valueFrom (now (s .entry))) ⌝ }
 {
     let n = lines::copy_value(s, &mut *scratch);
     let x = readings::int_in(&scratch[..n]);
+    let kinds = typed.kinds;
     let texts = kinds.texts;
-    let found = texts_with(d, &texts, from, to, entries, enums, &scratch[..n]);
-    let next = enums.next;
-    rows_met(kinds, from, next, found, tags, &scratch[..n], x)
+    let symbols = typed.symbols;
+    let found = texts_with(d, &texts, entries, symbols, &scratch[..n]);
+    rows_met(typed, found, tags, &scratch[..n], x)
 }

@@ -20,9 +20,9 @@ use Rattle.terms.proofs.Sets.{in-none, in-or}
 use Rattle.dictionary.specs.Known.{Known}
 use Rattle.dictionary.specs.Numbered.{Places}
 use Rattle.rules.specs.Tallies.{empty, counted, Tallied}
-use Rattle.rules.specs.Seen.{Stands}
+use Rattle.rules.specs.Tables.{Stands}
 use Rattle.rules.specs.declared.tallies.Tally.{Tally}
-use Rattle.rules.specs.declared.tallies.Seen.{Seen}
+use Rattle.rules.specs.declared.tables.Seen.{Seen}
 use Rattle.rules.proofs.Sets.{in-and}
 
 -- a test that fails of no field
@@ -139,4 +139,4 @@ no-places w ws e k = in-none k ∙ sym (among-place w ws k e)
 pub stands-more : (rules fs : Record) (f : Field) (from next : ℕ) (t s : Tally) (x : Seen) → Stands rules from next (f .name) x → Tallied rules fs t
     → s ≡ counted t (inSet 33 (x .known)) (inSet 34 (x .known)) (inSet 36 (x .known)) (x .mandatory) (x .unique) → Tallied rules (fs ++ (f ∷ [])) s
 stands-more rules fs f from next t s x h g e =
-    subst (Tallied rules (fs ++ (f ∷ []))) (sym e) (tallied-more rules fs f t from next (x .known) (x .mandatory) (x .unique) g (h .tags) (h .needed-at) (h .single-at))
+    subst (Tallied rules (fs ++ (f ∷ []))) (sym e) (tallied-more rules fs f t from next (x .known) (x .mandatory) (x .unique) g (h .tags) (h .mandatory-at) (h .unique-at))

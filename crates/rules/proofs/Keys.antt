@@ -6,7 +6,6 @@ use mathlib.Core.Bool.{Bool, true, false, _&&_, and-eq-true-iff}
 use mathlib.Core.List.{List, [], _∷_, _++_, append-nil, map}
 use lib.Dec.{leb}
 use lib.ListN.{length, take, drop, length-append}
-use lib.Seq.{take-take}
 use borrow.Author.Tests.{leb-true}
 use Rattle.format.specs.Lists.{flat}
 use Rattle.format.specs.Bytes.{Bytes, text, pick, all, same}
@@ -26,9 +25,9 @@ use Rattle.lines.specs.Value.{valueFrom}
 use Rattle.words.specs.Spans.{span}
 use Rattle.records.specs.Places.{isReadable}
 use Rattle.records.specs.Walk.{recordIn}
-use Rattle.records.proofs.Steps.{drop-take}
 use Rattle.records.proofs.Cuts.{fields-records}
 use Rattle.typedefs.specs.Walks.{valuesFrom, ValueHere}
+use Rattle.rules.proofs.Regions.{front-span}
 use Rattle.rules.specs.Described.{IsRules}
 use Rattle.rules.specs.Chunks.{HaveKeys}
 use Rattle.rules.proofs.Room.{records-few}
@@ -151,11 +150,6 @@ key-once-named d r =
     let z : Bool = leb (length (valuesOf (text "%size") rules)) 1 in
     leb-true (length (valuesOf (text "%key") rules)) 1 (and-eq-true-iff (all (isShaped intBounds) rules) k .0 (and-eq-true-iff (all (isShaped intBounds) rules && k) z .0 (r .well) .0) .1)
 
--- a part of a text that stands at the front of another
-part-span : (x : Bytes) (n a e : ℕ) → e ≤ n → span a e (take n x) ≡ span a e x
-part-span x n a e h =
-    let m : e - a ≤ n - a = omega arith in
-    ap (take (e - a)) (drop-take a n x) ∙ take-take (e - a) (n - a) (drop a x) m
-
+-- a word that stands at the front of another text
 pub word-span : (x : Bytes) (n a e : ℕ) {vs ws : List Bytes} → e ≤ n → vs ≡ span a e (take n x) ∷ ws → vs ≡ span a e x ∷ ws
-word-span x n a e {vs} {ws} h q = q ∙ ap {B = List Bytes} (λ (y : Bytes). y ∷ ws) (part-span x n a e h)
+word-span x n a e {vs} {ws} h q = q ∙ ap {B = List Bytes} (λ (y : Bytes). y ∷ ws) (front-span n a e x h)

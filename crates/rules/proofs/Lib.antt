@@ -1,4 +1,5 @@
 -- What a descriptor's granted questions mean for the walks, and a set's number from its records'.
+pub mod Regions
 pub mod Sets
 pub mod Numbers
 pub mod Fields
@@ -11,4 +12,4 @@ pub mod Room
 pub mod Chunks
 pub mod Keys
 pub mod Whole
-pub mod Halves
+pub mod Rulebooks

@@ -33,9 +33,10 @@ use Rattle.dictionary.specs.Known.{Described}
 use Rattle.dictionary.proofs.Typing.{all-shaped}
 use Rattle.dictionary.proofs.Counting.{key-length}
 use Rattle.rules.specs.Tallies.{empty, counted, tallyNo, Tallied}
-use Rattle.rules.specs.Seen.{Stands, SeenAt}
+use Rattle.rules.specs.Tables.{Stands, SeenAt}
 use Rattle.rules.specs.declared.tallies.Tally.{Tally}
-use Rattle.rules.specs.declared.tallies.Seen.{Seen}
+use Rattle.rules.specs.declared.tables.Seen.{Seen}
+use Rattle.rules.specs.declared.tables.SeenName.{SeenName}
 use Rattle.rules.proofs.Fields.{tallied-none, stands-more}
 use Rattle.rules.proofs.Asking.{tally-no}
 use Rattle.rules.proofs.Leasts.{least-none, least-assoc}
@@ -200,28 +201,24 @@ module _ (d : Bytes) (from m : ℕ) (s : Bytes) where
           }
 
 -- the number of the record that goes on, by its tally
-module _ (d : Bytes) (names needed needsets single singlesets marks : List ℕ) (r : Rulebook) (b : IsRulebook d names needed needsets single singlesets marks r) where
+module _ (d : Bytes) (l sets : List ℕ) (r : Rulebook) (b : IsRulebook d l sets r) where
   pub few-mandatory : r .tables .mandatory .count ≤ 64
-  few-mandatory = omega (arith, b .tables-are .needed-are .count, b .tables-are .needed-are .few)
+  few-mandatory = omega (arith, b .tables-are .mandatory-are .count, b .tables-are .mandatory-are .few)
 
   pub open-no : (fs : Record) (t : Tally) → Tallied (recordIn d) fs t → tallyNo t (r .limited) (r .keyed) (r .tables .mandatory .count) ≡ namesNo (recordIn d) fs
   unfolding namesNo
   open-no fs t h =
-      tally-no (recordIn d) fs t h intBounds (r .limited) (r .keyed) (r .tables .mandatory .count) (b .limited-is) (b .keyed-is) (b .tables-are .needed-are .count) (key-few d (b .tables-are .described))
-
-  -- the types that are asked for are among the kinds
-  pub types-within : r .tables .names .next ≤ r .kinds .count
-  types-within = omega (arith, b .tables-are .dictionary .within, b .kinds-are .count)
+      tally-no (recordIn d) fs t h intBounds (r .limited) (r .keyed) (r .tables .mandatory .count) (b .limited-is) (b .keyed-is) (b .tables-are .mandatory-are .count) (key-few d (b .tables-are .described))
 
 -- what was seen of names, by the number of a field
 module _ (rules : Record) (from next : ℕ) (s : Bytes) where
-  abbrev pub AllSeen : List Seen → Type 0
-  AllSeen seen = (k : ℕ) (other : Seen) → k < 16 → SeenAt rules from next s (getD seen k other)
+  abbrev pub AllSeen : List SeenName → Type 0
+  AllSeen seen = (k : ℕ) (other : SeenName) → k < 16 → SeenAt rules from next s (getD seen k other)
 
-  pub seen-start : (x : Seen) → SeenAt rules from next s x → AllSeen (replicate 16 x)
+  pub seen-start : (x : SeenName) → SeenAt rules from next s x → AllSeen (replicate 16 x)
   seen-start x h k other low = subst (SeenAt rules from next s) (sym (getD-replicate 16 k x other low)) h
 
-  pub seen-set : (seen : List Seen) (n : ℕ) (x : Seen) → length seen ≡ 16 → n < 16 → SeenAt rules from next s x → AllSeen seen → AllSeen (set seen n x)
+  pub seen-set : (seen : List SeenName) (n : ℕ) (x : SeenName) → length seen ≡ 16 → n < 16 → SeenAt rules from next s x → AllSeen seen → AllSeen (set seen n x)
   seen-set seen n x l h g f k other low =
       dec-eq k n
       (λ e. subst (SeenAt rules from next s) (sym (ap (λ (j : ℕ). getD (set seen n x) j other) e ∙ getD-set-same seen n x other (omega arith))) g)
@@ -236,7 +233,9 @@ fits-here n f fs all-of e h =
     let k = and-eq-true-iff (fitsIn n f) (all (fitsIn n) fs) .0 (sym (ap (all (fitsIn n)) e) ∙ h) in
     (leb-true (length (f .value)) n (k .0), k .1)
 
--- the field met: its value against the types
-pub field-met : (d : Bytes) (from next to : ℕ) (f : Field) (x : Seen) (ok : Bool) → Stands (recordIn d) from next (f .name) x → from ≤ to → to ≤ next → ok ≡ rowsMet d (x .known) from (to - from) (f .value) → ok ≡ isMet d from (to - from) f
+-- the field met: its value against the types from one on
+pub field-met : (d : Bytes) (from next first to : ℕ) (f : Field) (x : Seen) (ok : Bool) → Stands (recordIn d) from next (f .name) x → first ≡ from → first ≤ to → to ≤ next → ok ≡ rowsMet d (x .known) first (to - first) (f .value)
+    → ok ≡ isMet d from (to - from) f
 unfolding isMet
-field-met d from next to f x ok h a b e = e ∙ rows-known d from next (f .name) (x .known) (h .tags) (f .value) to a b
+field-met d from next first to f x ok h same a b e =
+    e ∙ ap (λ (k : ℕ). rowsMet d (x .known) k (to - k) (f .value)) same ∙ rows-known d from next (f .name) (x .known) (h .tags) (f .value) to (omega (arith, same)) b

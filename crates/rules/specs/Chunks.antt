@@ -10,25 +10,22 @@ use Rattle.format.specs.Bytes.{Bytes, text}
 use Rattle.format.specs.Records.{Record}
 use Rattle.format.specs.Sets.{valuesOf}
 use Rattle.format.specs.Numbers.{intBounds}
-use Rattle.format.specs.Rules.{mandatory, unique, key}
+use Rattle.format.specs.Rules.{key}
 use Rattle.format.specs.Questions.{occurrences}
 use Rattle.format.proofs.Elements.{Each}
 use Rattle.format.proofs.Least.{leasts}
 use Rattle.format.proofs.Judging.{recordNo}
 use Rattle.records.specs.Walk.{recordIn}
 use Rattle.dictionary.specs.Known.{Described}
-use Rattle.dictionary.specs.Numbered.{IsWords}
 use Rattle.kinds.specs.Rows.{IsKinds}
 use Rattle.rules.specs.Members.{partNo}
 use Rattle.rules.specs.declared.members.Asked.{Asked}
 use Rattle.rules.specs.declared.Book.{Book}
 use Rattle.rules.specs.declared.Chunk.{Chunk}
 
--- b was read of a descriptor; the words stand in two arrays, their joined tags in two others
-pub record IsBook (d : Bytes) (needed needsets single singlesets : List ℕ) (b : Book) : Type 0 where
+-- b was read of a descriptor
+pub record IsBook (d : Bytes) (b : Book) : Type 0 where
   pub described : Described d
-  pub mandatory-are : IsWords d (mandatory (recordIn d)) needed needsets (b .mandatory)
-  pub unique-are : IsWords d (unique (recordIn d)) single singlesets (b .unique)
   pub kinds-are : IsKinds d (b .kinds)
   pub limited-is : b .limited ≡ not (eqb (length (valuesOf (text "%allowed") (recordIn d))) 0)
   pub keyed-is : b .keyed ≡ isFilled (key (recordIn d))

@@ -15,17 +15,18 @@ use Rattle.format.specs.Questions.{firstNo}
 use Rattle.format.proofs.Least.{least, leasts}
 use Rattle.format.proofs.Judging.{recordRows}
 use Rattle.records.specs.Walk.{recordIn}
-use Rattle.symbols.specs.Rows.{IsSymbols}
-use Rattle.rules.specs.Seen.{IsTables}
+use Rattle.words.specs.Spans.{span}
+use Rattle.rules.specs.Tables.{symbolsAt, entriesEnd, IsTables}
 use Rattle.kinds.specs.Meets.{typedBetween}
-use Rattle.kinds.specs.Rows.{IsKinds}
+use Rattle.kinds.specs.Rows.{IsTyped}
 use Rattle.rules.specs.declared.members.Rulebook.{Rulebook}
 
--- the tables of a descriptor's rules, in six arrays
-pub record IsRulebook (d : Bytes) (names needed needsets single singlesets marks : List ℕ) (r : Rulebook) : Type 0 where
-  pub tables-are : IsTables d names needed needsets single singlesets (r .tables)
-  pub kinds-are : IsKinds d (r .kinds)
-  pub enums-are : IsSymbols d (r .kinds .texts) (r .tables .from) (r .tables .names .next) marks (r .enums)
+-- the tables of a descriptor's rules; they and the symbols are of the `%type` fields from one on, the symbols of no more of them
+pub record IsRulebook (d : Bytes) (l sets : List ℕ) (r : Rulebook) : Type 0 where
+  pub tables-are : IsTables d l sets (r .tables)
+  pub typed-are : IsTyped d (span symbolsAt entriesEnd l) (r .typed)
+  pub from-is : r .typed .symbols .from ≡ r .tables .names .from
+  pub within : r .typed .symbols .next ≤ r .tables .names .next
   pub limited-is : r .limited ≡ not (eqb (length (valuesOf (text "%allowed") (recordIn d))) 0)
   pub keyed-is : r .keyed ≡ isFilled (key (recordIn d))
 

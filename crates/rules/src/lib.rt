@@ -1,9 +1,9 @@
 // Questions 8 to 14 of one set. Its descriptor is read once, into tables; then its records are walked.
 ghost use mathlib.Core.Path.{_≡_};
 ghost use mathlib.Core.Bool.{true, not};
-ghost use Prim.Native.Nat.{_-_, _≤_};
+ghost use Prim.Native.Nat.{_≤_};
 ghost use lib.Dec.{eqb};
-ghost use lib.ListN.{length, take, drop};
+ghost use lib.ListN.{length};
 ghost use Rattle.format.specs.Bytes.{all};
 ghost use Rattle.format.specs.Limits.{fileBytes, valueBytes};
 ghost use Rattle.format.specs.Pieces.{readOf};
@@ -17,26 +17,26 @@ ghost use Rattle.format.proofs.Walking.{ruled};
 ghost use Rattle.records.specs.Places.{isReadable};
 ghost use Rattle.records.specs.Walk.{recordIn};
 ghost use Rattle.dictionary.specs.Known.{Described};
-ghost use Rattle.rules.specs.Members.{IsRulebook, fitsIn, partNo};
+ghost use Rattle.rules.specs.Tables.{entriesEnd};
+ghost use Rattle.rules.specs.Members.{fitsIn};
 ghost use Rattle.rules.specs.Described.{IsRules, AllFit};
 ghost use Rattle.rules.specs.Chunks.{IsBook, HaveKeys, Chunked, SetAsked};
-use dictionary::wordsets;
-use dictionary::wordsets::Words;
 use format::Refusal;
 use kinds::Kinds;
+use kinds::Typed;
 use members::Asked;
 use members::Rulebook;
-use tallies::Tables;
+use tables::Tables;
 use typedefs::NextValue;
 use words::Word;
 
 pub mod members;
+pub mod questions;
+pub mod tables;
 pub mod tallies;
 
-// What is read of a descriptor once: its mandatory and unique words, the kinds of its types, whether only allowed names may occur, and whether there is a key.
+// What is read of a descriptor once: the kinds of its types, whether only allowed names may occur, and whether there is a key.
 struct Book {
-    mandatory: Words,
-    unique: Words,
     kinds: Kinds,
     limited: bool,
     keyed: bool,
@@ -61,107 +61,52 @@ struct Chunk {
     next: usize,
 }
 
-// The records by a rulebook whose names stand in the first 8,192 entries, and whose symbols stand behind them.
-fn judge_halves(
-    d: &[u8],
-    entries: &[u32],
-    needed: &[u32],
-    needsets: &[u64],
-    single: &[u32],
-    singlesets: &[u64],
-    r: Rulebook,
-    part: &[u8],
-    scratch: &mut [u8],
-) -> Asked
-    requires { ⌜ (8192 ≤ length (now entries)) × IsRulebook (now d) (take 8192 (now entries)) (now needed) (now needsets) (now single) (now singlesets) (drop 8192 (now entries)) r ⌝ }
-    requires { ⌜ (isReadable (now part) ≡ true) × (length (now part) ≤ 65536) × (all (fitsIn (length (now scratch))) (recordIn (now part)) ≡ true) ⌝ }
-    ensures { λ a. ⌜ (a .number ≡ partNo (now (d .entry)) (r .tables .from) (r .enums .next - r .tables .from) (records (readOf (now (part .entry))))) × (a .count ≡ length (records (readOf (now (part .entry))))) ⌝ }
-{
-    members::judge_part(
-        d,
-        &entries[..8192],
-        needed,
-        needsets,
-        single,
-        singlesets,
-        &entries[8192..],
-        r,
-        part,
-        &mut *scratch,
-    )
-}
-
 // Questions 8 to 12 by the `%type` fields from one on, by as many of them as the tables have room for.
 fn judge_rows(
     d: &[u8],
-    needed: &[u32],
-    needsets: &[u64],
-    single: &[u32],
-    singlesets: &[u64],
     b: Book,
     from: usize,
     part: &[u8],
     scratch: &mut [u8],
     entries: &mut [u32],
 ) -> Chunk
-    requires { ⌜ IsBook (now d) (now needed) (now needsets) (now single) (now singlesets) b × (from ≤ b .kinds .count) ⌝ }
-    requires { ⌜ (isReadable (now part) ≡ true) × (length (now part) ≤ 65536) × (all (fitsIn (length (now scratch))) (recordIn (now part)) ≡ true) ⌝ }
-    requires { ⌜ 16384 ≤ length (now entries) ⌝ }
+    requires { ⌜ IsBook (now d) b × (from ≤ b .kinds .count) ⌝ }
+    requires { ⌜ (isReadable (now part) ≡ true) × (length (now part) ≤ fileBytes) × (all (fitsIn (length (now scratch))) (recordIn (now part)) ≡ true) ⌝ }
+    requires { ⌜ entriesEnd ≤ length (now entries) ⌝ }
     ensures { λ r. ⌜ Chunked (now (d .entry)) from (b .kinds .count) (records (readOf (now (part .entry)))) r ⌝ }
 {
+    let mut sets = [0u64; Tables::NAMES];
+    let tables = tables::read(d, from, &mut *entries, &mut sets);
+    let to = tables.names.next;
     let kinds = b.kinds;
     let texts = kinds.texts;
-    let names = dictionary::read(d, from, &mut entries[..8192]);
-    let to = names.next;
-    let enums = symbols::read(d, &texts, from, to, &mut entries[8192..]);
-    let mandatory = b.mandatory;
-    let unique = b.unique;
-    let tables = Tables {
+    let symbols = symbols::read(
+        d,
+        &texts,
         from,
-        names,
-        mandatory,
-        unique,
-    };
+        to,
+        &mut entries[Tables::SYMBOLS..Tables::END],
+    );
+    let typed = Typed { kinds, symbols };
     let r = Rulebook {
         tables,
-        kinds,
-        enums,
+        typed,
         limited: b.limited,
         keyed: b.keyed,
     };
-    let a = judge_halves(
-        d,
-        &*entries,
-        needed,
-        needsets,
-        single,
-        singlesets,
-        r,
-        part,
-        &mut *scratch,
-    );
+    let a = members::judge_part(d, &*entries, &sets, r, part, &mut *scratch);
     Chunk {
         number: a.number,
         count: a.count,
-        next: enums.next,
+        next: symbols.next,
     }
 }
 
 // Questions 8 to 12 by all `%type` fields.
-fn judge_records(
-    d: &[u8],
-    needed: &[u32],
-    needsets: &[u64],
-    single: &[u32],
-    singlesets: &[u64],
-    b: Book,
-    part: &[u8],
-    scratch: &mut [u8],
-    entries: &mut [u32],
-) -> Asked
-    requires { ⌜ IsBook (now d) (now needed) (now needsets) (now single) (now singlesets) b ⌝ }
-    requires { ⌜ (isReadable (now part) ≡ true) × (length (now part) ≤ 65536) × (all (fitsIn (length (now scratch))) (recordIn (now part)) ≡ true) ⌝ }
-    requires { ⌜ 16384 ≤ length (now entries) ⌝ }
+fn judge_records(d: &[u8], b: Book, part: &[u8], scratch: &mut [u8], entries: &mut [u32]) -> Asked
+    requires { ⌜ IsBook (now d) b ⌝ }
+    requires { ⌜ (isReadable (now part) ≡ true) × (length (now part) ≤ fileBytes) × (all (fitsIn (length (now scratch))) (recordIn (now part)) ≡ true) ⌝ }
+    requires { ⌜ entriesEnd ≤ length (now entries) ⌝ }
     ensures { λ r. ⌜ SetAsked (recordIn (now (d .entry))) (records (readOf (now (part .entry)))) r ⌝ }
 {
     let kinds = b.kinds;
@@ -169,19 +114,8 @@ fn judge_records(
     let mut from = 0;
     let mut worst = 0;
     loop {
-        let c = judge_rows(
-            d,
-            needed,
-            needsets,
-            single,
-            singlesets,
-            b,
-            from,
-            part,
-            &mut *scratch,
-            &mut *entries,
-        );
-        worst = tallies::lesser(worst, c.number);
+        let c = judge_rows(d, b, from, part, &mut *scratch, &mut *entries);
+        worst = questions::lesser(worst, c.number);
         if count <= c.next {
             return Asked {
                 number: worst,
@@ -195,44 +129,26 @@ fn judge_records(
 // Questions 8 to 12 of a set's records, and how many there are.
 fn judge_members(d: &[u8], part: &[u8], scratch: &mut [u8], entries: &mut [u32]) -> Asked
     requires { ⌜ Described (now d) ⌝ }
-    requires { ⌜ (isReadable (now part) ≡ true) × (length (now part) ≤ 65536) × (all (fitsIn (length (now scratch))) (recordIn (now part)) ≡ true) ⌝ }
-    requires { ⌜ (valueBytes ≤ length (now scratch)) × (16384 ≤ length (now entries)) ⌝ }
+    requires { ⌜ (isReadable (now part) ≡ true) × (length (now part) ≤ fileBytes) × (all (fitsIn (length (now scratch))) (recordIn (now part)) ≡ true) ⌝ }
+    requires { ⌜ (valueBytes ≤ length (now scratch)) × (entriesEnd ≤ length (now entries)) ⌝ }
     ensures { λ r. ⌜ SetAsked (recordIn (now (d .entry))) (records (readOf (now (part .entry)))) r ⌝ }
 {
-    let mut needed = [0u32; 64];
-    let mut needsets = [0u64; 64];
-    let mut single = [0u32; 64];
-    let mut singlesets = [0u64; 64];
     let kinds = kinds::read(d, &mut *scratch);
-    let mandatory = wordsets::read(d, b"%mandatory", &mut needed, &mut needsets);
-    let unique = wordsets::read(d, b"%unique", &mut single, &mut singlesets);
     let limited = has_field(d, b"%allowed");
     let keyed = has_field(d, b"%key");
     let b = Book {
-        mandatory,
-        unique,
         kinds,
         limited,
         keyed,
     };
-    judge_records(
-        d,
-        &needed,
-        &needsets,
-        &single,
-        &singlesets,
-        b,
-        part,
-        &mut *scratch,
-        &mut *entries,
-    )
+    judge_records(d, b, part, &mut *scratch, &mut *entries)
 }
 
 // Question 13 of a set whose records have its key.
 fn keys_apart(d: &[u8], part: &[u8], scratch: &mut [u8], entries: &mut [u32]) -> bool
-    requires { ⌜ IsRules (now d) × (length (now d) ≤ 65536) ⌝ }
-    requires { ⌜ (isReadable (now part) ≡ true) × (length (now part) ≤ 65536) × HaveKeys (recordIn (now d)) (records (readOf (now part))) ⌝ }
-    requires { ⌜ (valueBytes ≤ length (now scratch)) × (16384 ≤ length (now entries)) ⌝ }
+    requires { ⌜ IsRules (now d) × (length (now d) ≤ fileBytes) ⌝ }
+    requires { ⌜ (isReadable (now part) ≡ true) × (length (now part) ≤ fileBytes) × HaveKeys (recordIn (now d)) (records (readOf (now part))) ⌝ }
+    requires { ⌜ (valueBytes ≤ length (now scratch)) × (entriesEnd ≤ length (now entries)) ⌝ }
     ensures { λ r. ⌜ r ≡ distinct (keysOf (ruled (recordIn (now (d .entry))) (records (readOf (now (part .entry)))))) ⌝ }
 {
     let v = typedefs::next_value(d, b"%key", 0);
@@ -249,9 +165,9 @@ fn keys_apart(d: &[u8], part: &[u8], scratch: &mut [u8], entries: &mut [u32]) ->
 
 // Questions 13 and 14 of a set whose records have its key; so many they are. The number of the first that says no, else 0.
 fn judge_whole(d: &[u8], count: usize, part: &[u8], scratch: &mut [u8], entries: &mut [u32]) -> u32
-    requires { ⌜ IsRules (now d) × (length (now d) ≤ 65536) × (count ≡ length (records (readOf (now part)))) ⌝ }
-    requires { ⌜ (isReadable (now part) ≡ true) × (length (now part) ≤ 65536) × HaveKeys (recordIn (now d)) (records (readOf (now part))) ⌝ }
-    requires { ⌜ (valueBytes ≤ length (now scratch)) × (16384 ≤ length (now entries)) ⌝ }
+    requires { ⌜ IsRules (now d) × (length (now d) ≤ fileBytes) × (count ≡ length (records (readOf (now part)))) ⌝ }
+    requires { ⌜ (isReadable (now part) ≡ true) × (length (now part) ≤ fileBytes) × HaveKeys (recordIn (now d)) (records (readOf (now part))) ⌝ }
+    requires { ⌜ (valueBytes ≤ length (now scratch)) × (entriesEnd ≤ length (now entries)) ⌝ }
     ensures { λ n. ⌜ n ≡ firstNo (wholeRows intBounds) (ruled (recordIn (now (d .entry))) (records (readOf (now (part .entry))))) ⌝ }
 {
     if keys_apart(d, part, &mut *scratch, &mut *entries) {} else {
@@ -267,7 +183,7 @@ fn judge_whole(d: &[u8], count: usize, part: &[u8], scratch: &mut [u8], entries:
 pub fn judge_set(d: &[u8], part: &[u8], scratch: &mut [u8], entries: &mut [u32]) -> u32
     requires { ⌜ IsRules (now d) × (length (now d) ≤ fileBytes) ⌝ }
     requires { ⌜ (isReadable (now part) ≡ true) × (length (now part) ≤ fileBytes) × AllFit (records (readOf (now part))) ⌝ }
-    requires { ⌜ (valueBytes ≤ length (now scratch)) × (16384 ≤ length (now entries)) ⌝ }
+    requires { ⌜ (valueBytes ≤ length (now scratch)) × (entriesEnd ≤ length (now entries)) ⌝ }
     ensures { λ n. ⌜ n ≡ setNo intBounds (ruled (recordIn (now (d .entry))) (records (readOf (now (part .entry))))) ⌝ }
 {
     let a = judge_members(d, part, &mut *scratch, &mut *entries);

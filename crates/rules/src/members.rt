@@ -12,25 +12,26 @@ ghost use Rattle.format.proofs.Records.{records};
 ghost use Rattle.lines.specs.Value.{valueFrom};
 ghost use Rattle.records.specs.Places.{isReadable};
 ghost use Rattle.records.specs.Walk.{recordIn};
-ghost use Rattle.symbols.specs.Rows.{IsSymbols};
 ghost use Rattle.rules.specs.Tallies.{tallyNo};
 ghost use Rattle.kinds.specs.Meets.{rowsMet};
-ghost use Rattle.kinds.specs.Rows.{IsKinds};
+ghost use Rattle.kinds.specs.Rows.{IsTyped};
 ghost use Rattle.rules.specs.Members.{IsRulebook, fitsIn, partNo};
+use super::questions;
+use super::tables;
+use super::tables::NextName;
+use super::tables::SeenName;
+use super::tables::Tables;
 use super::tallies;
-use super::tallies::Tables;
 use super::tallies::Tally;
 use format::Refusal;
-use kinds::Kinds;
+use kinds::Typed;
 use lines::Next;
-use symbols::Symbols;
 
 // The rules of a descriptor, from one of its `%type` fields on: the tables of its names, the kinds of its types and the symbols of those; whether only
 // allowed names may occur, and whether there is a key.
 pub struct Rulebook {
     pub tables: Tables,
-    pub kinds: Kinds,
-    pub enums: Symbols,
+    pub typed: Typed,
     pub limited: bool,
     pub keyed: bool,
 }
@@ -51,7 +52,7 @@ fn closed(a: Asked, fields: usize, t: Tally, limited: bool, keyed: bool, mandato
     }
     let k = tallies::number(t, limited, keyed, mandatory);
     Asked {
-        number: tallies::lesser(a.number, k),
+        number: questions::lesser(a.number, k),
         count: a.count + 1,
     }
 }
@@ -63,66 +64,50 @@ fn with_types(worst: u32, typed: bool) -> u32
     if typed {
         return worst;
     }
-    tallies::lesser(worst, Refusal::VALUE)
+    questions::lesser(worst, Refusal::VALUE)
 }
 
 // Does the value that begins where s does meet the kinds of the rows in a set of tags? Most names have no type, and their values are not looked at.
 fn value_met(
     d: &[u8],
-    kinds: Kinds,
-    from: usize,
-    to: usize,
-    marks: &[u32],
-    enums: Symbols,
+    entries: &[u32],
+    typed: Typed,
     tags: u64,
     s: &[u8],
     scratch: &mut [u8],
 ) -> bool
-    requires { ⌜ IsKinds (now d) kinds × (to ≤ kinds .count) ⌝ }
-    requires { ⌜ IsSymbols (now d) (kinds .texts) from to (now marks) enums ⌝ }
+    requires { ⌜ IsTyped (now d) (now entries) typed ⌝ }
     requires { ⌜ length (valueFrom (now s)) ≤ length (now scratch) ⌝ }
-    ensures { λ r. ⌜ r ≡ rowsMet (now (d .entry)) tags from (enums .next - from) (valueFrom (now (s .entry))) ⌝ }
+    ensures { λ r. ⌜ r ≡ rowsMet (now (d .entry)) tags (typed .symbols .from) (typed .symbols .next - typed .symbols .from) (valueFrom (now (s .entry))) ⌝ }
 {
     if tags % 4294967296 == 0 {
         return true;
     }
-    kinds::value_met(d, kinds, from, to, marks, enums, tags, s, &mut *scratch)
+    kinds::value_met(d, entries, typed, tags, s, &mut *scratch)
 }
 
 // The least number of the records of a part and how many they are, from the `%type` field on at which the tables begin. What was seen of a name is kept by the number of its field,
 // since records of a set are often alike.
 pub fn judge_part(
     d: &[u8],
-    names: &[u32],
-    needed: &[u32],
-    needsets: &[u64],
-    single: &[u32],
-    singlesets: &[u64],
-    marks: &[u32],
+    entries: &[u32],
+    sets: &[u64],
     r: Rulebook,
     s: &[u8],
     scratch: &mut [u8],
 ) -> Asked
-    requires { ⌜ IsRulebook (now d) (now names) (now needed) (now needsets) (now single) (now singlesets) (now marks) r ⌝ }
+    requires { ⌜ IsRulebook (now d) (now entries) (now sets) r ⌝ }
     requires { ⌜ (isReadable (now s) ≡ true) × (length (now s) ≤ 65536) × (all (fitsIn (length (now scratch))) (recordIn (now s)) ≡ true) ⌝ }
-    ensures { λ a. ⌜ (a .number ≡ partNo (now (d .entry)) (r .tables .from) (r .enums .next - r .tables .from) (records (readOf (now (s .entry))))) × (a .count ≡ length (records (readOf (now (s .entry))))) ⌝ }
+    ensures { λ a. ⌜ (a .number ≡ partNo (now (d .entry)) (r .tables .names .from) (r .typed .symbols .next - r .tables .names .from) (records (readOf (now (s .entry))))) × (a .count ≡ length (records (readOf (now (s .entry))))) ⌝ }
 {
     let tables = r.tables;
-    let from = tables.from;
-    let to = tables.names.next;
     let mandatory = tables.mandatory.count;
-    let first = tallies::look_up(
-        d,
-        names,
-        needed,
-        needsets,
-        single,
-        singlesets,
-        tables,
-        s,
-        0,
-        0,
-    );
+    let empty = tables::look_up(d, entries, sets, tables, &s[0..0]);
+    let first = SeenName {
+        at: 0,
+        end: 0,
+        seen: empty,
+    };
     let mut seen = [first; 16];
     let mut t = tallies::start();
     let mut fields = 0;
@@ -147,30 +132,21 @@ pub fn judge_part(
             Next::Field { name, value, size } => {
                 let slot = fields % 16;
                 let before = seen[slot];
-                let x = tallies::recall(
-                    d,
-                    names,
-                    needed,
-                    needsets,
-                    single,
-                    singlesets,
-                    tables,
-                    s,
-                    i,
-                    i + name,
-                    before,
-                );
-                seen[slot] = x;
+                let end = i + name;
+                let n = NextName { at: i, end, before };
+                let x = tables::recall(d, entries, sets, tables, s, n);
+                seen[slot] = SeenName {
+                    at: i,
+                    end,
+                    seen: x,
+                };
                 t = tallies::count(t, x.known, x.mandatory, x.unique);
                 let v = i + value;
                 let e = i + size;
                 let met = value_met(
                     d,
-                    r.kinds,
-                    from,
-                    to,
-                    marks,
-                    r.enums,
+                    &entries[Tables::SYMBOLS..Tables::END],
+                    r.typed,
                     x.known,
                     &s[v..e],
                     &mut *scratch,

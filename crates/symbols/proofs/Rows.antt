@@ -94,23 +94,23 @@ module _ (d : Bytes) (texts : List ℕ) (from : ℕ) (w : Bytes) where
   own : (k : ℕ) → isFirst texts from k ≡ true → tagged w k (symbolRow d texts from k) ≡ among w (enumIn d (getD texts k 0))
   own k e = ap (λ (t : Bool). tagged w k (pick t (map (termOf k) (enumIn d (getD texts k 0))) [])) e ∙ same-tag w k (enumIn d (getD texts k 0))
 
-  module _ (to next : ℕ) (ts : List Term) (begins : from ≤ next) (within : next ≤ to) (short : to ≤ length texts)
-      (f : (k : ℕ) → tagged w k (ts ++ rowsLeft d texts from to next) ≡ tagged w k (rowsLeft d texts from to from)) where
-    in-row : (k : ℕ) → from ≤ k → k < next → tagged w k ts ≡ tagged w k (symbolRow d texts from k)
-    in-row k h g =
-        sym (or-none (tagged w k ts))
-        ∙ ap (λ (t : Bool). tagged w k ts || t) (sym (row-above k next (to - next) g))
-        ∙ sym (tagged-append w k ts (rowsLeft d texts from to next))
-        ∙ f k
-        ∙ row-at k from (to - from) h (omega arith)
+  -- terms that are the symbols of the rows before another, whatever those from there on have
+  pub in-row : (to next : ℕ) (ts : List Term) → next ≤ to → ((k : ℕ) → tagged w k (ts ++ rowsLeft d texts from to next) ≡ tagged w k (rowsLeft d texts from to from)) → (k : ℕ) → from ≤ k → k < next → tagged w k ts ≡ tagged w k (symbolRow d texts from k)
+  in-row to next ts within f k h g =
+      sym (or-none (tagged w k ts))
+      ∙ ap (λ (t : Bool). tagged w k ts || t) (sym (row-above k next (to - next) g))
+      ∙ sym (tagged-append w k ts (rowsLeft d texts from to next))
+      ∙ f k
+      ∙ row-at k from (to - from) h (omega arith)
 
+  module _ (next : ℕ) (ts : List Term) (short : next ≤ length texts) (f : (k : ℕ) → from ≤ k → k < next → tagged w k ts ≡ tagged w k (symbolRow d texts from k)) where
     tells-by : (x : ℕ) → Answers w ts x → (k : ℕ) → from ≤ k → k < next → getD texts k 0 < 65536 → inSet (leaderOf texts from k) x ≡ among w (enumIn d (getD texts k 0))
     tells-by x q k h g low =
         let r : ℕ = leaderOf texts from k in
         let l = leader-most texts from k h (omega arith) in
         let t = leader-text texts from k h (omega arith) in
         let e : isFirst texts from r ≡ true = and-eq-true-iff (ltb (getD texts r 0) 65536) (eqb (leaderOf texts from r) r) .1 (lt-ltb (getD texts r 0) 65536 (omega arith), eq-eqb (leaderOf texts from r) r (leader-self texts from k h (omega arith))) in
-        q r ∙ in-row r (leader-least texts from k h (omega arith)) (omega arith) ∙ own r e ∙ ap (λ (v : ℕ). among w (enumIn d v)) t
+        q r ∙ f r (leader-least texts from k h (omega arith)) (omega arith) ∙ own r e ∙ ap (λ (v : ℕ). among w (enumIn d v)) t
 
     -- a row that is not the first with its text has no symbols of its own
     first-by : (k : ℕ) (t : Bool) → isFirst texts from k ≡ t → tagged w k (symbolRow d texts from k) ≡ true → leaderOf texts from k ≡ k
@@ -118,7 +118,7 @@ module _ (d : Bytes) (texts : List ℕ) (from : ℕ) (w : Bytes) where
     first-by k false e h = absurd (false≢true (ap (λ (t : Bool). tagged w k (pick t (map (termOf k) (enumIn d (getD texts k 0))) [])) (sym e) ∙ h))
 
     pub finds : (x : ℕ) → Answers w ts x → Found d texts from next w x
-    finds x q = record { tells = tells-by x q; leads = λ k h g i. first-by k (isFirst texts from k) refl (sym (in-row k h g) ∙ sym (q k) ∙ i) }
+    finds x q = record { tells = tells-by x q; leads = λ k h g i. first-by k (isFirst texts from k) refl (sym (f k h g) ∙ sym (q k) ∙ i) }
 
 -- one row further
 module _ (d : Bytes) (texts : List ℕ) (from to row : ℕ) (h : row < to) where

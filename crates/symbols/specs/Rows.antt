@@ -63,10 +63,15 @@ pub record Found (d : Bytes) (texts : List ℕ) (from next : ℕ) (w : Bytes) (x
   pub tells : (k : ℕ) → from ≤ k → k < next → getD texts k 0 < 65536 → inSet (leaderOf texts from k) x ≡ among w (enumIn d (getD texts k 0))
   pub leads : Leads texts from next x
 
-pub record IsSymbols (d : Bytes) (texts : List ℕ) (from to : ℕ) (l : List ℕ) (r : Symbols) : Type 0 where
+-- a table has the symbols of the rows from one on before the next
+pub record IsSymbols (d : Bytes) (texts : List ℕ) (l : List ℕ) (r : Symbols) : Type 0 where
   pub table : IsTable d l (r .table)
-  pub begins : from ≤ r .next
+  pub begins : r .from ≤ r .next
+  pub short : r .next ≤ length texts
+  pub terms : (w : Bytes) (k : ℕ) → r .from ≤ k → k < r .next → tagged w k (termsOf d (take (r .table .count) l)) ≡ tagged w k (symbolRow d texts (r .from) k)
+
+-- of the rows from one on before another, and of one at least
+pub record Reaches (from to : ℕ) (r : Symbols) : Type 0 where
+  pub from-is : r .from ≡ from
   pub within : r .next ≤ to
   pub some : from < to → from < r .next
-  pub short : to ≤ length texts
-  pub terms : (w : Bytes) (k : ℕ) → tagged w k (termsOf d (take (r .table .count) l) ++ rowsLeft d texts from to (r .next)) ≡ tagged w k (rowsLeft d texts from to from)

@@ -14,7 +14,7 @@ ghost use Rattle.types.specs.Symbols.{wordsIn};
 ghost use Rattle.terms.specs.Sets.{termOf};
 ghost use Rattle.terms.specs.Adding.{Adding};
 ghost use Rattle.symbols.specs.Enums.{passes, symbolsFrom, Starts, enumIn, isEnumAt};
-ghost use Rattle.symbols.specs.Rows.{leaderOf, Texts, RowsAdded, IsSymbols, Found};
+ghost use Rattle.symbols.specs.Rows.{leaderOf, Texts, RowsAdded, IsSymbols, Reaches, Found};
 use lines::Decoded;
 use terms::Table;
 
@@ -163,9 +163,10 @@ fn add_rows(d: &[u8], texts: &[usize], from: usize, to: usize, entries: &mut [u3
     }
 }
 
-// The table of the symbols, and the first row behind those that it has.
+// The table of the symbols of the rows from one on, and the first row behind those that it has.
 pub struct Symbols {
     pub table: Table,
+    pub from: usize,
     pub next: usize,
 }
 
@@ -173,30 +174,23 @@ pub struct Symbols {
 pub fn read(d: &[u8], texts: &[usize], from: usize, to: usize, entries: &mut [u32]) -> Symbols
     requires { ⌜ (length (now d) ≤ 65536) × (from ≤ to) × (to ≤ 32) × (to ≤ length (now texts)) ⌝ }
     requires { ⌜ Texts (now d) (now texts) to × (4097 ≤ length (now entries)) ⌝ }
-    ensures { λ r. ⌜ IsSymbols (now (d .entry)) (now (texts .entry)) from to (now (entries .exit)) r ⌝ }
+    ensures { λ r. ⌜ IsSymbols (now (d .entry)) (now (texts .entry)) (now (entries .exit)) r × Reaches from to r ⌝ }
 {
     let a = add_rows(d, texts, from, to, &mut *entries);
     let count = a.count;
     let t = terms::build(d, &mut entries[..count]);
     Symbols {
         table: t,
+        from,
         next: a.next,
     }
 }
 
 // The rows of whose texts a value is a symbol, each text under the number of its first row.
-pub fn look_up(
-    d: &[u8],
-    texts: &[usize],
-    from: usize,
-    to: usize,
-    entries: &[u32],
-    s: Symbols,
-    value: &[u8],
-) -> u64
-    requires { ⌜ IsSymbols (now d) (now texts) from to (now entries) s ⌝ }
-    ensures { λ x. ⌜ Found (now (d .entry)) (now (texts .entry)) from (s .next) (now (value .entry)) x ⌝ }
+pub fn look_up(d: &[u8], texts: &[usize], entries: &[u32], symbols: Symbols, value: &[u8]) -> u64
+    requires { ⌜ IsSymbols (now d) (now texts) (now entries) symbols ⌝ }
+    ensures { λ x. ⌜ Found (now (d .entry)) (now (texts .entry)) (symbols .from) (symbols .next) (now (value .entry)) x ⌝ }
 {
-    let t = s.table;
+    let t = symbols.table;
     terms::find(d, entries, t, value)
 }

@@ -20,7 +20,7 @@ returns c =
     let at-args = c .before .before .before .before .before .args in
     let at-pre = c .before .before .before .before .before .pre in
     let at-find = c .find in
-    knows (recordIn (at-args .d .now)) (at-args .from) (at-args .r .next) (termsOf (at-args .d .now) (take (at-args .r .table .count) (at-args .entries .now))) (at-pre .1 .terms) (rows-few (at-args .d .now) (at-pre .0)) (at-pre .1 .begins) (at-pre .1 .within) (at-args .name .now) (at-find .result) (at-find .ensures)
+    knows (recordIn (at-args .d .now)) (at-args .r .from) (at-args .r .next) (termsOf (at-args .d .now) (take (at-args .r .table .count) (at-args .entries .now))) (at-pre .1 .terms) (rows-few (at-args .d .now) (at-pre .0)) (at-pre .1 .begins) (at-pre .1 .within) (at-args .name .now) (at-find .result) (at-find .ensures)
 
 pub look-up-spec : {M : Type 1} → statement M
 look-up-spec = tie.close (tie.spec find-requires returns)

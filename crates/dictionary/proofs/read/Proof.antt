@@ -1,6 +1,6 @@
 -- `dictionary::read` meets its contract: the lists' words, then the names of `%type` fields, and the table of all.
 use native.Mathlib.Omega.{arith}
-use mathlib.Core.Path.{sym}
+use mathlib.Core.Path.{refl, sym}
 use lib.ListN.{drop, length-append, length-drop}
 use lib.Seq.{length-take-le}
 use Rattle.format.specs.Numbers.{intBounds}
@@ -68,7 +68,7 @@ returns c =
     let at-build = c .before .before .build in
     let at-pre = c .before .before .before .before .before .before .before .before .before .before .before .before .before .before .pre in
     let a = at-add-lists .ensures in
-    made (at-args .d .now) (at-args .from) (at-args .entries .now) (at-add-lists .last .1 .0) (at-add-lists .result) a (at-add-types .last .1 .1 .0) (at-add-types .result) (at-add-types .ensures) (at-build .last .1 .0) (at-build .result) (at-build .ensures) (omega (arith, a .count, a .long, lists-few (at-args .d .now) (at-pre .0), at-pre .1 .1))
+    (made (at-args .d .now) (at-args .from) (at-args .entries .now) (at-add-lists .last .1 .0) (at-add-lists .result) a (at-add-types .last .1 .1 .0) (at-add-types .result) (at-add-types .ensures) (at-build .last .1 .0) (at-build .result) (at-build .ensures) (omega (arith, a .count, a .long, lists-few (at-args .d .now) (at-pre .0), at-pre .1 .1)), refl)
 
 pub read-spec : {M : Type 1} → statement M
 read-spec =

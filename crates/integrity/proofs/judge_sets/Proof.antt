@@ -13,7 +13,7 @@ use Rattle.integrity.proofs.judge_sets.Reads as reads
 use Rattle.integrity.proofs.judge_sets.Lts as lts
 use Rattle.integrity.proofs.members_end.Reads as members-end-reads
 use Rattle.rules.proofs.judge_set.Reads as judge-set-reads
-use Rattle.rules.proofs.tallies.lesser.Reads as lesser-reads
+use Rattle.rules.proofs.questions.lesser.Reads as lesser-reads
 
 abbrev Inv-loop : tie.InvT-loop
 Inv-loop s starts ends afters count scratch₀ entries₀ k₀ worst₀ scratch entries k worst = SetsAt s starts ends afters count k worst × (length scratch ≡ length scratch₀) × (length entries ≡ length entries₀)

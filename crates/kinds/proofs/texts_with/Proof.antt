@@ -39,7 +39,7 @@ returns c =
     let at-args = c .before .before .before .before .before .before .before .args in
     let at-look-up = c .look-up in
     let at-trimmed = c .before .before .trimmed in
-    subst (λ (w : Bytes). Found (at-args .d .now) (at-args .texts .now) (at-args .from) (at-args .enums .next) w (at-look-up .result)) (at-trimmed .ensures .2) (at-look-up .ensures)
+    subst (λ (w : Bytes). Found (at-args .d .now) (at-args .texts .now) (at-args .symbols .from) (at-args .symbols .next) w (at-look-up .result)) (at-trimmed .ensures .2) (at-look-up .ensures)
 
 pub texts-with-spec : {M : Type 1} → statement M
 texts-with-spec =

@@ -8,7 +8,7 @@ use lib.ListN.{length}
 use Rattle.format.specs.Bytes.{all}
 use Rattle.records.specs.Walk.{recordIn}
 use Rattle.rules.specs.Members.{fitsIn}
-use Rattle.rules.proofs.Granted.{mandatory-names, unique-names, mandatory-few, unique-few, key-there}
+use Rattle.rules.proofs.Granted.{key-there}
 use borrow.Author.Needs.{needs}
 use Rattle.rules.proofs.judge_members.Statement.{statement}
 use Rattle.rules.proofs.judge_members.Tie as tie
@@ -17,47 +17,16 @@ use Rattle.rules.proofs.judge_members.Lts as lts
 use Rattle.kinds.proofs.read.Reads as read-reads
 use Rattle.rules.proofs.has_field.Reads as has-field-reads
 use Rattle.rules.proofs.judge_records.Reads as judge-records-reads
-use Rattle.dictionary.proofs.wordsets.read.Reads as read-reads′
 
 read-requires : tie.Need-read-requires
 read-requires c κs = search needs
-
-slice-aggregate-read : tie.Need-slice-aggregate-read
-slice-aggregate-read c = search needs
-
-slice-aggregate-read-2 : tie.Need-slice-aggregate-read-2
-slice-aggregate-read-2 c = search needs
-
-slice-aggregate-read-3 : tie.Need-slice-aggregate-read-3
-slice-aggregate-read-3 c = search needs
-
-read-requires-2 : tie.Need-read-requires-2
-read-requires-2 c κs =
-    let at-pre = c .before .before .before .before .before .before .before .before .before .before .before .pre in
-    let at-args = c .before .before .before .before .before .before .before .before .before .before .before .args in
-    (((at-pre .0 .reads, at-pre .0 .short), ((mandatory-few (at-args .d .now) (at-pre .0), omega arith, omega arith), mandatory-names (at-args .d .now) (at-pre .0))))
-
-slice-aggregate-read-4 : tie.Need-slice-aggregate-read-4
-slice-aggregate-read-4 c = search needs
-
-slice-aggregate-read-5 : tie.Need-slice-aggregate-read-5
-slice-aggregate-read-5 c = search needs
-
-slice-aggregate-read-6 : tie.Need-slice-aggregate-read-6
-slice-aggregate-read-6 c = search needs
-
-read-requires-3 : tie.Need-read-requires-3
-read-requires-3 c κs =
-    let at-pre = c .before .before .before .before .before .before .before .before .before .before .before .before .before .before .before .before .before .pre in
-    let at-args = c .before .before .before .before .before .before .before .before .before .before .before .before .before .before .before .before .before .args in
-    (((at-pre .0 .reads, at-pre .0 .short), ((unique-few (at-args .d .now) (at-pre .0), omega arith, omega arith), unique-names (at-args .d .now) (at-pre .0))))
 
 slice-aggregate-has-field : tie.Need-slice-aggregate-has-field
 slice-aggregate-has-field c = search needs
 
 has-field-requires : tie.Need-has-field-requires
 has-field-requires c κs =
-    let at-pre = c .before .before .before .before .before .before .before .before .before .before .before .before .before .before .before .before .before .before .before .before .before .pre in
+    let at-pre = c .before .before .before .before .before .before .before .before .before .pre in
     (at-pre .0 .reads)
 
 slice-aggregate-has-field-2 : tie.Need-slice-aggregate-has-field-2
@@ -65,37 +34,23 @@ slice-aggregate-has-field-2 c = search needs
 
 has-field-requires-2 : tie.Need-has-field-requires-2
 has-field-requires-2 c κs =
-    let at-pre = c .before .before .before .before .before .before .before .before .before .before .before .before .before .before .before .before .before .before .before .before .before .before .before .pre in
+    let at-pre = c .before .before .before .before .before .before .before .before .before .before .before .pre in
     (at-pre .0 .reads)
-
-slice-aggregate-judge-records : tie.Need-slice-aggregate-judge-records
-slice-aggregate-judge-records c = search needs
-
-slice-aggregate-judge-records-2 : tie.Need-slice-aggregate-judge-records-2
-slice-aggregate-judge-records-2 c = search needs
-
-slice-aggregate-judge-records-3 : tie.Need-slice-aggregate-judge-records-3
-slice-aggregate-judge-records-3 c = search needs
-
-slice-aggregate-judge-records-4 : tie.Need-slice-aggregate-judge-records-4
-slice-aggregate-judge-records-4 c = search needs
 
 judge-records-requires : tie.Need-judge-records-requires
 judge-records-requires c κs =
-    let at-pre = c .before .before .before .before .before .before .before .before .before .before .before .before .before .before .before .before .before .before .before .before .before .before .before .before .before .before .before .before .before .before .pre in
-    let at-read2 = c .before .before .before .before .before .before .before .before .before .before .before .before .before .before .before .before .before .before .read2 in
-    let at-read3 = c .before .before .before .before .before .before .before .before .before .before .before .before .read3 in
-    let at-read = c .before .before .before .before .before .before .before .before .before .before .before .before .before .before .before .before .before .before .before .before .before .before .before .before .read in
-    let at-has-field = c .before .before .before .before .before .before .before .before .has-field in
-    let at-args = c .before .before .before .before .before .before .before .before .before .before .before .before .before .before .before .before .before .before .before .before .before .before .before .before .before .before .before .before .before .before .args in
-    let at-has-field2 = c .before .before .before .before .before .before .has-field2 in
-    let at-scratch = c .before .before .before .before .before .before .before .before .before .before .before .before .before .before .before .before .before .before .before .before .before .before .before .scratch in
-    ((record { described = at-pre .0; mandatory-are = at-read2 .ensures; unique-are = at-read3 .ensures; kinds-are = at-read .ensures; limited-is = at-has-field .ensures; keyed-is = key-there (at-args .d .now) (at-pre .0) (at-has-field2 .result) (at-has-field2 .ensures) }, ((at-pre .1 .0 .0, at-pre .1 .0 .1, subst (λ (n : ℕ). all (fitsIn n) (recordIn (at-args .part .now)) ≡ true) (sym (at-scratch .given)) (at-pre .1 .0 .2)), at-pre .1 .1 .1)))
+    let at-pre = c .before .before .before .before .before .before .before .before .before .before .before .before .before .before .pre in
+    let at-read = c .before .before .before .before .before .before .before .before .read in
+    let at-has-field = c .before .before .before .before .has-field in
+    let at-args = c .before .before .before .before .before .before .before .before .before .before .before .before .before .before .args in
+    let at-has-field2 = c .before .before .has-field2 in
+    let at-scratch = c .before .before .before .before .before .before .before .scratch in
+    ((record { described = at-pre .0; kinds-are = at-read .ensures; limited-is = at-has-field .ensures; keyed-is = key-there (at-args .d .now) (at-pre .0) (at-has-field2 .result) (at-has-field2 .ensures) }, ((at-pre .1 .0 .0, at-pre .1 .0 .1, subst (λ (n : ℕ). all (fitsIn n) (recordIn (at-args .part .now)) ≡ true) (sym (at-scratch .given)) (at-pre .1 .0 .2)), at-pre .1 .1 .1)))
 
 same-length : tie.Need-same-length
 same-length c =
     let at-scratch2 = c .before .before .before .scratch2 in
-    let at-scratch = c .before .before .before .before .before .before .before .before .before .before .before .before .before .before .before .before .before .before .before .before .before .before .before .before .before .before .before .before .scratch in
+    let at-scratch = c .before .before .before .before .before .before .before .before .before .before .before .before .scratch in
     at-scratch2 .given ∙ at-scratch .given
 
 same-length-2 : tie.Need-same-length-2
@@ -109,22 +64,10 @@ judge-members-spec =
     tie.close
     (tie.spec
     read-requires
-    slice-aggregate-read
-    slice-aggregate-read-2
-    slice-aggregate-read-3
-    read-requires-2
-    slice-aggregate-read-4
-    slice-aggregate-read-5
-    slice-aggregate-read-6
-    read-requires-3
     slice-aggregate-has-field
     has-field-requires
     slice-aggregate-has-field-2
     has-field-requires-2
-    slice-aggregate-judge-records
-    slice-aggregate-judge-records-2
-    slice-aggregate-judge-records-3
-    slice-aggregate-judge-records-4
     judge-records-requires
     same-length
     same-length-2

@@ -17,26 +17,26 @@ use Rattle.rules.proofs.judge_records.Tie as tie
 use Rattle.rules.proofs.judge_records.Reads as reads
 use Rattle.rules.proofs.judge_records.Lts as lts
 use Rattle.rules.proofs.judge_rows.Reads as judge-rows-reads
-use Rattle.rules.proofs.tallies.lesser.Reads as lesser-reads
+use Rattle.rules.proofs.questions.lesser.Reads as lesser-reads
 
 abbrev Inv-loop : tie.InvT-loop
-Inv-loop d needed needsets single singlesets b part scratch₀ entries₀ count from₀ worst₀ scratch entries from worst =
+Inv-loop d b part scratch₀ entries₀ count from₀ worst₀ scratch entries from worst =
     (length scratch ≡ length scratch₀) × (length entries ≡ length entries₀) × (from ≤ b .kinds .count) × (least worst (partNo d from (b .kinds .count - from) (records (readOf part))) ≡ partNo d 0 (b .kinds .count) (records (readOf part)))
 
 abbrev μ-loop : tie.MeasureT-loop
-μ-loop d needed needsets single singlesets b part scratch₀ entries₀ count from₀ worst₀ scratch entries from worst =
+μ-loop d b part scratch₀ entries₀ count from₀ worst₀ scratch entries from worst =
     b .kinds .count - from
 
 loop-holds : tie.Need-loop-holds Inv-loop μ-loop
 loop-holds c =
-    let at-args = c .before .before .before .before .before .before .before .before .before .args in
+    let at-args = c .before .before .before .before .before .args in
     (refl, refl, omega arith, ap (λ (j : ℕ). partNo (at-args .d .now) 0 j (records (readOf (at-args .part .now)))) (let e : at-args .b .kinds .count - 0 ≡ at-args .b .kinds .count = omega arith in e))
 
 judge-rows-requires : tie.Need-judge-rows-requires Inv-loop μ-loop
 judge-rows-requires c κs =
-    let at-pre = c .before .before .before .before .before .before .before .before .before .before .before .before .pre in
+    let at-pre = c .before .before .before .before .before .before .before .before .pre in
     let at-loop = c .before .before .loop in
-    let at-args = c .before .before .before .before .before .before .before .before .before .before .before .before .args in
+    let at-args = c .before .before .before .before .before .before .before .before .args in
     (((at-pre .0, at-loop .inv .2), ((at-pre .1 .0 .0, at-pre .1 .0 .1, subst (λ (n : ℕ). all (fitsIn n) (recordIn (at-args .part .now)) ≡ true) (sym (at-loop .inv .0)) (at-pre .1 .0 .2)), omega (arith, at-loop .inv .1, at-pre .1 .1))))
 
 lesser-requires : tie.Need-lesser-requires Inv-loop μ-loop
@@ -56,12 +56,12 @@ same-length-2 c =
 
 returns : tie.Need-returns Inv-loop μ-loop
 returns c =
-    let at-args = c .before .before .before .before .before .before .before .before .before .before .before .before .before .before .before .before .before .before .before .before .args in
+    let at-args = c .before .before .before .before .before .before .before .before .before .before .before .before .before .before .before .before .args in
     let at-loop = c .before .before .before .before .before .before .before .before .before .before .loop in
     let at-judge-rows = c .before .before .before .before .before .before .before .judge-rows in
     let at-lesser = c .before .before .lesser in
     let at-if1 = c .if1 in
-    let at-pre = c .before .before .before .before .before .before .before .before .before .before .before .before .before .before .before .before .before .before .before .before .pre in
+    let at-pre = c .before .before .before .before .before .before .before .before .before .before .before .before .before .before .before .before .pre in
     let d = at-args .d .now in
     let rs = records (readOf (at-args .part .now)) in
     record {
@@ -77,7 +77,7 @@ loop-less c =
 
 loop-again : tie.Need-loop-again Inv-loop μ-loop
 loop-again c =
-    let at-args = c .before .before .before .before .before .before .before .before .before .before .before .before .before .before .before .before .before .before .before .before .args in
+    let at-args = c .before .before .before .before .before .before .before .before .before .before .before .before .before .before .before .before .args in
     let at-scratch = c .before .before .before .before .before .before .scratch in
     let at-loop = c .before .before .before .before .before .before .before .before .before .before .loop in
     let at-entries = c .before .before .before .before .entries in

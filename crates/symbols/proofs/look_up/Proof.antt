@@ -18,7 +18,7 @@ returns c =
     let at-args = c .before .before .before .before .before .before .args in
     let at-pre = c .before .before .before .before .before .before .pre in
     let at-find = c .find in
-    finds (at-args .d .now) (at-args .texts .now) (at-args .from) (at-args .value .now) (at-args .to) (at-args .s .next) (termsOf (at-args .d .now) (take (at-args .s .table .count) (at-args .entries .now))) (at-pre .begins) (at-pre .within) (at-pre .short) (λ k. at-pre .terms (at-args .value .now) k) (at-find .result) (at-find .ensures)
+    finds (at-args .d .now) (at-args .texts .now) (at-args .symbols .from) (at-args .value .now) (at-args .symbols .next) (termsOf (at-args .d .now) (take (at-args .symbols .table .count) (at-args .entries .now))) (at-pre .short) (at-pre .terms (at-args .value .now)) (at-find .result) (at-find .ensures)
 
 pub look-up-spec : {M : Type 1} → statement M
 look-up-spec = tie.close (tie.spec find-requires returns)

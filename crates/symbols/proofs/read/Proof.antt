@@ -3,7 +3,7 @@ use native.Mathlib.Omega.{arith}
 use mathlib.Core.Path.{sym}
 use lib.ListN.{drop, length-append, length-drop}
 use lib.Seq.{length-take-le}
-use Rattle.symbols.proofs.Making.{all-entries, made}
+use Rattle.symbols.proofs.Making.{all-entries, made, reaches}
 use Rattle.symbols.proofs.read.Statement.{statement}
 use Rattle.symbols.proofs.read.Tie as tie
 use Rattle.symbols.proofs.read.Reads as reads
@@ -47,7 +47,7 @@ returns c =
     let at-add-rows = c .before .before .before .before .before .before .add-rows in
     let at-build = c .before .before .build in
     let at-pre = c .before .before .before .before .before .before .before .before .before .before .before .pre in
-    made (at-args .d .now) (at-args .texts .now) (at-args .from) (at-args .to) (at-args .entries .now) (at-add-rows .last .1 .1 .1 .1 .0) (at-add-rows .result) (at-add-rows .ensures) (at-build .last .1 .0) (at-build .result) (at-build .ensures) (at-pre .1 .1) (at-pre .0 .3)
+    (made (at-args .d .now) (at-args .texts .now) (at-args .from) (at-args .to) (at-args .entries .now) (at-add-rows .last .1 .1 .1 .1 .0) (at-add-rows .result) (at-add-rows .ensures) (at-build .last .1 .0) (at-build .result) (at-build .ensures) (at-pre .0 .3), reaches (at-args .d .now) (at-args .texts .now) (at-args .from) (at-args .to) (at-args .entries .now) (at-add-rows .last .1 .1 .1 .1 .0) (at-add-rows .result) (at-add-rows .ensures) (at-build .last .1 .0) (at-build .result) (at-build .ensures) (at-pre .1 .1))
 
 pub read-spec : {M : Type 1} → statement M
 read-spec =

@@ -13,7 +13,7 @@ use Rattle.rules.proofs.members.closed.Statement.{statement}
 use Rattle.rules.proofs.members.closed.Tie as tie
 use Rattle.rules.proofs.members.closed.Reads as reads
 use Rattle.rules.proofs.members.closed.Lts as lts
-use Rattle.rules.proofs.tallies.lesser.Reads as lesser-reads
+use Rattle.rules.proofs.questions.lesser.Reads as lesser-reads
 use Rattle.rules.proofs.tallies.number.Reads as number-reads
 
 returns : tie.Need-returns

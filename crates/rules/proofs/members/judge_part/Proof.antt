@@ -12,9 +12,8 @@ use Rattle.records.specs.Walk.{recordIn}
 use Rattle.records.specs.Fields.{fieldsFrom}
 use Rattle.records.proofs.Readings.{part-ended}
 use Rattle.records.proofs.Steps.{steps, part-formed, record-blank, record-comment, record-field}
-use Rattle.rules.specs.Seen.{Stands}
 use Rattle.rules.specs.Members.{fitsIn}
-use Rattle.rules.proofs.Walking.{Walked, walk-start, walk-comment, walk-blank, walk-count, walk-end, walk-field, few-mandatory, open-no, types-within, AllSeen, seen-start, seen-set, fits-here, field-met}
+use Rattle.rules.proofs.Walking.{Walked, walk-start, walk-comment, walk-blank, walk-count, walk-end, walk-field, few-mandatory, open-no, AllSeen, seen-start, seen-set, fits-here, field-met}
 use Rattle.rules.proofs.members.judge_part.Statement.{statement}
 use Rattle.rules.proofs.members.judge_part.Tie as tie
 use Rattle.rules.proofs.members.judge_part.Reads as reads
@@ -24,33 +23,42 @@ use Rattle.rules.proofs.members.closed.Reads as closed-reads
 use Rattle.rules.proofs.members.value_met.Reads as value-met-reads
 use Rattle.rules.proofs.members.with_types.Reads as with-types-reads
 use Rattle.rules.proofs.tallies.count.Reads as count-reads
-use Rattle.rules.proofs.tallies.look_up.Reads as look-up-reads
-use Rattle.rules.proofs.tallies.recall.Reads as recall-reads
+use Rattle.rules.proofs.tables.look_up.Reads as look-up-reads
+use Rattle.rules.proofs.tables.recall.Reads as recall-reads
 use Rattle.rules.proofs.tallies.start.Reads as start-reads
 
 abbrev Inv-loop : tie.InvT-loop
-Inv-loop d names needed needsets single singlesets marks r s scratch₀ tables from to mandatory seen₀ t₀ fields₀ typed₀ a₀ i₀ scratch seen t fields typed a i =
-    (length scratch ≡ length scratch₀) × (length seen ≡ 16) × AllSeen (recordIn d) (r .tables .from) (r .tables .names .next) s seen × Walked d (r .tables .from) (r .enums .next - r .tables .from) s t fields typed (a .number) (a .count) i × (all (fitsIn (length scratch₀)) (fieldsFrom s i) ≡ true)
+Inv-loop d entries sets r s scratch₀ tables mandatory seen₀ t₀ fields₀ typed₀ a₀ i₀ scratch seen t fields typed a i =
+    (length scratch ≡ length scratch₀) × (length seen ≡ 16) × AllSeen (recordIn d) (r .tables .names .from) (r .tables .names .next) s seen × Walked d (r .tables .names .from) (r .typed .symbols .next - r .tables .names .from) s t fields typed (a .number) (a .count) i × (all (fitsIn (length scratch₀)) (fieldsFrom s i) ≡ true)
 
 abbrev μ-loop : tie.MeasureT-loop
-μ-loop d names needed needsets single singlesets marks r s scratch₀ tables from to mandatory seen₀ t₀ fields₀ typed₀ a₀ i₀ scratch seen t fields typed a i =
+μ-loop d entries sets r s scratch₀ tables mandatory seen₀ t₀ fields₀ typed₀ a₀ i₀ scratch seen t fields typed a i =
     length s - i
+
+sub-look-up : tie.Need-sub-look-up Inv-loop μ-loop
+sub-look-up c = search needs
+
+part-look-up-start : tie.Need-part-look-up-start Inv-loop μ-loop
+part-look-up-start c = search needs
+
+part-look-up-end : tie.Need-part-look-up-end Inv-loop μ-loop
+part-look-up-end c = search needs
 
 look-up-requires : tie.Need-look-up-requires Inv-loop μ-loop
 look-up-requires c κs =
-    let at-pre = c .before .before .before .before .before .before .before .before .before .before .pre in
-    (at-pre .0 .tables-are, (omega arith, omega arith))
+    let at-pre = c .before .before .before .before .before .before .before .pre in
+    at-pre .0 .tables-are
 
 start-requires : tie.Need-start-requires Inv-loop μ-loop
 start-requires c κs = search needs
 
 loop-holds : tie.Need-loop-holds Inv-loop μ-loop
 loop-holds c =
-    let at-args = c .before .before .before .before .before .before .before .before .before .before .before .before .args in
+    let at-args = c .before .before .before .before .before .before .before .before .before .args in
     let at-look-up = c .before .look-up in
     let at-start = c .start in
-    let at-pre = c .before .before .before .before .before .before .before .before .before .before .before .before .pre in
-    (refl, refl, seen-start (recordIn (at-args .d .now)) (at-args .r .tables .from) (at-args .r .tables .names .next) (at-args .s .now) (at-look-up .result) (at-look-up .ensures .0), walk-start (at-args .d .now) (at-args .r .tables .from) (at-args .r .enums .next - at-args .r .tables .from) (at-args .s .now) (at-start .result) (at-start .ensures) (at-pre .1 .0), at-pre .1 .2)
+    let at-pre = c .before .before .before .before .before .before .before .before .before .pre in
+    (refl, refl, seen-start (recordIn (at-args .d .now)) (at-args .r .tables .names .from) (at-args .r .tables .names .next) (at-args .s .now) _ (record { ordered = omega arith; inside = omega arith; stands = at-look-up .ensures }), walk-start (at-args .d .now) (at-args .r .tables .names .from) (at-args .r .typed .symbols .next - at-args .r .tables .names .from) (at-args .s .now) (at-start .result) (at-start .ensures) (at-pre .1 .0), at-pre .1 .2)
 
 sub-read-piece : tie.Need-sub-read-piece Inv-loop μ-loop
 sub-read-piece c =
@@ -67,7 +75,7 @@ part-read-piece-end c = search needs
 
 read-piece-requires : tie.Need-read-piece-requires Inv-loop μ-loop
 read-piece-requires c κs =
-    let at-args = c .before .before .before .before .before .before .before .before .before .before .before .before .before .before .args in
+    let at-args = c .before .before .before .before .before .before .before .before .before .before .before .args in
     let at-loop = c .before .loop in
     (part-ended (at-args .s .now) (at-loop .i) (at-loop .inv .3 .readable), part-formed (at-args .s .now) (at-loop .i) (at-loop .inv .3 .readable))
 
@@ -76,16 +84,16 @@ enum-known-p c = search needs
 
 add-i : tie.Need-add-i Inv-loop μ-loop
 add-i c =
-    let at-args = c .before .before .before .before .before .before .before .before .before .before .before .before .before .before .before .before .before .before .args in
+    let at-args = c .before .before .before .before .before .before .before .before .before .before .before .before .before .before .before .args in
     let at-loop = c .before .before .before .before .before .loop in
     let at-read-piece = c .before .before .before .read-piece in
     let at-p = c .before .p in
-    let at-pre = c .before .before .before .before .before .before .before .before .before .before .before .before .before .before .before .before .before .before .pre in
+    let at-pre = c .before .before .before .before .before .before .before .before .before .before .before .before .before .before .before .pre in
     let h = steps (at-args .s .now) (at-loop .i) (at-read-piece .result) (at-loop .inv .3 .readable) (at-read-piece .ensures) (at-p .given .1) in omega (arith, h .1 .inside, at-pre .1 .1)
 
 loop-less : tie.Need-loop-less Inv-loop μ-loop
 loop-less c =
-    let at-args = c .before .before .before .before .before .before .before .before .before .before .before .before .before .before .before .before .before .before .args in
+    let at-args = c .before .before .before .before .before .before .before .before .before .before .before .before .before .before .before .args in
     let at-loop = c .before .before .before .before .before .loop in
     let at-read-piece = c .before .before .before .read-piece in
     let at-p = c .before .p in
@@ -93,39 +101,39 @@ loop-less c =
 
 loop-again : tie.Need-loop-again Inv-loop μ-loop
 loop-again c =
-    let at-args = c .before .before .before .before .before .before .before .before .before .before .before .before .before .before .before .before .before .before .args in
+    let at-args = c .before .before .before .before .before .before .before .before .before .before .before .before .before .before .before .args in
     let at-loop = c .before .before .before .before .before .loop in
     let at-read-piece = c .before .before .before .read-piece in
     let at-p = c .before .p in
     let h = steps (at-args .s .now) (at-loop .i) (at-read-piece .result) (at-loop .inv .3 .readable) (at-read-piece .ensures) (at-p .given .1) in
     let k = at-p .given .0 .0 in
-    (at-loop .inv .0, at-loop .inv .1, at-loop .inv .2, walk-comment (at-args .d .now) (at-args .r .tables .from) (at-args .r .enums .next - at-args .r .tables .from) (at-args .s .now) (at-loop .t) (at-loop .fields) (at-loop .typed) (at-loop .a .number) (at-loop .a .count) (at-loop .i) (at-loop .inv .3) (h .0) k (h .1), sym (ap (all (fitsIn (length (at-args .scratch .now)))) (record-comment (at-args .s .now) (at-loop .i) (h .0) k (h .1))) ∙ at-loop .inv .4)
+    (at-loop .inv .0, at-loop .inv .1, at-loop .inv .2, walk-comment (at-args .d .now) (at-args .r .tables .names .from) (at-args .r .typed .symbols .next - at-args .r .tables .names .from) (at-args .s .now) (at-loop .t) (at-loop .fields) (at-loop .typed) (at-loop .a .number) (at-loop .a .count) (at-loop .i) (at-loop .inv .3) (h .0) k (h .1), sym (ap (all (fitsIn (length (at-args .scratch .now)))) (record-comment (at-args .s .now) (at-loop .i) (h .0) k (h .1))) ∙ at-loop .inv .4)
 
 enum-known-p-2 : tie.Need-enum-known-p-2 Inv-loop μ-loop
 enum-known-p-2 c = search needs
 
 closed-requires : tie.Need-closed-requires Inv-loop μ-loop
 closed-requires c κs =
-    let at-args = c .before .before .before .before .before .before .before .before .before .before .before .before .before .before .before .before .before .before .args in
-    let at-pre = c .before .before .before .before .before .before .before .before .before .before .before .before .before .before .before .before .before .before .pre in
+    let at-args = c .before .before .before .before .before .before .before .before .before .before .before .before .before .before .before .args in
+    let at-pre = c .before .before .before .before .before .before .before .before .before .before .before .before .before .before .before .pre in
     let at-loop = c .before .before .before .before .before .loop in
-    (few-mandatory (at-args .d .now) (at-args .names .now) (at-args .needed .now) (at-args .needsets .now) (at-args .single .now) (at-args .singlesets .now) (at-args .marks .now) (at-args .r) (at-pre .0), omega (arith, at-loop .inv .3 .fewer, at-loop .inv .3 .inside, at-pre .1 .1))
+    (few-mandatory (at-args .d .now) (at-args .entries .now) (at-args .sets .now) (at-args .r) (at-pre .0), omega (arith, at-loop .inv .3 .fewer, at-loop .inv .3 .inside, at-pre .1 .1))
 
 start-requires-2 : tie.Need-start-requires-2 Inv-loop μ-loop
 start-requires-2 c κs = search needs
 
 add-i-2 : tie.Need-add-i-2 Inv-loop μ-loop
 add-i-2 c =
-    let at-args = c .before .before .before .before .before .before .before .before .before .before .before .before .before .before .before .before .before .before .before .before .args in
+    let at-args = c .before .before .before .before .before .before .before .before .before .before .before .before .before .before .before .before .before .args in
     let at-loop = c .before .before .before .before .before .before .before .loop in
     let at-read-piece = c .before .before .before .before .before .read-piece in
     let at-p2 = c .before .before .before .p2 in
-    let at-pre = c .before .before .before .before .before .before .before .before .before .before .before .before .before .before .before .before .before .before .before .before .pre in
+    let at-pre = c .before .before .before .before .before .before .before .before .before .before .before .before .before .before .before .before .before .pre in
     let h = steps (at-args .s .now) (at-loop .i) (at-read-piece .result) (at-loop .inv .3 .readable) (at-read-piece .ensures) (at-p2 .given .1) in omega (arith, h .1 .inside, at-pre .1 .1)
 
 loop-less-2 : tie.Need-loop-less-2 Inv-loop μ-loop
 loop-less-2 c =
-    let at-args = c .before .before .before .before .before .before .before .before .before .before .before .before .before .before .before .before .before .before .before .before .args in
+    let at-args = c .before .before .before .before .before .before .before .before .before .before .before .before .before .before .before .before .before .args in
     let at-loop = c .before .before .before .before .before .before .before .loop in
     let at-read-piece = c .before .before .before .before .before .read-piece in
     let at-p2 = c .before .before .before .p2 in
@@ -133,16 +141,16 @@ loop-less-2 c =
 
 loop-again-2 : tie.Need-loop-again-2 Inv-loop μ-loop
 loop-again-2 c =
-    let at-args = c .before .before .before .before .before .before .before .before .before .before .before .before .before .before .before .before .before .before .before .before .args in
+    let at-args = c .before .before .before .before .before .before .before .before .before .before .before .before .before .before .before .before .before .args in
     let at-loop = c .before .before .before .before .before .before .before .loop in
     let at-read-piece = c .before .before .before .before .before .read-piece in
     let at-p2 = c .before .before .before .p2 in
     let at-closed = c .before .closed in
-    let at-pre = c .before .before .before .before .before .before .before .before .before .before .before .before .before .before .before .before .before .before .before .before .pre in
+    let at-pre = c .before .before .before .before .before .before .before .before .before .before .before .before .before .before .before .before .before .pre in
     let at-start2 = c .start2 in
     let h = steps (at-args .s .now) (at-loop .i) (at-read-piece .result) (at-loop .inv .3 .readable) (at-read-piece .ensures) (at-p2 .given .1) in
     let k = at-p2 .given .0 .0 in
-    (at-loop .inv .0, at-loop .inv .1, at-loop .inv .2, walk-blank (at-args .d .now) (at-args .r .tables .from) (at-args .r .enums .next - at-args .r .tables .from) (at-args .s .now) (at-loop .t) (at-loop .fields) (at-loop .typed) (at-loop .a .number) (at-loop .a .count) (at-loop .i) (at-loop .inv .3) (at-closed .result .number) _ (at-closed .result .count) (open-no (at-args .d .now) (at-args .names .now) (at-args .needed .now) (at-args .needsets .now) (at-args .single .now) (at-args .singlesets .now) (at-args .marks .now) (at-args .r) (at-pre .0) (at-loop .inv .3 .opened) (at-loop .t) (at-loop .inv .3 .tallied)) (at-closed .ensures .0) (at-closed .ensures .1) (h .0) k (at-start2 .result) (at-start2 .ensures) (h .1), sym (ap (all (fitsIn (length (at-args .scratch .now)))) (record-blank (at-args .s .now) (at-loop .i) (h .0) k (h .1))) ∙ at-loop .inv .4)
+    (at-loop .inv .0, at-loop .inv .1, at-loop .inv .2, walk-blank (at-args .d .now) (at-args .r .tables .names .from) (at-args .r .typed .symbols .next - at-args .r .tables .names .from) (at-args .s .now) (at-loop .t) (at-loop .fields) (at-loop .typed) (at-loop .a .number) (at-loop .a .count) (at-loop .i) (at-loop .inv .3) (at-closed .result .number) _ (at-closed .result .count) (open-no (at-args .d .now) (at-args .entries .now) (at-args .sets .now) (at-args .r) (at-pre .0) (at-loop .inv .3 .opened) (at-loop .t) (at-loop .inv .3 .tallied)) (at-closed .ensures .0) (at-closed .ensures .1) (h .0) k (at-start2 .result) (at-start2 .ensures) (h .1), sym (ap (all (fitsIn (length (at-args .scratch .now)))) (record-blank (at-args .s .now) (at-loop .i) (h .0) k (h .1))) ∙ at-loop .inv .4)
 
 enum-known-p-3 : tie.Need-enum-known-p-3 Inv-loop μ-loop
 enum-known-p-3 c = search needs
@@ -155,22 +163,22 @@ array-copy-out-before c =
     let at-loop = c .before .before .before .before .before .loop in
     omega (arith, at-loop .inv .1)
 
-add-recall : tie.Need-add-recall Inv-loop μ-loop
-add-recall c =
-    let at-args = c .before .before .before .before .before .before .before .before .before .before .before .before .before .before .before .before .before .before .before .args in
+add-end : tie.Need-add-end Inv-loop μ-loop
+add-end c =
+    let at-args = c .before .before .before .before .before .before .before .before .before .before .before .before .before .before .before .before .args in
     let at-loop = c .before .before .before .before .before .before .loop in
     let at-read-piece = c .before .before .before .before .read-piece in
     let at-p3 = c .before .before .p3 in
-    let at-pre = c .before .before .before .before .before .before .before .before .before .before .before .before .before .before .before .before .before .before .before .pre in
+    let at-pre = c .before .before .before .before .before .before .before .before .before .before .before .before .before .before .before .before .pre in
     let h = steps (at-args .s .now) (at-loop .i) (at-read-piece .result) (at-loop .inv .3 .readable) (at-read-piece .ensures) (at-p3 .given .1) in omega (arith, h .passed .inside, h .name-inside, at-pre .1 .1)
 
 recall-requires : tie.Need-recall-requires Inv-loop μ-loop
 recall-requires c κs =
-    let at-args = c .before .before .before .before .before .before .before .before .before .before .before .before .before .before .before .before .before .before .before .args in
+    let at-args = c .before .before .before .before .before .before .before .before .before .before .before .before .before .before .before .before .args in
     let at-loop = c .before .before .before .before .before .before .loop in
     let at-read-piece = c .before .before .before .before .read-piece in
     let at-p3 = c .before .before .p3 in
-    let at-pre = c .before .before .before .before .before .before .before .before .before .before .before .before .before .before .before .before .before .before .before .pre in
+    let at-pre = c .before .before .before .before .before .before .before .before .before .before .before .before .before .before .before .before .pre in
     let h = steps (at-args .s .now) (at-loop .i) (at-read-piece .result) (at-loop .inv .3 .readable) (at-read-piece .ensures) (at-p3 .given .1) in (at-pre .0 .tables-are, ((omega arith, omega (arith, h .passed .inside, h .name-inside)), at-loop .inv .2 _ _ (omega arith)))
 
 mul-seen : tie.Need-mul-seen Inv-loop μ-loop
@@ -186,95 +194,106 @@ count-requires c κs = search needs
 
 add-v : tie.Need-add-v Inv-loop μ-loop
 add-v c =
-    let at-args = c .before .before .before .before .before .before .before .before .before .before .before .before .before .before .before .before .before .before .before .before .before .args in
+    let at-args = c .before .before .before .before .before .before .before .before .before .before .before .before .before .before .before .before .before .before .args in
     let at-loop = c .before .before .before .before .before .before .before .before .loop in
     let at-read-piece = c .before .before .before .before .before .before .read-piece in
     let at-p3 = c .before .before .before .before .p3 in
-    let at-pre = c .before .before .before .before .before .before .before .before .before .before .before .before .before .before .before .before .before .before .before .before .before .pre in
+    let at-pre = c .before .before .before .before .before .before .before .before .before .before .before .before .before .before .before .before .before .before .pre in
     let h = steps (at-args .s .now) (at-loop .i) (at-read-piece .result) (at-loop .inv .3 .readable) (at-read-piece .ensures) (at-p3 .given .1) in omega (arith, h .passed .inside, h .value-inside, at-pre .1 .1)
 
 add-e : tie.Need-add-e Inv-loop μ-loop
 add-e c =
-    let at-args = c .before .before .before .before .before .before .before .before .before .before .before .before .before .before .before .before .before .before .before .before .before .args in
+    let at-args = c .before .before .before .before .before .before .before .before .before .before .before .before .before .before .before .before .before .before .args in
     let at-loop = c .before .before .before .before .before .before .before .before .loop in
     let at-read-piece = c .before .before .before .before .before .before .read-piece in
     let at-p3 = c .before .before .before .before .p3 in
-    let at-pre = c .before .before .before .before .before .before .before .before .before .before .before .before .before .before .before .before .before .before .before .before .before .pre in
+    let at-pre = c .before .before .before .before .before .before .before .before .before .before .before .before .before .before .before .before .before .before .pre in
     let h = steps (at-args .s .now) (at-loop .i) (at-read-piece .result) (at-loop .inv .3 .readable) (at-read-piece .ensures) (at-p3 .given .1) in omega (arith, h .passed .inside, at-pre .1 .1)
 
 sub-value-met : tie.Need-sub-value-met Inv-loop μ-loop
-sub-value-met c =
-    let at-args = c .before .before .before .before .before .before .before .before .before .before .before .before .before .before .before .before .before .before .before .before .before .args in
-    let at-loop = c .before .before .before .before .before .before .before .before .loop in
-    let at-read-piece = c .before .before .before .before .before .before .read-piece in
-    let at-p3 = c .before .before .before .before .p3 in
-    let h = steps (at-args .s .now) (at-loop .i) (at-read-piece .result) (at-loop .inv .3 .readable) (at-read-piece .ensures) (at-p3 .given .1) in omega (arith, h .value-inside)
+sub-value-met c = search needs
 
 part-value-met-start : tie.Need-part-value-met-start Inv-loop μ-loop
-part-value-met-start c =
-    let at-args = c .before .before .before .before .before .before .before .before .before .before .before .before .before .before .before .before .before .before .before .before .before .args in
-    let at-loop = c .before .before .before .before .before .before .before .before .loop in
-    let at-read-piece = c .before .before .before .before .before .before .read-piece in
-    let at-p3 = c .before .before .before .before .p3 in
-    let h = steps (at-args .s .now) (at-loop .i) (at-read-piece .result) (at-loop .inv .3 .readable) (at-read-piece .ensures) (at-p3 .given .1) in omega (arith, h .value-inside)
+part-value-met-start c = search needs
 
 part-value-met-end : tie.Need-part-value-met-end Inv-loop μ-loop
 part-value-met-end c =
-    let at-args = c .before .before .before .before .before .before .before .before .before .before .before .before .before .before .before .before .before .before .before .before .before .args in
-    let at-loop = c .before .before .before .before .before .before .before .before .loop in
-    let at-read-piece = c .before .before .before .before .before .before .read-piece in
-    let at-p3 = c .before .before .before .before .p3 in
+    let at-pre = c .before .before .before .before .before .before .before .before .before .before .before .before .before .before .before .before .before .before .pre in
+    at-pre .0 .tables-are .entries-long
+
+sub-value-met-2 : tie.Need-sub-value-met-2 Inv-loop μ-loop
+sub-value-met-2 c =
+    let at-args = c .before .before .before .before .before .before .before .before .before .before .before .before .before .before .before .before .before .before .before .args in
+    let at-loop = c .before .before .before .before .before .before .before .before .before .loop in
+    let at-read-piece = c .before .before .before .before .before .before .before .read-piece in
+    let at-p3 = c .before .before .before .before .before .p3 in
+    let h = steps (at-args .s .now) (at-loop .i) (at-read-piece .result) (at-loop .inv .3 .readable) (at-read-piece .ensures) (at-p3 .given .1) in omega (arith, h .value-inside)
+
+part-value-met-start-2 : tie.Need-part-value-met-start-2 Inv-loop μ-loop
+part-value-met-start-2 c =
+    let at-args = c .before .before .before .before .before .before .before .before .before .before .before .before .before .before .before .before .before .before .before .args in
+    let at-loop = c .before .before .before .before .before .before .before .before .before .loop in
+    let at-read-piece = c .before .before .before .before .before .before .before .read-piece in
+    let at-p3 = c .before .before .before .before .before .p3 in
+    let h = steps (at-args .s .now) (at-loop .i) (at-read-piece .result) (at-loop .inv .3 .readable) (at-read-piece .ensures) (at-p3 .given .1) in omega (arith, h .value-inside)
+
+part-value-met-end-2 : tie.Need-part-value-met-end-2 Inv-loop μ-loop
+part-value-met-end-2 c =
+    let at-args = c .before .before .before .before .before .before .before .before .before .before .before .before .before .before .before .before .before .before .before .args in
+    let at-loop = c .before .before .before .before .before .before .before .before .before .loop in
+    let at-read-piece = c .before .before .before .before .before .before .before .read-piece in
+    let at-p3 = c .before .before .before .before .before .p3 in
     let h = steps (at-args .s .now) (at-loop .i) (at-read-piece .result) (at-loop .inv .3 .readable) (at-read-piece .ensures) (at-p3 .given .1) in omega (arith, h .passed .inside)
 
 value-met-requires : tie.Need-value-met-requires Inv-loop μ-loop
 value-met-requires c κs =
-    let at-args = c .before .before .before .before .before .before .before .before .before .before .before .before .before .before .before .before .before .before .before .before .before .before .before .args in
-    let at-loop = c .before .before .before .before .before .before .before .before .before .before .loop in
-    let at-read-piece = c .before .before .before .before .before .before .before .before .read-piece in
-    let at-p3 = c .before .before .before .before .before .before .p3 in
-    let at-pre = c .before .before .before .before .before .before .before .before .before .before .before .before .before .before .before .before .before .before .before .before .before .before .before .pre in
+    let at-args = c .before .before .before .before .before .before .before .before .before .before .before .before .before .before .before .before .before .before .before .before .before .args in
+    let at-loop = c .before .before .before .before .before .before .before .before .before .before .before .loop in
+    let at-read-piece = c .before .before .before .before .before .before .before .before .before .read-piece in
+    let at-p3 = c .before .before .before .before .before .before .before .p3 in
+    let at-pre = c .before .before .before .before .before .before .before .before .before .before .before .before .before .before .before .before .before .before .before .before .before .pre in
     let h = steps (at-args .s .now) (at-loop .i) (at-read-piece .result) (at-loop .inv .3 .readable) (at-read-piece .ensures) (at-p3 .given .1) in
     let g = at-p3 .given .0 in
     let f = fits-here (length (at-args .scratch .now)) _ _ _ (record-field (at-args .s .now) (at-loop .i) (g .0) (g .1 .0) (g .1 .1 .0) h) (at-loop .inv .4) in
-    (((at-pre .0 .kinds-are, types-within (at-args .d .now) (at-args .names .now) (at-args .needed .now) (at-args .needsets .now) (at-args .single .now) (at-args .singlesets .now) (at-args .marks .now) (at-args .r) (at-pre .0)), (at-pre .0 .enums-are, omega (arith, f .0, at-loop .inv .0))))
+    (at-pre .0 .typed-are, omega (arith, f .0, at-loop .inv .0))
 
 add-fields : tie.Need-add-fields Inv-loop μ-loop
 add-fields c =
-    let at-loop = c .before .before .before .before .before .before .before .before .before .before .before .before .before .loop in
-    let at-pre = c .before .before .before .before .before .before .before .before .before .before .before .before .before .before .before .before .before .before .before .before .before .before .before .before .before .before .pre in
+    let at-loop = c .before .before .before .before .before .before .before .before .before .before .before .before .before .before .loop in
+    let at-pre = c .before .before .before .before .before .before .before .before .before .before .before .before .before .before .before .before .before .before .before .before .before .before .before .before .pre in
     omega (arith, at-loop .inv .3 .fewer, at-loop .inv .3 .inside, at-pre .1 .1)
 
 loop-less-3 : tie.Need-loop-less-3 Inv-loop μ-loop
 loop-less-3 c =
-    let at-args = c .before .before .before .before .before .before .before .before .before .before .before .before .before .before .before .before .before .before .before .before .before .before .before .before .before .before .args in
-    let at-loop = c .before .before .before .before .before .before .before .before .before .before .before .before .before .loop in
-    let at-read-piece = c .before .before .before .before .before .before .before .before .before .before .before .read-piece in
-    let at-p3 = c .before .before .before .before .before .before .before .before .before .p3 in
+    let at-args = c .before .before .before .before .before .before .before .before .before .before .before .before .before .before .before .before .before .before .before .before .before .before .before .before .args in
+    let at-loop = c .before .before .before .before .before .before .before .before .before .before .before .before .before .before .loop in
+    let at-read-piece = c .before .before .before .before .before .before .before .before .before .before .before .before .read-piece in
+    let at-p3 = c .before .before .before .before .before .before .before .before .before .before .p3 in
     let h = steps (at-args .s .now) (at-loop .i) (at-read-piece .result) (at-loop .inv .3 .readable) (at-read-piece .ensures) (at-p3 .given .1) in omega (arith, h .passed .inside, h .passed .moves)
 
 loop-again-3 : tie.Need-loop-again-3 Inv-loop μ-loop
 loop-again-3 c =
-    let at-args = c .before .before .before .before .before .before .before .before .before .before .before .before .before .before .before .before .before .before .before .before .before .before .before .before .before .before .args in
-    let at-loop = c .before .before .before .before .before .before .before .before .before .before .before .before .before .loop in
-    let at-read-piece = c .before .before .before .before .before .before .before .before .before .before .before .read-piece in
-    let at-p3 = c .before .before .before .before .before .before .before .before .before .p3 in
-    let at-recall = c .before .before .before .before .before .before .recall in
+    let at-args = c .before .before .before .before .before .before .before .before .before .before .before .before .before .before .before .before .before .before .before .before .before .before .before .before .args in
+    let at-loop = c .before .before .before .before .before .before .before .before .before .before .before .before .before .before .loop in
+    let at-read-piece = c .before .before .before .before .before .before .before .before .before .before .before .before .read-piece in
+    let at-p3 = c .before .before .before .before .before .before .before .before .before .before .p3 in
+    let at-recall = c .before .before .before .before .before .before .before .recall in
     let at-value-met = c .before .before .value-met in
-    let at-pre = c .before .before .before .before .before .before .before .before .before .before .before .before .before .before .before .before .before .before .before .before .before .before .before .before .before .before .pre in
+    let at-pre = c .before .before .before .before .before .before .before .before .before .before .before .before .before .before .before .before .before .before .before .before .before .before .before .before .pre in
     let at-scratch = c .before .scratch in
-    let at-count = c .before .before .before .before .before .count in
+    let at-count = c .before .before .before .before .before .before .count in
     let h = steps (at-args .s .now) (at-loop .i) (at-read-piece .result) (at-loop .inv .3 .readable) (at-read-piece .ensures) (at-p3 .given .1) in
     let g = at-p3 .given .0 in
-    let from = at-args .r .tables .from in
+    let from = at-args .r .tables .names .from in
     let next = at-args .r .tables .names .next in
     let rules = recordIn (at-args .d .now) in
     let f = fits-here (length (at-args .scratch .now)) _ _ _ (record-field (at-args .s .now) (at-loop .i) (g .0) (g .1 .0) (g .1 .1 .0) h) (at-loop .inv .4) in
-    let stands = subst (λ (n : Bytes). Stands rules from next n (at-recall .result)) (at-recall .ensures .1) (at-recall .ensures .0 .stands) in
-    let ok = field-met (at-args .d .now) from next (at-args .r .enums .next) _ (at-recall .result) (at-value-met .result) stands (at-pre .0 .enums-are .begins) (at-pre .0 .enums-are .within) (at-value-met .ensures) in (
+    let stands = at-recall .ensures in
+    let ok = field-met (at-args .d .now) from next (at-args .r .typed .symbols .from) (at-args .r .typed .symbols .next) _ (at-recall .result) (at-value-met .result) stands (at-pre .0 .from-is) (at-pre .0 .typed-are .symbols-are .begins) (at-pre .0 .within) (at-value-met .ensures) in (
       at-scratch .given ∙ at-loop .inv .0,
-      length-set (at-loop .seen) _ (at-recall .result) ∙ at-loop .inv .1,
-      seen-set rules from next (at-args .s .now) (at-loop .seen) _ (at-recall .result) (at-loop .inv .1) (omega arith) (at-recall .ensures .0) (at-loop .inv .2),
-      walk-field (at-args .d .now) from (at-args .r .enums .next - from) (at-args .s .now) (at-loop .t) (at-loop .fields) (at-loop .typed) (at-loop .a .number) (at-loop .a .count) (at-loop .i) (at-loop .inv .3) (g .0) (g .1 .0) (g .1 .1 .0) h next (at-recall .result) (at-count .result) (at-value-met .result) _ stands (at-count .ensures) ok refl,
+      length-set (at-loop .seen) _ _ ∙ at-loop .inv .1,
+      seen-set rules from next (at-args .s .now) (at-loop .seen) _ _ (at-loop .inv .1) (omega arith) (record { ordered = omega arith; inside = omega (arith, h .passed .inside, h .name-inside); stands = stands }) (at-loop .inv .2),
+      walk-field (at-args .d .now) from (at-args .r .typed .symbols .next - from) (at-args .s .now) (at-loop .t) (at-loop .fields) (at-loop .typed) (at-loop .a .number) (at-loop .a .count) (at-loop .i) (at-loop .inv .3) (g .0) (g .1 .0) (g .1 .1 .0) h next (at-recall .result) (at-count .result) (at-value-met .result) _ stands (at-count .ensures) ok refl,
       f .1,
     )
 
@@ -283,10 +302,10 @@ enum-told c = search needs
 
 closed-requires-2 : tie.Need-closed-requires-2 Inv-loop μ-loop
 closed-requires-2 c κs =
-    let at-args = c .before .before .before .before .before .before .before .before .before .before .before .before .before .before .before .before .before .args in
-    let at-pre = c .before .before .before .before .before .before .before .before .before .before .before .before .before .before .before .before .before .pre in
+    let at-args = c .before .before .before .before .before .before .before .before .before .before .before .before .before .before .args in
+    let at-pre = c .before .before .before .before .before .before .before .before .before .before .before .before .before .before .pre in
     let at-loop = c .before .before .before .before .loop in
-    (few-mandatory (at-args .d .now) (at-args .names .now) (at-args .needed .now) (at-args .needsets .now) (at-args .single .now) (at-args .singlesets .now) (at-args .marks .now) (at-args .r) (at-pre .0), omega (arith, at-loop .inv .3 .fewer, at-loop .inv .3 .inside, at-pre .1 .1))
+    (few-mandatory (at-args .d .now) (at-args .entries .now) (at-args .sets .now) (at-args .r) (at-pre .0), omega (arith, at-loop .inv .3 .fewer, at-loop .inv .3 .inside, at-pre .1 .1))
 
 with-types-requires : tie.Need-with-types-requires Inv-loop μ-loop
 with-types-requires c κs = search needs
@@ -298,17 +317,17 @@ same-length c =
 
 returns : tie.Need-returns Inv-loop μ-loop
 returns c =
-    let at-args = c .before .before .before .before .before .before .before .before .before .before .before .before .before .before .before .before .before .before .before .args in
+    let at-args = c .before .before .before .before .before .before .before .before .before .before .before .before .before .before .before .before .args in
     let at-loop = c .before .before .before .before .before .before .loop in
     let at-read-piece = c .before .before .before .before .read-piece in
     let at-enum-told = c .before .before .enum-told in
-    let at-pre = c .before .before .before .before .before .before .before .before .before .before .before .before .before .before .before .before .before .before .before .pre in
+    let at-pre = c .before .before .before .before .before .before .before .before .before .before .before .before .before .before .before .before .pre in
     let at-closed2 = c .before .closed2 in
     let at-with-types = c .with-types in
     let e = steps (at-args .s .now) (at-loop .i) (at-read-piece .result) (at-loop .inv .3 .readable) (at-read-piece .ensures) (at-enum-told .given .1) in
-    let from = at-args .r .tables .from in
-    let m = at-args .r .enums .next - from in
-    let q = open-no (at-args .d .now) (at-args .names .now) (at-args .needed .now) (at-args .needsets .now) (at-args .single .now) (at-args .singlesets .now) (at-args .marks .now) (at-args .r) (at-pre .0) (at-loop .inv .3 .opened) (at-loop .t) (at-loop .inv .3 .tallied) in (
+    let from = at-args .r .tables .names .from in
+    let m = at-args .r .typed .symbols .next - from in
+    let q = open-no (at-args .d .now) (at-args .entries .now) (at-args .sets .now) (at-args .r) (at-pre .0) (at-loop .inv .3 .opened) (at-loop .t) (at-loop .inv .3 .tallied) in (
       walk-end (at-args .d .now) from m (at-args .s .now) (at-loop .t) (at-loop .fields) (at-loop .typed) (at-loop .a .number) (at-loop .a .count) (at-loop .i) (at-loop .inv .3) (at-closed2 .result .number) _ (at-closed2 .result .count) q (at-closed2 .ensures .0) (at-closed2 .ensures .1) e (at-with-types .result) (at-with-types .ensures),
       walk-count (at-args .d .now) from m (at-args .s .now) (at-loop .t) (at-loop .fields) (at-loop .typed) (at-loop .a .number) (at-loop .a .count) (at-loop .i) (at-loop .inv .3) (at-closed2 .result .number) _ (at-closed2 .result .count) q (at-closed2 .ensures .0) (at-closed2 .ensures .1) e,
     )
@@ -323,7 +342,7 @@ same-length-2 c =
 
 returns-2 : tie.Need-returns-2 Inv-loop μ-loop
 returns-2 c =
-    let at-args = c .before .before .before .before .before .before .before .before .before .before .before .before .before .before .before .before .before .args in
+    let at-args = c .before .before .before .before .before .before .before .before .before .before .before .before .before .before .args in
     let at-loop = c .before .before .before .before .loop in
     let at-read-piece = c .before .before .read-piece in
     let at-enum-told2 = c .enum-told2 in
@@ -335,6 +354,9 @@ judge-part-spec =
     (tie.spec
     Inv-loop
     μ-loop
+    sub-look-up
+    part-look-up-start
+    part-look-up-end
     look-up-requires
     start-requires
     loop-holds
@@ -355,7 +377,7 @@ judge-part-spec =
     enum-known-p-3
     mul-before
     array-copy-out-before
-    add-recall
+    add-end
     recall-requires
     mul-seen
     array-set-from-seen
@@ -365,6 +387,9 @@ judge-part-spec =
     sub-value-met
     part-value-met-start
     part-value-met-end
+    sub-value-met-2
+    part-value-met-start-2
+    part-value-met-end-2
     value-met-requires
     add-fields
     loop-less-3

@@ -17,7 +17,7 @@ returns c =
     let at-args = c .before .before .before .before .before .args in
     let at-pre = c .before .before .before .before .before .pre in
     let at-if1 = c .if1 in
-    sym (none-met (at-args .d .now) (at-args .tags) (at-args .from) (at-args .enums .next - at-args .from) (valueFrom (at-args .s .now)) (omega (arith, at-pre .1 .0 .begins, at-pre .1 .0 .within, at-pre .0 .1, at-pre .0 .0 .few)) (at-if1 .taken))
+    sym (none-met (at-args .d .now) (at-args .tags) (at-args .typed .symbols .from) (at-args .typed .symbols .next - at-args .typed .symbols .from) (valueFrom (at-args .s .now)) (omega (arith, at-pre .0 .symbols-are .begins, at-pre .0 .within, at-pre .0 .kinds-are .few)) (at-if1 .taken))
 
 value-met-requires : tie.Need-value-met-requires
 value-met-requires c κs = search needs

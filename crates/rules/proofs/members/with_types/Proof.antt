@@ -11,7 +11,7 @@ use Rattle.rules.proofs.members.with_types.Statement.{statement}
 use Rattle.rules.proofs.members.with_types.Tie as tie
 use Rattle.rules.proofs.members.with_types.Reads as reads
 use Rattle.rules.proofs.members.with_types.Lts as lts
-use Rattle.rules.proofs.tallies.lesser.Reads as lesser-reads
+use Rattle.rules.proofs.questions.lesser.Reads as lesser-reads
 
 returns : tie.Need-returns
 returns c =

@@ -1,12 +1,12 @@
--- `rules::tallies::lesser` meets its contract.
+-- `rules::questions::lesser` meets its contract.
 use native.Mathlib.Omega.{arith}
 use mathlib.Core.Path.{sym, ap}
 use Rattle.format.proofs.Least.{least}
 use Rattle.rules.proofs.Leasts.{least-none, least-min}
-use Rattle.rules.proofs.tallies.lesser.Statement.{statement}
-use Rattle.rules.proofs.tallies.lesser.Tie as tie
-use Rattle.rules.proofs.tallies.lesser.Reads as reads
-use Rattle.rules.proofs.tallies.lesser.Lts as lts
+use Rattle.rules.proofs.questions.lesser.Statement.{statement}
+use Rattle.rules.proofs.questions.lesser.Tie as tie
+use Rattle.rules.proofs.questions.lesser.Reads as reads
+use Rattle.rules.proofs.questions.lesser.Lts as lts
 
 returns : tie.Need-returns
 returns c =

@@ -1,12 +1,12 @@
--- `rules::tallies::places` meets its contract: what is found, or nothing where the name is none of the words.
+-- `rules::tables::places` meets its contract: what is found, or nothing where the name is none of the words.
 use mathlib.Core.Path.{sym, _∙_}
 use Rattle.dictionary.proofs.Finding.{places-found}
 use Rattle.rules.proofs.Fields.{no-places}
 use borrow.Author.Needs.{needs}
-use Rattle.rules.proofs.tallies.places.Statement.{statement}
-use Rattle.rules.proofs.tallies.places.Tie as tie
-use Rattle.rules.proofs.tallies.places.Reads as reads
-use Rattle.rules.proofs.tallies.places.Lts as lts
+use Rattle.rules.proofs.tables.places.Statement.{statement}
+use Rattle.rules.proofs.tables.places.Tie as tie
+use Rattle.rules.proofs.tables.places.Reads as reads
+use Rattle.rules.proofs.tables.places.Lts as lts
 use Rattle.terms.proofs.find_joined.Reads as find-joined-reads
 
 find-joined-requires : tie.Need-find-joined-requires
