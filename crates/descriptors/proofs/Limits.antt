@@ -1,7 +1,7 @@
 -- A record that holds the limits: each of its values is short.
 use Prim.Native.Nat.{_≤_}
 use native.Mathlib.Omega.{arith}
-use mathlib.Core.Path.{_≡_}
+use mathlib.Core.Path.{_≡_, refl}
 use mathlib.Core.Bool.{Bool, true, false, and-eq-true-iff}
 use mathlib.Core.List.{List, [], _∷_}
 use borrow.Author.Tests.{leb-true}
@@ -18,6 +18,21 @@ fits-fields r e = and-eq-true-iff (leb (length r) recordFields) (all fitsField r
 
 pub fits-value : (f : Field) → fitsField f ≡ true → length (f .value) ≤ valueBytes
 fits-value f e = leb-true (length (f .value)) valueBytes (and-eq-true-iff (leb (length (f .name)) nameBytes) (leb (length (f .value)) valueBytes) .0 e .1)
+
+-- so are those of one name
+abbrev pub isShort : Bytes → Bool
+isShort v = leb (length v) valueBytes
+
+all-short-by : (t : Bool) (v : Bytes) (vs : List Bytes) → isShort v ≡ true → all isShort vs ≡ true → all isShort (pick t (v ∷ vs) vs) ≡ true
+all-short-by true v vs h k = rw (h, k)
+all-short-by false v vs h k = k
+
+pub values-short : (n : Bytes) (r : Record) → all fitsField r ≡ true → all isShort (valuesOf n r) ≡ true
+values-short n [] e = refl
+values-short n (f ∷ fs) e =
+    let h = and-eq-true-iff (fitsField f) (all fitsField fs) .0 e in
+    let k = and-eq-true-iff (leb (length (f .name)) nameBytes) (leb (length (f .value)) valueBytes) .0 (h .0) in
+    all-short-by (same n (f .name)) (f .value) (valuesOf n fs) (k .1) (values-short n fs (h .1))
 
 short-by : (t : Bool) (v : Bytes) (vs : List Bytes) → length v ≤ valueBytes → length (getD vs 0 []) ≤ valueBytes → length (getD (pick t (v ∷ vs) vs) 0 []) ≤ valueBytes
 short-by true v vs h k = h

@@ -1,14 +1,11 @@
--- A size, by its sign and its number; and what a field asks of its set's size.
+-- A size, by its sign and its number.
 use Prim.Native.Nat.{ℕ}
 use mathlib.Core.Path.{_≡_, refl, sym, ap, _∙_}
-use mathlib.Core.Bool.{Bool, true, false, _||_, not}
+use mathlib.Core.Bool.{Bool, true, false}
 use mathlib.Core.Option.{Option, none, some}
 use Rattle.format.specs.Bytes.{Bytes, text, same}
-use Rattle.format.specs.Numbers.{intBounds}
-use Rattle.format.specs.Rules.{orderOf, sizeBy, sizeRule, meetsSize}
-use Rattle.format.specs.Words.{words}
+use Rattle.format.specs.Rules.{orderOf, sizeBy}
 use Rattle.format.proofs.Listing.{same-true}
-use Rattle.descriptors.specs.Sizes.{fieldOf, sizeAsked}
 
 module _ (w : Bytes) (n : ℕ) where
   pub sign-is : (m : Bytes) (t : Bool) → t ≡ same w m → t ≡ true → sizeBy (orderOf w) (some n) ≡ sizeBy (orderOf m) (some n)
@@ -20,10 +17,3 @@ module _ (w : Bytes) (n : ℕ) where
 pub no-number : (o : Option (ℕ → ℕ → Bool)) → sizeBy o none ≡ none
 no-number none = refl
 no-number (some o) = refl
-
-module _ (m v : Bytes) (n k : ℕ) (t : Bool) (e : t ≡ same (text "%size") m) where
-  pub size-asked : t ≡ true → sizeAsked n (fieldOf m v k) ≡ meetsSize (sizeRule intBounds (words v)) n
-  size-asked h = ap (λ (b : Bool). not b || meetsSize (sizeRule intBounds (words v)) n) (sym e ∙ h)
-
-  pub nothing-asked : t ≡ false → sizeAsked n (fieldOf m v k) ≡ true
-  nothing-asked h = ap (λ (b : Bool). not b || meetsSize (sizeRule intBounds (words v)) n) (sym e ∙ h)

@@ -3,7 +3,7 @@ ghost use mathlib.Core.Path.{_≡_};
 ghost use mathlib.Core.Bool.{true};
 ghost use mathlib.Core.List.{[], _∷_};
 ghost use mathlib.Core.Option.{some};
-ghost use Prim.Native.Nat.{ℕ, _≤_};
+ghost use Prim.Native.Nat.{_≤_};
 ghost use lib.ListN.{length};
 ghost use Rattle.format.specs.Pieces.{readOf};
 ghost use Rattle.format.specs.Bytes.{text, all, isSome};
@@ -16,9 +16,9 @@ ghost use Rattle.format.specs.Questions.{fitsRecord};
 ghost use Rattle.format.specs.Words.{words};
 ghost use Rattle.lines.specs.Value.{valueFrom};
 ghost use Rattle.records.specs.Places.{isReadable};
-ghost use Rattle.descriptors.specs.Sizes.{sizeAnswer, fieldOf, sizeAsked};
+ghost use Rattle.descriptors.specs.Sizes.{sizeAnswer};
 use numbers::Natural;
-use records::NextField;
+use records::FoundField;
 use words::Word;
 
 // A size: how many records a set may have.
@@ -119,18 +119,14 @@ pub fn size_holds(r: SizeRule, n: u64) -> bool
     }
 }
 
-// Is what a field says of its set's size met by n records? Only `%size` says anything.
-fn field_met(name: &[u8], value: &[u8], n: u64, scratch: &mut [u8]) -> bool
+// Is the size that a value stands for met by n records? The value begins where value does, and is decoded into the scratch.
+fn value_met(value: &[u8], n: u64, scratch: &mut [u8]) -> bool
     requires { ⌜ length (valueFrom (now value)) ≤ length (now scratch) ⌝ }
-    ensures { λ r. ⌜ ((k : ℕ) → r ≡ sizeAsked n (fieldOf (now (name .entry)) (valueFrom (now (value .entry))) k)) × (length (now (scratch .exit)) ≡ length (now (scratch .entry))) ⌝ }
+    ensures { λ r. ⌜ (r ≡ meetsSize (sizeRule intBounds (words (valueFrom (now (value .entry))))) n) × (length (now (scratch .exit)) ≡ length (now (scratch .entry))) ⌝ }
 {
-    if lines::same_bytes(b"%size", name) {
-        let m = lines::copy_value(value, scratch);
-        let r = size_rule(&scratch[..m]);
-        size_holds(r, n)
-    } else {
-        true
-    }
+    let m = lines::copy_value(value, scratch);
+    let r = size_rule(&scratch[..m]);
+    size_holds(r, n)
 }
 
 // Is every size of a descriptor met by count records?
@@ -142,20 +138,18 @@ pub fn size_met(d: &[u8], count: usize, scratch: &mut [u8]) -> bool
 {
     let mut i = 0;
     loop {
-        let n = records::next_field(d, i);
-        let NextField::At {
-            start,
-            named,
+        let f = records::next_named(d, b"%size", i);
+        let FoundField::At {
+            start: _,
             value,
             end,
-        } = n
+        } = f
         else {
             return true;
         };
-        if field_met(&d[start..named], &d[value..end], count as u64, scratch) {
-            i = end;
-        } else {
+        if !value_met(&d[value..end], count as u64, scratch) {
             return false;
         }
+        i = end;
     }
 }

@@ -5,6 +5,7 @@ ghost use mathlib.Core.Bool.{true};
 ghost use Prim.Native.Nat.{_<_, _≤_};
 ghost use lib.ListN.{length, take, drop};
 ghost use Rattle.format.specs.Bytes.{among};
+ghost use Rattle.format.specs.Limits.{fileBytes};
 ghost use Rattle.format.specs.Rules.{distinct};
 ghost use Rattle.format.specs.Sets.{valuesOf};
 ghost use Rattle.lines.specs.Value.{valueFrom};
@@ -13,7 +14,7 @@ ghost use Rattle.records.specs.Walk.{recordIn};
 ghost use Rattle.keys.specs.Keys.{entryOf, keyAt, keysOf, IsEntry, Entries};
 ghost use Rattle.keys.specs.Order.{ranked, Tells};
 ghost use Rattle.keys.specs.Gathered.{Gathered};
-use records::NextField;
+use records::FoundField;
 use sorting::Compared;
 
 fn narrow(x: usize) -> u32
@@ -25,7 +26,7 @@ fn narrow(x: usize) -> u32
 
 // The entry of the key that begins at a place.
 fn entry(s: &[u8], at: usize) -> u32
-    requires { ⌜ (at < 65536) × (at ≤ length (now s)) ⌝ }
+    requires { ⌜ (at < fileBytes) × (at ≤ length (now s)) ⌝ }
     ensures { λ r. ⌜ r ≡ entryOf at (valueFrom (drop at (now (s .entry)))) ⌝ }
 {
     let p = sorting::mix(s, at, false) / 65536;
@@ -130,36 +131,31 @@ fn distinct_keys(s: &[u8], entries: &mut [u32], n: usize) -> bool
 
 // The entries of the values in s of the fields of a name; how many there are.
 fn gather(name: &[u8], s: &[u8], entries: &mut [u32]) -> usize
-    requires { ⌜ (isReadable (now s) ≡ true) × (length (now s) ≤ 65536) ⌝ }
+    requires { ⌜ (isReadable (now s) ≡ true) × (length (now s) ≤ fileBytes) ⌝ }
     requires { ⌜ length (valuesOf (now name) (recordIn (now s))) ≤ length (now entries) ⌝ }
     ensures { λ n. ⌜ Gathered (now (name .entry)) (now (s .entry)) (now (entries .exit)) n ⌝ }
 {
     let mut i = 0;
     let mut n = 0;
     loop {
-        let f = records::next_field(s, i);
-        let NextField::At {
-            start,
-            named,
+        let f = records::next_named(s, name, i);
+        let FoundField::At {
+            start: _,
             value,
             end,
         } = f
         else {
             return n;
         };
-        if lines::same_bytes(name, &s[start..named]) {
-            entries[n] = entry(s, value);
-            n += 1;
-            i = end;
-        } else {
-            i = end;
-        }
+        entries[n] = entry(s, value);
+        n += 1;
+        i = end;
     }
 }
 
 // Are the values in s of the fields of a name distinct?
 pub fn keys_distinct(name: &[u8], s: &[u8], entries: &mut [u32]) -> bool
-    requires { ⌜ (isReadable (now s) ≡ true) × (length (now s) ≤ 65536) ⌝ }
+    requires { ⌜ (isReadable (now s) ≡ true) × (length (now s) ≤ fileBytes) ⌝ }
     requires { ⌜ length (valuesOf (now name) (recordIn (now s))) ≤ length (now entries) ⌝ }
     ensures { λ r. ⌜ r ≡ distinct (valuesOf (now (name .entry)) (recordIn (now (s .entry)))) ⌝ }
 {

@@ -20,12 +20,14 @@ use Rattle.lines.specs.Piece.{valueAt}
 use Rattle.lines.specs.Value.{valueFrom}
 use Rattle.lines.proofs.Shapes.{value-inside}
 use Rattle.lines.proofs.Values.{field-value as decoded}
-use Rattle.records.specs.Places.{isReadable, namesSet, headLine, fieldBy, fieldIn, fieldFrom, fieldPlace}
+use Rattle.words.specs.Spans.{span}
+use Rattle.records.specs.Places.{isReadable, sizeIn, namesSet, headLine, fieldBy, fieldIn, fieldFrom, fieldPlace}
 use Rattle.records.specs.Walk.{opensSet}
+use Rattle.records.specs.Fields.{fieldsFrom, FieldHere}
+use Rattle.records.specs.Named.{occurrence, firstOr}
 use Rattle.records.specs.declared.FoundField.{FoundField}
 use Rattle.records.proofs.Walks.{size-piece, size-none}
 use Rattle.records.proofs.Readings.{Reads, reads-length, readable-reads, reads-drop}
-use Rattle.records.proofs.Steps.{Passed, FieldAt}
 
 field-from : (name : Bytes) (x : Option (List Piece)) (o : ℕ) → fieldFrom name x o ≡ fieldIn name (someOf x) 0 o
 field-from name none o = refl
@@ -35,35 +37,48 @@ pub field-read : (name s : Bytes) (o : ℕ) → fieldPlace name s o ≡ fieldIn 
 unfolding fieldPlace readOf
 field-read name s o = field-from name (pieces s) o
 
-module _ (name s : Bytes) (i o : ℕ) where
-  pub field-none : readOf (drop i s) ≡ [] → fieldIn name (readOf (drop i s)) i o ≡ FoundField.Missing
-  field-none e = ap (λ (ps : List Piece). fieldIn name ps i o) e
+-- pieces without a field are passed over, and nothing is found among them
+module _ (name : Bytes) where
+  in-fieldless : (before ps : List Piece) (at o : ℕ) → fieldsOf before ≡ [] → fieldIn name (before ++ ps) at o ≡ fieldIn name ps (at + sizeIn before) o
+  in-fieldless [] ps at o e = ap (λ (j : ℕ). fieldIn name ps j o) (omega (arith, size-none))
+  in-fieldless (Piece.blank l ∷ b) ps at o e = in-fieldless b ps (at + countOf (l ∷ [])) o e ∙ ap (λ (j : ℕ). fieldIn name ps j o) (omega (arith, size-piece (Piece.blank l) b))
+  in-fieldless (Piece.comment l ∷ b) ps at o e = in-fieldless b ps (at + countOf (l ∷ [])) o e ∙ ap (λ (j : ℕ). fieldIn name ps j o) (omega (arith, size-piece (Piece.comment l) b))
+  in-fieldless (Piece.field n v ls ∷ b) ps at o e = absurd (omega (arith, ap length e))
 
-  pub field-loose : (p : Piece) (k : ℕ) → ((ps : List Piece) → fieldIn name (p ∷ ps) i o ≡ fieldIn name ps (i + countOf (linesOf p)) o) → Passed s i p k → fieldIn name (readOf (drop i s)) i o ≡ fieldIn name (readOf (drop (i + k) s)) (i + k) o
-  field-loose p k h f =
-      let ps = readOf (drop (i + k) s) in
-      ap (λ (qs : List Piece). fieldIn name qs i o) (f .reads) ∙ h ps ∙ ap (λ (j : ℕ). fieldIn name ps (i + j) o) (f .size)
+  in-none : (ps : List Piece) (at o : ℕ) → fieldsOf ps ≡ [] → fieldIn name ps at o ≡ FoundField.Missing
+  in-none [] at o e = refl
+  in-none (Piece.blank l ∷ ps) at o e = in-none ps (at + countOf (l ∷ [])) o e
+  in-none (Piece.comment l ∷ ps) at o e = in-none ps (at + countOf (l ∷ [])) o e
+  in-none (Piece.field n v ls ∷ ps) at o e = absurd (omega (arith, ap length e))
 
-  module _ (n v k : ℕ) (t : Bool) (f : FieldAt s i n v k) (e : t ≡ same name (take ((i + n) - i) (drop i s))) where
-    field-by : fieldIn name (readOf (drop i s)) i o ≡ fieldBy t o i (f .name) (f .own) (λ (j : ℕ). fieldIn name (readOf (drop (i + k) s)) (i + k) j)
-    field-by =
-        ap (λ (ps : List Piece). fieldIn name ps i o) (f .passed .reads)
-        ∙ ap (λ (x : ℕ). fieldBy (same name (f .name)) o i (f .name) (f .own) (λ (j : ℕ). fieldIn name (readOf (drop (i + k) s)) (i + x) j)) (f .passed .size)
-        ∙ ap (λ (b : Bool). fieldBy b o i (f .name) (f .own) (λ (j : ℕ). fieldIn name (readOf (drop (i + k) s)) (i + k) j)) (ap (same name) (sym (f .named)) ∙ sym e)
+module _ (s name : Bytes) (i : ℕ) where
+  pub occurrence-none : fieldsFrom s i ≡ [] → (o : ℕ) → occurrence s name i o ≡ FoundField.Missing
+  occurrence-none e o = in-none name (readOf (drop i s)) i o e
 
-    pub field-other : t ≡ false → fieldIn name (readOf (drop i s)) i o ≡ fieldIn name (readOf (drop (i + k) s)) (i + k) o
-    field-other q = field-by ∙ ap (λ (b : Bool). fieldBy b o i (f .name) (f .own) (λ (j : ℕ). fieldIn name (readOf (drop (i + k) s)) (i + k) j)) q
+  module _ (a n v e : ℕ) (f : FieldHere s i a n v e) where
+    abbrev onward : Bool → ℕ → FoundField
+    onward t o = fieldBy t o a (span a n s) (f .piece .own) (occurrence s name e)
 
-    pub field-here : t ≡ true → o ≡ 0 → fieldIn name (readOf (drop i s)) i o ≡ FoundField.At i (i + v) (i + k)
-    field-here q z =
-        field-by ∙ ap (λ (b : Bool). fieldBy b o i (f .name) (f .own) (λ (j : ℕ). fieldIn name (readOf (drop (i + k) s)) (i + k) j)) q
-        ∙ ap (λ (x : ℕ). fieldBy true x i (f .name) (f .own) (λ (j : ℕ). fieldIn name (readOf (drop (i + k) s)) (i + k) j)) z
-        ∙ (λ d. FoundField.At i (i + sym (f .begins) d) (i + f .passed .size d))
+    by-name : (o : ℕ) (t : Bool) → same name (span a n s) ≡ t → occurrence s name i o ≡ onward t o
+    by-name o t q =
+        let l = f .loose in
+        let p = f .piece in
+        ap (λ (ps : List Piece). fieldIn name ps i o) (l .reads)
+        ∙ in-fieldless name (l .before) (readOf (drop a s)) i o (l .none)
+        ∙ ap (λ (j : ℕ). fieldIn name (readOf (drop a s)) j o) (l .size)
+        ∙ ap (λ (ps : List Piece). fieldIn name ps a o) (p .reads)
+        ∙ ap (λ (j : ℕ). fieldBy (same name (span a n s)) o a (span a n s) (p .own) (λ (k : ℕ). fieldIn name (readOf (drop e s)) j k)) (p .ends)
+        ∙ ap (λ (b : Bool). onward b o) q
 
-    pub field-later : (m : ℕ) → t ≡ true → o ≡ suc m → fieldIn name (readOf (drop i s)) i o ≡ fieldIn name (readOf (drop (i + k) s)) (i + k) m
-    field-later m q z =
-        field-by ∙ ap (λ (b : Bool). fieldBy b o i (f .name) (f .own) (λ (j : ℕ). fieldIn name (readOf (drop (i + k) s)) (i + k) j)) q
-        ∙ ap (λ (x : ℕ). fieldBy true x i (f .name) (f .own) (λ (j : ℕ). fieldIn name (readOf (drop (i + k) s)) (i + k) j)) z
+    pub occurrence-other : same name (span a n s) ≡ false → (o : ℕ) → occurrence s name i o ≡ occurrence s name e o
+    occurrence-other q o = by-name o false q
+
+    first-here : (o : ℕ) → onward true o ≡ firstOr (FoundField.At a v e) (occurrence s name e) o
+    first-here zero = λ d. FoundField.At a (f .piece .begins d) (f .piece .ends d)
+    first-here (suc o) = refl
+
+    pub occurrence-here : same name (span a n s) ≡ true → (o : ℕ) → occurrence s name i o ≡ firstOr (FoundField.At a v e) (occurrence s name e) o
+    occurrence-here q o = by-name o true q ∙ first-here o
 
 -- What is found is the value of the occurrence, and nothing is found where there are not so many.
 

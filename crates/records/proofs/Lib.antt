@@ -8,6 +8,7 @@ pub mod Firsts
 pub mod Looks
 pub mod NextFields
 pub mod Fields
+pub mod Named
 pub mod Words
 pub mod Searches
 pub mod Cuts

@@ -3,7 +3,7 @@ use Prim.Native.Nat.{ℕ, _+_, _-_, _≤_, _<_}
 use native.Mathlib.Omega.{arith}
 use mathlib.Core.Path.{_≡_, refl, sym, ap, _∙_, subst}
 use mathlib.Core.Bool.{Bool, true, false}
-use mathlib.Core.List.{List, [], _∷_, _++_}
+use mathlib.Core.List.{List, [], _∷_, _++_, append-nil, append-assoc}
 use lib.Dec.{eqb}
 use lib.ListN.{length, take, drop, length-append}
 use lib.Seq.{drop-drop}
@@ -11,17 +11,19 @@ use borrow.Author.Tests.{eqb-false}
 use Rattle.format.specs.Bytes.{Bytes, pick}
 use Rattle.format.specs.Lines.{Line, bytes}
 use Rattle.format.specs.Pieces.{Piece, readOf}
-use Rattle.format.specs.Records.{Record, countOf}
+use Rattle.format.specs.Records.{Record, countOf, fieldsOf}
+use Rattle.format.proofs.Grouping.{fields-append}
 use Rattle.format.proofs.Whole.{Sound}
 use Rattle.format.proofs.Renaming.{sound-starts}
 use Rattle.lines.specs.Piece.{valueAt}
 use Rattle.lines.specs.Value.{valueFrom}
 use Rattle.lines.proofs.Values.{field-value-among}
 use Rattle.records.specs.Places.{isReadable, headLine}
-use Rattle.records.specs.Fields.{fieldsFrom, FieldHere, FieldNext}
+use Rattle.records.specs.Fields.{fieldsFrom, Fieldless, PieceHere, FieldHere, FieldNext}
 use Rattle.records.specs.declared.NextField.{NextField}
+use Rattle.records.proofs.Walks.{size-append, size-piece, size-none, Loose}
 use Rattle.records.proofs.Readings.{Reads, readable-reads}
-use Rattle.records.proofs.Steps.{FieldAt, record-field}
+use Rattle.records.proofs.Steps.{Passed, FieldAt, record-field}
 
 -- a value begins before its line's newline
 begins-by : (b : Bool) (n m : ℕ) → eqb m (n + 1) ≡ b → n + 1 ≤ m → pick b (n + 1) (n + 2) ≤ m
@@ -57,9 +59,37 @@ module _ (s : Bytes) (i n v k : ℕ) (f : FieldAt s i n v k) (r : isReadable (dr
       ∙ sym (reading .0)
       ∙ sym (f .decodes)
 
--- a field at byte i is the next one from byte j on, where the fields from both are the same
-pub field-here : (s : Bytes) (j i n v k : ℕ) → FieldAt s i n v k → isReadable (drop i s) ≡ true → j ≤ i → fieldsFrom s j ≡ fieldsFrom s i → FieldHere s j i (i + n) (i + v) (i + k)
-field-here s j i n v k f r h e =
+-- Pieces without a field, one after another.
+module _ (s : Bytes) (i : ℕ) where
+  pub fieldless-none : Fieldless s i i
+  fieldless-none = record { before = []; none = refl; size = omega (arith, size-none); reads = refl }
+
+  module _ (a : ℕ) (f : Fieldless s i a) where
+    pub fieldless-on : (p : Piece) (k : ℕ) → Loose p → Passed s a p k → Fieldless s i (a + k)
+    fieldless-on p k h q =
+        let b = f .before in
+        record {
+          before = b ++ (p ∷ []);
+          none = fields-append b (p ∷ []) ∙ ap (λ (r : Record). fieldsOf b ++ r) (h [] .0) ∙ append-nil (fieldsOf b) ∙ f .none;
+          size = omega (arith, f .size, q .size, size-append b (p ∷ []), size-piece p [], size-none);
+          reads = f .reads ∙ ap (λ (ps : List Piece). b ++ ps) (q .reads) ∙ sym (append-assoc b (p ∷ []) (readOf (drop (a + k) s)));
+        }
+
+    pub fieldless-fields : fieldsFrom s i ≡ fieldsFrom s a
+    fieldless-fields = ap fieldsOf (f .reads) ∙ fields-append (f .before) (readOf (drop a s)) ∙ ap (λ (r : Record). r ++ fieldsFrom s a) (f .none)
+
+piece-here : (s : Bytes) (i n v k : ℕ) → FieldAt s i n v k → PieceHere s i (i + n) (i + v) (i + k)
+piece-here s i n v k f =
+    record {
+      own = f .own;
+      reads = f .passed .reads ∙ (λ d. Piece.field (sym (f .named) d) (sym (f .decodes) d) (f .own) ∷ readOf (drop (i + k) s));
+      begins = ap (λ (x : Bytes). i + valueAt (length x) (headLine (f .own))) (f .named) ∙ ap (λ (j : ℕ). i + j) (sym (f .begins));
+      ends = ap (λ (j : ℕ). i + j) (f .passed .size);
+    }
+
+-- a field at byte i is the next one from byte j on, where none stands between
+pub field-here : (s : Bytes) (j i n v k : ℕ) → FieldAt s i n v k → isReadable (drop i s) ≡ true → j ≤ i → Fieldless s j i → FieldHere s j i (i + n) (i + v) (i + k)
+field-here s j i n v k f r h l =
     let p = f .passed in
     let size : k ≡ (i + k) - i = omega arith in
     record {
@@ -74,8 +104,10 @@ field-here s j i n v k f r h e =
       value-there = value-there s i n v k f r;
       ends-itself = ends-itself s i n v k f r;
       fields =
-          e ∙ record-field s i n v k f
+          fieldless-fields s j i l ∙ record-field s i n v k f
           ∙ ap {B = Record} (λ (m : ℕ). record { name = take ((i + n) - i) (drop i s); value = valueFrom (take ((i + k) - (i + v)) (drop (i + v) s)); count = m } ∷ fieldsFrom s (i + k)) size;
+      loose = l;
+      piece = piece-here s i n v k f;
     }
 
 -- what an answer says, once its form is known

@@ -2,5 +2,6 @@
 pub mod Places
 pub mod Walk
 pub mod Fields
+pub mod Named
 pub mod Gaps
 pub mod Heads

@@ -12,6 +12,7 @@ ghost use Rattle.records.specs.Places.{isReadable, placesOf, firstPlace,
 ghost use Rattle.records.specs.Walk.{runFrom, opensSet};
 ghost use Rattle.records.specs.Gaps.{gapIs};
 ghost use Rattle.records.specs.Fields.{FieldNext};
+ghost use Rattle.records.specs.Named.{NamedNext};
 use lines::Decoded;
 use lines::Next;
 
@@ -279,6 +280,30 @@ pub enum FoundField {
     Missing,
 }
 
+// The first field of a name from byte i on.
+pub fn next_named(s: &[u8], name: &[u8], i: usize) -> FoundField
+    requires { ⌜ (i ≤ length (now s)) × (isReadable (drop i (now s)) ≡ true) ⌝ }
+    ensures { λ r. ⌜ NamedNext (now (s .entry)) (now (name .entry)) i r ⌝ }
+{
+    let mut at = i;
+    loop {
+        let f = next_field(s, at);
+        let NextField::At {
+            start,
+            named,
+            value,
+            end,
+        } = f
+        else {
+            return FoundField::Missing;
+        };
+        if lines::same_bytes(name, &s[start..named]) {
+            return FoundField::At { start, value, end };
+        }
+        at = end;
+    }
+}
+
 // The occurrence o of a name among the fields of a part.
 pub fn find_field(s: &[u8], name: &[u8], o: usize) -> FoundField
     requires { ⌜ isReadable (now s) ≡ true ⌝ }
@@ -287,39 +312,15 @@ pub fn find_field(s: &[u8], name: &[u8], o: usize) -> FoundField
     let mut i = 0;
     let mut left = o;
     loop {
-        let n = lines::read_piece(&s[i..]);
-        match n {
-            Next::Blank { size } => {
-                i += size;
-            }
-            Next::Comment { size } => {
-                i += size;
-            }
-            Next::Field {
-                name: len,
-                value,
-                size,
-            } => {
-                let e = i + len;
-                if lines::same_bytes(name, &s[i..e]) {
-                    if left == 0 {
-                        return FoundField::At {
-                            start: i,
-                            value: i + value,
-                            end: i + size,
-                        };
-                    }
-                    left -= 1;
-                }
-                i += size;
-            }
-            Next::End => {
-                return FoundField::Missing;
-            }
-            Next::Fault => {
-                return FoundField::Missing;
-            }
+        let f = next_named(s, name, i);
+        let FoundField::At { start, value, end } = f else {
+            return FoundField::Missing;
+        };
+        if left == 0 {
+            return FoundField::At { start, value, end };
         }
+        left -= 1;
+        i = end;
     }
 }
 

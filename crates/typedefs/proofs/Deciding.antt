@@ -19,7 +19,7 @@ use Rattle.lines.specs.Value.{valueFrom}
 use Rattle.lines.proofs.Cuts.{at-cons}
 use Rattle.words.specs.Spans.{span, runEnd, notByte}
 use Rattle.words.proofs.Splitting.{splitBehind, split-at}
-use Rattle.typedefs.specs.Walks.{valuesFrom, ValueHere}
+use Rattle.records.specs.Named.{valuesFrom, ValueHere}
 use Rattle.typedefs.specs.Targets.{targetIn, followOf, isEnd, endsIn, leads, areDefined, wellBy}
 use Rattle.typedefs.specs.declared.Followed.{Followed}
 use Rattle.typedefs.proofs.Filling.{both-true}

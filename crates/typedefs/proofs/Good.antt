@@ -17,7 +17,8 @@ use Rattle.lines.specs.Value.{valueFrom}
 use Rattle.words.specs.Spans.{span, runEnd, wordAt}
 use Rattle.words.specs.declared.Word.{Word}
 use Rattle.words.proofs.Finding.{firstBy, first-at, front-at, behind-at}
-use Rattle.typedefs.specs.Walks.{namesFrom, ValueHere}
+use Rattle.records.specs.Named.{ValueHere}
+use Rattle.typedefs.specs.Walks.{namesFrom}
 use Rattle.typedefs.specs.Targets.{indexFrom, followOf, isEnd, endsIn}
 use Rattle.typedefs.specs.declared.Followed.{Followed}
 

@@ -1,5 +1,4 @@
 -- Laws of walks over fields, of typedefs by their names, and by their numbers.
-pub mod Walking
 pub mod Texts
 pub mod Numbered
 pub mod Placing

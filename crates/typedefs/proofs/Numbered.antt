@@ -11,7 +11,8 @@ use lib.ListN.{length, take, drop, length-drop}
 use Rattle.format.specs.Bytes.{Bytes, text, pick, same}
 use Rattle.terms.specs.Sets.{Term, termOf, inSet, tagged, Answers}
 use Rattle.terms.specs.Entries.{termsOf}
-use Rattle.typedefs.specs.Walks.{valuesFrom, namesFrom}
+use Rattle.records.specs.Named.{valuesFrom}
+use Rattle.typedefs.specs.Walks.{namesFrom}
 use Rattle.typedefs.specs.Names.{numbered, tagFrom, AreNames}
 use Rattle.typedefs.specs.Targets.{indexFrom}
 use Rattle.typedefs.specs.declared.Names.{Names}

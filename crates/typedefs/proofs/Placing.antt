@@ -26,7 +26,8 @@ use Rattle.terms.specs.declared.Table.{Table}
 use Rattle.terms.proofs.Adding.{adding-start, adding-rest, adding-one}
 use Rattle.terms.proofs.Prints.{entries-front}
 use Rattle.terms.proofs.Tables.{table-front, front-terms}
-use Rattle.typedefs.specs.Walks.{valuesFrom, namesFrom, fits, fitFrom, ValueHere}
+use Rattle.records.specs.Named.{valuesFrom, ValueHere}
+use Rattle.typedefs.specs.Walks.{namesFrom, fits, fitFrom}
 use Rattle.typedefs.specs.Names.{numbered, PlacesTo, ArePlaces, AreNames}
 use Rattle.typedefs.specs.declared.Names.{Names}
 use Rattle.typedefs.proofs.Texts.{text-word, type-name}

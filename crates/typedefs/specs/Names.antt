@@ -8,7 +8,8 @@ use Rattle.lines.specs.Value.{valueFrom}
 use Rattle.terms.specs.Sets.{Term, termOf, inSet, tagged}
 use Rattle.terms.specs.Entries.{termsOf}
 use Rattle.terms.specs.Order.{IsTable}
-use Rattle.typedefs.specs.Walks.{valuesFrom, namesFrom}
+use Rattle.records.specs.Named.{valuesFrom}
+use Rattle.typedefs.specs.Walks.{namesFrom}
 use Rattle.typedefs.specs.declared.Names.{Names}
 
 -- names with their numbers, from k on

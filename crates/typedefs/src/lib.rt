@@ -1,4 +1,4 @@
-// Typedefs of a descriptor and question 7: the values of one name among its fields, the typedef that each type names, the end of a chain of names, and are all well formed?
+// Typedefs of a descriptor and question 7: the typedef that each type names, the end of a chain of names, and are all well formed?
 ghost use mathlib.Core.Path.{_≡_};
 ghost use mathlib.Core.Bool.{true, not};
 ghost use mathlib.Core.List.{[], map};
@@ -16,45 +16,16 @@ ghost use Rattle.format.specs.Rules.{reserved, isTypedefName, distinct, typedNa
 ghost use Rattle.lines.specs.Value.{valueFrom};
 ghost use Rattle.records.specs.Places.{isReadable};
 ghost use Rattle.terms.specs.Adding.{Adding};
-ghost use Rattle.typedefs.specs.Walks.{ValueNext, valuesFrom, namesFrom, fitFrom};
+ghost use Rattle.records.specs.Named.{valuesFrom};
+ghost use Rattle.typedefs.specs.Walks.{namesFrom, fitFrom};
 ghost use Rattle.typedefs.specs.Names.{numbered, ArePlaces, AreNames, tagFrom};
 ghost use Rattle.typedefs.specs.Targets.{indexFrom, targetBy, targetIn, followOf, endsIn, leads, wellBy};
 use format::Descriptor;
-use records::NextField;
+use records::FoundField;
 use terms::Table;
 use types::Shape;
 use types::TypeOf;
 use words::Word;
-
-// Where a value stands in a part: its first byte, and the byte behind its field.
-pub enum NextValue {
-    At { value: usize, end: usize },
-    Nothing,
-}
-
-// The value of the first field of a name from byte i on.
-pub fn next_value(s: &[u8], name: &[u8], i: usize) -> NextValue
-    requires { ⌜ (i ≤ length (now s)) × (isReadable (drop i (now s)) ≡ true) ⌝ }
-    ensures { λ r. ⌜ ValueNext (now (s .entry)) (now (name .entry)) i r ⌝ }
-{
-    let mut at = i;
-    loop {
-        let f = records::next_field(s, at);
-        let NextField::At {
-            start,
-            named,
-            value,
-            end,
-        } = f
-        else {
-            return NextValue::Nothing;
-        };
-        if lines::same_bytes(name, &s[start..named]) {
-            return NextValue::At { value, end };
-        }
-        at = end;
-    }
-}
 
 // The place behind the first word of a text.
 pub fn behind_word(s: &[u8]) -> usize
@@ -83,8 +54,13 @@ fn add_names(d: &[u8], entries: &mut [u32]) -> Places
     let mut i = 0;
     let mut count = 0;
     loop {
-        let v = next_value(d, b"%typedef", i);
-        let NextValue::At { value, end } = v else {
+        let v = records::next_named(d, b"%typedef", i);
+        let FoundField::At {
+            start: _,
+            value,
+            end,
+        } = v
+        else {
             return Places { rows, count };
         };
         let at = records::pass(d, value, true);
@@ -286,8 +262,13 @@ fn names_good(d: &[u8], scratch: &mut [u8]) -> bool
 {
     let mut i = 0;
     loop {
-        let v = next_value(d, b"%typedef", i);
-        let NextValue::At { value, end } = v else {
+        let v = records::next_named(d, b"%typedef", i);
+        let FoundField::At {
+            start: _,
+            value,
+            end,
+        } = v
+        else {
             return true;
         };
         let n = lines::copy_value(&d[value..end], &mut *scratch);
@@ -406,8 +387,13 @@ fn all_well(d: &[u8], names: Names, targets: &[usize], scratch: &mut [u8]) -> bo
 {
     let mut i = 0;
     loop {
-        let v = next_value(d, b"%type", i);
-        let NextValue::At { value, end } = v else {
+        let v = records::next_named(d, b"%type", i);
+        let FoundField::At {
+            start: _,
+            value,
+            end,
+        } = v
+        else {
             return true;
         };
         if !type_well(d, names, targets, value, &mut *scratch) {

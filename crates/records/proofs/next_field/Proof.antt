@@ -1,16 +1,17 @@
--- `records::next_field` meets its contract. The invariant: the fields from at on are those from i on, and that part is readable.
+-- `records::next_field` meets its contract. The invariant: no field stands before at, and the part from there on is readable.
 -- The measure is what is left of the length.
 use borrow.Author.Needs.{needs}
 use Prim.Native.Nat.{_-_, _≤_}
 use native.Mathlib.Omega.{arith}
-use mathlib.Core.Path.{_≡_, refl, _∙_}
+use mathlib.Core.Path.{_≡_, _∙_}
 use mathlib.Core.Bool.{true}
 use lib.ListN.{length, drop}
 use Rattle.records.specs.Places.{isReadable}
-use Rattle.records.specs.Fields.{fieldsFrom}
+use Rattle.records.specs.Fields.{Fieldless}
 use Rattle.records.proofs.Readings.{part-ended}
-use Rattle.records.proofs.Steps.{part-formed, steps, record-none, record-blank, record-comment}
-use Rattle.records.proofs.NextFields.{field-here}
+use Rattle.records.proofs.Walks.{blank-loose, comment-loose}
+use Rattle.records.proofs.Steps.{part-formed, steps, record-none}
+use Rattle.records.proofs.NextFields.{fieldless-none, fieldless-on, fieldless-fields, field-here}
 use Rattle.records.proofs.next_field.Statement.{statement}
 use Rattle.records.proofs.next_field.Tie as tie
 use Rattle.records.proofs.next_field.Reads as reads
@@ -18,15 +19,16 @@ use Rattle.records.proofs.next_field.Lts as lts
 use Rattle.lines.proofs.read_piece.Reads as read-piece-reads
 
 abbrev Inv-loop : tie.InvT-loop
-Inv-loop s i at₀ at = (i ≤ at) × (at ≤ length s) × (isReadable (drop at s) ≡ true) × (fieldsFrom s i ≡ fieldsFrom s at)
+Inv-loop s i at₀ at = (i ≤ at) × (at ≤ length s) × (isReadable (drop at s) ≡ true) × Fieldless s i at
 
 abbrev μ-loop : tie.MeasureT-loop
 μ-loop s i at₀ at = length s - at
 
 loop-holds : tie.Need-loop-holds Inv-loop μ-loop
 loop-holds c =
+    let at-args = c .before .args in
     let at-pre = c .before .pre in
-    (omega arith, at-pre .0, at-pre .1, refl)
+    (omega arith, at-pre .0, at-pre .1, fieldless-none (at-args .s .now) (at-args .i))
 
 sub-read-piece : tie.Need-sub-read-piece Inv-loop μ-loop
 sub-read-piece c = search needs
@@ -71,7 +73,7 @@ loop-again c =
     let at-read-piece = c .before .before .before .read-piece in
     let at-n = c .before .n in
     let p = steps (at-args .s .now) (at-loop .at) (at-read-piece .result) (at-loop .inv .2) (at-read-piece .ensures) (at-n .given .1) in
-    (omega (arith, at-loop .inv .0), p .1 .inside, p .1 .readable, at-loop .inv .3 ∙ record-blank (at-args .s .now) (at-loop .at) (p .0) (at-n .given .0 .0) (p .1))
+    (omega (arith, at-loop .inv .0), p .1 .inside, p .1 .readable, fieldless-on (at-args .s .now) (at-args .i) (at-loop .at) (at-loop .inv .3) _ (at-n .given .0 .0) (blank-loose (p .0)) (p .1))
 
 enum-known-n-2 : tie.Need-enum-known-n-2 Inv-loop μ-loop
 enum-known-n-2 c = search needs
@@ -101,7 +103,7 @@ loop-again-2 c =
     let at-read-piece = c .before .before .before .read-piece in
     let at-n2 = c .before .n2 in
     let p = steps (at-args .s .now) (at-loop .at) (at-read-piece .result) (at-loop .inv .2) (at-read-piece .ensures) (at-n2 .given .1) in
-    (omega (arith, at-loop .inv .0), p .1 .inside, p .1 .readable, at-loop .inv .3 ∙ record-comment (at-args .s .now) (at-loop .at) (p .0) (at-n2 .given .0 .0) (p .1))
+    (omega (arith, at-loop .inv .0), p .1 .inside, p .1 .readable, fieldless-on (at-args .s .now) (at-args .i) (at-loop .at) (at-loop .inv .3) _ (at-n2 .given .0 .0) (comment-loose (p .0)) (p .1))
 
 enum-known-n-3 : tie.Need-enum-known-n-3 Inv-loop μ-loop
 enum-known-n-3 c = search needs
@@ -151,7 +153,7 @@ returns-2 c =
     let at-args = c .before .before .before .before .before .before .args in
     let at-read-piece = c .before .before .read-piece in
     let at-enum-told = c .enum-told in
-    at-loop .inv .3 ∙ record-none (at-args .s .now) (at-loop .at) (steps (at-args .s .now) (at-loop .at) (at-read-piece .result) (at-loop .inv .2) (at-read-piece .ensures) (at-enum-told .given .1))
+    fieldless-fields (at-args .s .now) (at-args .i) (at-loop .at) (at-loop .inv .3) ∙ record-none (at-args .s .now) (at-loop .at) (steps (at-args .s .now) (at-loop .at) (at-read-piece .result) (at-loop .inv .2) (at-read-piece .ensures) (at-enum-told .given .1))
 
 enum-told-2 : tie.Need-enum-told-2 Inv-loop μ-loop
 enum-told-2 c = search needs

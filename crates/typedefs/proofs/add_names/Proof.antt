@@ -5,8 +5,8 @@ use native.Mathlib.Omega.{arith}
 use mathlib.Core.Path.{_≡_, refl, _∙_}
 use lib.ListN.{length, length-set}
 use Rattle.format.specs.Bytes.{text}
-use Rattle.typedefs.specs.Walks.{valuesFrom}
-use Rattle.typedefs.proofs.Walking.{value-told}
+use Rattle.records.specs.Named.{valuesFrom}
+use Rattle.records.proofs.Named.{value-told}
 use Rattle.typedefs.proofs.Placing.{Placed, placed-start, placed-end, start-inside, placed-more, passed-inside}
 use Rattle.typedefs.proofs.add_names.Statement.{statement}
 use Rattle.typedefs.proofs.add_names.Tie as tie
@@ -14,7 +14,7 @@ use Rattle.typedefs.proofs.add_names.Reads as reads
 use Rattle.typedefs.proofs.add_names.Lts as lts
 use Rattle.records.proofs.pass.Reads as pass-reads
 use Rattle.terms.proofs.entry.Reads as entry-reads
-use Rattle.typedefs.proofs.next_value.Reads as next-value-reads
+use Rattle.records.proofs.next_named.Reads as next-named-reads
 
 abbrev Inv-loop : tie.InvT-loop
 Inv-loop d entries₀ rows₀ i₀ count₀ t11 entries rows i count = Placed d entries₀ rows entries count i × (count ≤ length (valuesFrom d (text "%typedef") 0)) × (length entries ≡ length entries₀)
@@ -28,11 +28,11 @@ loop-holds c =
     let at-pre = c .before .before .pre in
     (placed-start (at-args .d .now) (at-args .entries .now) _ (at-pre .0 .0) refl (at-pre .1 .1), omega arith, refl)
 
-slice-aggregate-next-value : tie.Need-slice-aggregate-next-value Inv-loop μ-loop
-slice-aggregate-next-value c = search needs
+slice-aggregate-next-named : tie.Need-slice-aggregate-next-named Inv-loop μ-loop
+slice-aggregate-next-named c = search needs
 
-next-value-requires : tie.Need-next-value-requires Inv-loop μ-loop
-next-value-requires c κs =
+next-named-requires : tie.Need-next-named-requires Inv-loop μ-loop
+next-named-requires c κs =
     let at-loop = c .before .loop in
     ((at-loop .inv .0 .passed .inside, at-loop .inv .0 .passed .readable))
 
@@ -52,101 +52,101 @@ returns c =
     let at-args = c .before .before .before .before .before .before .before .args in
     let at-loop = c .before .before .before .before .loop in
     let at-pre = c .before .before .before .before .before .before .before .pre in
-    let at-next-value = c .before .before .next-value in
+    let at-next-named = c .before .before .next-named in
     let at-enum-told = c .enum-told in
-    placed-end (at-args .d .now) (at-args .entries .now) (at-loop .rows) (at-loop .entries) (at-loop .count) (at-loop .i) (at-loop .inv .0) (at-pre .1 .0) (at-loop .inv .1) (value-told (at-args .d .now) (text "%typedef") (at-loop .i) (at-next-value .result) (at-next-value .ensures) (at-enum-told .given .1))
+    placed-end (at-args .d .now) (at-args .entries .now) (at-loop .rows) (at-loop .entries) (at-loop .count) (at-loop .i) (at-loop .inv .0) (at-pre .1 .0) (at-loop .inv .1) (value-told (at-args .d .now) (text "%typedef") (at-loop .i) (at-next-named .result) (at-next-named .ensures) (at-enum-told .given .1))
 
 pass-requires : tie.Need-pass-requires Inv-loop μ-loop
 pass-requires c κs =
     let at-args = c .before .before .before .before .before .before .before .before .args in
     let at-loop = c .before .before .before .before .before .loop in
-    let at-next-value = c .before .before .before .next-value in
+    let at-next-named = c .before .before .before .next-named in
     let at-v = c .before .v in
-    let h = value-told (at-args .d .now) (text "%typedef") (at-loop .i) (at-next-value .result) (at-next-value .ensures) (at-v .given .1) in omega (arith, h .value-there)
+    let h = value-told (at-args .d .now) (text "%typedef") (at-loop .i) (at-next-named .result) (at-next-named .ensures) (at-v .given .1) in omega (arith, h .value-there)
 
 mul-rows : tie.Need-mul-rows Inv-loop μ-loop
 mul-rows c =
     let at-args = c .before .before .before .before .before .before .before .before .before .args in
     let at-loop = c .before .before .before .before .before .before .loop in
-    let at-next-value = c .before .before .before .before .next-value in
+    let at-next-named = c .before .before .before .before .next-named in
     let at-v = c .before .before .v in
     let at-pre = c .before .before .before .before .before .before .before .before .before .pre in
-    let h = value-told (at-args .d .now) (text "%typedef") (at-loop .i) (at-next-value .result) (at-next-value .ensures) (at-v .given .1) in omega (arith, passed-inside (at-args .d .now) (text "%typedef") (at-loop .count) (at-loop .i) (at-loop .inv .0 .passed) _ _ h, at-pre .1 .0)
+    let h = value-told (at-args .d .now) (text "%typedef") (at-loop .i) (at-next-named .result) (at-next-named .ensures) (at-v .given .1) in omega (arith, passed-inside (at-args .d .now) (text "%typedef") (at-loop .count) (at-loop .i) (at-loop .inv .0 .passed) _ _ h, at-pre .1 .0)
 
 array-write-rows : tie.Need-array-write-rows Inv-loop μ-loop
 array-write-rows c =
     let at-args = c .before .before .before .before .before .before .before .before .before .args in
     let at-loop = c .before .before .before .before .before .before .loop in
-    let at-next-value = c .before .before .before .before .next-value in
+    let at-next-named = c .before .before .before .before .next-named in
     let at-v = c .before .before .v in
     let at-pre = c .before .before .before .before .before .before .before .before .before .pre in
-    let h = value-told (at-args .d .now) (text "%typedef") (at-loop .i) (at-next-value .result) (at-next-value .ensures) (at-v .given .1) in omega (arith, passed-inside (at-args .d .now) (text "%typedef") (at-loop .count) (at-loop .i) (at-loop .inv .0 .passed) _ _ h, at-pre .1 .0)
+    let h = value-told (at-args .d .now) (text "%typedef") (at-loop .i) (at-next-named .result) (at-next-named .ensures) (at-v .given .1) in omega (arith, passed-inside (at-args .d .now) (text "%typedef") (at-loop .count) (at-loop .i) (at-loop .inv .0 .passed) _ _ h, at-pre .1 .0)
 
 cast-entry : tie.Need-cast-entry Inv-loop μ-loop
 cast-entry c =
     let at-args = c .before .before .before .before .before .before .before .before .before .args in
     let at-loop = c .before .before .before .before .before .before .loop in
-    let at-next-value = c .before .before .before .before .next-value in
+    let at-next-named = c .before .before .before .before .next-named in
     let at-v = c .before .before .v in
     let at-pre = c .before .before .before .before .before .before .before .before .before .pre in
-    let h = value-told (at-args .d .now) (text "%typedef") (at-loop .i) (at-next-value .result) (at-next-value .ensures) (at-v .given .1) in omega (arith, passed-inside (at-args .d .now) (text "%typedef") (at-loop .count) (at-loop .i) (at-loop .inv .0 .passed) _ _ h, at-pre .1 .0)
+    let h = value-told (at-args .d .now) (text "%typedef") (at-loop .i) (at-next-named .result) (at-next-named .ensures) (at-v .given .1) in omega (arith, passed-inside (at-args .d .now) (text "%typedef") (at-loop .count) (at-loop .i) (at-loop .inv .0 .passed) _ _ h, at-pre .1 .0)
 
 entry-requires : tie.Need-entry-requires Inv-loop μ-loop
 entry-requires c κs =
     let at-args = c .before .before .before .before .before .before .before .before .before .args in
     let at-loop = c .before .before .before .before .before .before .loop in
-    let at-next-value = c .before .before .before .before .next-value in
+    let at-next-named = c .before .before .before .before .next-named in
     let at-v = c .before .before .v in
     let at-pass = c .pass in
     let at-pre = c .before .before .before .before .before .before .before .before .before .pre in
-    let h = value-told (at-args .d .now) (text "%typedef") (at-loop .i) (at-next-value .result) (at-next-value .ensures) (at-v .given .1) in
+    let h = value-told (at-args .d .now) (text "%typedef") (at-loop .i) (at-next-named .result) (at-next-named .ensures) (at-v .given .1) in
     (omega (arith, start-inside (at-args .d .now) (at-args .entries .now) (at-loop .rows) (at-loop .entries) (at-loop .count) (at-loop .i) (at-loop .inv .0) _ _ h (at-pass .result) (at-pass .ensures .0), at-pre .0 .1), omega (arith, passed-inside (at-args .d .now) (text "%typedef") (at-loop .count) (at-loop .i) (at-loop .inv .0 .passed) _ _ h, at-pre .1 .0))
 
 mul-entries : tie.Need-mul-entries Inv-loop μ-loop
 mul-entries c =
     let at-args = c .before .before .before .before .before .before .before .before .before .before .args in
     let at-loop = c .before .before .before .before .before .before .before .loop in
-    let at-next-value = c .before .before .before .before .before .next-value in
+    let at-next-named = c .before .before .before .before .before .next-named in
     let at-v = c .before .before .before .v in
     let at-pre = c .before .before .before .before .before .before .before .before .before .before .pre in
-    let h = value-told (at-args .d .now) (text "%typedef") (at-loop .i) (at-next-value .result) (at-next-value .ensures) (at-v .given .1) in omega (arith, passed-inside (at-args .d .now) (text "%typedef") (at-loop .count) (at-loop .i) (at-loop .inv .0 .passed) _ _ h, at-pre .1 .0)
+    let h = value-told (at-args .d .now) (text "%typedef") (at-loop .i) (at-next-named .result) (at-next-named .ensures) (at-v .given .1) in omega (arith, passed-inside (at-args .d .now) (text "%typedef") (at-loop .count) (at-loop .i) (at-loop .inv .0 .passed) _ _ h, at-pre .1 .0)
 
 slice-write-entries : tie.Need-slice-write-entries Inv-loop μ-loop
 slice-write-entries c =
     let at-args = c .before .before .before .before .before .before .before .before .before .before .args in
     let at-loop = c .before .before .before .before .before .before .before .loop in
-    let at-next-value = c .before .before .before .before .before .next-value in
+    let at-next-named = c .before .before .before .before .before .next-named in
     let at-v = c .before .before .before .v in
     let at-pre = c .before .before .before .before .before .before .before .before .before .before .pre in
-    let h = value-told (at-args .d .now) (text "%typedef") (at-loop .i) (at-next-value .result) (at-next-value .ensures) (at-v .given .1) in omega (arith, passed-inside (at-args .d .now) (text "%typedef") (at-loop .count) (at-loop .i) (at-loop .inv .0 .passed) _ _ h, at-pre .1 .0, at-pre .1 .2, at-loop .inv .2)
+    let h = value-told (at-args .d .now) (text "%typedef") (at-loop .i) (at-next-named .result) (at-next-named .ensures) (at-v .given .1) in omega (arith, passed-inside (at-args .d .now) (text "%typedef") (at-loop .count) (at-loop .i) (at-loop .inv .0 .passed) _ _ h, at-pre .1 .0, at-pre .1 .2, at-loop .inv .2)
 
 add-count : tie.Need-add-count Inv-loop μ-loop
 add-count c =
     let at-args = c .before .before .before .before .before .before .before .before .before .before .args in
     let at-loop = c .before .before .before .before .before .before .before .loop in
-    let at-next-value = c .before .before .before .before .before .next-value in
+    let at-next-named = c .before .before .before .before .before .next-named in
     let at-v = c .before .before .before .v in
     let at-pre = c .before .before .before .before .before .before .before .before .before .before .pre in
-    let h = value-told (at-args .d .now) (text "%typedef") (at-loop .i) (at-next-value .result) (at-next-value .ensures) (at-v .given .1) in omega (arith, passed-inside (at-args .d .now) (text "%typedef") (at-loop .count) (at-loop .i) (at-loop .inv .0 .passed) _ _ h, at-pre .1 .0)
+    let h = value-told (at-args .d .now) (text "%typedef") (at-loop .i) (at-next-named .result) (at-next-named .ensures) (at-v .given .1) in omega (arith, passed-inside (at-args .d .now) (text "%typedef") (at-loop .count) (at-loop .i) (at-loop .inv .0 .passed) _ _ h, at-pre .1 .0)
 
 loop-less : tie.Need-loop-less Inv-loop μ-loop
 loop-less c =
     let at-args = c .before .before .before .before .before .before .before .before .before .before .args in
     let at-loop = c .before .before .before .before .before .before .before .loop in
-    let at-next-value = c .before .before .before .before .before .next-value in
+    let at-next-named = c .before .before .before .before .before .next-named in
     let at-v = c .before .before .before .v in
-    let h = value-told (at-args .d .now) (text "%typedef") (at-loop .i) (at-next-value .result) (at-next-value .ensures) (at-v .given .1) in omega (arith, h .moves, h .inside)
+    let h = value-told (at-args .d .now) (text "%typedef") (at-loop .i) (at-next-named .result) (at-next-named .ensures) (at-v .given .1) in omega (arith, h .moves, h .inside)
 
 loop-again : tie.Need-loop-again Inv-loop μ-loop
 loop-again c =
     let at-args = c .before .before .before .before .before .before .before .before .before .before .args in
     let at-loop = c .before .before .before .before .before .before .before .loop in
-    let at-next-value = c .before .before .before .before .before .next-value in
+    let at-next-named = c .before .before .before .before .before .next-named in
     let at-v = c .before .before .before .v in
     let at-pass = c .before .pass in
     let at-pre = c .before .before .before .before .before .before .before .before .before .before .pre in
     let at-entry = c .entry in
-    let h = value-told (at-args .d .now) (text "%typedef") (at-loop .i) (at-next-value .result) (at-next-value .ensures) (at-v .given .1) in
+    let h = value-told (at-args .d .now) (text "%typedef") (at-loop .i) (at-next-named .result) (at-next-named .ensures) (at-v .given .1) in
     let l = passed-inside (at-args .d .now) (text "%typedef") (at-loop .count) (at-loop .i) (at-loop .inv .0 .passed) _ _ h in
     (placed-more (at-args .d .now) (at-args .entries .now) (at-loop .rows) (at-loop .entries) (at-loop .count) (at-loop .i) (at-loop .inv .0) _ _ h (at-pass .result) (at-pass .ensures .0) (omega (arith, l, at-pre .1 .0, at-pre .1 .2, at-loop .inv .2)) (omega (arith, l, at-pre .1 .0)) (at-entry .result) (at-entry .ensures .1) (at-entry .ensures .2), omega (arith, l), simp length-set (at-loop .inv .2))
 
@@ -157,8 +157,8 @@ add-names-spec =
     Inv-loop
     μ-loop
     loop-holds
-    slice-aggregate-next-value
-    next-value-requires
+    slice-aggregate-next-named
+    next-named-requires
     enum-known-v
     enum-told
     same-length

@@ -10,16 +10,17 @@ use Rattle.format.specs.Bytes.{Bytes, text, all}
 use Rattle.lines.specs.Value.{valueFrom}
 use Rattle.words.specs.Spans.{span}
 use Rattle.records.specs.Places.{isReadable}
-use Rattle.typedefs.specs.Walks.{valuesFrom, namesFrom, fitFrom}
+use Rattle.records.specs.Named.{valuesFrom}
+use Rattle.typedefs.specs.Walks.{namesFrom, fitFrom}
 use Rattle.typedefs.specs.Targets.{wellBy}
-use Rattle.typedefs.proofs.Walking.{value-told}
+use Rattle.records.proofs.Named.{value-told}
 use Rattle.typedefs.proofs.Filling.{fit-here}
 use Rattle.typedefs.proofs.Deciding.{all-cut}
 use Rattle.typedefs.proofs.all_well.Statement.{statement}
 use Rattle.typedefs.proofs.all_well.Tie as tie
 use Rattle.typedefs.proofs.all_well.Reads as reads
 use Rattle.typedefs.proofs.all_well.Lts as lts
-use Rattle.typedefs.proofs.next_value.Reads as next-value-reads
+use Rattle.records.proofs.next_named.Reads as next-named-reads
 use Rattle.typedefs.proofs.type_well.Reads as type-well-reads
 
 abbrev Inv-loop : tie.InvT-loop
@@ -33,11 +34,11 @@ loop-holds c =
     let at-pre = c .before .before .before .pre in
     (omega arith, at-pre .0 .0, refl, at-pre .1, refl)
 
-slice-aggregate-next-value : tie.Need-slice-aggregate-next-value Inv-loop μ-loop
-slice-aggregate-next-value c = search needs
+slice-aggregate-next-named : tie.Need-slice-aggregate-next-named Inv-loop μ-loop
+slice-aggregate-next-named c = search needs
 
-next-value-requires : tie.Need-next-value-requires Inv-loop μ-loop
-next-value-requires c κs =
+next-named-requires : tie.Need-next-named-requires Inv-loop μ-loop
+next-named-requires c κs =
     let at-loop = c .before .loop in
     ((at-loop .inv .0, at-loop .inv .1))
 
@@ -56,9 +57,9 @@ returns : tie.Need-returns Inv-loop μ-loop
 returns c =
     let at-args = c .before .before .before .before .before .before .before .before .args in
     let at-loop = c .before .before .before .before .loop in
-    let at-next-value = c .before .before .next-value in
+    let at-next-named = c .before .before .next-named in
     let at-enum-told = c .enum-told in
-    let h = value-told (at-args .d .now) (text "%type") (at-loop .i) (at-next-value .result) (at-next-value .ensures) (at-enum-told .given .1) in
+    let h = value-told (at-args .d .now) (text "%type") (at-loop .i) (at-next-named .result) (at-next-named .ensures) (at-enum-told .given .1) in
     sym (at-loop .inv .4 ∙ ap (all (wellBy (namesFrom (at-args .d .now) 0) (at-args .targets .now))) h)
 
 type-well-requires : tie.Need-type-well-requires Inv-loop μ-loop
@@ -66,12 +67,12 @@ type-well-requires c κs =
     let at-args = c .before .before .before .before .before .before .before .before .before .before .args in
     let at-v = c .before .before .v in
     let at-loop = c .before .before .before .before .before .before .loop in
-    let at-next-value = c .before .before .before .before .next-value in
+    let at-next-named = c .before .before .before .before .next-named in
     let at-pre = c .before .before .before .before .before .before .before .before .before .before .pre in
     let d = at-args .d .now in
     let g = at-v .given in
-    let h = value-told d (text "%type") (at-loop .i) (at-next-value .result) (at-next-value .ensures) (g .1) in
-    let f = fit-here (length (at-args .scratch .now)) (valuesFrom d (text "%type") (at-loop .i)) (valueFrom (span (g .0 .0) (g .0 .1 .0) d)) (valuesFrom d (text "%type") (g .0 .1 .0)) (at-loop .inv .3) (h .values) in
+    let h = value-told d (text "%type") (at-loop .i) (at-next-named .result) (at-next-named .ensures) (g .1) in
+    let f = fit-here (length (at-args .scratch .now)) (valuesFrom d (text "%type") (at-loop .i)) (valueFrom (span (g .0 .1 .0) (g .0 .1 .1 .0) d)) (valuesFrom d (text "%type") (g .0 .1 .1 .0)) (at-loop .inv .3) (h .values) in
     ((at-pre .0 .1, (omega (arith, h .value-there), omega (arith, f .0, at-loop .inv .2, ap length (h .ends-itself)))))
 
 same-length-2 : tie.Need-same-length-2 Inv-loop μ-loop
@@ -85,38 +86,38 @@ returns-2 c =
     let at-args = c .before .before .before .before .before .before .before .before .before .before .before .before .before .before .args in
     let at-v = c .before .before .before .before .before .before .v in
     let at-loop = c .before .before .before .before .before .before .before .before .before .before .loop in
-    let at-next-value = c .before .before .before .before .before .before .before .before .next-value in
+    let at-next-named = c .before .before .before .before .before .before .before .before .next-named in
     let at-type-well = c .before .before .before .type-well in
     let at-if1 = c .if1 in
     let d = at-args .d .now in
     let g = at-v .given in
     let p = wellBy (namesFrom d 0) (at-args .targets .now) in
-    let h = value-told d (text "%type") (at-loop .i) (at-next-value .result) (at-next-value .ensures) (g .1) in
-    sym (at-loop .inv .4 ∙ all-cut p d (text "%type") (at-loop .i) (g .0 .0) (g .0 .1 .0) (at-type-well .result) h (at-type-well .ensures) ∙ ap (λ (b : Bool). b && all p (valuesFrom d (text "%type") (g .0 .1 .0))) (not-true (at-type-well .result) (at-if1 .taken)))
+    let h = value-told d (text "%type") (at-loop .i) (at-next-named .result) (at-next-named .ensures) (g .1) in
+    sym (at-loop .inv .4 ∙ all-cut p d (text "%type") (at-loop .i) (g .0 .1 .0) (g .0 .1 .1 .0) (at-type-well .result) h (at-type-well .ensures) ∙ ap (λ (b : Bool). b && all p (valuesFrom d (text "%type") (g .0 .1 .1 .0))) (not-true (at-type-well .result) (at-if1 .taken)))
 
 loop-less : tie.Need-loop-less Inv-loop μ-loop
 loop-less c =
     let at-args = c .before .before .before .before .before .before .before .before .before .before .before .before .before .before .args in
     let at-loop = c .before .before .before .before .before .before .before .before .before .before .loop in
-    let at-next-value = c .before .before .before .before .before .before .before .before .next-value in
+    let at-next-named = c .before .before .before .before .before .before .before .before .next-named in
     let at-v = c .before .before .before .before .before .before .v in
-    let h = value-told (at-args .d .now) (text "%type") (at-loop .i) (at-next-value .result) (at-next-value .ensures) (at-v .given .1) in omega (arith, h .moves, h .inside)
+    let h = value-told (at-args .d .now) (text "%type") (at-loop .i) (at-next-named .result) (at-next-named .ensures) (at-v .given .1) in omega (arith, h .moves, h .inside)
 
 loop-again : tie.Need-loop-again Inv-loop μ-loop
 loop-again c =
     let at-args = c .before .before .before .before .before .before .before .before .before .before .before .before .before .before .args in
     let at-v = c .before .before .before .before .before .before .v in
     let at-loop = c .before .before .before .before .before .before .before .before .before .before .loop in
-    let at-next-value = c .before .before .before .before .before .before .before .before .next-value in
+    let at-next-named = c .before .before .before .before .before .before .before .before .next-named in
     let at-scratch = c .before .before .scratch in
     let at-type-well = c .before .before .before .type-well in
     let at-if1 = c .if1 in
     let d = at-args .d .now in
     let g = at-v .given in
     let p = wellBy (namesFrom d 0) (at-args .targets .now) in
-    let h = value-told d (text "%type") (at-loop .i) (at-next-value .result) (at-next-value .ensures) (g .1) in
-    let f = fit-here (length (at-args .scratch .now)) (valuesFrom d (text "%type") (at-loop .i)) (valueFrom (span (g .0 .0) (g .0 .1 .0) d)) (valuesFrom d (text "%type") (g .0 .1 .0)) (at-loop .inv .3) (h .values) in
-    (h .inside, h .readable, omega (arith, at-scratch .given, at-loop .inv .2), f .1, at-loop .inv .4 ∙ all-cut p d (text "%type") (at-loop .i) (g .0 .0) (g .0 .1 .0) (at-type-well .result) h (at-type-well .ensures) ∙ ap (λ (b : Bool). b && all p (valuesFrom d (text "%type") (g .0 .1 .0))) (not-false (at-type-well .result) (at-if1 .left)))
+    let h = value-told d (text "%type") (at-loop .i) (at-next-named .result) (at-next-named .ensures) (g .1) in
+    let f = fit-here (length (at-args .scratch .now)) (valuesFrom d (text "%type") (at-loop .i)) (valueFrom (span (g .0 .1 .0) (g .0 .1 .1 .0) d)) (valuesFrom d (text "%type") (g .0 .1 .1 .0)) (at-loop .inv .3) (h .values) in
+    (h .inside, h .readable, omega (arith, at-scratch .given, at-loop .inv .2), f .1, at-loop .inv .4 ∙ all-cut p d (text "%type") (at-loop .i) (g .0 .1 .0) (g .0 .1 .1 .0) (at-type-well .result) h (at-type-well .ensures) ∙ ap (λ (b : Bool). b && all p (valuesFrom d (text "%type") (g .0 .1 .1 .0))) (not-false (at-type-well .result) (at-if1 .left)))
 
 pub all-well-spec : {M : Type 1} → statement M
 all-well-spec =
@@ -125,8 +126,8 @@ all-well-spec =
     Inv-loop
     μ-loop
     loop-holds
-    slice-aggregate-next-value
-    next-value-requires
+    slice-aggregate-next-named
+    next-named-requires
     enum-known-v
     enum-told
     same-length

@@ -12,7 +12,8 @@ use Rattle.lines.specs.Value.{valueFrom}
 use Rattle.lines.proofs.Cuts.{rest}
 use Rattle.words.specs.Spans.{span}
 use Rattle.words.proofs.Decoded.{decoded-all, decoded-length, decoded-inside}
-use Rattle.typedefs.specs.Walks.{valuesFrom, namesFrom}
+use Rattle.records.specs.Named.{valuesFrom}
+use Rattle.typedefs.specs.Walks.{namesFrom}
 use Rattle.typedefs.specs.Targets.{indexFrom}
 use Rattle.typedefs.proofs.Placing.{place-fits, place-name}
 use Rattle.typedefs.proofs.Good.{among-index, words-length}

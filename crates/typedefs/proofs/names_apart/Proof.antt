@@ -8,7 +8,8 @@ use borrow.Author.Tests.{not-true, not-false}
 use lib.ListN.{length, drop}
 use Rattle.format.specs.Bytes.{text}
 use Rattle.format.specs.Rules.{distinct}
-use Rattle.typedefs.specs.Walks.{valuesFrom, namesFrom, fitFrom}
+use Rattle.records.specs.Named.{valuesFrom}
+use Rattle.typedefs.specs.Walks.{namesFrom, fitFrom}
 use Rattle.typedefs.proofs.Good.{words-length, apart-done, apart-cut}
 use Rattle.typedefs.proofs.names_apart.Statement.{statement}
 use Rattle.typedefs.proofs.names_apart.Tie as tie

@@ -14,8 +14,9 @@ use Rattle.lines.specs.Value.{valueFrom}
 use Rattle.words.specs.Spans.{span}
 use Rattle.words.proofs.Decoded.{decoded-all, decoded-length, decoded-inside}
 use Rattle.records.specs.Places.{isReadable}
-use Rattle.typedefs.specs.Walks.{valuesFrom, namesFrom, fitFrom}
-use Rattle.typedefs.proofs.Walking.{value-told}
+use Rattle.records.specs.Named.{valuesFrom}
+use Rattle.typedefs.specs.Walks.{namesFrom, fitFrom}
+use Rattle.records.proofs.Named.{value-told}
 use Rattle.typedefs.proofs.Filling.{fit-here}
 use Rattle.typedefs.proofs.Good.{good-cut}
 use Rattle.typedefs.proofs.names_good.Statement.{statement}
@@ -24,7 +25,7 @@ use Rattle.typedefs.proofs.names_good.Reads as reads
 use Rattle.typedefs.proofs.names_good.Lts as lts
 use Rattle.lines.proofs.copy_value.Reads as copy-value-reads
 use Rattle.typedefs.proofs.name_good.Reads as name-good-reads
-use Rattle.typedefs.proofs.next_value.Reads as next-value-reads
+use Rattle.records.proofs.next_named.Reads as next-named-reads
 
 abbrev Inv-loop : tie.InvT-loop
 Inv-loop d scratch₀ i₀ t9 scratch i = (i ≤ length d) × (isReadable (drop i d) ≡ true) × (length scratch ≡ length scratch₀) × (fitFrom (length scratch₀) d (text "%typedef") i ≡ true) × (all isTypedefName (namesFrom d 0) ≡ all isTypedefName (namesFrom d i))
@@ -37,11 +38,11 @@ loop-holds c =
     let at-pre = c .before .before .pre in
     (omega arith, at-pre .0, refl, at-pre .1, refl)
 
-slice-aggregate-next-value : tie.Need-slice-aggregate-next-value Inv-loop μ-loop
-slice-aggregate-next-value c = search needs
+slice-aggregate-next-named : tie.Need-slice-aggregate-next-named Inv-loop μ-loop
+slice-aggregate-next-named c = search needs
 
-next-value-requires : tie.Need-next-value-requires Inv-loop μ-loop
-next-value-requires c κs =
+next-named-requires : tie.Need-next-named-requires Inv-loop μ-loop
+next-named-requires c κs =
     let at-loop = c .before .loop in
     ((at-loop .inv .0, at-loop .inv .1))
 
@@ -60,43 +61,43 @@ returns : tie.Need-returns Inv-loop μ-loop
 returns c =
     let at-loop = c .before .before .before .before .loop in
     let at-args = c .before .before .before .before .before .before .before .args in
-    let at-next-value = c .before .before .next-value in
+    let at-next-named = c .before .before .next-named in
     let at-enum-told = c .enum-told in
-    sym (at-loop .inv .4 ∙ ap (λ (vs : List Bytes). all isTypedefName (map firstWord vs)) (value-told (at-args .d .now) (text "%typedef") (at-loop .i) (at-next-value .result) (at-next-value .ensures) (at-enum-told .given .1)))
+    sym (at-loop .inv .4 ∙ ap (λ (vs : List Bytes). all isTypedefName (map firstWord vs)) (value-told (at-args .d .now) (text "%typedef") (at-loop .i) (at-next-named .result) (at-next-named .ensures) (at-enum-told .given .1)))
 
 sub-copy-value : tie.Need-sub-copy-value Inv-loop μ-loop
 sub-copy-value c =
     let at-args = c .before .before .before .before .before .before .before .before .args in
     let at-loop = c .before .before .before .before .before .loop in
-    let at-next-value = c .before .before .before .next-value in
+    let at-next-named = c .before .before .before .next-named in
     let at-v = c .before .v in
-    let h = value-told (at-args .d .now) (text "%typedef") (at-loop .i) (at-next-value .result) (at-next-value .ensures) (at-v .given .1) in omega (arith, h .within, h .inside)
+    let h = value-told (at-args .d .now) (text "%typedef") (at-loop .i) (at-next-named .result) (at-next-named .ensures) (at-v .given .1) in omega (arith, h .within, h .inside)
 
 part-copy-value-start : tie.Need-part-copy-value-start Inv-loop μ-loop
 part-copy-value-start c =
     let at-args = c .before .before .before .before .before .before .before .before .args in
     let at-loop = c .before .before .before .before .before .loop in
-    let at-next-value = c .before .before .before .next-value in
+    let at-next-named = c .before .before .before .next-named in
     let at-v = c .before .v in
-    let h = value-told (at-args .d .now) (text "%typedef") (at-loop .i) (at-next-value .result) (at-next-value .ensures) (at-v .given .1) in omega (arith, h .within, h .inside)
+    let h = value-told (at-args .d .now) (text "%typedef") (at-loop .i) (at-next-named .result) (at-next-named .ensures) (at-v .given .1) in omega (arith, h .within, h .inside)
 
 part-copy-value-end : tie.Need-part-copy-value-end Inv-loop μ-loop
 part-copy-value-end c =
     let at-args = c .before .before .before .before .before .before .before .before .args in
     let at-loop = c .before .before .before .before .before .loop in
-    let at-next-value = c .before .before .before .next-value in
+    let at-next-named = c .before .before .before .next-named in
     let at-v = c .before .v in
-    let h = value-told (at-args .d .now) (text "%typedef") (at-loop .i) (at-next-value .result) (at-next-value .ensures) (at-v .given .1) in omega (arith, h .within, h .inside)
+    let h = value-told (at-args .d .now) (text "%typedef") (at-loop .i) (at-next-named .result) (at-next-named .ensures) (at-v .given .1) in omega (arith, h .within, h .inside)
 
 copy-value-requires : tie.Need-copy-value-requires Inv-loop μ-loop
 copy-value-requires c κs =
     let at-v = c .before .before .before .v in
     let at-args = c .before .before .before .before .before .before .before .before .before .before .args in
     let at-loop = c .before .before .before .before .before .before .before .loop in
-    let at-next-value = c .before .before .before .before .before .next-value in
+    let at-next-named = c .before .before .before .before .before .next-named in
     let g = at-v .given in
-    let h = value-told (at-args .d .now) (text "%typedef") (at-loop .i) (at-next-value .result) (at-next-value .ensures) (g .1) in
-    let f = fit-here (length (at-args .scratch .now)) (valuesFrom (at-args .d .now) (text "%typedef") (at-loop .i)) (valueFrom (span (g .0 .0) (g .0 .1 .0) (at-args .d .now))) (valuesFrom (at-args .d .now) (text "%typedef") (g .0 .1 .0)) (at-loop .inv .3) (h .values) in
+    let h = value-told (at-args .d .now) (text "%typedef") (at-loop .i) (at-next-named .result) (at-next-named .ensures) (g .1) in
+    let f = fit-here (length (at-args .scratch .now)) (valuesFrom (at-args .d .now) (text "%typedef") (at-loop .i)) (valueFrom (span (g .0 .1 .0) (g .0 .1 .1 .0) (at-args .d .now))) (valuesFrom (at-args .d .now) (text "%typedef") (g .0 .1 .1 .0)) (at-loop .inv .3) (h .values) in
     omega (arith, f .0, at-loop .inv .2)
 
 slice-reshare-prefix-name-good : tie.Need-slice-reshare-prefix-name-good Inv-loop μ-loop
@@ -104,12 +105,12 @@ slice-reshare-prefix-name-good c =
     let at-v = c .before .before .before .before .before .before .v in
     let at-args = c .before .before .before .before .before .before .before .before .before .before .before .before .before .args in
     let at-loop = c .before .before .before .before .before .before .before .before .before .before .loop in
-    let at-next-value = c .before .before .before .before .before .before .before .before .next-value in
+    let at-next-named = c .before .before .before .before .before .before .before .before .next-named in
     let at-copy-value = c .before .before .copy-value in
     let g = at-v .given in
-    let h = value-told (at-args .d .now) (text "%typedef") (at-loop .i) (at-next-value .result) (at-next-value .ensures) (g .1) in
-    let v = valueFrom (span (g .0 .0) (g .0 .1 .0) (at-args .d .now)) in
-    let f = fit-here (length (at-args .scratch .now)) (valuesFrom (at-args .d .now) (text "%typedef") (at-loop .i)) v (valuesFrom (at-args .d .now) (text "%typedef") (g .0 .1 .0)) (at-loop .inv .3) (h .values) in
+    let h = value-told (at-args .d .now) (text "%typedef") (at-loop .i) (at-next-named .result) (at-next-named .ensures) (g .1) in
+    let v = valueFrom (span (g .0 .1 .0) (g .0 .1 .1 .0) (at-args .d .now)) in
+    let f = fit-here (length (at-args .scratch .now)) (valuesFrom (at-args .d .now) (text "%typedef") (at-loop .i)) v (valuesFrom (at-args .d .now) (text "%typedef") (g .0 .1 .1 .0)) (at-loop .inv .3) (h .values) in
     decoded-inside v (at-loop .scratch) _ (at-copy-value .result) (at-copy-value .ensures .0) (at-copy-value .ensures .1) (omega (arith, f .0, at-loop .inv .2))
 
 slice-aggregate-name-good : tie.Need-slice-aggregate-name-good Inv-loop μ-loop
@@ -119,7 +120,7 @@ slice-aggregate-name-good c =
     let at-loop = c .before .before .before .before .before .before .before .before .before .before .before .loop in
     let at-copy-value = c .before .before .before .copy-value in
     let g = at-v .given in
-    decoded-length (valueFrom (span (g .0 .0) (g .0 .1 .0) (at-args .d .now))) (at-loop .scratch) _ (at-copy-value .result) (at-copy-value .ensures .0) (at-copy-value .ensures .1)
+    decoded-length (valueFrom (span (g .0 .1 .0) (g .0 .1 .1 .0) (at-args .d .now))) (at-loop .scratch) _ (at-copy-value .result) (at-copy-value .ensures .0) (at-copy-value .ensures .1)
 
 name-good-requires : tie.Need-name-good-requires Inv-loop μ-loop
 name-good-requires c κs = search needs
@@ -135,42 +136,42 @@ returns-2 c =
     let at-v = c .before .before .before .before .before .before .before .before .before .v in
     let at-args = c .before .before .before .before .before .before .before .before .before .before .before .before .before .before .before .before .args in
     let at-loop = c .before .before .before .before .before .before .before .before .before .before .before .before .before .loop in
-    let at-next-value = c .before .before .before .before .before .before .before .before .before .before .before .next-value in
+    let at-next-named = c .before .before .before .before .before .before .before .before .before .before .before .next-named in
     let at-name-good = c .before .name-good in
     let at-copy-value = c .before .before .before .before .before .copy-value in
     let at-if1 = c .if1 in
     let g = at-v .given in
     let d = at-args .d .now in
-    let h = value-told d (text "%typedef") (at-loop .i) (at-next-value .result) (at-next-value .ensures) (g .1) in
-    let v = valueFrom (span (g .0 .0) (g .0 .1 .0) d) in
+    let h = value-told d (text "%typedef") (at-loop .i) (at-next-named .result) (at-next-named .ensures) (g .1) in
+    let v = valueFrom (span (g .0 .1 .0) (g .0 .1 .1 .0) d) in
     let q = at-name-good .ensures ∙ ap (λ (u : Bytes). isTypedefName (firstWord u)) (decoded-all v (at-loop .scratch) _ (at-copy-value .result) (at-copy-value .ensures .0) (at-copy-value .ensures .1)) in
-    sym (at-loop .inv .4 ∙ good-cut d (at-loop .i) (g .0 .0) (g .0 .1 .0) (at-name-good .result) h q ∙ ap (λ (b : Bool). b && all isTypedefName (namesFrom d (g .0 .1 .0))) (not-true (at-name-good .result) (at-if1 .taken)))
+    sym (at-loop .inv .4 ∙ good-cut d (at-loop .i) (g .0 .1 .0) (g .0 .1 .1 .0) (at-name-good .result) h q ∙ ap (λ (b : Bool). b && all isTypedefName (namesFrom d (g .0 .1 .1 .0))) (not-true (at-name-good .result) (at-if1 .taken)))
 
 loop-less : tie.Need-loop-less Inv-loop μ-loop
 loop-less c =
     let at-args = c .before .before .before .before .before .before .before .before .before .before .before .before .before .before .before .before .args in
     let at-loop = c .before .before .before .before .before .before .before .before .before .before .before .before .before .loop in
-    let at-next-value = c .before .before .before .before .before .before .before .before .before .before .before .next-value in
+    let at-next-named = c .before .before .before .before .before .before .before .before .before .before .before .next-named in
     let at-v = c .before .before .before .before .before .before .before .before .before .v in
-    let h = value-told (at-args .d .now) (text "%typedef") (at-loop .i) (at-next-value .result) (at-next-value .ensures) (at-v .given .1) in omega (arith, h .moves, h .inside)
+    let h = value-told (at-args .d .now) (text "%typedef") (at-loop .i) (at-next-named .result) (at-next-named .ensures) (at-v .given .1) in omega (arith, h .moves, h .inside)
 
 loop-again : tie.Need-loop-again Inv-loop μ-loop
 loop-again c =
     let at-v = c .before .before .before .before .before .before .before .before .before .v in
     let at-args = c .before .before .before .before .before .before .before .before .before .before .before .before .before .before .before .before .args in
     let at-loop = c .before .before .before .before .before .before .before .before .before .before .before .before .before .loop in
-    let at-next-value = c .before .before .before .before .before .before .before .before .before .before .before .next-value in
+    let at-next-named = c .before .before .before .before .before .before .before .before .before .before .before .next-named in
     let at-name-good = c .before .name-good in
     let at-copy-value = c .before .before .before .before .before .copy-value in
     let at-scratch = c .before .before .before .before .scratch in
     let at-if1 = c .if1 in
     let g = at-v .given in
     let d = at-args .d .now in
-    let h = value-told d (text "%typedef") (at-loop .i) (at-next-value .result) (at-next-value .ensures) (g .1) in
-    let v = valueFrom (span (g .0 .0) (g .0 .1 .0) d) in
-    let f = fit-here (length (at-args .scratch .now)) (valuesFrom d (text "%typedef") (at-loop .i)) v (valuesFrom d (text "%typedef") (g .0 .1 .0)) (at-loop .inv .3) (h .values) in
+    let h = value-told d (text "%typedef") (at-loop .i) (at-next-named .result) (at-next-named .ensures) (g .1) in
+    let v = valueFrom (span (g .0 .1 .0) (g .0 .1 .1 .0) d) in
+    let f = fit-here (length (at-args .scratch .now)) (valuesFrom d (text "%typedef") (at-loop .i)) v (valuesFrom d (text "%typedef") (g .0 .1 .1 .0)) (at-loop .inv .3) (h .values) in
     let q = at-name-good .ensures ∙ ap (λ (u : Bytes). isTypedefName (firstWord u)) (decoded-all v (at-loop .scratch) _ (at-copy-value .result) (at-copy-value .ensures .0) (at-copy-value .ensures .1)) in
-    (h .inside, h .readable, omega (arith, at-scratch .given, at-loop .inv .2), f .1, at-loop .inv .4 ∙ good-cut d (at-loop .i) (g .0 .0) (g .0 .1 .0) (at-name-good .result) h q ∙ ap (λ (b : Bool). b && all isTypedefName (namesFrom d (g .0 .1 .0))) (not-false (at-name-good .result) (at-if1 .left)))
+    (h .inside, h .readable, omega (arith, at-scratch .given, at-loop .inv .2), f .1, at-loop .inv .4 ∙ good-cut d (at-loop .i) (g .0 .1 .0) (g .0 .1 .1 .0) (at-name-good .result) h q ∙ ap (λ (b : Bool). b && all isTypedefName (namesFrom d (g .0 .1 .1 .0))) (not-false (at-name-good .result) (at-if1 .left)))
 
 pub names-good-spec : {M : Type 1} → statement M
 names-good-spec =
@@ -179,8 +180,8 @@ names-good-spec =
     Inv-loop
     μ-loop
     loop-holds
-    slice-aggregate-next-value
-    next-value-requires
+    slice-aggregate-next-named
+    next-named-requires
     enum-known-v
     enum-told
     same-length

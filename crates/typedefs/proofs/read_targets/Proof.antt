@@ -8,7 +8,8 @@ use mathlib.Core.List.{List, map}
 use lib.ListN.{length, take, getD, length-set}
 use lib.Seq.{take-all}
 use Rattle.format.specs.Bytes.{Bytes, text}
-use Rattle.typedefs.specs.Walks.{valuesFrom, namesFrom, fitFrom}
+use Rattle.records.specs.Named.{valuesFrom}
+use Rattle.typedefs.specs.Walks.{namesFrom, fitFrom}
 use Rattle.typedefs.specs.Targets.{targetIn}
 use Rattle.typedefs.proofs.Placing.{place-fits}
 use Rattle.typedefs.proofs.Filling.{rows-more}

@@ -12,7 +12,8 @@ use Rattle.format.specs.Bytes.{text, all, upFrom}
 use Rattle.format.specs.Words.{firstWord}
 use Rattle.format.specs.Records.{fieldsOf}
 use Rattle.format.specs.Rules.{distinct}
-use Rattle.typedefs.specs.Walks.{valuesFrom, namesFrom, fitFrom}
+use Rattle.records.specs.Named.{valuesFrom}
+use Rattle.typedefs.specs.Walks.{namesFrom, fitFrom}
 use Rattle.typedefs.specs.Targets.{targetIn, endsIn, wellBy}
 use Rattle.typedefs.proofs.Defined.{defined-by}
 use Rattle.typedefs.proofs.Deciding.{type-names, not-defined, well-types}

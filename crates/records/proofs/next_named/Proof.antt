@@ -1,32 +1,32 @@
--- `typedefs::next_value` meets its contract. The invariant: the values of the name from at on are those from i on, and that part is readable.
+-- `records::next_named` meets its contract. The invariant: no field of the name stands before at, and the part from there on is readable.
 -- The measure is what is left of the length.
 use borrow.Author.Needs.{needs}
 use Prim.Native.Nat.{_-_, _≤_}
 use native.Mathlib.Omega.{arith}
-use mathlib.Core.Path.{_≡_, refl, sym, _∙_}
+use mathlib.Core.Path.{_≡_, sym, _∙_}
 use mathlib.Core.Bool.{true}
 use lib.ListN.{length, drop}
 use Rattle.records.specs.Places.{isReadable}
-use Rattle.typedefs.specs.Walks.{valuesFrom}
 use Rattle.records.proofs.NextFields.{next-told}
-use Rattle.typedefs.proofs.Walking.{values-none, values-other, value-here}
-use Rattle.typedefs.proofs.next_value.Statement.{statement}
-use Rattle.typedefs.proofs.next_value.Tie as tie
-use Rattle.typedefs.proofs.next_value.Reads as reads
-use Rattle.typedefs.proofs.next_value.Lts as lts
+use Rattle.records.proofs.Named.{Unnamed, unnamed-none, unnamed-on, named-missing, named-here}
+use Rattle.records.proofs.next_named.Statement.{statement}
+use Rattle.records.proofs.next_named.Tie as tie
+use Rattle.records.proofs.next_named.Reads as reads
+use Rattle.records.proofs.next_named.Lts as lts
 use Rattle.lines.proofs.same_bytes.Reads as same-bytes-reads
 use Rattle.records.proofs.next_field.Reads as next-field-reads
 
 abbrev Inv-loop : tie.InvT-loop
-Inv-loop s name i at₀ at = (i ≤ at) × (at ≤ length s) × (isReadable (drop at s) ≡ true) × (valuesFrom s name i ≡ valuesFrom s name at)
+Inv-loop s name i at₀ at = (i ≤ at) × (at ≤ length s) × (isReadable (drop at s) ≡ true) × Unnamed s name i at
 
 abbrev μ-loop : tie.MeasureT-loop
 μ-loop s name i at₀ at = length s - at
 
 loop-holds : tie.Need-loop-holds Inv-loop μ-loop
 loop-holds c =
+    let at-args = c .before .before .args in
     let at-pre = c .before .before .pre in
-    (omega arith, at-pre .0, at-pre .1, refl)
+    (omega arith, at-pre .0, at-pre .1, unnamed-none (at-args .s .now) (at-args .name .now) (at-args .i))
 
 next-field-requires : tie.Need-next-field-requires Inv-loop μ-loop
 next-field-requires c κs =
@@ -45,7 +45,7 @@ returns c =
     let at-args = c .before .before .before .before .before .before .args in
     let at-next-field = c .before .before .next-field in
     let at-enum-told = c .enum-told in
-    at-loop .inv .3 ∙ values-none (at-args .s .now) (at-args .name .now) (at-loop .at) (next-told (at-args .s .now) (at-loop .at) (at-next-field .result) (at-next-field .ensures) (at-enum-told .given .1))
+    named-missing (at-args .s .now) (at-args .name .now) (at-args .i) (at-loop .at) (at-loop .inv .3) (next-told (at-args .s .now) (at-loop .at) (at-next-field .result) (at-next-field .ensures) (at-enum-told .given .1))
 
 sub-same-bytes : tie.Need-sub-same-bytes Inv-loop μ-loop
 sub-same-bytes c =
@@ -87,7 +87,7 @@ returns-2 c =
     let at-if1 = c .if1 in
     let g = at-f .given in
     let h = next-told (at-args .s .now) (at-loop .at) (at-next-field .result) (at-next-field .ensures) (g .1) in
-    value-here (at-args .s .now) (at-args .name .now) (at-loop .at) (g .0 .0) (g .0 .1 .0) (g .0 .1 .1 .0) (g .0 .1 .1 .1 .0) h (at-args .i) (at-loop .inv .0) (at-loop .inv .3) (sym (at-same-bytes .ensures) ∙ at-if1 .taken)
+    named-here (at-args .s .now) (at-args .name .now) (at-args .i) (at-loop .at) (at-loop .inv .3) (g .0 .0) (g .0 .1 .0) (g .0 .1 .1 .0) (g .0 .1 .1 .1 .0) h (at-loop .inv .0) (sym (at-same-bytes .ensures) ∙ at-if1 .taken)
 
 loop-less : tie.Need-loop-less Inv-loop μ-loop
 loop-less c =
@@ -108,10 +108,10 @@ loop-again c =
     let at-if1 = c .if1 in
     let g = at-f .given in
     let h = next-told (at-args .s .now) (at-loop .at) (at-next-field .result) (at-next-field .ensures) (g .1) in
-    (omega (arith, at-loop .inv .0, h .begins, h .moves), h .inside, h .readable, at-loop .inv .3 ∙ values-other (at-args .s .now) (at-args .name .now) (at-loop .at) (g .0 .0) (g .0 .1 .0) (g .0 .1 .1 .0) (g .0 .1 .1 .1 .0) h (sym (at-same-bytes .ensures) ∙ at-if1 .left))
+    (omega (arith, at-loop .inv .0, h .begins, h .moves), h .inside, h .readable, unnamed-on (at-args .s .now) (at-args .name .now) (at-args .i) (at-loop .at) (at-loop .inv .3) (g .0 .0) (g .0 .1 .0) (g .0 .1 .1 .0) (g .0 .1 .1 .1 .0) h (sym (at-same-bytes .ensures) ∙ at-if1 .left))
 
-pub next-value-spec : {M : Type 1} → statement M
-next-value-spec =
+pub next-named-spec : {M : Type 1} → statement M
+next-named-spec =
     tie.close
     (tie.spec
     Inv-loop
