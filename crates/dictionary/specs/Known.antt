@@ -5,6 +5,7 @@ use mathlib.Core.Bool.{true}
 use mathlib.Core.List.{List, [], _++_}
 use lib.ListN.{length, getD, take, drop}
 use Rattle.format.specs.Bytes.{Bytes, text, among}
+use Rattle.format.specs.Limits.{fileBytes}
 use Rattle.format.specs.Records.{Record}
 use Rattle.format.specs.Sets.{valuesOf}
 use Rattle.format.specs.Numbers.{intBounds}
@@ -16,13 +17,14 @@ use Rattle.typedefs.specs.Walks.{valuesFrom}
 use Rattle.terms.specs.Sets.{inSet, tagged}
 use Rattle.terms.specs.Entries.{termsOf}
 use Rattle.terms.specs.Order.{IsTable}
+use Rattle.dictionary.specs.Tags.{mandatoryTag, prohibitedTag, allowedTag, uniqueTag, keyTag}
 use Rattle.dictionary.specs.Terms.{listTerms, rowTerms}
 use Rattle.dictionary.specs.declared.Dictionary.{Dictionary}
 
 -- a part whose fields are rules that pass questions 4, 6 and 7
 pub record Described (d : Bytes) : Type 0 where
   pub reads : isReadable d ≡ true
-  pub short : length d ≤ 65536
+  pub short : length d ≤ fileBytes
   pub fits : fitsRecord (recordIn d) ≡ true
   pub few : fitsRules (recordIn d) ≡ true
   pub well : isWellFormed intBounds (recordIn d) ≡ true
@@ -34,12 +36,16 @@ typeValue rules k = getD (valuesOf (text "%type") rules) k []
 
 -- x tells of the name w which lists have it, and which `%type` fields from one on up to another name it
 pub record Known (rules : Record) (from to : ℕ) (w : Bytes) (x : ℕ) : Type 0 where
-  pub mandatory-is : inSet 32 x ≡ among w (mandatory rules)
-  pub prohibited-is : inSet 33 x ≡ among w (prohibited rules)
-  pub allowed-is : inSet 34 x ≡ among w (allowed rules)
-  pub unique-is : inSet 35 x ≡ among w (unique rules)
-  pub key-is : inSet 36 x ≡ among w (key rules)
+  pub mandatory-is : inSet mandatoryTag x ≡ among w (mandatory rules)
+  pub prohibited-is : inSet prohibitedTag x ≡ among w (prohibited rules)
+  pub allowed-is : inSet allowedTag x ≡ among w (allowed rules)
+  pub unique-is : inSet uniqueTag x ≡ among w (unique rules)
+  pub key-is : inSet keyTag x ≡ among w (key rules)
   pub typed-is : (k : ℕ) → from ≤ k → k < to → inSet k x ≡ among w (typedNames (typeValue rules k))
+
+-- the room that a dictionary needs: the words of four lists, the key, and the names of one `%type` field
+abbrev pub dictionaryRoom : ℕ
+dictionaryRoom = 4354
 
 -- a table of a descriptor's terms, of its `%type` fields those from one on; those from the next on are left
 pub record IsDictionary (d : Bytes) (l : List ℕ) (r : Dictionary) : Type 0 where

@@ -6,6 +6,7 @@ use mathlib.Core.List.{List, [], _∷_}
 use lib.Dec.{ltb}
 use lib.ListN.{length, getD, take}
 use Rattle.format.specs.Bytes.{Bytes, same}
+use Rattle.format.specs.Limits.{listWords}
 use Rattle.terms.specs.Sets.{Term, termOf, inSet, tagged}
 use Rattle.terms.specs.Entries.{termsOf}
 use Rattle.terms.specs.Joined.{IsJoined}
@@ -16,9 +17,9 @@ abbrev pub numbered : ℕ → List Bytes → List Term
 numbered k [] = []
 numbered k (w ∷ ws) = termOf k w ∷ numbered (suc k) ws
 
--- a table of the words ws, at most 64, with their sets
+-- a table of the words ws with their sets
 pub record IsWords (d : Bytes) (ws : List Bytes) (l sets : List ℕ) (r : Words) : Type 0 where
-  pub few : length ws ≤ 64
+  pub few : length ws ≤ listWords
   pub count : r .count ≡ length ws
   pub table : IsJoined d l sets (r .table)
   pub terms : (w : Bytes) (k : ℕ) → tagged w k (termsOf d (take (r .table .count) l)) ≡ tagged w k (numbered 0 ws)

@@ -11,14 +11,14 @@ use Rattle.format.specs.Words.{words}
 use Rattle.format.specs.Records.{Field, Record}
 use Rattle.format.specs.Rules.{typedNames}
 use Rattle.typedefs.specs.Walks.{valuesFrom}
-use Rattle.terms.specs.Sets.{Term, termOf}
-use Rattle.terms.specs.Adding.{Adding}
+use Rattle.terms.specs.Sets.{tags, Term, termOf}
+use Rattle.terms.specs.Adding.{valueTerms, Adding}
 use Rattle.dictionary.specs.Tags.{listTag}
 use Rattle.dictionary.specs.declared.Added.{Added}
 
 -- the words of a field, if it is a list's, and those of all lists
 abbrev pub termsBy : ℕ → List Bytes → List Term
-termsBy k ws = pick (eqb k 64) [] (map (termOf k) ws)
+termsBy k ws = pick (eqb k tags) [] (map (termOf k) ws)
 
 abbrev pub fieldTerms : Field → List Term
 fieldTerms f = termsBy (listTag (f .name)) (words (f .value))
@@ -28,7 +28,7 @@ listTerms r = flat (map fieldTerms r)
 
 -- are the words of a list names
 abbrev pub areNames : Field → Bool
-areNames f = eqb (listTag (f .name)) 64 || all isName (words (f .value))
+areNames f = eqb (listTag (f .name)) tags || all isName (words (f .value))
 
 -- the names of `%type` values, the first of them of field `row`
 abbrev pub rowTerms : ℕ → List Bytes → List Term
@@ -40,5 +40,5 @@ pub record RowsAdded (d : Bytes) (from : ℕ) (l : List ℕ) (n : ℕ) (m : List
   pub begins : from ≤ r .next
   pub within : r .next ≤ length (valuesFrom d (text "%type") 0)
   pub room : r .count ≤ length m
-  pub some : n + 4097 ≤ length l → from < length (valuesFrom d (text "%type") 0) → from < r .next
+  pub some : n + valueTerms ≤ length l → from < length (valuesFrom d (text "%type") 0) → from < r .next
   pub adding : Adding d l n (rowTerms from (drop from (valuesFrom d (text "%type") 0))) (rowTerms (r .next) (drop (r .next) (valuesFrom d (text "%type") 0))) m (r .count)

@@ -6,6 +6,7 @@ ghost use mathlib.Core.List.{[], map};
 ghost use Prim.Native.Nat.{_+_, _<_, _≤_};
 ghost use lib.ListN.{length, drop};
 ghost use Rattle.format.specs.Bytes.{text, all};
+ghost use Rattle.format.specs.Limits.{fileBytes};
 ghost use Rattle.format.specs.Lines.{isName};
 ghost use Rattle.format.specs.Words.{words};
 ghost use Rattle.format.specs.Rules.{typedNames};
@@ -13,11 +14,11 @@ ghost use Rattle.lines.specs.Value.{valueFrom};
 ghost use Rattle.records.specs.Places.{isReadable};
 ghost use Rattle.records.specs.Walk.{recordIn};
 ghost use Rattle.typedefs.specs.Walks.{valuesFrom};
-ghost use Rattle.terms.specs.Sets.{termOf};
+ghost use Rattle.terms.specs.Sets.{tags, termOf};
 ghost use Rattle.dictionary.specs.Tags.{listTag};
 ghost use Rattle.terms.specs.Adding.{Adding};
 ghost use Rattle.dictionary.specs.Terms.{listTerms, areNames, RowsAdded};
-ghost use Rattle.dictionary.specs.Known.{Described, IsDictionary, Known};
+ghost use Rattle.dictionary.specs.Known.{Described, dictionaryRoom, IsDictionary, Known};
 use lists::NextWord;
 use lists::Part;
 use records::NextField;
@@ -27,31 +28,51 @@ use typedefs::NextValue;
 pub mod lists;
 pub mod wordsets;
 
-// The tag of the words that a field of this name lists, 64 where it lists none.
+// The tags of lists, above the numbers of `%type` fields; and no tag.
+pub struct Tag {}
+
+impl Tag {
+    pub const MANDATORY: u32 = 32;
+
+    pub const PROHIBITED: u32 = 33;
+
+    pub const ALLOWED: u32 = 34;
+
+    pub const UNIQUE: u32 = 35;
+
+    pub const KEY: u32 = 36;
+
+    pub const NONE: u32 = 64;
+
+    // How many sets of numbers of `%type` fields there are: what is left of a set is that of its lists.
+    pub const TYPES: u64 = 4294967296;
+}
+
+// The tag of the words that a field of this name lists, `NONE` where it lists none.
 fn list_tag(name: &[u8]) -> u32
     ensures { λ r. ⌜ r ≡ listTag (now (name .entry)) ⌝ }
 {
     if lines::same_bytes(b"%mandatory", name) {
-        return 32;
+        return Tag::MANDATORY;
     }
     if lines::same_bytes(b"%prohibit", name) {
-        return 33;
+        return Tag::PROHIBITED;
     }
     if lines::same_bytes(b"%allowed", name) {
-        return 34;
+        return Tag::ALLOWED;
     }
     if lines::same_bytes(b"%unique", name) {
-        return 35;
+        return Tag::UNIQUE;
     }
     if lines::same_bytes(b"%key", name) {
-        return 36;
+        return Tag::KEY;
     }
-    64
+    Tag::NONE
 }
 
 // The words of the value at i, which are names, put behind the first n entries; how many entries there are then.
 fn add_words(d: &[u8], i: usize, tag: u32, entries: &mut [u32], n: usize) -> usize
-    requires { ⌜ (i ≤ length (now d)) × (length (now d) ≤ 65536) × (tag < 64) ⌝ }
+    requires { ⌜ (i ≤ length (now d)) × (length (now d) ≤ fileBytes) × (tag < tags) ⌝ }
     requires { ⌜ n + length (words (valueFrom (drop i (now d)))) ≤ length (now entries) ⌝ }
     requires { ⌜ all isName (words (valueFrom (drop i (now d)))) ≡ true ⌝ }
     ensures { λ r. ⌜ Adding (now (d .entry)) (now (entries .entry)) n (map (termOf tag) (words (valueFrom (drop i (now (d .entry)))))) [] (now (entries .exit)) r ⌝ }
@@ -71,7 +92,7 @@ fn add_words(d: &[u8], i: usize, tag: u32, entries: &mut [u32], n: usize) -> usi
 
 // The same of the names, between commas, of the value's first word.
 fn add_names(d: &[u8], i: usize, tag: u32, entries: &mut [u32], n: usize) -> usize
-    requires { ⌜ (i ≤ length (now d)) × (length (now d) ≤ 65536) × (tag < 64) ⌝ }
+    requires { ⌜ (i ≤ length (now d)) × (length (now d) ≤ fileBytes) × (tag < tags) ⌝ }
     requires { ⌜ n + length (typedNames (valueFrom (drop i (now d)))) ≤ length (now entries) ⌝ }
     requires { ⌜ all isName (typedNames (valueFrom (drop i (now d)))) ≡ true ⌝ }
     ensures { λ r. ⌜ Adding (now (d .entry)) (now (entries .entry)) n (map (termOf tag) (typedNames (valueFrom (drop i (now (d .entry)))))) [] (now (entries .exit)) r ⌝ }
@@ -91,7 +112,7 @@ fn add_names(d: &[u8], i: usize, tag: u32, entries: &mut [u32], n: usize) -> usi
 
 // The words of all lists of a descriptor, put into entries; how many.
 fn add_lists(d: &[u8], entries: &mut [u32]) -> usize
-    requires { ⌜ (isReadable (now d) ≡ true) × (length (now d) ≤ 65536) ⌝ }
+    requires { ⌜ (isReadable (now d) ≡ true) × (length (now d) ≤ fileBytes) ⌝ }
     requires { ⌜ (length (listTerms (recordIn (now d))) ≤ length (now entries)) × (all areNames (recordIn (now d)) ≡ true) ⌝ }
     ensures { λ r. ⌜ Adding (now (d .entry)) (now (entries .entry)) 0 (listTerms (recordIn (now (d .entry)))) [] (now (entries .exit)) r ⌝ }
 {
@@ -109,7 +130,7 @@ fn add_lists(d: &[u8], entries: &mut [u32]) -> usize
             return n;
         };
         let tag = list_tag(&d[start..named]);
-        if tag < 64 {
+        if tag < Tag::NONE {
             n = add_words(d, value, tag, &mut *entries, n);
             i = end;
         } else {
@@ -160,7 +181,7 @@ fn add_types(d: &[u8], from: usize, entries: &mut [u32], n: usize) -> Added
                 next: row,
             };
         };
-        if entries.len() - k < 4097 {
+        if entries.len() - k < Table::VALUE {
             return Added {
                 count: k,
                 next: row,
@@ -182,7 +203,7 @@ pub struct Dictionary {
 // The dictionary of a descriptor, from one of its `%type` fields on, in a lent array.
 pub fn read(d: &[u8], from: usize, entries: &mut [u32]) -> Dictionary
     requires { ⌜ Described (now d) ⌝ }
-    requires { ⌜ (from ≤ length (valuesFrom (now d) (text "%type") 0)) × (4354 ≤ length (now entries)) ⌝ }
+    requires { ⌜ (from ≤ length (valuesFrom (now d) (text "%type") 0)) × (dictionaryRoom ≤ length (now entries)) ⌝ }
     ensures { λ r. ⌜ IsDictionary (now (d .entry)) (now (entries .exit)) r × (r .from ≡ from) ⌝ }
 {
     let n = add_lists(d, &mut *entries);

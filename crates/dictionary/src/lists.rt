@@ -41,7 +41,7 @@ pub fn part_next(s: &[u8], i: usize) -> Part
         if words::is_gap(byte) {
             return Part::Nothing;
         }
-        if byte == 44 {
+        if byte == b',' {
             return Part::At(next);
         }
         at = next;

@@ -1,10 +1,11 @@
-// The words of one of a descriptor's lists, at most 64, each with its place in the list as tag: what a record has of them is a set in one number.
+// The words of one of a descriptor's lists, each with its place in the list as tag: what a record has of them is a set in one number.
 ghost use mathlib.Core.Path.{_≡_};
 ghost use mathlib.Core.Bool.{true};
 ghost use mathlib.Core.List.{[]};
 ghost use Prim.Native.Nat.{_+_, _≤_};
 ghost use lib.ListN.{length, drop};
 ghost use Rattle.format.specs.Bytes.{all};
+ghost use Rattle.format.specs.Limits.{fileBytes, listWords};
 ghost use Rattle.format.specs.Lines.{isName};
 ghost use Rattle.format.specs.Words.{words};
 ghost use Rattle.format.specs.Rules.{listed};
@@ -20,8 +21,8 @@ use typedefs::NextValue;
 
 // The words of the value at i, which are names, put behind the first n entries; how many entries there are then.
 fn add_value(d: &[u8], i: usize, entries: &mut [u32], n: usize) -> usize
-    requires { ⌜ (i ≤ length (now d)) × (length (now d) ≤ 65536) ⌝ }
-    requires { ⌜ (n + length (words (valueFrom (drop i (now d)))) ≤ 64) × (64 ≤ length (now entries)) ⌝ }
+    requires { ⌜ (i ≤ length (now d)) × (length (now d) ≤ fileBytes) ⌝ }
+    requires { ⌜ (n + length (words (valueFrom (drop i (now d)))) ≤ listWords) × (listWords ≤ length (now entries)) ⌝ }
     requires { ⌜ all isName (words (valueFrom (drop i (now d)))) ≡ true ⌝ }
     ensures { λ r. ⌜ Adding (now (d .entry)) (now (entries .entry)) n (numbered n (words (valueFrom (drop i (now (d .entry)))))) [] (now (entries .exit)) r ⌝ }
 {
@@ -40,8 +41,8 @@ fn add_value(d: &[u8], i: usize, entries: &mut [u32], n: usize) -> usize
 
 // The same of all fields of a name.
 fn add_list(d: &[u8], name: &[u8], entries: &mut [u32]) -> usize
-    requires { ⌜ (isReadable (now d) ≡ true) × (length (now d) ≤ 65536) ⌝ }
-    requires { ⌜ (length (listed (now name) (recordIn (now d))) ≤ 64) × (64 ≤ length (now entries)) ⌝ }
+    requires { ⌜ (isReadable (now d) ≡ true) × (length (now d) ≤ fileBytes) ⌝ }
+    requires { ⌜ (length (listed (now name) (recordIn (now d))) ≤ listWords) × (listWords ≤ length (now entries)) ⌝ }
     requires { ⌜ all isName (listed (now name) (recordIn (now d))) ≡ true ⌝ }
     ensures { λ r. ⌜ Adding (now (d .entry)) (now (entries .entry)) 0 (numbered 0 (listed (now (name .entry)) (recordIn (now (d .entry))))) [] (now (entries .exit)) r ⌝ }
 {
@@ -65,8 +66,8 @@ pub struct Words {
 
 // The table of the words that the fields of a name list, and their sets, in lent arrays: `terms::find_joined` tells the places at which a word stands in the list.
 pub fn read(d: &[u8], name: &[u8], entries: &mut [u32], sets: &mut [u64]) -> Words
-    requires { ⌜ (isReadable (now d) ≡ true) × (length (now d) ≤ 65536) ⌝ }
-    requires { ⌜ (length (listed (now name) (recordIn (now d))) ≤ 64) × (64 ≤ length (now entries)) × (64 ≤ length (now sets)) ⌝ }
+    requires { ⌜ (isReadable (now d) ≡ true) × (length (now d) ≤ fileBytes) ⌝ }
+    requires { ⌜ (length (listed (now name) (recordIn (now d))) ≤ listWords) × (listWords ≤ length (now entries)) × (listWords ≤ length (now sets)) ⌝ }
     requires { ⌜ all isName (listed (now name) (recordIn (now d))) ≡ true ⌝ }
     ensures { λ r. ⌜ IsWords (now (d .entry)) (listed (now (name .entry)) (recordIn (now (d .entry)))) (now (entries .exit)) (now (sets .exit)) r ⌝ }
 {

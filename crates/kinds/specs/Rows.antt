@@ -7,6 +7,7 @@ use mathlib.Core.Option.{Option}
 use lib.Dec.{ltb}
 use lib.ListN.{length, drop, getD}
 use Rattle.format.specs.Bytes.{Bytes, text, among, isSome}
+use Rattle.format.specs.Limits.{fileBytes, valueBytes, typeFields}
 use Rattle.format.specs.Words.{trim}
 use Rattle.format.specs.Types.{Kind}
 use Rattle.lines.specs.Value.{valueFrom}
@@ -32,32 +33,32 @@ targetsOf d = map (targetIn (namesFrom d 0)) (valuesFrom d (text "%typedef") 0)
 -- the value at v has a type that ends in a kind
 pub record TypeAt (d : Bytes) (v : ℕ) : Type 0 where
   pub there : v < length d
-  pub fits : length (valueFrom (drop v d)) ≤ 4096
+  pub fits : length (valueFrom (drop v d)) ≤ valueBytes
   pub ends : isSome (kindOf d (valueFrom (drop v d))) ≡ true
 
 -- the type of the value at v ends in the kind that the value at r holds
 pub record EndAt (d : Bytes) (v r : ℕ) : Type 0 where
   pub there : r < length d
-  pub fits : length (valueFrom (drop r d)) ≤ 4096
+  pub fits : length (valueFrom (drop r d)) ≤ valueBytes
   pub ends : kindOf d (valueFrom (drop v d)) ≡ kindOnly (typeAt d r)
 
 -- where the text of a kind stands that was read at v: only an `enum` needs it
 abbrev pub textOf : Shape → ℕ → ℕ
-textOf Shape.Int v = 65536
-textOf (Shape.Range a b) v = 65536
-textOf Shape.Real v = 65536
-textOf Shape.Line v = 65536
-textOf (Shape.Size n) v = 65536
+textOf Shape.Int v = fileBytes
+textOf (Shape.Range a b) v = fileBytes
+textOf Shape.Real v = fileBytes
+textOf Shape.Line v = fileBytes
+textOf (Shape.Size n) v = fileBytes
 textOf (Shape.Enum a e) v = v
-textOf Shape.Bool v = 65536
-textOf Shape.Field v = 65536
-textOf Shape.Uuid v = 65536
-textOf (Shape.Alias a e) v = 65536
+textOf Shape.Bool v = fileBytes
+textOf Shape.Field v = fileBytes
+textOf Shape.Uuid v = fileBytes
+textOf (Shape.Alias a e) v = fileBytes
 
 -- a shape and the place of its text ask of a value what a kind asks; an `enum` is told whether the value is one of its symbols
 pub record IsKind (d : Bytes) (k : Option Kind) (shape : Shape) (place : ℕ) : Type 0 where
-  pub texts : place < 65536 → TextAt d place
-  pub asks : (v : Bytes) (symbol : Bool) → (place < 65536 → symbol ≡ among (trim v) (enumIn d place)) → metBy shape symbol v ≡ meetsKind k v
+  pub texts : place < fileBytes → TextAt d place
+  pub asks : (v : Bytes) (symbol : Bool) → (place < fileBytes → symbol ≡ among (trim v) (enumIn d place)) → metBy shape symbol v ≡ meetsKind k v
 
 -- a row for any place without one
 abbrev pub anyRow : Row
@@ -65,10 +66,10 @@ anyRow = record { kind = Shape.Line }
 
 -- a row for each `%type` field, with the kind at the end of its type
 pub record IsKinds (d : Bytes) (r : Kinds) : Type 0 where
-  pub few : r .count ≤ 32
+  pub few : r .count ≤ typeFields
   pub count : r .count ≡ length (valuesFrom d (text "%type") 0)
-  pub rows-long : length (r .rows) ≡ 32
-  pub texts-long : length (r .texts) ≡ 32
+  pub rows-long : length (r .rows) ≡ typeFields
+  pub texts-long : length (r .texts) ≡ typeFields
   pub row : (k : ℕ) → k < r .count → IsKind d (kindOf d (typeValue (recordIn d) k)) (getD (r .rows) k anyRow .kind) (getD (r .texts) k 0)
 
 -- those kinds, and a table of the symbols of some of them
@@ -79,7 +80,7 @@ pub record IsTyped (d : Bytes) (l : List ℕ) (t : Typed) : Type 0 where
 
 -- is a value a symbol of row k, if x tells of which texts it is one
 unfoldable pub isSymbol : List ℕ → ℕ → ℕ → ℕ → Bool
-isSymbol texts from x k = ltb (getD texts k 0) 65536 && inSet (leaderOf texts from k) x
+isSymbol texts from x k = ltb (getD texts k 0) fileBytes && inSet (leaderOf texts from k) x
 
 -- does a value meet row k
 abbrev pub rowAsks : Kinds → ℕ → ℕ → Bytes → ℕ → Bool

@@ -6,7 +6,7 @@ ghost use mathlib.Core.Option.{some};
 ghost use Prim.Native.Nat.{_-_, _<_, _≤_};
 ghost use lib.ListN.{length, drop};
 ghost use Rattle.format.specs.Bytes.{isSome};
-ghost use Rattle.format.specs.Limits.{valueBytes};
+ghost use Rattle.format.specs.Limits.{valueBytes, typeFields};
 ghost use Rattle.format.specs.Words.{trim, afterWord};
 ghost use Rattle.format.specs.Numbers.{intBounds, intOf};
 ghost use Rattle.lines.specs.Value.{valueFrom};
@@ -15,7 +15,7 @@ ghost use Rattle.types.specs.Meaning.{typedIn};
 ghost use Rattle.typedefs.specs.Names.{AreNames};
 ghost use Rattle.dictionary.specs.Known.{Described};
 ghost use Rattle.symbols.specs.Enums.{typeAt};
-ghost use Rattle.terms.specs.Sets.{inSet};
+ghost use Rattle.terms.specs.Sets.{tags, inSet};
 ghost use Rattle.symbols.specs.Rows.{leaderOf, Leads, IsSymbols, Found};
 ghost use Rattle.kinds.specs.Meets.{rowsMet};
 ghost use Rattle.kinds.specs.Rows.{targetsOf, TypeAt, EndAt, textOf, IsKinds, IsTyped, isSymbol, rowsAsk};
@@ -139,7 +139,7 @@ fn texts_with(d: &[u8], texts: &[usize], entries: &[u32], symbols: Symbols, v: &
 
 // Is a value a symbol of a row, if it is known of which texts it is one?
 fn is_symbol(texts: &[usize], from: usize, row: usize, found: u64) -> bool
-    requires { ⌜ (from ≤ row) × (row < length (now texts)) × (row < 64) ⌝ }
+    requires { ⌜ (from ≤ row) × (row < length (now texts)) × (row < tags) ⌝ }
     requires { ⌜ (inSet row found ≡ true → leaderOf (now texts) from row ≡ row) ⌝ }
     ensures { λ r. ⌜ r ≡ isSymbol (now (texts .entry)) from found row ⌝ }
 {
@@ -161,7 +161,7 @@ pub struct Typed {
 
 // Does a value meet the kinds in a set of tags, of the rows that have their symbols? x is what it is as an int, found of which texts it is a symbol.
 fn rows_met(typed: Typed, found: u64, tags: u64, v: &[u8], x: IntOf) -> bool
-    requires { ⌜ (typed .symbols .from ≤ typed .symbols .next) × (typed .symbols .next ≤ 32) × (length (typed .kinds .rows) ≡ 32) × (length (typed .kinds .texts) ≡ 32) ⌝ }
+    requires { ⌜ (typed .symbols .from ≤ typed .symbols .next) × (typed .symbols .next ≤ typeFields) × (length (typed .kinds .rows) ≡ typeFields) × (length (typed .kinds .texts) ≡ typeFields) ⌝ }
     requires { ⌜ intAnswer x ≡ intOf intBounds (trim (now v)) ⌝ }
     requires { ⌜ Leads (typed .kinds .texts) (typed .symbols .from) (typed .symbols .next) found ⌝ }
     ensures { λ r. ⌜ r ≡ rowsAsk (typed .kinds) (typed .symbols .from) found tags (now (v .entry)) (typed .symbols .from) (typed .symbols .next - typed .symbols .from) ⌝ }

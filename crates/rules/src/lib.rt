@@ -170,10 +170,10 @@ fn judge_whole(d: &[u8], count: usize, part: &[u8], scratch: &mut [u8], entries:
     requires { ⌜ (valueBytes ≤ length (now scratch)) × (entriesEnd ≤ length (now entries)) ⌝ }
     ensures { λ n. ⌜ n ≡ firstNo (wholeRows intBounds) (ruled (recordIn (now (d .entry))) (records (readOf (now (part .entry))))) ⌝ }
 {
-    if keys_apart(d, part, &mut *scratch, &mut *entries) {} else {
+    if !keys_apart(d, part, &mut *scratch, &mut *entries) {
         return Refusal::KEY;
     }
-    if descriptors::size_met(d, count, &mut *scratch) {} else {
+    if !descriptors::size_met(d, count, &mut *scratch) {
         return Refusal::SIZE;
     }
     0

@@ -6,6 +6,7 @@ ghost use Prim.Native.Nat.{_+_, _-_, _≤_};
 ghost use lib.Dec.{eqb};
 ghost use lib.ListN.{length};
 ghost use Rattle.format.specs.Bytes.{pick, all};
+ghost use Rattle.format.specs.Limits.{fileBytes, listWords};
 ghost use Rattle.format.specs.Pieces.{readOf};
 ghost use Rattle.format.proofs.Least.{least};
 ghost use Rattle.format.proofs.Records.{records};
@@ -16,6 +17,7 @@ ghost use Rattle.rules.specs.Tallies.{tallyNo};
 ghost use Rattle.kinds.specs.Meets.{rowsMet};
 ghost use Rattle.kinds.specs.Rows.{IsTyped};
 ghost use Rattle.rules.specs.Members.{IsRulebook, fitsIn, partNo};
+use format::Refusal;
 use super::questions;
 use super::tables;
 use super::tables::NextName;
@@ -23,7 +25,7 @@ use super::tables::SeenName;
 use super::tables::Tables;
 use super::tallies;
 use super::tallies::Tally;
-use format::Refusal;
+use dictionary::Tag;
 use kinds::Typed;
 use lines::Next;
 
@@ -44,7 +46,7 @@ pub struct Asked {
 
 // One record more, which has so many fields and this tally; without fields it is none.
 fn closed(a: Asked, fields: usize, t: Tally, limited: bool, keyed: bool, mandatory: usize) -> Asked
-    requires { ⌜ (mandatory ≤ 64) × (a .count ≤ 65536) ⌝ }
+    requires { ⌜ (mandatory ≤ listWords) × (a .count ≤ fileBytes) ⌝ }
     ensures { λ r. ⌜ (r .number ≡ pick (eqb fields 0) (a .number) (least (a .number) (tallyNo t limited keyed mandatory))) × (r .count ≡ pick (eqb fields 0) (a .count) (a .count + 1)) ⌝ }
 {
     if fields == 0 {
@@ -80,7 +82,7 @@ fn value_met(
     requires { ⌜ length (valueFrom (now s)) ≤ length (now scratch) ⌝ }
     ensures { λ r. ⌜ r ≡ rowsMet (now (d .entry)) tags (typed .symbols .from) (typed .symbols .next - typed .symbols .from) (valueFrom (now (s .entry))) ⌝ }
 {
-    if tags % 4294967296 == 0 {
+    if tags % Tag::TYPES == 0 {
         return true;
     }
     kinds::value_met(d, entries, typed, tags, s, &mut *scratch)
@@ -97,7 +99,7 @@ pub fn judge_part(
     scratch: &mut [u8],
 ) -> Asked
     requires { ⌜ IsRulebook (now d) (now entries) (now sets) r ⌝ }
-    requires { ⌜ (isReadable (now s) ≡ true) × (length (now s) ≤ 65536) × (all (fitsIn (length (now scratch))) (recordIn (now s)) ≡ true) ⌝ }
+    requires { ⌜ (isReadable (now s) ≡ true) × (length (now s) ≤ fileBytes) × (all (fitsIn (length (now scratch))) (recordIn (now s)) ≡ true) ⌝ }
     ensures { λ a. ⌜ (a .number ≡ partNo (now (d .entry)) (r .tables .names .from) (r .typed .symbols .next - r .tables .names .from) (records (readOf (now (s .entry))))) × (a .count ≡ length (records (readOf (now (s .entry))))) ⌝ }
 {
     let tables = r.tables;

@@ -12,6 +12,7 @@ ghost use Rattle.dictionary.specs.Known.{Described};
 ghost use Rattle.dictionary.specs.Numbered.{IsWords, Places};
 ghost use Rattle.rules.specs.Tables.{namesAt, entriesEnd, IsTables, Stands, SeenAt};
 use dictionary::Dictionary;
+use dictionary::Tag;
 use dictionary::wordsets;
 use dictionary::wordsets::Words;
 use format::Descriptor;
@@ -92,7 +93,7 @@ pub fn look_up(d: &[u8], entries: &[u32], sets: &[u64], t: Tables, name: &[u8]) 
         &entries[0..Tables::UNIQUE],
         &sets[0..Tables::UNIQUE],
         t.mandatory,
-        terms::has(known, 32),
+        terms::has(known, Tag::MANDATORY as u64),
         name,
     );
     let unique = places(
@@ -100,7 +101,7 @@ pub fn look_up(d: &[u8], entries: &[u32], sets: &[u64], t: Tables, name: &[u8]) 
         &entries[Tables::UNIQUE..Tables::NAMES],
         &sets[Tables::UNIQUE..Tables::NAMES],
         t.unique,
-        terms::has(known, 35),
+        terms::has(known, Tag::UNIQUE as u64),
         name,
     );
     Seen {

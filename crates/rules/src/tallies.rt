@@ -2,8 +2,11 @@
 ghost use mathlib.Core.Path.{_≡_};
 ghost use Prim.Native.Nat.{_+_, _≤_, min};
 ghost use Rattle.format.specs.Bytes.{pick};
+ghost use Rattle.format.specs.Limits.{listWords};
 ghost use Rattle.terms.specs.Sets.{inSet};
+ghost use Rattle.dictionary.specs.Tags.{prohibitedTag, allowedTag, keyTag};
 ghost use Rattle.rules.specs.Tallies.{hasAll, empty, counted, tallyNo};
+use dictionary::Tag;
 use format::Refusal;
 
 // Whether a prohibited name and one that is not allowed occur; the mandatory words that occur; the unique words that occur, and those that do
@@ -41,14 +44,14 @@ fn bump(n: u8, hit: bool) -> u8
     if hit { n + 1 } else { n }
 }
 
-// One field more, by what the dictionary knows of its name (tags 33, 34 and 36: prohibited, allowed, the key) and the places of that among the
+// One field more, by what the dictionary knows of its name (prohibited, allowed, the key) and the places of that among the
 // mandatory and the unique words.
 pub fn count(t: Tally, known: u64, mandatory: u64, unique: u64) -> Tally
-    ensures { λ r. ⌜ r ≡ counted t (inSet 33 known) (inSet 34 known) (inSet 36 known) mandatory unique ⌝ }
+    ensures { λ r. ⌜ r ≡ counted t (inSet prohibitedTag known) (inSet allowedTag known) (inSet keyTag known) mandatory unique ⌝ }
 {
-    let prohibited = terms::has(known, 33);
-    let allowed = terms::has(known, 34);
-    let key = terms::has(known, 36);
+    let prohibited = terms::has(known, Tag::PROHIBITED as u64);
+    let allowed = terms::has(known, Tag::ALLOWED as u64);
+    let key = terms::has(known, Tag::KEY as u64);
     Tally {
         prohibited: t.prohibited | prohibited,
         other: t.other | !allowed,
@@ -61,13 +64,13 @@ pub fn count(t: Tally, known: u64, mandatory: u64, unique: u64) -> Tally
 
 // Are the first n places all in a set?
 fn has_all(set: u64, n: usize) -> bool
-    requires { ⌜ n ≤ 64 ⌝ }
+    requires { ⌜ n ≤ listWords ⌝ }
     ensures { λ r. ⌜ r ≡ hasAll n set ⌝ }
 {
     let mut k = n;
     while 0 < k {
         k -= 1;
-        if terms::has(set, k as u64) {} else {
+        if !terms::has(set, k as u64) {
             return false;
         }
     }
@@ -77,7 +80,7 @@ fn has_all(set: u64, n: usize) -> bool
 // The number of the first of questions 8 to 11 that the record fails, else 0: `limited` tells whether there are `%allowed` fields, `keyed` whether there is a key,
 // and `mandatory` how many words are mandatory.
 pub fn number(t: Tally, limited: bool, keyed: bool, mandatory: usize) -> u32
-    requires { ⌜ mandatory ≤ 64 ⌝ }
+    requires { ⌜ mandatory ≤ listWords ⌝ }
     ensures { λ r. ⌜ r ≡ tallyNo t limited keyed mandatory ⌝ }
 {
     if t.prohibited {
@@ -86,7 +89,7 @@ pub fn number(t: Tally, limited: bool, keyed: bool, mandatory: usize) -> u32
     if limited & t.other {
         return Refusal::NOT_ALLOWED;
     }
-    if has_all(t.present, mandatory) {} else {
+    if !has_all(t.present, mandatory) {
         return Refusal::MISSING;
     }
     if keyed & (t.keys == 0) {

@@ -1,6 +1,6 @@
 // The symbols of a descriptor's `enum` types in one table: of which of them is a value a symbol? One search answers for all `%type` fields that name a field.
 // A `%type` field is a row. Its text is the value that holds the kind at the end of its type, its own or a typedef's, and is known by the place where it
-// begins; 65536 stands there for a row whose kind is no `enum`. Rows with one text share its symbols, under the number of the first of them.
+// begins; the end of any file stands there for a row whose kind is no `enum`. Rows with one text share its symbols, under the number of the first of them.
 ghost use mathlib.Core.Path.{_≡_};
 ghost use mathlib.Core.Bool.{true};
 ghost use mathlib.Core.List.{[], map};
@@ -8,33 +8,42 @@ ghost use Prim.Native.Nat.{_+_, _<_, _≤_};
 ghost use lib.ListN.{length, drop};
 ghost use Rattle.format.specs.Lists.{behind};
 ghost use Rattle.format.specs.Bytes.{isSome};
+ghost use Rattle.format.specs.Limits.{fileBytes, typeFields};
 ghost use Rattle.format.specs.Types.{uncomment};
 ghost use Rattle.lines.specs.Value.{valueFrom};
 ghost use Rattle.types.specs.Symbols.{wordsIn};
-ghost use Rattle.terms.specs.Sets.{termOf};
-ghost use Rattle.terms.specs.Adding.{Adding};
+ghost use Rattle.terms.specs.Sets.{tags, termOf};
+ghost use Rattle.terms.specs.Adding.{valueTerms, Adding};
 ghost use Rattle.symbols.specs.Enums.{passes, symbolsFrom, Starts, enumIn, isEnumAt};
 ghost use Rattle.symbols.specs.Rows.{leaderOf, Texts, RowsAdded, IsSymbols, Reaches, Found};
+use format::File;
 use lines::Decoded;
 use terms::Table;
 
-// Is a byte passed over: in a word (0), before a comment (1), within one?
+// What is passed over: a word, what stands before a comment, or what stands within one.
+const WORD: u8 = 0;
+
+const HEAD: u8 = 1;
+
+const COMMENT: u8 = 2;
+
+// Is a byte passed over?
 fn passes_byte(kind: u8, b: u8) -> bool
     ensures { λ r. ⌜ r ≡ passes kind b ⌝ }
 {
-    if kind == 0 {
+    if kind == WORD {
         return sorting::is_word_byte(b);
     }
-    if b == 40 {
+    if b == b'(' {
         return false;
     }
-    if kind == 1 {
+    if kind == HEAD {
         if words::is_gap(b) {
             return false;
         }
         return true;
     }
-    b != 41
+    b != b')'
 }
 
 // Where the bytes of a kind have been passed that the value from i on begins with.
@@ -64,7 +73,7 @@ fn symbols_start(d: &[u8], v: usize) -> usize
     let name = records::pass(d, v, true);
     let gap = records::pass(d, name, false);
     let head = records::pass(d, gap, true);
-    pass(d, head, 1)
+    pass(d, head, HEAD)
 }
 
 // Where what follows a comment is looked for; behind its opening parenthesis the comment goes on at i.
@@ -73,7 +82,7 @@ fn comment_end(d: &[u8], i: usize) -> usize
     requires { ⌜ isSome (wordsIn (uncomment true (valueFrom (drop i (now d))))) ≡ true ⌝ }
     ensures { λ r. ⌜ (i < r) × (r ≤ length (now (d .entry))) × (wordsIn (uncomment true (valueFrom (drop i (now (d .entry))))) ≡ symbolsFrom (now (d .entry)) r) ⌝ }
 {
-    let close = pass(d, i, 2);
+    let close = pass(d, i, COMMENT);
     let x = lines::value_byte(d, close);
     let Decoded::Byte { byte: _, next } = x else {
         return close;
@@ -83,7 +92,7 @@ fn comment_end(d: &[u8], i: usize) -> usize
 
 // The symbols of the `enum` at v, put behind the first n entries; how many entries there are then.
 fn add_symbols(d: &[u8], v: usize, tag: u32, entries: &mut [u32], n: usize) -> usize
-    requires { ⌜ (v ≤ length (now d)) × (length (now d) ≤ 65536) × (tag < 64) ⌝ }
+    requires { ⌜ (v ≤ length (now d)) × (length (now d) ≤ fileBytes) × (tag < tags) ⌝ }
     requires { ⌜ n + length (enumIn (now d) v) ≤ length (now entries) ⌝ }
     requires { ⌜ isEnumAt (now d) v ≡ true ⌝ }
     ensures { λ r. ⌜ Adding (now (d .entry)) (now (entries .entry)) n (map (termOf tag) (enumIn (now (d .entry)) v)) [] (now (entries .exit)) r ⌝ }
@@ -98,12 +107,12 @@ fn add_symbols(d: &[u8], v: usize, tag: u32, entries: &mut [u32], n: usize) -> u
         if words::is_gap(byte) {
             at = next;
         } else {
-            if byte == 40 {
+            if byte == b'(' {
                 at = comment_end(d, next);
             } else {
                 entries[k] = terms::entry(d, at, tag);
                 k += 1;
-                at = pass(d, next, 0);
+                at = pass(d, next, WORD);
             }
         }
     }
@@ -132,7 +141,7 @@ pub struct Added {
 
 // The symbols of the rows from one on before another, put into entries: of as many rows as there is certainly room for.
 fn add_rows(d: &[u8], texts: &[usize], from: usize, to: usize, entries: &mut [u32]) -> Added
-    requires { ⌜ (length (now d) ≤ 65536) × (from ≤ to) × (to ≤ 32) × (to ≤ length (now texts)) ⌝ }
+    requires { ⌜ (length (now d) ≤ fileBytes) × (from ≤ to) × (to ≤ typeFields) × (to ≤ length (now texts)) ⌝ }
     requires { ⌜ Texts (now d) (now texts) to ⌝ }
     ensures { λ r. ⌜ RowsAdded (now (d .entry)) (now (texts .entry)) from to (now (entries .entry)) (now (entries .exit)) r ⌝ }
 {
@@ -140,9 +149,9 @@ fn add_rows(d: &[u8], texts: &[usize], from: usize, to: usize, entries: &mut [u3
     let mut row = from;
     while row < to {
         let v = texts[row];
-        if v < 65536 {
+        if v < File::BYTES {
             if leader(texts, from, row) == row {
-                if entries.len() - n < 4097 {
+                if entries.len() - n < Table::VALUE {
                     return Added {
                         count: n,
                         next: row,
@@ -172,8 +181,8 @@ pub struct Symbols {
 
 // The symbols of the rows from one on before another, in a lent array.
 pub fn read(d: &[u8], texts: &[usize], from: usize, to: usize, entries: &mut [u32]) -> Symbols
-    requires { ⌜ (length (now d) ≤ 65536) × (from ≤ to) × (to ≤ 32) × (to ≤ length (now texts)) ⌝ }
-    requires { ⌜ Texts (now d) (now texts) to × (4097 ≤ length (now entries)) ⌝ }
+    requires { ⌜ (length (now d) ≤ fileBytes) × (from ≤ to) × (to ≤ typeFields) × (to ≤ length (now texts)) ⌝ }
+    requires { ⌜ Texts (now d) (now texts) to × (valueTerms ≤ length (now entries)) ⌝ }
     ensures { λ r. ⌜ IsSymbols (now (d .entry)) (now (texts .entry)) (now (entries .exit)) r × Reaches from to r ⌝ }
 {
     let a = add_rows(d, texts, from, to, &mut *entries);

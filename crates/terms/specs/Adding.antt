@@ -7,6 +7,10 @@ use Rattle.format.specs.Bytes.{Bytes}
 use Rattle.terms.specs.Sets.{Term}
 use Rattle.terms.specs.Entries.{termsOf, Entries}
 
+-- as many terms as one value can have at the most
+abbrev pub valueTerms : ℕ
+valueTerms = 4097
+
 -- Behind the first n entries of l terms are being put, `all` of them: so far there are k entries, and `rest` is left.
 pub record Adding (d : Bytes) (l : List ℕ) (n : ℕ) (all rest : List Term) (m : List ℕ) (k : ℕ) : Type 0 where
   pub long : length m ≡ length l

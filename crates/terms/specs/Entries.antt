@@ -6,20 +6,27 @@ use mathlib.Core.List.{List, map}
 use lib.ListN.{getD}
 use Rattle.format.specs.Bytes.{Bytes}
 use Rattle.sorting.specs.Texts.{textAt, mixed}
-use Rattle.terms.specs.Sets.{Term, termOf, tagged}
+use Rattle.terms.specs.Sets.{tags, Term, termOf, tagged}
+
+-- where the tag and the fingerprint begin in it
+abbrev pub tagUnit : ℕ
+tagUnit = 65536
+
+abbrev pub printUnit : ℕ
+printUnit = 4194304
 
 unfoldable pub printOf : Bytes → ℕ
-printOf v = mixed 2166136261 v / 4194304
+printOf v = mixed 2166136261 v / printUnit
 
 -- an entry, and the term that it stands for
 abbrev pub entryOf : ℕ → ℕ → Bytes → ℕ
-entryOf at tag word = at + 65536 * tag + 4194304 * printOf word
+entryOf at tag word = at + tagUnit * tag + printUnit * printOf word
 
 abbrev pub tagOf : ℕ → ℕ
-tagOf e = e / 65536 % 64
+tagOf e = e / tagUnit % tags
 
 abbrev pub wordAt : Bytes → ℕ → Bytes
-wordAt s e = textAt true s (e % 65536)
+wordAt s e = textAt true s (e % tagUnit)
 
 abbrev pub termAt : Bytes → ℕ → Term
 termAt s e = termOf (tagOf e) (wordAt s e)
@@ -29,7 +36,7 @@ termsOf s l = map (termAt s) l
 
 -- a number is an entry of a file: its fingerprint is that of its word
 abbrev pub IsEntry : Bytes → ℕ → Type 0
-IsEntry s e = e / 4194304 ≡ printOf (wordAt s e)
+IsEntry s e = e / printUnit ≡ printOf (wordAt s e)
 
 -- the first n numbers are
 abbrev pub Entries : Bytes → ℕ → List ℕ → Type 0

@@ -6,6 +6,10 @@ use mathlib.Core.List.{List}
 use lib.Dec.{eqb}
 use Rattle.format.specs.Bytes.{Bytes, any, same}
 
+-- how many tags there are
+abbrev pub tags : ℕ
+tags = 64
+
 -- a set is a number: tag k is in it where its bit k is 1
 unfoldable pub inSet : ℕ → ℕ → Bool
 inSet zero x = eqb (x % 2) 1

@@ -5,12 +5,14 @@ ghost use mathlib.Core.Bool.{true};
 ghost use Prim.Native.Nat.{_+_, _<_, _≤_, _^_};
 ghost use lib.ListN.{length, getD, take};
 ghost use Rattle.format.specs.Bytes.{same};
+ghost use Rattle.format.specs.Limits.{fileBytes};
 ghost use Rattle.sorting.specs.Texts.{textAt, mixed};
 ghost use Rattle.sorting.specs.Order.{comparedOf};
-ghost use Rattle.terms.specs.Sets.{inSet, Answers};
+ghost use Rattle.terms.specs.Sets.{tags, inSet, Answers};
 ghost use Rattle.terms.specs.Entries.{printOf, entryOf, tagOf, wordAt, termAt, termsOf, IsEntry, Entries, Kept};
 ghost use Rattle.terms.specs.Order.{ranked, NotBehind, Rising, Low, IsTable, Holds};
 ghost use Rattle.terms.specs.Joined.{TagsFrom, Joined, IsJoined};
+use format::Record;
 use lines::Decoded;
 use sorting::Compared;
 
@@ -35,7 +37,7 @@ fn narrow(x: usize) -> u32
 
 // Is tag k in a set?
 pub fn has(set: u64, k: u64) -> bool
-    requires { ⌜ k < 64 ⌝ }
+    requires { ⌜ k < tags ⌝ }
     ensures { λ r. ⌜ r ≡ inSet k set ⌝ }
 {
     (set >> k) % 2 == 1
@@ -43,7 +45,7 @@ pub fn has(set: u64, k: u64) -> bool
 
 // The set of one tag.
 fn single(k: u64) -> u64
-    requires { ⌜ k < 64 ⌝ }
+    requires { ⌜ k < tags ⌝ }
     ensures { λ r. ⌜ r ≡ 2 ^ k ⌝ }
 {
     1 << k
@@ -66,16 +68,16 @@ fn mix_word(w: &[u8]) -> usize
 fn word_print(w: &[u8]) -> u32
     ensures { λ r. ⌜ r ≡ printOf (now (w .entry)) ⌝ }
 {
-    narrow(mix_word(w) / 4194304)
+    narrow(mix_word(w)) / Table::PRINT
 }
 
 // The entry of the word at a place, with a tag.
 pub fn entry(s: &[u8], at: usize, tag: u32) -> u32
-    requires { ⌜ (at < 65536) × (tag < 64) ⌝ }
+    requires { ⌜ (at < fileBytes) × (tag < tags) ⌝ }
     ensures { λ r. ⌜ (r ≡ entryOf at tag (textAt true (now (s .entry)) at)) × IsEntry (now (s .entry)) r × (termAt (now (s .entry)) r ≡ record { word = textAt true (now (s .entry)) at; tag = tag }) ⌝ }
 {
-    let p = sorting::mix(s, at, true) / 4194304;
-    narrow(at) + 65536 * tag + 4194304 * narrow(p)
+    let p = narrow(sorting::mix(s, at, true)) / Table::PRINT;
+    narrow(at) + Table::TAG * tag + Table::PRINT * p
 }
 
 // The word at a place compared with another.
@@ -112,7 +114,7 @@ fn compare(s: &[u8], x: u32, w: &[u8], print: u32) -> Compared
     requires { ⌜ IsEntry (now s) x × (print ≡ printOf (now w)) ⌝ }
     ensures { λ r. ⌜ r ≡ ranked (wordAt (now (s .entry)) x) (now (w .entry)) ⌝ }
 {
-    let p = x / 4194304;
+    let p = x / Table::PRINT;
     if p < print {
         return Compared::Before;
     }
@@ -127,8 +129,8 @@ fn compare_entries(s: &[u8], x: u32, y: u32) -> Compared
     requires { ⌜ IsEntry (now s) x × IsEntry (now s) y ⌝ }
     ensures { λ r. ⌜ r ≡ ranked (wordAt (now (s .entry)) x) (wordAt (now (s .entry)) y) ⌝ }
 {
-    let p = x / 4194304;
-    let q = y / 4194304;
+    let p = x / Table::PRINT;
+    let q = y / Table::PRINT;
     if p < q {
         return Compared::Before;
     }
@@ -140,9 +142,9 @@ fn compare_entries(s: &[u8], x: u32, y: u32) -> Compared
 
 // The tag of an entry.
 fn tag(x: u32) -> u64
-    ensures { λ r. ⌜ (r ≡ tagOf x) × (r < 64) ⌝ }
+    ensures { λ r. ⌜ (r ≡ tagOf x) × (r < tags) ⌝ }
 {
-    wide(x / 65536 % 64)
+    wide(x / Table::TAG % Table::TAGS)
 }
 
 // Have two entries the same word?
@@ -219,6 +221,18 @@ fn rising(s: &[u8], entries: &[u32]) -> bool
 pub struct Table {
     pub count: usize,
     pub sorted: bool,
+}
+
+impl Table {
+    // The parts of an entry: a place of the file, less than what stands for one tag; one of so many tags; and a fingerprint, of which this stands for one.
+    const TAG: u32 = 65536;
+
+    const TAGS: u32 = 64;
+
+    const PRINT: u32 = 4194304;
+
+    // How many terms one value can have at the most: names between 4,096 commas.
+    pub const VALUE: usize = Record::VALUE + 1;
 }
 
 // The table of some entries, in their place.

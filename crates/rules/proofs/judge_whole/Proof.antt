@@ -1,6 +1,7 @@
 -- `rules::judge_whole` meets its contract: the keys' number, else the size's.
 use borrow.Author.Needs.{needs}
 use native.Mathlib.Omega.{arith}
+use borrow.Author.Tests.{not-true, not-false}
 use Rattle.format.specs.Pieces.{readOf}
 use Rattle.format.proofs.Records.{records}
 use Rattle.records.specs.Walk.{recordIn}
@@ -29,7 +30,7 @@ returns c =
     let at-args = c .before .before .before .before .before .before .before .before .before .before .before .before .args in
     let at-keys-apart = c .before .before .before .before .before .keys-apart in
     let at-if1 = c .if1 in
-    keys-stop (recordIn (at-args .d .now)) (records (readOf (at-args .part .now))) (at-keys-apart .result) (at-keys-apart .ensures) (at-if1 .left)
+    keys-stop (recordIn (at-args .d .now)) (records (readOf (at-args .part .now))) (at-keys-apart .result) (at-keys-apart .ensures) (not-true (at-keys-apart .result) (at-if1 .taken))
 
 size-met-requires : tie.Need-size-met-requires
 size-met-requires c κs =
@@ -51,7 +52,7 @@ returns-2 c =
     let at-pre = c .before .before .before .before .before .before .before .before .before .before .before .before .before .before .before .before .before .pre in
     let at-size-met = c .before .before .before .size-met in
     let at-if2 = c .if2 in
-    size-stop (recordIn (at-args .d .now)) (records (readOf (at-args .part .now))) (at-keys-apart .result) (at-keys-apart .ensures) (at-if1 .taken) (at-args .count) (at-pre .0 .2) (at-size-met .result) (at-size-met .ensures .0) (at-if2 .left)
+    size-stop (recordIn (at-args .d .now)) (records (readOf (at-args .part .now))) (at-keys-apart .result) (at-keys-apart .ensures) (not-false (at-keys-apart .result) (at-if1 .left)) (at-args .count) (at-pre .0 .2) (at-size-met .result) (at-size-met .ensures .0) (not-true (at-size-met .result) (at-if2 .taken))
 
 same-length-5 : tie.Need-same-length-5
 same-length-5 c = search needs
@@ -67,7 +68,7 @@ returns-3 c =
     let at-pre = c .before .before .before .before .before .before .before .before .before .before .before .before .before .before .before .before .before .pre in
     let at-size-met = c .before .before .before .size-met in
     let at-if2 = c .if2 in
-    whole-passes (recordIn (at-args .d .now)) (records (readOf (at-args .part .now))) (at-keys-apart .result) (at-keys-apart .ensures) (at-if1 .taken) (at-args .count) (at-pre .0 .2) (at-size-met .result) (at-size-met .ensures .0) (at-if2 .taken)
+    whole-passes (recordIn (at-args .d .now)) (records (readOf (at-args .part .now))) (at-keys-apart .result) (at-keys-apart .ensures) (not-false (at-keys-apart .result) (at-if1 .left)) (at-args .count) (at-pre .0 .2) (at-size-met .result) (at-size-met .ensures .0) (not-false (at-size-met .result) (at-if2 .left))
 
 pub judge-whole-spec : {M : Type 1} → statement M
 judge-whole-spec =

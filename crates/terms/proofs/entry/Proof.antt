@@ -4,7 +4,7 @@ use native.Mathlib.Omega.{arith}
 use mathlib.Core.Path.{_≡_, sym, ap, _∙_, subst}
 use mathlib.Core.Bool.{true}
 use Rattle.sorting.specs.Texts.{textAt}
-use Rattle.terms.specs.Entries.{printOf, entryOf, termAt, IsEntry}
+use Rattle.terms.specs.Entries.{tagUnit, printUnit, printOf, entryOf, termAt, IsEntry}
 use Rattle.terms.proofs.Prints.{entry-is, entry-term}
 use borrow.Author.Needs.{needs}
 use Rattle.terms.proofs.entry.Statement.{statement}
@@ -20,14 +20,14 @@ mix-requires c κs = search needs
 narrow-requires : tie.Need-narrow-requires
 narrow-requires c κs = search needs
 
+narrow-requires-2 : tie.Need-narrow-requires-2
+narrow-requires-2 c κs = search needs
+
 mul-result : tie.Need-mul-result
 mul-result c = search needs
 
 add-result : tie.Need-add-result
 add-result c = search needs
-
-narrow-requires-2 : tie.Need-narrow-requires-2
-narrow-requires-2 c κs = search needs
 
 mul-result-2 : tie.Need-mul-result-2
 mul-result-2 c = search needs
@@ -46,9 +46,9 @@ returns c =
     let s = at-args .s .now in
     let at = at-args .at in
     let t = at-args .tag in
-    let p : at-narrow2 .result ≡ printOf (textAt true s at) = at-narrow2 .ensures ∙ ap (λ (z : ℕ). z / 4194304) (at-mix .ensures .0) in
-    let q = at-narrow .ensures in
-    let r : at-narrow .result + 65536 * t + 4194304 * at-narrow2 .result ≡ entryOf at t (textAt true s at) = omega arith in
+    let p : at-narrow .result / printUnit ≡ printOf (textAt true s at) = ap (λ (z : ℕ). z / printUnit) (at-narrow .ensures ∙ at-mix .ensures .0) in
+    let q = at-narrow2 .ensures in
+    let r : at-narrow2 .result + tagUnit * t + printUnit * (at-narrow .result / printUnit) ≡ entryOf at t (textAt true s at) = omega arith in
     (r, subst (IsEntry s) (sym r) (entry-is s at t (at-pre .0) (at-pre .1)), ap (termAt s) r ∙ entry-term s at t (at-pre .0) (at-pre .1))
 
 pub entry-spec : {M : Type 1} → statement M
@@ -57,9 +57,9 @@ entry-spec =
     (tie.spec
     mix-requires
     narrow-requires
+    narrow-requires-2
     mul-result
     add-result
-    narrow-requires-2
     mul-result-2
     add-result-2
     returns)

@@ -1,7 +1,7 @@
 -- `terms::word_print` meets its contract.
 use mathlib.Core.Path.{ap, _∙_}
 use Prim.Native.Nat.{ℕ, _/_}
-use Rattle.terms.specs.Entries.{printOf}
+use Rattle.terms.specs.Entries.{printUnit, printOf}
 use borrow.Author.Needs.{needs}
 use Rattle.terms.proofs.word_print.Statement.{statement}
 use Rattle.terms.proofs.word_print.Tie as tie
@@ -21,7 +21,7 @@ unfolding printOf
 returns c =
     let at-narrow = c .narrow in
     let at-mix-word = c .before .mix-word in
-    at-narrow .ensures ∙ ap (λ (z : ℕ). z / 4194304) (at-mix-word .ensures .0)
+    ap (λ (z : ℕ). z / printUnit) (at-narrow .ensures ∙ at-mix-word .ensures .0)
 
 pub word-print-spec : {M : Type 1} → statement M
 word-print-spec = tie.close (tie.spec mix-word-requires narrow-requires returns)

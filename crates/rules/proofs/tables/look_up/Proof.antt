@@ -41,6 +41,9 @@ part-places-start-2 c = search needs
 part-places-end-2 : tie.Need-part-places-end-2
 part-places-end-2 c = search needs
 
+cast-has : tie.Need-cast-has
+cast-has c = search needs
+
 has-requires : tie.Need-has-requires
 has-requires c κs = search needs
 
@@ -64,6 +67,9 @@ part-places-start-4 c = search needs
 
 part-places-end-4 : tie.Need-part-places-end-4
 part-places-end-4 c = search needs
+
+cast-has-2 : tie.Need-cast-has-2
+cast-has-2 c = search needs
 
 has-requires-2 : tie.Need-has-requires-2
 has-requires-2 c κs = search needs
@@ -102,6 +108,7 @@ look-up-spec =
     sub-places-2
     part-places-start-2
     part-places-end-2
+    cast-has
     has-requires
     places-requires
     sub-places-3
@@ -110,6 +117,7 @@ look-up-spec =
     sub-places-4
     part-places-start-4
     part-places-end-4
+    cast-has-2
     has-requires-2
     places-requires-2
     returns)

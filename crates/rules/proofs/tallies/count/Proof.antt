@@ -13,11 +13,20 @@ use Rattle.rules.proofs.tallies.count.Lts as lts
 use Rattle.rules.proofs.tallies.bump.Reads as bump-reads
 use Rattle.terms.proofs.has.Reads as has-reads
 
+cast-has : tie.Need-cast-has
+cast-has c = search needs
+
 has-requires : tie.Need-has-requires
 has-requires c κs = search needs
 
+cast-has-2 : tie.Need-cast-has-2
+cast-has-2 c = search needs
+
 has-requires-2 : tie.Need-has-requires-2
 has-requires-2 c κs = search needs
+
+cast-has-3 : tie.Need-cast-has-3
+cast-has-3 c = search needs
 
 has-requires-3 : tie.Need-has-requires-3
 has-requires-3 c κs = search needs
@@ -37,4 +46,4 @@ returns c =
     (λ i. record { prohibited = t .prohibited || at-has .ensures i; other = t .other || not (at-has2 .ensures i); present = bitOr (t .present) (at-args .mandatory); once = bitOr (t .once) (at-args .unique); twice = bitOr (t .twice) (bitAnd (t .once) (at-args .unique)); keys = e i })
 
 pub count-spec : {M : Type 1} → statement M
-count-spec = tie.close (tie.spec has-requires has-requires-2 has-requires-3 bump-requires returns)
+count-spec = tie.close (tie.spec cast-has has-requires cast-has-2 has-requires-2 cast-has-3 has-requires-3 bump-requires returns)
