@@ -26,7 +26,8 @@ use Rattle.records.specs.declared.FoundField.{FoundField}
 use Rattle.records.proofs.Members.{SetFound, set-told, RecordFound, record-told}
 use Rattle.records.proofs.Fields.{field-told}
 use Rattle.records.proofs.Unfielding.{leftOf}
-use Rattle.records.proofs.SetEnds.{setEnd, end-inside}
+use Rattle.records.specs.Sets.{setEnd}
+use Rattle.records.proofs.SetEnds.{end-inside}
 use Rattle.records.proofs.RecordEdits.{ownPart, name-inside}
 use Rattle.records.proofs.Applied.{appliedTo, insert-applied, add-applied, delete-applied, value-applied, dropped-applied, name-applied}
 use Rattle.requests.specs.Fields.{bytesOf, InSpan}

@@ -4,8 +4,7 @@ ghost use mathlib.Core.Bool.{true};
 ghost use Prim.Native.Nat.{_≤_};
 ghost use lib.ListN.{length, drop};
 ghost use Rattle.format.specs.Limits.{fileBytes};
-ghost use Rattle.records.specs.Places.{isReadable, placesOf};
-ghost use Rattle.records.proofs.SetEnds.{setEnd};
+ghost use Rattle.records.specs.Places.{isReadable};
 ghost use Rattle.requests.specs.Kinds.{editOf, Inside, InEdit};
 ghost use Rattle.requests.specs.declared.kinds.RequestOf.{RequestOf};
 ghost use Rattle.edits.specs.Places.{askedBy, Locates, LocatesIn};
@@ -14,28 +13,9 @@ use super::Splice;
 use super::acts::locate_act;
 use format::Refusal;
 use records::FoundSet;
-use records::NextRecord;
 use requests::Edit;
 use requests::Request;
 use requests::Weighed;
-
-// Where the records of a part end that stand before any descriptor: the byte behind the last one's block, 0 where there is none.
-fn set_end(s: &[u8]) -> usize
-    requires { ⌜ isReadable (now s) ≡ true ⌝ }
-    ensures { λ r. ⌜ r ≡ setEnd 0 (placesOf (now (s .entry))) ⌝ }
-{
-    let mut i = 0;
-    loop {
-        let r = records::next_record(&s[i..]);
-        let NextRecord::At(p) = r else {
-            return i;
-        };
-        if p.descriptor {
-            return i;
-        }
-        i += p.after;
-    }
-}
 
 // A record put in at the end of the set whose records begin at `begin`.
 fn locate_insert(s: &[u8], req: &[u8], begin: usize, from: usize) -> Located
@@ -47,9 +27,9 @@ fn locate_insert(s: &[u8], req: &[u8], begin: usize, from: usize) -> Located
     let Weighed::Sums { len, count: _ } = w else {
         return Located::Refused(Refusal::ILLEGAL);
     };
-    let e = set_end(&s[begin..]);
+    let m = records::next_members(&s[begin..]);
     Located::At(Splice::Record {
-        at: begin + e,
+        at: begin + m.end,
         from,
         len,
     })

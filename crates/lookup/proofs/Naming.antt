@@ -19,13 +19,15 @@ use Rattle.format.specs.Plain.{foundRows}
 use Rattle.format.specs.Calls.{Answer, answer, thenNo, setsIn, lookupNo, leaves, over, Filled, filled, soughtOrder, nameAnswer, answered}
 use Rattle.lines.specs.Value.{valueFrom}
 use Rattle.lines.proofs.Decoding.{value-length}
-use Rattle.records.specs.Places.{isReadable, Placed, placesOf}
+use Rattle.records.specs.Places.{isReadable, Placed, placesOf, isDescriptor}
 use Rattle.records.specs.Walk.{recordIn}
 use Rattle.records.specs.declared.Place.{Place}
+use Rattle.records.specs.declared.RecordSet.{RecordSet}
 use Rattle.records.specs.declared.FoundRecord.{FoundRecord}
-use Rattle.records.proofs.Shifts.{raise, fieldsIn}
+use Rattle.records.proofs.Shifts.{fieldsIn}
 use Rattle.records.proofs.Readings.{reads-of}
-use Rattle.records.proofs.Searches.{placesAt, Stand, Met}
+use Rattle.records.proofs.Searches.{placesAt, Stand}
+use Rattle.records.proofs.Sets.{fromHead, SetMet}
 use Rattle.records.proofs.Members.{sets-places, Stands, stands, others, othersBy, others-enter}
 use Rattle.records.proofs.Fields.{FieldFound}
 use Rattle.format.specs.declared.Answer.{Answer as Reply}
@@ -33,33 +35,38 @@ use Rattle.lookup.specs.Answers.{setsFrom, nameIn}
 use Rattle.lookup.proofs.Looking.{filled-long, filled-fits}
 use Rattle.lookup.specs.Names.{titled, descriptorBy, descriptorAt}
 
--- the search for descriptor k, record by record
+-- the search for descriptor k, set by set
+descriptor-from : (ps : List Placed) (k : ℕ) → descriptorAt (fromHead ps) k ≡ descriptorAt ps k
+unfolding descriptorAt
+descriptor-from [] k = refl
+descriptor-from (p ∷ ps) k = go (isDescriptor p) refl (descriptor-from ps k)
+  where
+    go : (b : Bool) → isDescriptor p ≡ b → descriptorAt (fromHead ps) k ≡ descriptorAt ps k → descriptorAt (pick b (p ∷ ps) (fromHead ps)) k ≡ descriptorBy (isDescriptor p) k p (λ (j : ℕ). descriptorAt ps j)
+    go true e x = refl
+    go false e x = x ∙ sym (ap (λ (b : Bool). descriptorBy b k p (λ (j : ℕ). descriptorAt ps j)) e)
+
 module _ (s : Bytes) (i : ℕ) where
-  pub descriptor-end : (k : ℕ) → placesAt s i ≡ [] → descriptorAt (placesAt s i) k ≡ FoundRecord.Missing
+  pub descriptor-none : (k : ℕ) → fromHead (placesAt s i) ≡ [] → descriptorAt (placesAt s i) k ≡ FoundRecord.Missing
   unfolding descriptorAt
-  descriptor-end k e = ap (λ (ps : List Placed). descriptorAt ps k) e
+  descriptor-none k e = sym (descriptor-from (placesAt s i) k) ∙ ap (λ (ps : List Placed). descriptorAt ps k) e
 
-  module _ (q : Place) (m : Met s i q) where
-    by : Bool → ℕ → FoundRecord
-    by b k = descriptorBy b k (raise i (m .here)) (λ (j : ℕ). descriptorAt (placesAt s (i + q .after)) j)
+  module _ (q : RecordSet) (m : SetMet s (fromHead (placesAt s i)) q) where
+    descriptor-on : (k : ℕ) → descriptorAt (placesAt s i) k ≡ descriptorBy true k (m .here) (λ (j : ℕ). descriptorAt (m .later) j)
+    unfolding descriptorAt
+    descriptor-on k =
+        sym (descriptor-from (placesAt s i) k)
+        ∙ ap (λ (ps : List Placed). descriptorAt ps k) (m .places)
+        ∙ ap (λ (b : Bool). descriptorBy b k (m .here) (λ (j : ℕ). descriptorAt (m .later) j)) (m .head)
 
-    descriptor-on : (k : ℕ) (b : Bool) → q .descriptor ≡ b → descriptorAt (placesAt s i) k ≡ by b k
-    unfolding descriptorAt by
-    descriptor-on k b d = ap (λ (ps : List Placed). descriptorAt ps k) (m .places) ∙ ap (λ (x : Bool). by x k) (ap (λ (x : Place). x .descriptor) (m .is) ∙ d)
+    pub descriptor-here : (k : ℕ) → k ≡ 0 → descriptorAt (placesAt s i) k ≡ FoundRecord.At (record { start = q .start; end = q .end; after = q .begin; descriptor = true })
+    descriptor-here k z =
+        descriptor-on k ∙ ap (λ (x : ℕ). descriptorBy true x (m .here) (λ (j : ℕ). descriptorAt (m .later) j)) z
+        ∙ (λ t. FoundRecord.At (record { start = m .is t .start; end = m .is t .end; after = m .is t .begin; descriptor = m .head t }))
 
-    pub descriptor-passed : (k : ℕ) → q .descriptor ≡ false → descriptorAt (placesAt s i) k ≡ descriptorAt (placesAt s (i + q .after)) k
-    unfolding by
-    descriptor-passed k d = descriptor-on k false d
-
-    pub descriptor-here : (k : ℕ) → q .descriptor ≡ true → k ≡ 0 → descriptorAt (placesAt s i) k ≡ FoundRecord.At (record { start = i + q .start; end = i + q .end; after = i + q .after; descriptor = true })
-    unfolding by
-    descriptor-here k d z =
-        descriptor-on k true d ∙ ap (by true) z
-        ∙ (λ t. FoundRecord.At (record { start = i + m .is t .start; end = i + m .is t .end; after = i + m .is t .after; descriptor = (ap (λ (x : Place). x .descriptor) (m .is) ∙ d) t }))
-
-    pub descriptor-later : (k j : ℕ) → q .descriptor ≡ true → k ≡ suc j → descriptorAt (placesAt s i) k ≡ descriptorAt (placesAt s (i + q .after)) j
-    unfolding by
-    descriptor-later k j d z = descriptor-on k true d ∙ ap (by true) z
+    pub descriptor-later : (k j : ℕ) → k ≡ suc j → descriptorAt (placesAt s i) k ≡ descriptorAt (placesAt s (q .after)) j
+    descriptor-later k j z =
+        descriptor-on k ∙ ap (λ (x : ℕ). descriptorBy true x (m .here) (λ (n : ℕ). descriptorAt (m .later) n)) z
+        ∙ sym (descriptor-from (m .later) j) ∙ ap (λ (ps : List Placed). descriptorAt ps j) (sym (m .behind .places))
 
 -- Descriptor k is that of set k but for the default one, and there is none where there are not so many.
 pub record DescriptorFound (s : Bytes) (ds : List RecSet) (k : ℕ) (q : Place) : Type 0 where

@@ -19,7 +19,7 @@ use lines::Decoded;
 use records::FoundField;
 use records::FoundRecord;
 use records::FoundSet;
-use records::NextRecord;
+use records::NextSet;
 use records::Place;
 
 // The count of a set in a readable text.
@@ -31,8 +31,8 @@ pub fn count_in(s: &[u8], set: &[u8]) -> Answer
     let FoundSet::At(a) = f else {
         return Answer::Refused(Refusal::SET);
     };
-    let n = records::count_records(&s[a..]);
-    Answer::Value(n)
+    let m = records::next_members(&s[a..]);
+    Answer::Value(m.count)
 }
 
 // A record of a set, from its first field's first byte to the byte behind its last field, or a refusal's number.
@@ -108,19 +108,15 @@ fn find_descriptor(s: &[u8], k: usize) -> FoundRecord
     let mut i = 0;
     let mut left = k;
     loop {
-        let r = records::next_record(&s[i..]);
-        let NextRecord::At(p) = r else {
+        let r = records::next_set(&s[i..]);
+        let NextSet::At(p) = r else {
             return FoundRecord::Missing;
         };
-        if p.descriptor {} else {
-            i += p.after;
-            continue;
-        }
         if left == 0 {
             return FoundRecord::At(Place {
                 start: i + p.start,
                 end: i + p.end,
-                after: i + p.after,
+                after: i + p.begin,
                 descriptor: true,
             });
         }

@@ -14,6 +14,7 @@ use Rattle.format.specs.Requests.{Request}
 use Rattle.format.specs.Plain.{plainOf, indexOf, applyIn, apply}
 use Rattle.format.proofs.Splices.{spliced}
 use Rattle.records.specs.Places.{isReadable, placesOf, setPlace, recordPlace, fieldPlace}
+use Rattle.records.specs.Sets.{setEnd}
 use Rattle.records.specs.declared.Place.{Place}
 use Rattle.records.specs.declared.FoundSet.{FoundSet}
 use Rattle.records.specs.declared.FoundRecord.{FoundRecord}
@@ -21,7 +22,6 @@ use Rattle.records.specs.declared.FoundField.{FoundField}
 use Rattle.records.proofs.Members.{set-told}
 use Rattle.records.proofs.Unfielding.{leftOf}
 use Rattle.records.proofs.RecordEdits.{ownPart, add-found, delete-found, value-found, dropped-found, name-found}
-use Rattle.records.proofs.SetEnds.{setEnd}
 use Rattle.records.proofs.SetInserts.{InsertTold, insert-told}
 
 -- the bytes after a request

@@ -22,5 +22,6 @@ pub mod Unfielding
 pub mod Splicing
 pub mod RecordEdits
 pub mod SetEnds
+pub mod Sets
 pub mod SetInserts
 pub mod Applied

@@ -68,7 +68,7 @@ stand-on s i p ps (NextRecord.At q) ih e m =
     let f : i + q .after ≡ p .after = ap (λ (x : Place). i + x .after) (sym (m .is)) ∙ ap (λ (x : Placed). x .after) a in
     (subst (λ (x : Placed). Stand s (x .start) (x .end) (x .after) (x .fields)) a d, sym b ∙ ap (placesAt s) f, ih (i + q .after) (m .stand .inside) (m .stand .readable) b)
 
-stands-at : (s : Bytes) (xs : List Placed) (i : ℕ) → i ≤ length s → isReadable (drop i s) ≡ true → placesAt s i ≡ xs → Stands s xs
+pub stands-at : (s : Bytes) (xs : List Placed) (i : ℕ) → i ≤ length s → isReadable (drop i s) ≡ true → placesAt s i ≡ xs → Stands s xs
 stands-at s [] i h e q = tt
 stands-at s (p ∷ ps) i h e q = stand-on s i p ps (firstPlace (placesOf (drop i s))) (stands-at s ps) q (meets-first s i h e)
 

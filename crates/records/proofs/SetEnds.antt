@@ -7,15 +7,11 @@ use mathlib.Core.List.{List, [], _∷_, map}
 use lib.ListN.{length, drop}
 use Rattle.format.specs.Bytes.{Bytes, pick}
 use Rattle.records.specs.Places.{isReadable, Placed, placesOf, isDescriptor}
+use Rattle.records.specs.Sets.{setEnd}
 use Rattle.records.specs.declared.Place.{Place}
 use Rattle.records.proofs.Shifts.{raise}
 use Rattle.records.proofs.Searches.{placesAt, Met}
 use Rattle.records.proofs.Members.{Stands, stands}
-
--- The byte behind the block of the last record before any descriptor; where there is none, the place where the records begin.
-unfoldable pub setEnd : ℕ → List Placed → ℕ
-setEnd at [] = at
-setEnd at (p ∷ ps) = pick (isDescriptor p) at (setEnd (p .after) ps)
 
 -- step by step, record by record
 module _ (s : Bytes) (i : ℕ) where
@@ -35,7 +31,7 @@ module _ (s : Bytes) (i : ℕ) where
     end-later d = end-on ∙ ap (λ (t : Bool). pick t i (setEnd (i + q .after) (placesAt s (i + q .after)))) d
 
 -- the end in a part, as a place of the whole
-end-raised : (a at : ℕ) (ps : List Placed) → setEnd (a + at) (map (raise a) ps) ≡ a + setEnd at ps
+pub end-raised : (a at : ℕ) (ps : List Placed) → setEnd (a + at) (map (raise a) ps) ≡ a + setEnd at ps
 unfolding setEnd
 end-raised a at [] = refl
 end-raised a at (p ∷ ps) = go (isDescriptor p) (end-raised a (p .after) ps)

@@ -22,12 +22,13 @@ use Rattle.format.specs.Plain.{indexOf, membersAt}
 use Rattle.format.proofs.Elements.{Filled}
 use Rattle.format.proofs.Splices.{spliced, gapBytes, front-bytes}
 use Rattle.records.specs.Places.{isReadable, Placed, placesOf, isDescriptor, namesSet, descriptorPlace, setPlace}
+use Rattle.records.specs.Sets.{setEnd}
 use Rattle.records.specs.declared.FoundSet.{FoundSet}
 use Rattle.records.proofs.Shifts.{fieldsIn}
 use Rattle.records.proofs.Readings.{readable-reads, places-read}
 use Rattle.records.proofs.Searches.{placesAt, set-default, set-named}
 use Rattle.records.proofs.Members.{stepOn, indexBy, Stands, stands, others, othersBy, others-enter, members-on, firstMembers, other-index, sets-places}
-use Rattle.records.proofs.SetEnds.{setEnd, end-whole}
+use Rattle.records.proofs.SetEnds.{end-whole}
 use Rattle.records.proofs.Splicing.{cut, insert-bytes}
 
 -- The k-th place ends at z.

@@ -8,7 +8,8 @@ ghost use Rattle.format.specs.Lists.{front, behind};
 ghost use Rattle.format.specs.Bytes.{text, same};
 ghost use Rattle.format.specs.Words.{isGap, notGap, firstWord};
 ghost use Rattle.lines.specs.Value.{valueFrom};
-ghost use Rattle.records.specs.Places.{isReadable, placesOf, firstPlace, setPlace, recordPlace, countBefore, fieldPlace};
+ghost use Rattle.records.specs.Places.{isReadable, placesOf, firstPlace, setPlace, recordPlace, fieldPlace};
+ghost use Rattle.records.specs.Sets.{leading, firstSet};
 ghost use Rattle.records.specs.Walk.{runFrom, opensSet};
 ghost use Rattle.records.specs.Gaps.{gapIs};
 ghost use Rattle.records.specs.Fields.{FieldNext};
@@ -173,23 +174,69 @@ pub fn next_record(s: &[u8]) -> NextRecord
     }
 }
 
-// How many records a part has before any descriptor.
-pub fn count_records(s: &[u8]) -> usize
+// The records of a part before any descriptor: how many there are, and the byte behind the last one's block, 0 where there is none.
+pub struct MemberRun {
+    pub count: usize,
+    pub end: usize,
+}
+
+pub fn next_members(s: &[u8]) -> MemberRun
     requires { ⌜ isReadable (now s) ≡ true ⌝ }
-    ensures { λ r. ⌜ r ≡ countBefore (placesOf (now (s .entry))) ⌝ }
+    ensures { λ r. ⌜ r ≡ leading (placesOf (now (s .entry))) ⌝ }
+{
+    let mut end = 0;
+    let mut count = 0;
+    loop {
+        let r = next_record(&s[end..]);
+        let NextRecord::At(p) = r else {
+            return MemberRun { count, end };
+        };
+        if p.descriptor {
+            return MemberRun { count, end };
+        }
+        count += 1;
+        end += p.after;
+    }
+}
+
+// Where a set stands in a part: its descriptor's first field's first byte and the byte behind its last field; the byte where its records begin, behind the descriptor's block,
+// and the byte behind the last one's block; and how many records there are.
+pub struct RecordSet {
+    pub start: usize,
+    pub end: usize,
+    pub begin: usize,
+    pub after: usize,
+    pub count: usize,
+}
+
+pub enum NextSet {
+    Nothing,
+    At(RecordSet),
+}
+
+// The next set of a part that has a descriptor there.
+pub fn next_set(s: &[u8]) -> NextSet
+    requires { ⌜ isReadable (now s) ≡ true ⌝ }
+    ensures { λ r. ⌜ r ≡ firstSet (placesOf (now (s .entry))) ⌝ }
 {
     let mut i = 0;
-    let mut n = 0;
     loop {
         let r = next_record(&s[i..]);
         let NextRecord::At(p) = r else {
-            return n;
+            return NextSet::Nothing;
         };
+        let begin = i + p.after;
         if p.descriptor {
-            return n;
+            let m = next_members(&s[begin..]);
+            return NextSet::At(RecordSet {
+                start: i + p.start,
+                end: i + p.end,
+                begin,
+                after: begin + m.end,
+                count: m.count,
+            });
         }
-        n += 1;
-        i += p.after;
+        i = begin;
     }
 }
 
@@ -415,16 +462,14 @@ pub fn find_set(s: &[u8], name: &[u8]) -> FoundSet
     }
     let mut i = 0;
     loop {
-        let r = next_record(&s[i..]);
-        let NextRecord::At(p) = r else {
+        let r = next_set(&s[i..]);
+        let NextSet::At(p) = r else {
             return FoundSet::Missing;
         };
-        if p.descriptor {
-            let a = i + p.start;
-            let e = i + p.end;
-            if opens_set(&s[a..e], name) {
-                return FoundSet::At(i + p.after);
-            }
+        let a = i + p.start;
+        let e = i + p.end;
+        if opens_set(&s[a..e], name) {
+            return FoundSet::At(i + p.begin);
         }
         i += p.after;
     }

@@ -1,12 +1,8 @@
 -- `edits::places::locate_insert` meets its contract: the record goes in where its set ends, if all its pairs are legal.
 use native.Mathlib.Omega.{arith}
-use mathlib.Core.Path.{ap, _∙_, subst}
-use lib.ListN.{length-drop}
-use Rattle.format.specs.Bytes.{Bytes}
-use Rattle.lines.proofs.Cuts.{rest}
-use Rattle.records.specs.Places.{placesOf}
+use mathlib.Core.Path.{subst}
 use Rattle.records.proofs.Readings.{part-readable}
-use Rattle.records.proofs.SetEnds.{setEnd, end-inside}
+use Rattle.records.proofs.Sets.{members-end, members-inside}
 use Rattle.requests.specs.Pairs.{pairsAt, Weighs}
 use Rattle.edits.proofs.Acting.{insert-illegal, insert-located}
 use borrow.Author.Needs.{needs}
@@ -15,14 +11,14 @@ use Rattle.edits.proofs.places.locate_insert.Statement.{statement}
 use Rattle.edits.proofs.places.locate_insert.Tie as tie
 use Rattle.edits.proofs.places.locate_insert.Reads as reads
 use Rattle.edits.proofs.places.locate_insert.Lts as lts
-use Rattle.edits.proofs.places.set_end.Reads as set-end-reads
+use Rattle.records.proofs.next_members.Reads as next-members-reads
 use Rattle.requests.proofs.weigh.Reads as weigh-reads
 
 weigh-requires : tie.Need-weigh-requires
 weigh-requires c κs =
     let at-pre = c .before .before .pre in
     let p = at-pre .1 in
-    (((p .0, omega (arith, p .1 .0)), p .1 .1))
+    ((p .0, omega (arith, p .1 .0)), p .1 .1)
 
 enum-known-w : tie.Need-enum-known-w
 enum-known-w c = search needs
@@ -41,45 +37,42 @@ returns c =
     let w = subst (Weighs (pairsAt (a .req .now) (a .from))) (at-enum-told .given .1) (at-weigh .ensures) in
     insert-illegal (a .s .now) (a .begin) 0 (p .0) (p .1) (p .2) (a .req .now) (pairsAt (a .req .now) (a .from)) w
 
-sub-set-end : tie.Need-sub-set-end
-sub-set-end c = search needs
+sub-next-members : tie.Need-sub-next-members
+sub-next-members c = search needs
 
-part-set-end-start : tie.Need-part-set-end-start
-part-set-end-start c = search needs
+part-next-members-start : tie.Need-part-next-members-start
+part-next-members-start c = search needs
 
-part-set-end-end : tie.Need-part-set-end-end
-part-set-end-end c = search needs
+part-next-members-end : tie.Need-part-next-members-end
+part-next-members-end c = search needs
 
-set-end-requires : tie.Need-set-end-requires
-set-end-requires c κs =
-    let at-pre = c .before .before .before .before .before .before .before .pre in
+next-members-requires : tie.Need-next-members-requires
+next-members-requires c κs =
     let at-args = c .before .before .before .before .before .before .before .args in
-    (part-readable (at-args .s .now) (at-args .begin) (at-pre .0 .2))
+    let at-pre = c .before .before .before .before .before .before .before .pre in
+    part-readable (at-args .s .now) (at-args .begin) (at-pre .0 .2)
 
 add-t9 : tie.Need-add-t9
 add-t9 c =
-    let at-args = c .before .before .before .before .before .before .before .before .args in
-    let at-pre = c .before .before .before .before .before .before .before .before .pre in
-    let at-set-end = c .set-end in
-    let at-good = c .before .before .before .before .before .before .before .before .good in
-    let a = at-args in
+    let at-pre = c .before .before .before .before .before .before .before .before .before .pre in
+    let at-good = c .before .before .before .before .before .before .before .before .before .good in
+    let at-args = c .before .before .before .before .before .before .before .before .before .args in
+    let at-next-members = c .before .next-members in
     let p = at-pre .0 in
-    let e = at-set-end .ensures ∙ ap (λ (y : Bytes). setEnd 0 (placesOf y)) (rest (a .s .now) (a .begin)) in
-    omega (arith, at-good .1 .0 .0, end-inside _ (p .2), e, p .1, length-drop (a .begin) (a .s .now))
+    omega (arith, at-good .1 .0 .0, members-inside (at-args .s .now) (at-args .begin) (at-next-members .result) (at-next-members .ensures) (p .1) (p .2))
 
 returns-2 : tie.Need-returns-2
 returns-2 c =
-    let at-args = c .before .before .before .before .before .before .before .before .args in
-    let at-w = c .before .before .before .w in
-    let at-pre = c .before .before .before .before .before .before .before .before .pre in
-    let at-set-end = c .set-end in
-    let at-weigh = c .before .before .before .before .before .weigh in
+    let at-args = c .before .before .before .before .before .before .before .before .before .args in
+    let at-w = c .before .before .before .before .w in
+    let at-pre = c .before .before .before .before .before .before .before .before .before .pre in
+    let at-weigh = c .before .before .before .before .before .before .weigh in
+    let at-next-members = c .before .next-members in
     let a = at-args in
     let g = at-w .given in
     let p = at-pre .0 in
-    let e = at-set-end .ensures ∙ ap (λ (y : Bytes). setEnd 0 (placesOf y)) (rest (a .s .now) (a .begin)) in
     let w = subst (Weighs (pairsAt (a .req .now) (a .from))) (g .1) (at-weigh .ensures) in
-    insert-located (a .s .now) (a .begin) 0 (p .0) (p .1) (p .2) (a .req .now) (at-set-end .result) (a .from) (g .0 .0) (g .0 .1 .0) e (at-pre .1 .1 .1) w
+    insert-located (a .s .now) (a .begin) 0 (p .0) (p .1) (p .2) (a .req .now) (at-next-members .result .end) (a .from) (g .0 .0) (g .0 .1 .0) (members-end (a .s .now) (a .begin) (at-next-members .result) (at-next-members .ensures)) (at-pre .1 .1 .1) w
 
 pub locate-insert-spec : {M : Type 1} → statement M
 locate-insert-spec =
@@ -89,9 +82,9 @@ locate-insert-spec =
     enum-known-w
     enum-told
     returns
-    sub-set-end
-    part-set-end-start
-    part-set-end-end
-    set-end-requires
+    sub-next-members
+    part-next-members-start
+    part-next-members-end
+    next-members-requires
     add-t9
     returns-2)
