@@ -7,7 +7,7 @@ use mathlib.Core.List.{List, [], _++_, append-nil}
 use lib.ListN.{length, take, drop}
 use Rattle.format.specs.Bytes.{Bytes, text}
 use Rattle.records.specs.Walk.{recordIn}
-use Rattle.typedefs.specs.Walks.{valuesFrom}
+use Rattle.records.specs.Named.{valuesFrom}
 use Rattle.terms.specs.Sets.{Term, tagged}
 use Rattle.terms.specs.Entries.{termsOf, Entries}
 use Rattle.terms.specs.Order.{Holds}

@@ -17,7 +17,7 @@ use Rattle.records.specs.Places.{isReadable}
 use Rattle.records.specs.Walk.{recordIn}
 use Rattle.dictionary.specs.Words.{Cuts}
 use Rattle.dictionary.specs.declared.lists.NextWord.{NextWord}
-use Rattle.typedefs.specs.Walks.{valuesFrom, ValueHere}
+use Rattle.records.specs.Named.{valuesFrom, ValueHere}
 use Rattle.terms.specs.Sets.{Term, termOf, tagged}
 use Rattle.terms.specs.Entries.{termsOf, Entries}
 use Rattle.terms.specs.Order.{IsTable, Holds}

@@ -22,7 +22,7 @@ use Rattle.lines.specs.Value.{valueFrom}
 use Rattle.words.specs.Spans.{span}
 use Rattle.records.specs.Places.{isReadable}
 use Rattle.records.specs.Walk.{recordIn}
-use Rattle.typedefs.specs.Walks.{valuesFrom, ValueHere}
+use Rattle.records.specs.Named.{valuesFrom, ValueHere}
 use Rattle.terms.specs.Sets.{Term, termOf}
 use Rattle.terms.specs.Adding.{Adding}
 use Rattle.dictionary.specs.Terms.{rowTerms}

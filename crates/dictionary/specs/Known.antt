@@ -13,7 +13,7 @@ use Rattle.format.specs.Rules.{mandatory, prohibited, allowed, unique, key, typ
 use Rattle.format.specs.Questions.{fitsRecord, fitsRules}
 use Rattle.records.specs.Places.{isReadable}
 use Rattle.records.specs.Walk.{recordIn}
-use Rattle.typedefs.specs.Walks.{valuesFrom}
+use Rattle.records.specs.Named.{valuesFrom}
 use Rattle.terms.specs.Sets.{inSet, tagged}
 use Rattle.terms.specs.Entries.{termsOf}
 use Rattle.terms.specs.Order.{IsTable}

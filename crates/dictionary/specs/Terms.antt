@@ -10,7 +10,7 @@ use Rattle.format.specs.Lines.{isName}
 use Rattle.format.specs.Words.{words}
 use Rattle.format.specs.Records.{Field, Record}
 use Rattle.format.specs.Rules.{typedNames}
-use Rattle.typedefs.specs.Walks.{valuesFrom}
+use Rattle.records.specs.Named.{valuesFrom}
 use Rattle.terms.specs.Sets.{tags, Term, termOf}
 use Rattle.terms.specs.Adding.{valueTerms, Adding}
 use Rattle.dictionary.specs.Tags.{listTag}

@@ -13,7 +13,7 @@ ghost use Rattle.format.specs.Rules.{typedNames};
 ghost use Rattle.lines.specs.Value.{valueFrom};
 ghost use Rattle.records.specs.Places.{isReadable};
 ghost use Rattle.records.specs.Walk.{recordIn};
-ghost use Rattle.typedefs.specs.Walks.{valuesFrom};
+ghost use Rattle.records.specs.Named.{valuesFrom};
 ghost use Rattle.terms.specs.Sets.{tags, termOf};
 ghost use Rattle.dictionary.specs.Tags.{listTag};
 ghost use Rattle.terms.specs.Adding.{Adding};
@@ -21,9 +21,9 @@ ghost use Rattle.dictionary.specs.Terms.{listTerms, areNames, RowsAdded}
 ghost use Rattle.dictionary.specs.Known.{Described, dictionaryRoom, IsDictionary, Known};
 use lists::NextWord;
 use lists::Part;
+use records::FoundField;
 use records::NextField;
 use terms::Table;
-use typedefs::NextValue;
 
 pub mod lists;
 pub mod wordsets;
@@ -148,8 +148,13 @@ fn pass_types(d: &[u8], count: usize) -> usize
     let mut i = 0;
     let mut row = 0;
     while row < count {
-        let v = typedefs::next_value(d, b"%type", i);
-        let NextValue::At { value: _, end } = v else {
+        let v = records::next_named(d, b"%type", i);
+        let FoundField::At {
+            start: _,
+            value: _,
+            end,
+        } = v
+        else {
             return i;
         };
         row += 1;
@@ -174,8 +179,13 @@ fn add_types(d: &[u8], from: usize, entries: &mut [u32], n: usize) -> Added
     let mut row = from;
     let mut i = pass_types(d, from);
     loop {
-        let v = typedefs::next_value(d, b"%type", i);
-        let NextValue::At { value, end } = v else {
+        let v = records::next_named(d, b"%type", i);
+        let FoundField::At {
+            start: _,
+            value,
+            end,
+        } = v
+        else {
             return Added {
                 count: k,
                 next: row,

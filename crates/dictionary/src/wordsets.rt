@@ -16,8 +16,8 @@ ghost use Rattle.terms.specs.Adding.{Adding};
 ghost use Rattle.dictionary.specs.Numbered.{numbered, IsWords};
 use super::lists;
 use super::lists::NextWord;
+use records::FoundField;
 use terms::Table;
-use typedefs::NextValue;
 
 // The words of the value at i, which are names, put behind the first n entries; how many entries there are then.
 fn add_value(d: &[u8], i: usize, entries: &mut [u32], n: usize) -> usize
@@ -49,8 +49,13 @@ fn add_list(d: &[u8], name: &[u8], entries: &mut [u32]) -> usize
     let mut n = 0;
     let mut i = 0;
     loop {
-        let v = typedefs::next_value(d, name, i);
-        let NextValue::At { value, end } = v else {
+        let v = records::next_named(d, name, i);
+        let FoundField::At {
+            start: _,
+            value,
+            end,
+        } = v
+        else {
             return n;
         };
         n = add_value(d, value, &mut *entries, n);

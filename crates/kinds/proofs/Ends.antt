@@ -14,7 +14,7 @@ use Rattle.format.specs.Bytes.{Bytes, text, all, isSome}
 use Rattle.format.specs.Words.{firstWord, afterWord}
 use Rattle.format.specs.Numbers.{intBounds}
 use Rattle.format.specs.Types.{Typed, Typedef, typeOf, kindOf as lastKind}
-use Rattle.typedefs.specs.Walks.{valuesFrom}
+use Rattle.records.specs.Named.{valuesFrom}
 use Rattle.typedefs.specs.Targets.{targetBy, targetIn, followOf, leads}
 use Rattle.typedefs.specs.declared.Followed.{Followed}
 use Rattle.typedefs.proofs.Followed.{the-type}

@@ -17,7 +17,7 @@ use Rattle.records.specs.Walk.{recordIn}
 use Rattle.sorting.proofs.Tests.{by-bool}
 use Rattle.types.specs.Meaning.{typedIn}
 use Rattle.types.specs.declared.Shape.{Shape}
-use Rattle.typedefs.specs.Walks.{ValueHere}
+use Rattle.records.specs.Named.{ValueHere}
 use Rattle.typedefs.proofs.Following.{kindOnly}
 use Rattle.typedefs.proofs.Placing.{passed-value}
 use Rattle.dictionary.specs.Known.{Described, typeValue}

@@ -17,7 +17,8 @@ use Rattle.format.specs.Rules.{mandatory, prohibited, allowed, unique, typedNam
 use Rattle.format.specs.Questions.{fitsField}
 use Rattle.records.specs.Walk.{recordIn}
 use Rattle.sorting.proofs.Tests.{by-bool}
-use Rattle.typedefs.specs.Walks.{valuesFrom, namesFrom, fits, fitFrom}
+use Rattle.records.specs.Named.{valuesFrom}
+use Rattle.typedefs.specs.Walks.{namesFrom, fits, fitFrom}
 use Rattle.typedefs.proofs.Deciding.{all-words, type-names}
 use Rattle.dictionary.specs.Known.{Described}
 use Rattle.kinds.specs.Meets.{kindOf}

@@ -14,7 +14,7 @@ use Rattle.format.specs.Records.{Field}
 use Rattle.format.specs.Types.{Kind}
 use Rattle.format.specs.Rules.{TypeRule, typedNames, typeRuleOf, typedefsOf, isTyped, typeRules}
 use Rattle.records.specs.Walk.{recordIn}
-use Rattle.typedefs.specs.Walks.{valuesFrom}
+use Rattle.records.specs.Named.{valuesFrom}
 use Rattle.dictionary.specs.Known.{Known}
 use Rattle.symbols.specs.Rows.{Texts}
 use Rattle.kinds.specs.Meets.{meetsKind, kindOf, rowMet, rowsMet, isNamed, typedBetween}

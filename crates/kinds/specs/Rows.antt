@@ -13,7 +13,8 @@ use Rattle.format.specs.Types.{Kind}
 use Rattle.lines.specs.Value.{valueFrom}
 use Rattle.records.specs.Walk.{recordIn}
 use Rattle.types.specs.declared.Shape.{Shape}
-use Rattle.typedefs.specs.Walks.{valuesFrom, namesFrom}
+use Rattle.records.specs.Named.{valuesFrom}
+use Rattle.typedefs.specs.Walks.{namesFrom}
 use Rattle.typedefs.specs.Targets.{targetIn}
 use Rattle.typedefs.proofs.Following.{kindOnly}
 use Rattle.terms.specs.Sets.{inSet}

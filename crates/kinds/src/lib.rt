@@ -22,10 +22,10 @@ ghost use Rattle.kinds.specs.Rows.{targetsOf, TypeAt, EndAt, textOf, IsK
 use format::Descriptor;
 use format::File;
 use numbers::IntOf;
+use records::FoundField;
 use symbols::Symbols;
 use typedefs::Followed;
 use typedefs::Names;
-use typedefs::NextValue;
 use typedefs::Targets;
 use types::Shape;
 use types::TypeOf;
@@ -100,8 +100,13 @@ fn fill(d: &[u8], names: Names, targets: &[usize], scratch: &mut [u8]) -> Kinds
     let mut i = 0;
     let mut count = 0;
     loop {
-        let v = typedefs::next_value(d, b"%type", i);
-        let NextValue::At { value, end } = v else {
+        let v = records::next_named(d, b"%type", i);
+        let FoundField::At {
+            start: _,
+            value,
+            end,
+        } = v
+        else {
             return Kinds { rows, texts, count };
         };
         let at = end_of(d, names, targets, value, &mut *scratch);

@@ -27,8 +27,8 @@ pub fn count_in(s: &[u8], set: &[u8]) -> Answer
     requires { ⌜ isReadable (now s) ≡ true ⌝ }
     ensures { λ r. ⌜ answered r ≡ countIn (now (s .entry)) (now (set .entry)) ⌝ }
 {
-    let f = records::find_set(s, set);
-    let FoundSet::At(a) = f else {
+    let found = records::find_set(s, set);
+    let FoundSet::At(a) = found else {
         return Answer::Refused(Refusal::SET);
     };
     let m = records::next_members(&s[a..]);

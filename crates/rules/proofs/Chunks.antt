@@ -16,7 +16,7 @@ use Rattle.format.proofs.Elements.{all-both, all-alike}
 use Rattle.format.proofs.Least.{least, leasts, eachOf, first-leasts, first-append}
 use Rattle.format.proofs.Judging.{recordRows, recordNo}
 use Rattle.records.specs.Walk.{recordIn}
-use Rattle.typedefs.specs.Walks.{valuesFrom}
+use Rattle.records.specs.Named.{valuesFrom}
 use Rattle.kinds.proofs.Named.{between-split, typed-rows}
 use Rattle.rules.proofs.Leasts.{least-assoc}
 use Rattle.rules.specs.Members.{namesNo, isMet, partNo}

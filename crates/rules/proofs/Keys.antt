@@ -26,7 +26,7 @@ use Rattle.words.specs.Spans.{span}
 use Rattle.records.specs.Places.{isReadable}
 use Rattle.records.specs.Walk.{recordIn}
 use Rattle.records.proofs.Cuts.{fields-records}
-use Rattle.typedefs.specs.Walks.{valuesFrom, ValueHere}
+use Rattle.records.specs.Named.{valuesFrom, ValueHere}
 use Rattle.rules.proofs.Regions.{front-span}
 use Rattle.rules.specs.Described.{IsRules}
 use Rattle.rules.specs.Chunks.{HaveKeys}

@@ -26,8 +26,8 @@ use kinds::Kinds;
 use kinds::Typed;
 use members::Asked;
 use members::Rulebook;
+use records::FoundField;
 use tables::Tables;
-use typedefs::NextValue;
 use words::Word;
 
 pub mod members;
@@ -47,10 +47,14 @@ fn has_field(d: &[u8], name: &[u8]) -> bool
     requires { ⌜ isReadable (now d) ≡ true ⌝ }
     ensures { λ r. ⌜ r ≡ not (eqb (length (valuesOf (now (name .entry)) (recordIn (now (d .entry))))) 0) ⌝ }
 {
-    let v = typedefs::next_value(d, name, 0);
+    let v = records::next_named(d, name, 0);
     match v {
-        NextValue::At { value: _, end: _ } => true,
-        NextValue::Nothing => false,
+        FoundField::At {
+            start: _,
+            value: _,
+            end: _,
+        } => true,
+        FoundField::Missing => false,
     }
 }
 
@@ -151,8 +155,13 @@ fn keys_apart(d: &[u8], part: &[u8], scratch: &mut [u8], entries: &mut [u32]) ->
     requires { ⌜ (valueBytes ≤ length (now scratch)) × (entriesEnd ≤ length (now entries)) ⌝ }
     ensures { λ r. ⌜ r ≡ distinct (keysOf (ruled (recordIn (now (d .entry))) (records (readOf (now (part .entry)))))) ⌝ }
 {
-    let v = typedefs::next_value(d, b"%key", 0);
-    let NextValue::At { value, end } = v else {
+    let v = records::next_named(d, b"%key", 0);
+    let FoundField::At {
+        start: _,
+        value,
+        end,
+    } = v
+    else {
         return true;
     };
     let n = lines::copy_value(&d[value..end], &mut *scratch);

@@ -17,7 +17,6 @@ ghost use Rattle.rules.specs.Tallies.{tallyNo};
 ghost use Rattle.kinds.specs.Meets.{rowsMet};
 ghost use Rattle.kinds.specs.Rows.{IsTyped};
 ghost use Rattle.rules.specs.Members.{IsRulebook, fitsIn, partNo};
-use format::Refusal;
 use super::questions;
 use super::tables;
 use super::tables::NextName;
@@ -26,6 +25,7 @@ use super::tables::Tables;
 use super::tallies;
 use super::tallies::Tally;
 use dictionary::Tag;
+use format::Refusal;
 use kinds::Typed;
 use lines::Next;
 

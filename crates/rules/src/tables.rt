@@ -6,7 +6,7 @@ ghost use lib.ListN.{length};
 ghost use Rattle.format.specs.Bytes.{Bytes, text, among};
 ghost use Rattle.words.specs.Spans.{span};
 ghost use Rattle.records.specs.Walk.{recordIn};
-ghost use Rattle.typedefs.specs.Walks.{valuesFrom};
+ghost use Rattle.records.specs.Named.{valuesFrom};
 ghost use Rattle.terms.specs.Joined.{IsJoined};
 ghost use Rattle.dictionary.specs.Known.{Described};
 ghost use Rattle.dictionary.specs.Numbered.{IsWords, Places};

@@ -8,8 +8,8 @@ use Rattle.format.specs.Rules.{typedNames}
 use Rattle.lines.specs.Value.{valueFrom}
 use Rattle.terms.specs.Sets.{termOf}
 use Rattle.format.specs.Bytes.{text}
-use Rattle.typedefs.specs.Walks.{valuesFrom}
-use Rattle.typedefs.proofs.Walking.{value-told}
+use Rattle.records.specs.Named.{valuesFrom}
+use Rattle.records.proofs.Named.{value-told}
 use Rattle.sorting.proofs.Tests.{dec-lt}
 use Rattle.terms.specs.Adding.{Adding}
 use Rattle.dictionary.specs.Terms.{rowTerms}
@@ -21,7 +21,7 @@ use Rattle.dictionary.proofs.add_types.Reads as reads
 use Rattle.dictionary.proofs.add_types.Lts as lts
 use Rattle.dictionary.proofs.add_names.Reads as add-names-reads
 use Rattle.dictionary.proofs.pass_types.Reads as pass-types-reads
-use Rattle.typedefs.proofs.next_value.Reads as next-value-reads
+use Rattle.records.proofs.next_named.Reads as next-named-reads
 
 abbrev Inv-loop : tie.InvT-loop
 Inv-loop d from entries₀ n k₀ row₀ i₀ t12 entries k row i = (from ≤ row) × (row ≤ length (valuesFrom d (text "%type") 0)) × Behind d row i × (k ≤ length entries) × (length entries ≡ length entries₀) × (row ≡ from → k ≡ n) × Adding d entries₀ n (rowTerms from (drop from (valuesFrom d (text "%type") 0))) (rowTerms row (drop row (valuesFrom d (text "%type") 0))) entries k
@@ -41,11 +41,11 @@ loop-holds c =
     let at-args = c .before .before .before .args in
     (omega arith, at-pre .1 .0, record { inside = at-pass-types .ensures .0; readable = at-pass-types .ensures .1; values = at-pass-types .ensures .2 }, at-pre .1 .1, refl, λ e. refl, adding-start (at-args .d .now) (at-args .entries .now) (at-args .n) (rowTerms (at-args .from) (drop (at-args .from) (valuesFrom (at-args .d .now) (text "%type") 0))))
 
-slice-aggregate-next-value : tie.Need-slice-aggregate-next-value Inv-loop μ-loop
-slice-aggregate-next-value c = search needs
+slice-aggregate-next-named : tie.Need-slice-aggregate-next-named Inv-loop μ-loop
+slice-aggregate-next-named c = search needs
 
-next-value-requires : tie.Need-next-value-requires Inv-loop μ-loop
-next-value-requires c κs =
+next-named-requires : tie.Need-next-named-requires Inv-loop μ-loop
+next-named-requires c κs =
     let at-loop = c .before .loop in
     ((at-loop .inv .2 .inside, at-loop .inv .2 .readable))
 
@@ -64,9 +64,9 @@ returns : tie.Need-returns Inv-loop μ-loop
 returns c =
     let at-args = c .before .before .before .before .before .before .before .before .args in
     let at-loop = c .before .before .before .before .loop in
-    let at-next-value = c .before .before .next-value in
+    let at-next-named = c .before .before .next-named in
     let at-enum-told = c .enum-told in
-    let e = value-told (at-args .d .now) (text "%type") (at-loop .i) (at-next-value .result) (at-next-value .ensures) (at-enum-told .given .1) in
+    let e = value-told (at-args .d .now) (text "%type") (at-loop .i) (at-next-named .result) (at-next-named .ensures) (at-enum-told .given .1) in
     let h = row-none (at-args .d .now) (at-loop .row) (at-loop .i) (at-loop .inv .2) e in
     record { begins = at-loop .inv .0; within = at-loop .inv .1; room = at-loop .inv .3; some = λ a b. omega arith; adding = at-loop .inv .6 }
 
@@ -91,21 +91,21 @@ cast-add-names : tie.Need-cast-add-names Inv-loop μ-loop
 cast-add-names c =
     let at-args = c .before .before .before .before .before .before .before .before .before .before .args in
     let at-loop = c .before .before .before .before .before .before .loop in
-    let at-next-value = c .before .before .before .before .next-value in
+    let at-next-named = c .before .before .before .before .next-named in
     let at-v = c .before .before .v in
     let at-pre = c .before .before .before .before .before .before .before .before .before .before .pre in
-    let h = value-told (at-args .d .now) (text "%type") (at-loop .i) (at-next-value .result) (at-next-value .ensures) (at-v .given .1) in
+    let h = value-told (at-args .d .now) (text "%type") (at-loop .i) (at-next-named .result) (at-next-named .ensures) (at-v .given .1) in
     omega (arith, row-inside (at-args .d .now) (at-loop .row) (at-loop .i) _ _ (at-loop .inv .2) h, rows-few (at-args .d .now) (at-pre .0))
 
 add-names-requires : tie.Need-add-names-requires Inv-loop μ-loop
 add-names-requires c κs =
     let at-args = c .before .before .before .before .before .before .before .before .before .before .before .args in
     let at-loop = c .before .before .before .before .before .before .before .loop in
-    let at-next-value = c .before .before .before .before .before .next-value in
+    let at-next-named = c .before .before .before .before .before .next-named in
     let at-v = c .before .before .before .v in
     let at-pre = c .before .before .before .before .before .before .before .before .before .before .before .pre in
     let at-if1 = c .before .if1 in
-    let h = value-told (at-args .d .now) (text "%type") (at-loop .i) (at-next-value .result) (at-next-value .ensures) (at-v .given .1) in
+    let h = value-told (at-args .d .now) (text "%type") (at-loop .i) (at-next-named .result) (at-next-named .ensures) (at-v .given .1) in
     let f = row-fits (at-args .d .now) (at-loop .row) (at-loop .i) _ _ (at-loop .inv .2) h (at-pre .0) in
     let z = at-loop .inv .3 in
     let y = at-if1 .left in
@@ -115,38 +115,38 @@ add-row : tie.Need-add-row Inv-loop μ-loop
 add-row c =
     let at-args = c .before .before .before .before .before .before .before .before .before .before .before .before .before .before .args in
     let at-loop = c .before .before .before .before .before .before .before .before .before .before .loop in
-    let at-next-value = c .before .before .before .before .before .before .before .before .next-value in
+    let at-next-named = c .before .before .before .before .before .before .before .before .next-named in
     let at-v = c .before .before .before .before .before .before .v in
     let at-pre = c .before .before .before .before .before .before .before .before .before .before .before .before .before .before .pre in
-    let h = value-told (at-args .d .now) (text "%type") (at-loop .i) (at-next-value .result) (at-next-value .ensures) (at-v .given .1) in
+    let h = value-told (at-args .d .now) (text "%type") (at-loop .i) (at-next-named .result) (at-next-named .ensures) (at-v .given .1) in
     omega (arith, row-inside (at-args .d .now) (at-loop .row) (at-loop .i) _ _ (at-loop .inv .2) h, rows-few (at-args .d .now) (at-pre .0))
 
 loop-less : tie.Need-loop-less Inv-loop μ-loop
 loop-less c =
     let at-args = c .before .before .before .before .before .before .before .before .before .before .before .before .before .before .args in
     let at-loop = c .before .before .before .before .before .before .before .before .before .before .loop in
-    let at-next-value = c .before .before .before .before .before .before .before .before .next-value in
+    let at-next-named = c .before .before .before .before .before .before .before .before .next-named in
     let at-v = c .before .before .before .before .before .before .v in
-    let h = value-told (at-args .d .now) (text "%type") (at-loop .i) (at-next-value .result) (at-next-value .ensures) (at-v .given .1) in
+    let h = value-told (at-args .d .now) (text "%type") (at-loop .i) (at-next-named .result) (at-next-named .ensures) (at-v .given .1) in
     omega (arith, h .moves, h .inside)
 
 loop-again : tie.Need-loop-again Inv-loop μ-loop
 loop-again c =
     let at-args = c .before .before .before .before .before .before .before .before .before .before .before .before .before .before .args in
     let at-loop = c .before .before .before .before .before .before .before .before .before .before .loop in
-    let at-next-value = c .before .before .before .before .before .before .before .before .next-value in
+    let at-next-named = c .before .before .before .before .before .before .before .before .next-named in
     let at-v = c .before .before .before .before .before .before .v in
     let at-pre = c .before .before .before .before .before .before .before .before .before .before .before .before .before .before .pre in
     let at-add-names = c .before .before .add-names in
     let at-if1 = c .before .before .before .before .if1 in
-    let h = value-told (at-args .d .now) (text "%type") (at-loop .i) (at-next-value .result) (at-next-value .ensures) (at-v .given .1) in
+    let h = value-told (at-args .d .now) (text "%type") (at-loop .i) (at-next-named .result) (at-next-named .ensures) (at-v .given .1) in
     let f = row-fits (at-args .d .now) (at-loop .row) (at-loop .i) _ _ (at-loop .inv .2) h (at-pre .0) in
     let g = at-v .given .0 in
     let a = at-add-names .ensures in
     let b = row-inside (at-args .d .now) (at-loop .row) (at-loop .i) _ _ (at-loop .inv .2) h in
     let z = at-if1 .left in
     let y = at-loop .inv .3 in
-    (omega (arith, at-loop .inv .0), omega (arith, b), behind-more (at-args .d .now) (at-loop .row) (at-loop .i) _ _ (at-loop .inv .2) h, omega (arith, a .count, a .long, length-map (typedNames (valueFrom (drop (g .0) (at-args .d .now)))) (termOf (at-loop .row))), a .long ∙ at-loop .inv .4, (λ e. absurd (omega (arith, at-loop .inv .0))), rows-more (at-args .d .now) (at-loop .row) (at-loop .i) _ _ (at-loop .inv .2) h (at-pre .0) (at-args .from) (at-args .entries .now) (at-args .n) (at-loop .entries) (at-loop .k) _ _ (at-loop .inv .6) a)
+    (omega (arith, at-loop .inv .0), omega (arith, b), behind-more (at-args .d .now) (at-loop .row) (at-loop .i) _ _ (at-loop .inv .2) h, omega (arith, a .count, a .long, length-map (typedNames (valueFrom (drop (g .1 .0) (at-args .d .now)))) (termOf (at-loop .row))), a .long ∙ at-loop .inv .4, (λ e. absurd (omega (arith, at-loop .inv .0))), rows-more (at-args .d .now) (at-loop .row) (at-loop .i) _ _ (at-loop .inv .2) h (at-pre .0) (at-args .from) (at-args .entries .now) (at-args .n) (at-loop .entries) (at-loop .k) _ _ (at-loop .inv .6) a)
 
 pub add-types-spec : {M : Type 1} → statement M
 add-types-spec =
@@ -156,8 +156,8 @@ add-types-spec =
     μ-loop
     pass-types-requires
     loop-holds
-    slice-aggregate-next-value
-    next-value-requires
+    slice-aggregate-next-named
+    next-named-requires
     enum-known-v
     enum-told
     same-length

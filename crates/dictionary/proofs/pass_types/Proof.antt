@@ -5,14 +5,14 @@ use native.Mathlib.Omega.{arith}
 use mathlib.Core.Path.{_≡_, ap, _∙_}
 use lib.ListN.{drop}
 use Rattle.format.specs.Bytes.{text}
-use Rattle.typedefs.specs.Walks.{valuesFrom}
-use Rattle.typedefs.proofs.Walking.{value-told}
+use Rattle.records.specs.Named.{valuesFrom}
+use Rattle.records.proofs.Named.{value-told}
 use Rattle.dictionary.proofs.Typing.{Behind, behind-start, behind-more, row-none}
 use Rattle.dictionary.proofs.pass_types.Statement.{statement}
 use Rattle.dictionary.proofs.pass_types.Tie as tie
 use Rattle.dictionary.proofs.pass_types.Reads as reads
 use Rattle.dictionary.proofs.pass_types.Lts as lts
-use Rattle.typedefs.proofs.next_value.Reads as next-value-reads
+use Rattle.records.proofs.next_named.Reads as next-named-reads
 
 abbrev Inv-loop : tie.InvT-loop
 Inv-loop d count i₀ row₀ t8 i row = (row ≤ count) × Behind d row i
@@ -26,11 +26,11 @@ loop-holds c =
     let at-pre = c .before .pre in
     (omega arith, behind-start (at-args .d .now) (at-pre .0))
 
-slice-aggregate-next-value : tie.Need-slice-aggregate-next-value Inv-loop μ-loop
-slice-aggregate-next-value c = search needs
+slice-aggregate-next-named : tie.Need-slice-aggregate-next-named Inv-loop μ-loop
+slice-aggregate-next-named c = search needs
 
-next-value-requires : tie.Need-next-value-requires Inv-loop μ-loop
-next-value-requires c κs =
+next-named-requires : tie.Need-next-named-requires Inv-loop μ-loop
+next-named-requires c κs =
     let at-loop = c .before .before .loop in
     ((at-loop .inv .1 .inside, at-loop .inv .1 .readable))
 
@@ -44,11 +44,11 @@ returns : tie.Need-returns Inv-loop μ-loop
 returns c =
     let at-args = c .before .before .before .before .before .before .before .args in
     let at-loop = c .before .before .before .before .before .loop in
-    let at-next-value = c .before .before .next-value in
+    let at-next-named = c .before .before .next-named in
     let at-enum-told = c .enum-told in
     let at-loop-test = c .before .before .before .before .loop-test in
     let at-pre = c .before .before .before .before .before .before .before .pre in
-    let e = value-told (at-args .d .now) (text "%type") (at-loop .i) (at-next-value .result) (at-next-value .ensures) (at-enum-told .given .1) in
+    let e = value-told (at-args .d .now) (text "%type") (at-loop .i) (at-next-named .result) (at-next-named .ensures) (at-enum-told .given .1) in
     let h = row-none (at-args .d .now) (at-loop .row) (at-loop .i) (at-loop .inv .1) e in
     absurd (omega (arith, at-loop-test .taken, at-pre .1))
 
@@ -62,9 +62,9 @@ loop-again : tie.Need-loop-again Inv-loop μ-loop
 loop-again c =
     let at-args = c .before .before .before .before .before .before .before .before .args in
     let at-loop = c .before .before .before .before .before .before .loop in
-    let at-next-value = c .before .before .before .next-value in
+    let at-next-named = c .before .before .before .next-named in
     let at-v = c .before .v in
-    let h = value-told (at-args .d .now) (text "%type") (at-loop .i) (at-next-value .result) (at-next-value .ensures) (at-v .given .1) in
+    let h = value-told (at-args .d .now) (text "%type") (at-loop .i) (at-next-named .result) (at-next-named .ensures) (at-v .given .1) in
     (omega arith, behind-more (at-args .d .now) (at-loop .row) (at-loop .i) _ _ (at-loop .inv .1) h)
 
 returns-2 : tie.Need-returns-2 Inv-loop μ-loop
@@ -82,8 +82,8 @@ pass-types-spec =
     Inv-loop
     μ-loop
     loop-holds
-    slice-aggregate-next-value
-    next-value-requires
+    slice-aggregate-next-named
+    next-named-requires
     enum-known-v
     enum-told
     returns

@@ -5,8 +5,8 @@ use native.Mathlib.Omega.{arith}
 use mathlib.Core.Path.{_≡_, refl}
 use lib.ListN.{length, length-set}
 use Rattle.format.specs.Bytes.{text}
-use Rattle.typedefs.specs.Walks.{valuesFrom}
-use Rattle.typedefs.proofs.Walking.{value-told}
+use Rattle.records.specs.Named.{valuesFrom}
+use Rattle.records.proofs.Named.{value-told}
 use Rattle.dictionary.proofs.Typing.{Behind, behind-start, behind-more, row-inside, row-none, rows-few}
 use Rattle.kinds.proofs.Filling.{Filled, filled-more, type-here, end-typed, row-kind}
 use Rattle.kinds.proofs.fill.Statement.{statement}
@@ -16,7 +16,7 @@ use Rattle.kinds.proofs.fill.Lts as lts
 use Rattle.kinds.proofs.end_of.Reads as end-of-reads
 use Rattle.kinds.proofs.text_of.Reads as text-of-reads
 use Rattle.kinds.proofs.type_at.Reads as type-at-reads
-use Rattle.typedefs.proofs.next_value.Reads as next-value-reads
+use Rattle.records.proofs.next_named.Reads as next-named-reads
 
 abbrev Inv-loop : tie.InvT-loop
 Inv-loop d names targets scratch₀ rows₀ texts₀ i₀ count₀ t15 scratch rows texts i count = Behind d count i × (count ≤ length (valuesFrom d (text "%type") 0)) × (length scratch ≡ length scratch₀) × (length rows ≡ 32) × (length texts ≡ 32) × Filled d rows texts count
@@ -30,11 +30,11 @@ loop-holds c =
     let at-pre = c .before .before .before .pre in
     (behind-start (at-args .d .now) (at-pre .0 .0 .reads), omega arith, refl, refl, refl, λ k l. absurd (omega arith))
 
-slice-aggregate-next-value : tie.Need-slice-aggregate-next-value Inv-loop μ-loop
-slice-aggregate-next-value c = search needs
+slice-aggregate-next-named : tie.Need-slice-aggregate-next-named Inv-loop μ-loop
+slice-aggregate-next-named c = search needs
 
-next-value-requires : tie.Need-next-value-requires Inv-loop μ-loop
-next-value-requires c κs =
+next-named-requires : tie.Need-next-named-requires Inv-loop μ-loop
+next-named-requires c κs =
     let at-loop = c .before .loop in
     ((at-loop .inv .0 .inside, at-loop .inv .0 .readable))
 
@@ -53,11 +53,11 @@ returns : tie.Need-returns Inv-loop μ-loop
 returns c =
     let at-args = c .before .before .before .before .before .before .before .before .args in
     let at-loop = c .before .before .before .before .loop in
-    let at-next-value = c .before .before .next-value in
+    let at-next-named = c .before .before .next-named in
     let at-enum-told = c .enum-told in
     let at-pre = c .before .before .before .before .before .before .before .before .pre in
     let d = at-args .d .now in
-    let e = value-told d (text "%type") (at-loop .i) (at-next-value .result) (at-next-value .ensures) (at-enum-told .given .1) in
+    let e = value-told d (text "%type") (at-loop .i) (at-next-named .result) (at-next-named .ensures) (at-enum-told .given .1) in
     let n = row-none d (at-loop .count) (at-loop .i) (at-loop .inv .0) e in
     let few = rows-few d (at-pre .0 .0) in
     record { few = omega (arith, at-loop .inv .1); count = omega (arith, at-loop .inv .1); rows-long = at-loop .inv .3; texts-long = at-loop .inv .4; row = at-loop .inv .5 }
@@ -66,24 +66,24 @@ end-of-requires : tie.Need-end-of-requires Inv-loop μ-loop
 end-of-requires c κs =
     let at-args = c .before .before .before .before .before .before .before .before .before .before .args in
     let at-loop = c .before .before .before .before .before .before .loop in
-    let at-next-value = c .before .before .before .before .next-value in
+    let at-next-named = c .before .before .before .before .next-named in
     let at-v = c .before .before .v in
     let at-pre = c .before .before .before .before .before .before .before .before .before .before .pre in
     let d = at-args .d .now in
-    let h = value-told d (text "%type") (at-loop .i) (at-next-value .result) (at-next-value .ensures) (at-v .given .1) in
+    let h = value-told d (text "%type") (at-loop .i) (at-next-named .result) (at-next-named .ensures) (at-v .given .1) in
     ((at-pre .0, (type-here d (at-pre .0 .0) (at-loop .count) (at-loop .i) _ _ (at-loop .inv .0) h, omega (arith, at-loop .inv .2, at-pre .1))))
 
 type-at-requires : tie.Need-type-at-requires Inv-loop μ-loop
 type-at-requires c κs =
     let at-args = c .before .before .before .before .before .before .before .before .before .before .before .before .before .before .args in
     let at-loop = c .before .before .before .before .before .before .before .before .before .before .loop in
-    let at-next-value = c .before .before .before .before .before .before .before .before .next-value in
+    let at-next-named = c .before .before .before .before .before .before .before .before .next-named in
     let at-v = c .before .before .before .before .before .before .v in
     let at-end-of = c .before .before .before .end-of in
     let at-pre = c .before .before .before .before .before .before .before .before .before .before .before .before .before .before .pre in
     let at-scratch = c .before .before .scratch in
     let d = at-args .d .now in
-    let h = value-told d (text "%type") (at-loop .i) (at-next-value .result) (at-next-value .ensures) (at-v .given .1) in
+    let h = value-told d (text "%type") (at-loop .i) (at-next-named .result) (at-next-named .ensures) (at-v .given .1) in
     let a = at-end-of .ensures in
     (((omega (arith, a .there), omega (arith, a .fits, at-scratch .given, at-loop .inv .2, at-pre .1)), end-typed d (at-pre .0 .0) (at-loop .count) (at-loop .i) _ _ (at-loop .inv .0) h (at-end-of .result) a))
 
@@ -91,22 +91,22 @@ mul-rows : tie.Need-mul-rows Inv-loop μ-loop
 mul-rows c =
     let at-args = c .before .before .before .before .before .before .before .before .before .before .before .before .before .before .before .before .before .args in
     let at-loop = c .before .before .before .before .before .before .before .before .before .before .before .before .before .loop in
-    let at-next-value = c .before .before .before .before .before .before .before .before .before .before .before .next-value in
+    let at-next-named = c .before .before .before .before .before .before .before .before .before .before .before .next-named in
     let at-v = c .before .before .before .before .before .before .before .before .before .v in
     let at-pre = c .before .before .before .before .before .before .before .before .before .before .before .before .before .before .before .before .before .pre in
     let d = at-args .d .now in
-    let h = value-told d (text "%type") (at-loop .i) (at-next-value .result) (at-next-value .ensures) (at-v .given .1) in
+    let h = value-told d (text "%type") (at-loop .i) (at-next-named .result) (at-next-named .ensures) (at-v .given .1) in
     omega (arith, row-inside d (at-loop .count) (at-loop .i) _ _ (at-loop .inv .0) h, rows-few d (at-pre .0 .0))
 
 array-set-from-rows : tie.Need-array-set-from-rows Inv-loop μ-loop
 array-set-from-rows c =
     let at-args = c .before .before .before .before .before .before .before .before .before .before .before .before .before .before .before .before .before .args in
     let at-loop = c .before .before .before .before .before .before .before .before .before .before .before .before .before .loop in
-    let at-next-value = c .before .before .before .before .before .before .before .before .before .before .before .next-value in
+    let at-next-named = c .before .before .before .before .before .before .before .before .before .before .before .next-named in
     let at-v = c .before .before .before .before .before .before .before .before .before .v in
     let at-pre = c .before .before .before .before .before .before .before .before .before .before .before .before .before .before .before .before .before .pre in
     let d = at-args .d .now in
-    let h = value-told d (text "%type") (at-loop .i) (at-next-value .result) (at-next-value .ensures) (at-v .given .1) in
+    let h = value-told d (text "%type") (at-loop .i) (at-next-named .result) (at-next-named .ensures) (at-v .given .1) in
     omega (arith, row-inside d (at-loop .count) (at-loop .i) _ _ (at-loop .inv .0) h, rows-few d (at-pre .0 .0))
 
 text-of-requires : tie.Need-text-of-requires Inv-loop μ-loop
@@ -116,49 +116,49 @@ mul-texts : tie.Need-mul-texts Inv-loop μ-loop
 mul-texts c =
     let at-args = c .before .before .before .before .before .before .before .before .before .before .before .before .before .before .before .before .before .before .args in
     let at-loop = c .before .before .before .before .before .before .before .before .before .before .before .before .before .before .loop in
-    let at-next-value = c .before .before .before .before .before .before .before .before .before .before .before .before .next-value in
+    let at-next-named = c .before .before .before .before .before .before .before .before .before .before .before .before .next-named in
     let at-v = c .before .before .before .before .before .before .before .before .before .before .v in
     let at-pre = c .before .before .before .before .before .before .before .before .before .before .before .before .before .before .before .before .before .before .pre in
     let d = at-args .d .now in
-    let h = value-told d (text "%type") (at-loop .i) (at-next-value .result) (at-next-value .ensures) (at-v .given .1) in
+    let h = value-told d (text "%type") (at-loop .i) (at-next-named .result) (at-next-named .ensures) (at-v .given .1) in
     omega (arith, row-inside d (at-loop .count) (at-loop .i) _ _ (at-loop .inv .0) h, rows-few d (at-pre .0 .0))
 
 array-write-texts : tie.Need-array-write-texts Inv-loop μ-loop
 array-write-texts c =
     let at-args = c .before .before .before .before .before .before .before .before .before .before .before .before .before .before .before .before .before .before .args in
     let at-loop = c .before .before .before .before .before .before .before .before .before .before .before .before .before .before .loop in
-    let at-next-value = c .before .before .before .before .before .before .before .before .before .before .before .before .next-value in
+    let at-next-named = c .before .before .before .before .before .before .before .before .before .before .before .before .next-named in
     let at-v = c .before .before .before .before .before .before .before .before .before .before .v in
     let at-pre = c .before .before .before .before .before .before .before .before .before .before .before .before .before .before .before .before .before .before .pre in
     let d = at-args .d .now in
-    let h = value-told d (text "%type") (at-loop .i) (at-next-value .result) (at-next-value .ensures) (at-v .given .1) in
+    let h = value-told d (text "%type") (at-loop .i) (at-next-named .result) (at-next-named .ensures) (at-v .given .1) in
     omega (arith, row-inside d (at-loop .count) (at-loop .i) _ _ (at-loop .inv .0) h, rows-few d (at-pre .0 .0))
 
 add-count : tie.Need-add-count Inv-loop μ-loop
 add-count c =
     let at-args = c .before .before .before .before .before .before .before .before .before .before .before .before .before .before .before .before .before .before .args in
     let at-loop = c .before .before .before .before .before .before .before .before .before .before .before .before .before .before .loop in
-    let at-next-value = c .before .before .before .before .before .before .before .before .before .before .before .before .next-value in
+    let at-next-named = c .before .before .before .before .before .before .before .before .before .before .before .before .next-named in
     let at-v = c .before .before .before .before .before .before .before .before .before .before .v in
     let at-pre = c .before .before .before .before .before .before .before .before .before .before .before .before .before .before .before .before .before .before .pre in
     let d = at-args .d .now in
-    let h = value-told d (text "%type") (at-loop .i) (at-next-value .result) (at-next-value .ensures) (at-v .given .1) in
+    let h = value-told d (text "%type") (at-loop .i) (at-next-named .result) (at-next-named .ensures) (at-v .given .1) in
     omega (arith, row-inside d (at-loop .count) (at-loop .i) _ _ (at-loop .inv .0) h, rows-few d (at-pre .0 .0))
 
 loop-less : tie.Need-loop-less Inv-loop μ-loop
 loop-less c =
     let at-args = c .before .before .before .before .before .before .before .before .before .before .before .before .before .before .before .before .before .before .args in
     let at-loop = c .before .before .before .before .before .before .before .before .before .before .before .before .before .before .loop in
-    let at-next-value = c .before .before .before .before .before .before .before .before .before .before .before .before .next-value in
+    let at-next-named = c .before .before .before .before .before .before .before .before .before .before .before .before .next-named in
     let at-v = c .before .before .before .before .before .before .before .before .before .before .v in
-    let h = value-told (at-args .d .now) (text "%type") (at-loop .i) (at-next-value .result) (at-next-value .ensures) (at-v .given .1) in
+    let h = value-told (at-args .d .now) (text "%type") (at-loop .i) (at-next-named .result) (at-next-named .ensures) (at-v .given .1) in
     omega (arith, h .moves, h .inside)
 
 loop-again : tie.Need-loop-again Inv-loop μ-loop
 loop-again c =
     let at-args = c .before .before .before .before .before .before .before .before .before .before .before .before .before .before .before .before .before .before .args in
     let at-loop = c .before .before .before .before .before .before .before .before .before .before .before .before .before .before .loop in
-    let at-next-value = c .before .before .before .before .before .before .before .before .before .before .before .before .next-value in
+    let at-next-named = c .before .before .before .before .before .before .before .before .before .before .before .before .next-named in
     let at-v = c .before .before .before .before .before .before .before .before .before .before .v in
     let at-pre = c .before .before .before .before .before .before .before .before .before .before .before .before .before .before .before .before .before .before .pre in
     let at-end-of = c .before .before .before .before .before .before .before .end-of in
@@ -167,7 +167,7 @@ loop-again c =
     let at-scratch = c .before .before .before .before .before .before .scratch in
     let at-scratch2 = c .before .before .scratch2 in
     let d = at-args .d .now in
-    let h = value-told d (text "%type") (at-loop .i) (at-next-value .result) (at-next-value .ensures) (at-v .given .1) in
+    let h = value-told d (text "%type") (at-loop .i) (at-next-named .result) (at-next-named .ensures) (at-v .given .1) in
     let b = at-loop .inv .0 in
     let l = row-inside d (at-loop .count) (at-loop .i) _ _ b h in
     let few = rows-few d (at-pre .0 .0) in
@@ -181,8 +181,8 @@ fill-spec =
     Inv-loop
     μ-loop
     loop-holds
-    slice-aggregate-next-value
-    next-value-requires
+    slice-aggregate-next-named
+    next-named-requires
     enum-known-v
     enum-told
     same-length

@@ -9,17 +9,17 @@ use lib.Dec.{eqb}
 use lib.ListN.{length}
 use borrow.Author.Tests.{ne-eqb}
 use Rattle.format.specs.Bytes.{Bytes}
-use Rattle.typedefs.specs.Walks.{valuesFrom}
-use Rattle.typedefs.proofs.Walking.{value-told}
+use Rattle.records.specs.Named.{valuesFrom}
+use Rattle.records.proofs.Named.{value-told}
 use borrow.Author.Needs.{needs}
 use Rattle.rules.proofs.has_field.Statement.{statement}
 use Rattle.rules.proofs.has_field.Tie as tie
 use Rattle.rules.proofs.has_field.Reads as reads
 use Rattle.rules.proofs.has_field.Lts as lts
-use Rattle.typedefs.proofs.next_value.Reads as next-value-reads
+use Rattle.records.proofs.next_named.Reads as next-named-reads
 
-next-value-requires : tie.Need-next-value-requires
-next-value-requires c κs =
+next-named-requires : tie.Need-next-named-requires
+next-named-requires c κs =
     let at-pre = c .before .before .pre in
     ((omega arith, at-pre))
 
@@ -32,18 +32,18 @@ enum-told-2 c = search needs
 returns : tie.Need-returns
 returns c =
     let at-args = c .before .before .before .before .before .args in
-    let at-next-value = c .before .before .next-value in
+    let at-next-named = c .before .before .next-named in
     let at-enum-told = c .enum-told in
-    let h = value-told (at-args .d .now) (at-args .name .now) 0 (at-next-value .result) (at-next-value .ensures) (at-enum-told .given .1) in
+    let h = value-told (at-args .d .now) (at-args .name .now) 0 (at-next-named .result) (at-next-named .ensures) (at-enum-told .given .1) in
     sym (ap not (ne-eqb (length (valuesFrom (at-args .d .now) (at-args .name .now) 0)) 0 (λ z. omega (arith, ap length (h .values)))))
 
 returns-2 : tie.Need-returns-2
 returns-2 c =
     let at-args = c .before .before .before .before .before .args in
-    let at-next-value = c .before .before .next-value in
+    let at-next-named = c .before .before .next-named in
     let at-enum-told2 = c .enum-told2 in
-    let h = value-told (at-args .d .now) (at-args .name .now) 0 (at-next-value .result) (at-next-value .ensures) (at-enum-told2 .given .1) in
+    let h = value-told (at-args .d .now) (at-args .name .now) 0 (at-next-named .result) (at-next-named .ensures) (at-enum-told2 .given .1) in
     sym (ap (λ (vs : List Bytes). not (eqb (length vs) 0)) h)
 
 pub has-field-spec : {M : Type 1} → statement M
-has-field-spec = tie.close (tie.spec next-value-requires enum-told enum-told-2 returns returns-2)
+has-field-spec = tie.close (tie.spec next-named-requires enum-told enum-told-2 returns returns-2)

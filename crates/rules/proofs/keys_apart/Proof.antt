@@ -11,7 +11,7 @@ use Rattle.lines.specs.Value.{valueFrom}
 use Rattle.words.specs.Spans.{span}
 use Rattle.words.proofs.Decoded.{decoded-all, decoded-length, decoded-inside}
 use Rattle.words.proofs.Finding.{found, not-found}
-use Rattle.typedefs.proofs.Walking.{value-told}
+use Rattle.records.proofs.Named.{value-told}
 use Rattle.kinds.proofs.Granted.{fits-at}
 use Rattle.rules.proofs.Walking.{key-few}
 use Rattle.rules.proofs.Granted.{described-by}
@@ -23,14 +23,14 @@ use Rattle.rules.proofs.keys_apart.Reads as reads
 use Rattle.rules.proofs.keys_apart.Lts as lts
 use Rattle.lines.proofs.copy_value.Reads as copy-value-reads
 use Rattle.keys.proofs.keys_distinct.Reads as keys-distinct-reads
-use Rattle.typedefs.proofs.next_value.Reads as next-value-reads
+use Rattle.records.proofs.next_named.Reads as next-named-reads
 use Rattle.words.proofs.next_word.Reads as next-word-reads
 
-slice-aggregate-next-value : tie.Need-slice-aggregate-next-value
-slice-aggregate-next-value c = search needs
+slice-aggregate-next-named : tie.Need-slice-aggregate-next-named
+slice-aggregate-next-named c = search needs
 
-next-value-requires : tie.Need-next-value-requires
-next-value-requires c κs =
+next-named-requires : tie.Need-next-named-requires
+next-named-requires c κs =
     let at-pre = c .before .before .before .before .before .pre in
     ((omega arith, at-pre .0 .0 .reads))
 
@@ -43,60 +43,60 @@ enum-told c = search needs
 returns : tie.Need-returns
 returns c =
     let at-args = c .before .before .before .before .before .before .before .before .args in
-    let at-next-value = c .before .before .next-value in
+    let at-next-named = c .before .before .next-named in
     let at-enum-told = c .enum-told in
-    no-key (at-args .d .now) (at-args .part .now) (value-told (at-args .d .now) (text "%key") 0 (at-next-value .result) (at-next-value .ensures) (at-enum-told .given .1))
+    no-key (at-args .d .now) (at-args .part .now) (value-told (at-args .d .now) (text "%key") 0 (at-next-named .result) (at-next-named .ensures) (at-enum-told .given .1))
 
 sub-copy-value : tie.Need-sub-copy-value
 sub-copy-value c =
     let at-args = c .before .before .before .before .before .before .before .before .before .args in
-    let at-next-value = c .before .before .before .next-value in
+    let at-next-named = c .before .before .before .next-named in
     let at-v = c .before .v in
-    let h = value-told (at-args .d .now) (text "%key") 0 (at-next-value .result) (at-next-value .ensures) (at-v .given .1) in h .within
+    let h = value-told (at-args .d .now) (text "%key") 0 (at-next-named .result) (at-next-named .ensures) (at-v .given .1) in h .within
 
 part-copy-value-start : tie.Need-part-copy-value-start
 part-copy-value-start c =
     let at-args = c .before .before .before .before .before .before .before .before .before .args in
-    let at-next-value = c .before .before .before .next-value in
+    let at-next-named = c .before .before .before .next-named in
     let at-v = c .before .v in
-    let h = value-told (at-args .d .now) (text "%key") 0 (at-next-value .result) (at-next-value .ensures) (at-v .given .1) in h .within
+    let h = value-told (at-args .d .now) (text "%key") 0 (at-next-named .result) (at-next-named .ensures) (at-v .given .1) in h .within
 
 part-copy-value-end : tie.Need-part-copy-value-end
 part-copy-value-end c =
     let at-args = c .before .before .before .before .before .before .before .before .before .args in
-    let at-next-value = c .before .before .before .next-value in
+    let at-next-named = c .before .before .before .next-named in
     let at-v = c .before .v in
-    let h = value-told (at-args .d .now) (text "%key") 0 (at-next-value .result) (at-next-value .ensures) (at-v .given .1) in h .inside
+    let h = value-told (at-args .d .now) (text "%key") 0 (at-next-named .result) (at-next-named .ensures) (at-v .given .1) in h .inside
 
 copy-value-requires : tie.Need-copy-value-requires
 copy-value-requires c κs =
     let at-args = c .before .before .before .before .before .before .before .before .before .before .before .args in
-    let at-next-value = c .before .before .before .before .before .next-value in
+    let at-next-named = c .before .before .before .before .before .next-named in
     let at-v = c .before .before .before .v in
     let at-pre = c .before .before .before .before .before .before .before .before .before .before .before .pre in
-    let h = value-told (at-args .d .now) (text "%key") 0 (at-next-value .result) (at-next-value .ensures) (at-v .given .1) in
+    let h = value-told (at-args .d .now) (text "%key") 0 (at-next-named .result) (at-next-named .ensures) (at-v .given .1) in
     let f = fits-at (at-args .d .now) (described-by (at-args .d .now) (at-pre .0 .0) (at-pre .0 .1)) (text "%key") 0 in
     omega (arith, f, ap (λ (vs : List Bytes). length (getD vs 0 [])) (h .values), at-pre .1 .1 .0)
 
 slice-reshare-prefix-next-word : tie.Need-slice-reshare-prefix-next-word
 slice-reshare-prefix-next-word c =
     let at-args = c .before .before .before .before .before .before .before .before .before .before .before .before .before .before .args in
-    let at-next-value = c .before .before .before .before .before .before .before .before .next-value in
+    let at-next-named = c .before .before .before .before .before .before .before .before .next-named in
     let at-v = c .before .before .before .before .before .before .v in
     let at-pre = c .before .before .before .before .before .before .before .before .before .before .before .before .before .before .pre in
     let at-copy-value = c .before .before .copy-value in
-    let h = value-told (at-args .d .now) (text "%key") 0 (at-next-value .result) (at-next-value .ensures) (at-v .given .1) in
+    let h = value-told (at-args .d .now) (text "%key") 0 (at-next-named .result) (at-next-named .ensures) (at-v .given .1) in
     let f = fits-at (at-args .d .now) (described-by (at-args .d .now) (at-pre .0 .0) (at-pre .0 .1)) (text "%key") 0 in
     let g = at-v .given .0 in
-    let fit : length (valueFrom (span (g .0) (g .1 .0) (at-args .d .now))) ≤ length (at-args .scratch .now) = omega (arith, f, ap (λ (vs : List Bytes). length (getD vs 0 [])) (h .values), at-pre .1 .1 .0) in
-    decoded-inside (valueFrom (span (g .0) (g .1 .0) (at-args .d .now))) (at-args .scratch .now) _ (at-copy-value .result) (at-copy-value .ensures .0) (at-copy-value .ensures .1) fit
+    let fit : length (valueFrom (span (g .1 .0) (g .1 .1 .0) (at-args .d .now))) ≤ length (at-args .scratch .now) = omega (arith, f, ap (λ (vs : List Bytes). length (getD vs 0 [])) (h .values), at-pre .1 .1 .0) in
+    decoded-inside (valueFrom (span (g .1 .0) (g .1 .1 .0) (at-args .d .now))) (at-args .scratch .now) _ (at-copy-value .result) (at-copy-value .ensures .0) (at-copy-value .ensures .1) fit
 
 slice-aggregate-next-word : tie.Need-slice-aggregate-next-word
 slice-aggregate-next-word c =
     let at-v = c .before .before .before .before .before .before .before .v in
     let at-args = c .before .before .before .before .before .before .before .before .before .before .before .before .before .before .before .args in
     let at-copy-value = c .before .before .before .copy-value in
-    let g = at-v .given .0 in decoded-length (valueFrom (span (g .0) (g .1 .0) (at-args .d .now))) (at-args .scratch .now) _ (at-copy-value .result) (at-copy-value .ensures .0) (at-copy-value .ensures .1)
+    let g = at-v .given .0 in decoded-length (valueFrom (span (g .1 .0) (g .1 .1 .0) (at-args .d .now))) (at-args .scratch .now) _ (at-copy-value .result) (at-copy-value .ensures .0) (at-copy-value .ensures .1)
 
 next-word-requires : tie.Need-next-word-requires
 next-word-requires c κs = omega arith
@@ -113,16 +113,16 @@ same-length c = search needs
 returns-2 : tie.Need-returns-2
 returns-2 c =
     let at-args = c .before .before .before .before .before .before .before .before .before .before .before .before .before .before .before .before .before .before .args in
-    let at-next-value = c .before .before .before .before .before .before .before .before .before .before .before .before .next-value in
+    let at-next-named = c .before .before .before .before .before .before .before .before .before .before .before .before .next-named in
     let at-v = c .before .before .before .before .before .before .before .before .before .before .v in
     let at-copy-value = c .before .before .before .before .before .before .copy-value in
     let at-pre = c .before .before .before .before .before .before .before .before .before .before .before .before .before .before .before .before .before .before .pre in
     let at-next-word = c .before .before .next-word in
     let at-enum-told2 = c .enum-told2 in
-    let h = value-told (at-args .d .now) (text "%key") 0 (at-next-value .result) (at-next-value .ensures) (at-v .given .1) in
+    let h = value-told (at-args .d .now) (text "%key") 0 (at-next-named .result) (at-next-named .ensures) (at-v .given .1) in
     let g = at-v .given .0 in
-    let q = decoded-all (valueFrom (span (g .0) (g .1 .0) (at-args .d .now))) (at-args .scratch .now) _ (at-copy-value .result) (at-copy-value .ensures .0) (at-copy-value .ensures .1) in
-    no-word (at-args .d .now) (at-args .part .now) (g .0) (g .1 .0) h _ q (key-once-named (at-args .d .now) (at-pre .0 .0)) (not-found _ 0 (at-next-word .ensures) (at-enum-told2 .given .1))
+    let q = decoded-all (valueFrom (span (g .1 .0) (g .1 .1 .0) (at-args .d .now))) (at-args .scratch .now) _ (at-copy-value .result) (at-copy-value .ensures .0) (at-copy-value .ensures .1) in
+    no-word (at-args .d .now) (at-args .part .now) (g .1 .0) (g .1 .1 .0) h _ q (key-once-named (at-args .d .now) (at-pre .0 .0)) (not-found _ 0 (at-next-word .ensures) (at-enum-told2 .given .1))
 
 sub-keys-distinct : tie.Need-sub-keys-distinct
 sub-keys-distinct c =
@@ -139,38 +139,38 @@ part-keys-distinct-start c =
 part-keys-distinct-end : tie.Need-part-keys-distinct-end
 part-keys-distinct-end c =
     let at-args = c .before .before .before .before .before .before .before .before .before .before .before .before .before .before .before .before .before .before .before .before .args in
-    let at-next-value = c .before .before .before .before .before .before .before .before .before .before .before .before .before .before .next-value in
+    let at-next-named = c .before .before .before .before .before .before .before .before .before .before .before .before .before .before .next-named in
     let at-v = c .before .before .before .before .before .before .before .before .before .before .before .before .v in
     let at-pre = c .before .before .before .before .before .before .before .before .before .before .before .before .before .before .before .before .before .before .before .before .pre in
     let at-copy-value = c .before .before .before .before .before .before .before .before .copy-value in
     let at-next-word = c .before .before .before .before .next-word in
     let at-w = c .before .before .w in
-    let h = value-told (at-args .d .now) (text "%key") 0 (at-next-value .result) (at-next-value .ensures) (at-v .given .1) in
+    let h = value-told (at-args .d .now) (text "%key") 0 (at-next-named .result) (at-next-named .ensures) (at-v .given .1) in
     let f = fits-at (at-args .d .now) (described-by (at-args .d .now) (at-pre .0 .0) (at-pre .0 .1)) (text "%key") 0 in
     let g = at-v .given .0 in
-    let fit : length (valueFrom (span (g .0) (g .1 .0) (at-args .d .now))) ≤ length (at-args .scratch .now) = omega (arith, f, ap (λ (vs : List Bytes). length (getD vs 0 [])) (h .values), at-pre .1 .1 .0) in
-    let inside = decoded-inside (valueFrom (span (g .0) (g .1 .0) (at-args .d .now))) (at-args .scratch .now) _ (at-copy-value .result) (at-copy-value .ensures .0) (at-copy-value .ensures .1) fit in
-    let long = decoded-length (valueFrom (span (g .0) (g .1 .0) (at-args .d .now))) (at-args .scratch .now) _ (at-copy-value .result) (at-copy-value .ensures .0) (at-copy-value .ensures .1) in
+    let fit : length (valueFrom (span (g .1 .0) (g .1 .1 .0) (at-args .d .now))) ≤ length (at-args .scratch .now) = omega (arith, f, ap (λ (vs : List Bytes). length (getD vs 0 [])) (h .values), at-pre .1 .1 .0) in
+    let inside = decoded-inside (valueFrom (span (g .1 .0) (g .1 .1 .0) (at-args .d .now))) (at-args .scratch .now) _ (at-copy-value .result) (at-copy-value .ensures .0) (at-copy-value .ensures .1) fit in
+    let long = decoded-length (valueFrom (span (g .1 .0) (g .1 .1 .0) (at-args .d .now))) (at-args .scratch .now) _ (at-copy-value .result) (at-copy-value .ensures .0) (at-copy-value .ensures .1) in
     let q = found _ 0 (at-next-word .ensures) (at-w .given .1) (omega arith) in
     omega (arith, q .2, inside, long)
 
 keys-distinct-requires : tie.Need-keys-distinct-requires
 keys-distinct-requires c κs =
     let at-args = c .before .before .before .before .before .before .before .before .before .before .before .before .before .before .before .before .before .before .before .before .before .before .args in
-    let at-next-value = c .before .before .before .before .before .before .before .before .before .before .before .before .before .before .before .before .next-value in
+    let at-next-named = c .before .before .before .before .before .before .before .before .before .before .before .before .before .before .before .before .next-named in
     let at-v = c .before .before .before .before .before .before .before .before .before .before .before .before .before .before .v in
     let at-w = c .before .before .before .before .w in
     let at-copy-value = c .before .before .before .before .before .before .before .before .before .before .copy-value in
     let at-next-word = c .before .before .before .before .before .before .next-word in
     let at-pre = c .before .before .before .before .before .before .before .before .before .before .before .before .before .before .before .before .before .before .before .before .before .before .pre in
-    let h = value-told (at-args .d .now) (text "%key") 0 (at-next-value .result) (at-next-value .ensures) (at-v .given .1) in
+    let h = value-told (at-args .d .now) (text "%key") 0 (at-next-named .result) (at-next-named .ensures) (at-v .given .1) in
     let g = at-v .given .0 in
     let x = at-w .given .0 in
-    let u = decoded-all (valueFrom (span (g .0) (g .1 .0) (at-args .d .now))) (at-args .scratch .now) _ (at-copy-value .result) (at-copy-value .ensures .0) (at-copy-value .ensures .1) in
-    let long = decoded-length (valueFrom (span (g .0) (g .1 .0) (at-args .d .now))) (at-args .scratch .now) _ (at-copy-value .result) (at-copy-value .ensures .0) (at-copy-value .ensures .1) in
+    let u = decoded-all (valueFrom (span (g .1 .0) (g .1 .1 .0) (at-args .d .now))) (at-args .scratch .now) _ (at-copy-value .result) (at-copy-value .ensures .0) (at-copy-value .ensures .1) in
+    let long = decoded-length (valueFrom (span (g .1 .0) (g .1 .1 .0) (at-args .d .now))) (at-args .scratch .now) _ (at-copy-value .result) (at-copy-value .ensures .0) (at-copy-value .ensures .1) in
     let q = found _ 0 (at-next-word .ensures) (at-w .given .1) (omega arith) in
     let here = word-span _ (at-copy-value .result) (x .0) (x .1 .0) (omega (arith, q .2, long)) (q .3) in
-    let room = key-room (at-args .d .now) (at-args .part .now) (g .0) (g .1 .0) h _ u _ _ here (key-few (at-args .d .now) (described-by (at-args .d .now) (at-pre .0 .0) (at-pre .0 .1))) (at-pre .1 .0 .0) (at-pre .1 .0 .1) (at-pre .1 .0 .2) in
+    let room = key-room (at-args .d .now) (at-args .part .now) (g .1 .0) (g .1 .1 .0) h _ u _ _ here (key-few (at-args .d .now) (described-by (at-args .d .now) (at-pre .0 .0) (at-pre .0 .1))) (at-pre .1 .0 .0) (at-pre .1 .0 .1) (at-pre .1 .0 .2) in
     (((at-pre .1 .0 .0, at-pre .1 .0 .1), omega (arith, room, at-pre .1 .1 .1)))
 
 same-length-2 : tie.Need-same-length-2
@@ -182,28 +182,28 @@ same-length-3 c = search needs
 returns-3 : tie.Need-returns-3
 returns-3 c =
     let at-args = c .before .before .before .before .before .before .before .before .before .before .before .before .before .before .before .before .before .before .before .before .before .before .before .before .before .args in
-    let at-next-value = c .before .before .before .before .before .before .before .before .before .before .before .before .before .before .before .before .before .before .before .next-value in
+    let at-next-named = c .before .before .before .before .before .before .before .before .before .before .before .before .before .before .before .before .before .before .before .next-named in
     let at-v = c .before .before .before .before .before .before .before .before .before .before .before .before .before .before .before .before .before .v in
     let at-w = c .before .before .before .before .before .before .before .w in
     let at-copy-value = c .before .before .before .before .before .before .before .before .before .before .before .before .before .copy-value in
     let at-next-word = c .before .before .before .before .before .before .before .before .before .next-word in
     let at-pre = c .before .before .before .before .before .before .before .before .before .before .before .before .before .before .before .before .before .before .before .before .before .before .before .before .before .pre in
     let at-keys-distinct = c .before .before .keys-distinct in
-    let h = value-told (at-args .d .now) (text "%key") 0 (at-next-value .result) (at-next-value .ensures) (at-v .given .1) in
+    let h = value-told (at-args .d .now) (text "%key") 0 (at-next-named .result) (at-next-named .ensures) (at-v .given .1) in
     let g = at-v .given .0 in
     let x = at-w .given .0 in
-    let u = decoded-all (valueFrom (span (g .0) (g .1 .0) (at-args .d .now))) (at-args .scratch .now) _ (at-copy-value .result) (at-copy-value .ensures .0) (at-copy-value .ensures .1) in
-    let long = decoded-length (valueFrom (span (g .0) (g .1 .0) (at-args .d .now))) (at-args .scratch .now) _ (at-copy-value .result) (at-copy-value .ensures .0) (at-copy-value .ensures .1) in
+    let u = decoded-all (valueFrom (span (g .1 .0) (g .1 .1 .0) (at-args .d .now))) (at-args .scratch .now) _ (at-copy-value .result) (at-copy-value .ensures .0) (at-copy-value .ensures .1) in
+    let long = decoded-length (valueFrom (span (g .1 .0) (g .1 .1 .0) (at-args .d .now))) (at-args .scratch .now) _ (at-copy-value .result) (at-copy-value .ensures .0) (at-copy-value .ensures .1) in
     let q = found _ 0 (at-next-word .ensures) (at-w .given .1) (omega arith) in
     let here = word-span _ (at-copy-value .result) (x .0) (x .1 .0) (omega (arith, q .2, long)) (q .3) in
-    key-values (at-args .d .now) (at-args .part .now) (g .0) (g .1 .0) h _ u _ _ here (key-few (at-args .d .now) (described-by (at-args .d .now) (at-pre .0 .0) (at-pre .0 .1))) (at-keys-distinct .result) (at-keys-distinct .ensures)
+    key-values (at-args .d .now) (at-args .part .now) (g .1 .0) (g .1 .1 .0) h _ u _ _ here (key-few (at-args .d .now) (described-by (at-args .d .now) (at-pre .0 .0) (at-pre .0 .1))) (at-keys-distinct .result) (at-keys-distinct .ensures)
 
 pub keys-apart-spec : {M : Type 1} → statement M
 keys-apart-spec =
     tie.close
     (tie.spec
-    slice-aggregate-next-value
-    next-value-requires
+    slice-aggregate-next-named
+    next-named-requires
     enum-known-v
     enum-told
     returns

@@ -3,13 +3,13 @@ use borrow.Author.Needs.{needs}
 use Prim.Native.Nat.{_-_}
 use native.Mathlib.Omega.{arith}
 use lib.ListN.{length}
-use Rattle.typedefs.proofs.Walking.{value-told}
+use Rattle.records.proofs.Named.{value-told}
 use Rattle.dictionary.proofs.Places.{ListLeft, list-start, list-end, list-names, list-few, list-room, list-more}
 use Rattle.dictionary.proofs.wordsets.add_list.Statement.{statement}
 use Rattle.dictionary.proofs.wordsets.add_list.Tie as tie
 use Rattle.dictionary.proofs.wordsets.add_list.Reads as reads
 use Rattle.dictionary.proofs.wordsets.add_list.Lts as lts
-use Rattle.typedefs.proofs.next_value.Reads as next-value-reads
+use Rattle.records.proofs.next_named.Reads as next-named-reads
 use Rattle.dictionary.proofs.wordsets.add_value.Reads as add-value-reads
 
 abbrev Inv-loop : tie.InvT-loop
@@ -24,8 +24,8 @@ loop-holds c =
     let at-pre = c .before .before .before .pre in
     list-start (at-args .d .now) (at-args .name .now) (at-args .entries .now) (at-pre .0 .0) (at-pre .1 .0 .0) (at-pre .1 .0 .1) (at-pre .1 .1)
 
-next-value-requires : tie.Need-next-value-requires Inv-loop μ-loop
-next-value-requires c κs =
+next-named-requires : tie.Need-next-named-requires Inv-loop μ-loop
+next-named-requires c κs =
     let at-loop = c .loop in
     ((at-loop .inv .inside, at-loop .inv .readable))
 
@@ -44,41 +44,41 @@ returns : tie.Need-returns Inv-loop μ-loop
 returns c =
     let at-args = c .before .before .before .before .before .before .before .args in
     let at-loop = c .before .before .before .loop in
-    let at-next-value = c .before .before .next-value in
+    let at-next-named = c .before .before .next-named in
     let at-enum-told = c .enum-told in
-    let e = value-told (at-args .d .now) (at-args .name .now) (at-loop .i) (at-next-value .result) (at-next-value .ensures) (at-enum-told .given .1) in
+    let e = value-told (at-args .d .now) (at-args .name .now) (at-loop .i) (at-next-named .result) (at-next-named .ensures) (at-enum-told .given .1) in
     list-end (at-args .d .now) (at-args .name .now) (at-args .entries .now) (at-loop .entries) (at-loop .n) (at-loop .i) (at-loop .inv) e
 
 add-value-requires : tie.Need-add-value-requires Inv-loop μ-loop
 add-value-requires c κs =
     let at-args = c .before .before .before .before .before .before .before .before .before .args in
     let at-loop = c .before .before .before .before .before .loop in
-    let at-next-value = c .before .before .before .before .next-value in
+    let at-next-named = c .before .before .before .before .next-named in
     let at-v = c .before .before .v in
     let at-pre = c .before .before .before .before .before .before .before .before .before .pre in
-    let h = value-told (at-args .d .now) (at-args .name .now) (at-loop .i) (at-next-value .result) (at-next-value .ensures) (at-v .given .1) in
+    let h = value-told (at-args .d .now) (at-args .name .now) (at-loop .i) (at-next-named .result) (at-next-named .ensures) (at-v .given .1) in
     let g = at-v .given .0 in
-    ((omega (arith, h .value-there), at-pre .0 .1), ((list-few (at-args .d .now) (at-args .name .now) (at-args .entries .now) (at-loop .entries) (at-loop .n) (at-loop .i) (at-loop .inv) (g .0) (g .1 .0) h, list-room (at-args .d .now) (at-args .name .now) (at-args .entries .now) (at-loop .entries) (at-loop .n) (at-loop .i) (at-loop .inv) (g .0) (g .1 .0) h), list-names (at-args .d .now) (at-args .name .now) (at-args .entries .now) (at-loop .entries) (at-loop .n) (at-loop .i) (at-loop .inv) (g .0) (g .1 .0) h))
+    ((omega (arith, h .value-there), at-pre .0 .1), ((list-few (at-args .d .now) (at-args .name .now) (at-args .entries .now) (at-loop .entries) (at-loop .n) (at-loop .i) (at-loop .inv) (g .1 .0) (g .1 .1 .0) h, list-room (at-args .d .now) (at-args .name .now) (at-args .entries .now) (at-loop .entries) (at-loop .n) (at-loop .i) (at-loop .inv) (g .1 .0) (g .1 .1 .0) h), list-names (at-args .d .now) (at-args .name .now) (at-args .entries .now) (at-loop .entries) (at-loop .n) (at-loop .i) (at-loop .inv) (g .1 .0) (g .1 .1 .0) h))
 
 loop-less : tie.Need-loop-less Inv-loop μ-loop
 loop-less c =
     let at-args = c .before .before .before .before .before .before .before .before .before .before .before .before .args in
     let at-loop = c .before .before .before .before .before .before .before .before .loop in
-    let at-next-value = c .before .before .before .before .before .before .before .next-value in
+    let at-next-named = c .before .before .before .before .before .before .before .next-named in
     let at-v = c .before .before .before .before .before .v in
-    let h = value-told (at-args .d .now) (at-args .name .now) (at-loop .i) (at-next-value .result) (at-next-value .ensures) (at-v .given .1) in
+    let h = value-told (at-args .d .now) (at-args .name .now) (at-loop .i) (at-next-named .result) (at-next-named .ensures) (at-v .given .1) in
     omega (arith, h .moves, h .inside)
 
 loop-again : tie.Need-loop-again Inv-loop μ-loop
 loop-again c =
     let at-args = c .before .before .before .before .before .before .before .before .before .before .before .before .args in
     let at-loop = c .before .before .before .before .before .before .before .before .loop in
-    let at-next-value = c .before .before .before .before .before .before .before .next-value in
+    let at-next-named = c .before .before .before .before .before .before .before .next-named in
     let at-v = c .before .before .before .before .before .v in
     let at-add-value = c .before .before .add-value in
-    let h = value-told (at-args .d .now) (at-args .name .now) (at-loop .i) (at-next-value .result) (at-next-value .ensures) (at-v .given .1) in
+    let h = value-told (at-args .d .now) (at-args .name .now) (at-loop .i) (at-next-named .result) (at-next-named .ensures) (at-v .given .1) in
     let g = at-v .given .0 in
-    list-more (at-args .d .now) (at-args .name .now) (at-args .entries .now) (at-loop .entries) (at-loop .n) (at-loop .i) (at-loop .inv) (g .0) (g .1 .0) h _ _ (at-add-value .ensures)
+    list-more (at-args .d .now) (at-args .name .now) (at-args .entries .now) (at-loop .entries) (at-loop .n) (at-loop .i) (at-loop .inv) (g .1 .0) (g .1 .1 .0) h _ _ (at-add-value .ensures)
 
 pub add-list-spec : {M : Type 1} → statement M
 add-list-spec =
@@ -87,7 +87,7 @@ add-list-spec =
     Inv-loop
     μ-loop
     loop-holds
-    next-value-requires
+    next-named-requires
     enum-known-v
     enum-told
     same-length

@@ -17,14 +17,14 @@ use Rattle.records.proofs.next_members.Reads as next-members-reads
 find-set-requires : tie.Need-find-set-requires
 find-set-requires c κs = search needs
 
-enum-known-f : tie.Need-enum-known-f
-enum-known-f c = search needs
+enum-known-found : tie.Need-enum-known-found
+enum-known-found c = search needs
 
 enum-told : tie.Need-enum-told
 enum-told c = search needs
 
 returns : tie.Need-returns
-returns c = 
+returns c =
     let at-args = c .before .before .before .before .before .args in
     let at-find-set = c .before .before .find-set in
     let at-pre = c .before .before .before .before .before .pre in
@@ -32,51 +32,51 @@ returns c =
     sym (count-missing (at-args .s .now) (at-args .set .now) (set-told (at-args .s .now) (at-args .set .now) (at-find-set .result) at-pre (at-find-set .ensures) (at-enum-told .given .1)))
 
 sub-next-members : tie.Need-sub-next-members
-sub-next-members c = 
+sub-next-members c =
     let at-args = c .before .before .before .before .before .before .args in
     let at-find-set = c .before .before .before .find-set in
     let at-pre = c .before .before .before .before .before .before .pre in
-    let at-f = c .before .f in
-    let t = set-told (at-args .s .now) (at-args .set .now) (at-find-set .result) at-pre (at-find-set .ensures) (at-f .given .1) in
+    let at-found = c .before .found in
+    let t = set-told (at-args .s .now) (at-args .set .now) (at-find-set .result) at-pre (at-find-set .ensures) (at-found .given .1) in
     omega (arith, t .inside)
 
 part-next-members-start : tie.Need-part-next-members-start
-part-next-members-start c = 
+part-next-members-start c =
     let at-args = c .before .before .before .before .before .before .args in
     let at-find-set = c .before .before .before .find-set in
     let at-pre = c .before .before .before .before .before .before .pre in
-    let at-f = c .before .f in
-    let t = set-told (at-args .s .now) (at-args .set .now) (at-find-set .result) at-pre (at-find-set .ensures) (at-f .given .1) in
+    let at-found = c .before .found in
+    let t = set-told (at-args .s .now) (at-args .set .now) (at-find-set .result) at-pre (at-find-set .ensures) (at-found .given .1) in
     omega (arith, t .inside)
 
 part-next-members-end : tie.Need-part-next-members-end
 part-next-members-end c = search needs
 
 next-members-requires : tie.Need-next-members-requires
-next-members-requires c κs = 
+next-members-requires c κs =
     let at-args = c .before .before .before .before .before .before .before .args in
     let at-find-set = c .before .before .before .before .find-set in
     let at-pre = c .before .before .before .before .before .before .before .pre in
-    let at-f = c .before .before .f in
-    let t = set-told (at-args .s .now) (at-args .set .now) (at-find-set .result) at-pre (at-find-set .ensures) (at-f .given .1) in
-    part-readable (at-args .s .now) (at-f .given .0 .0) (t .readable)
+    let at-found = c .before .before .found in
+    let t = set-told (at-args .s .now) (at-args .set .now) (at-find-set .result) at-pre (at-find-set .ensures) (at-found .given .1) in
+    part-readable (at-args .s .now) (at-found .given .0 .0) (t .readable)
 
 returns-2 : tie.Need-returns-2
-returns-2 c = 
+returns-2 c =
     let at-args = c .before .before .before .before .before .before .before .before .args in
     let at-find-set = c .before .before .before .before .before .find-set in
     let at-pre = c .before .before .before .before .before .before .before .before .pre in
-    let at-f = c .before .before .before .f in
+    let at-found = c .before .before .before .found in
     let at-next-members = c .next-members in
-    let t = set-told (at-args .s .now) (at-args .set .now) (at-find-set .result) at-pre (at-find-set .ensures) (at-f .given .1) in
-    sym (count-found (at-args .s .now) (at-args .set .now) (at-f .given .0 .0) (at-next-members .result .count) t (members-count (at-args .s .now) (at-f .given .0 .0) (at-next-members .result) (at-next-members .ensures)))
+    let t = set-told (at-args .s .now) (at-args .set .now) (at-find-set .result) at-pre (at-find-set .ensures) (at-found .given .1) in
+    sym (count-found (at-args .s .now) (at-args .set .now) (at-found .given .0 .0) (at-next-members .result .count) t (members-count (at-args .s .now) (at-found .given .0 .0) (at-next-members .result) (at-next-members .ensures)))
 
 pub count-in-spec : {M : Type 1} → statement M
 count-in-spec =
     tie.close
     (tie.spec
     find-set-requires
-    enum-known-f
+    enum-known-found
     enum-told
     returns
     sub-next-members

@@ -25,7 +25,7 @@ abbrev μ-loop : tie.MeasureT-loop
 μ-loop s k i₀ left₀ i left = length s - i
 
 loop-holds : tie.Need-loop-holds Inv-loop μ-loop
-loop-holds c = 
+loop-holds c =
     let at-pre = c .before .pre in
     let at-args = c .before .args in
     (omega arith, at-pre, ap (λ ps. descriptorAt ps (at-args .k)) (places-all (at-args .s .now)))
@@ -40,7 +40,7 @@ part-next-set-end : tie.Need-part-next-set-end Inv-loop μ-loop
 part-next-set-end c = search needs
 
 next-set-requires : tie.Need-next-set-requires Inv-loop μ-loop
-next-set-requires c κs = 
+next-set-requires c κs =
     let at-args = c .before .before .before .args in
     let at-loop = c .before .loop in
     part-readable (at-args .s .now) (at-loop .i) (at-loop .inv .1)
@@ -52,7 +52,7 @@ enum-told : tie.Need-enum-told Inv-loop μ-loop
 enum-told c = search needs
 
 returns : tie.Need-returns Inv-loop μ-loop
-returns c = 
+returns c =
     let at-loop = c .before .before .before .before .loop in
     let at-args = c .before .before .before .before .before .before .args in
     let at-next-set = c .before .before .next-set in
@@ -60,7 +60,7 @@ returns c =
     sym (at-loop .inv .2 ∙ descriptor-none (at-args .s .now) (at-loop .i) (at-loop .left) (sets-met (at-args .s .now) (at-loop .i) (at-next-set .result) (at-loop .inv .0) (at-loop .inv .1) (at-next-set .ensures) (at-enum-told .given .1)))
 
 add-t12 : tie.Need-add-t12 Inv-loop μ-loop
-add-t12 c = 
+add-t12 c =
     let at-args = c .before .before .before .before .before .before .before .before .before .args in
     let at-loop = c .before .before .before .before .before .before .before .loop in
     let at-next-set = c .before .before .before .before .before .next-set in
@@ -69,7 +69,7 @@ add-t12 c =
     omega (arith, m .stand .filled, m .stand .within, m .stand .inside)
 
 add-t13 : tie.Need-add-t13 Inv-loop μ-loop
-add-t13 c = 
+add-t13 c =
     let at-args = c .before .before .before .before .before .before .before .before .before .before .args in
     let at-loop = c .before .before .before .before .before .before .before .before .loop in
     let at-next-set = c .before .before .before .before .before .before .next-set in
@@ -78,7 +78,7 @@ add-t13 c =
     omega (arith, m .stand .filled, m .stand .within, m .stand .inside)
 
 add-t14 : tie.Need-add-t14 Inv-loop μ-loop
-add-t14 c = 
+add-t14 c =
     let at-args = c .before .before .before .before .before .before .before .before .before .before .before .args in
     let at-loop = c .before .before .before .before .before .before .before .before .before .loop in
     let at-next-set = c .before .before .before .before .before .before .before .next-set in
@@ -87,7 +87,7 @@ add-t14 c =
     omega (arith, m .stand .filled, m .stand .within, m .stand .inside)
 
 returns-2 : tie.Need-returns-2 Inv-loop μ-loop
-returns-2 c = 
+returns-2 c =
     let at-args = c .before .before .before .before .before .before .before .before .before .before .before .args in
     let at-loop = c .before .before .before .before .before .before .before .before .before .loop in
     let at-next-set = c .before .before .before .before .before .before .before .next-set in
@@ -100,7 +100,7 @@ sub-left : tie.Need-sub-left Inv-loop μ-loop
 sub-left c = search needs
 
 add-i : tie.Need-add-i Inv-loop μ-loop
-add-i c = 
+add-i c =
     let at-args = c .before .before .before .before .before .before .before .before .before .args in
     let at-loop = c .before .before .before .before .before .before .before .loop in
     let at-next-set = c .before .before .before .before .before .next-set in
@@ -109,7 +109,7 @@ add-i c =
     omega (arith, m .behind .inside)
 
 loop-less : tie.Need-loop-less Inv-loop μ-loop
-loop-less c = 
+loop-less c =
     let at-args = c .before .before .before .before .before .before .before .before .before .args in
     let at-loop = c .before .before .before .before .before .before .before .loop in
     let at-next-set = c .before .before .before .before .before .next-set in
@@ -118,7 +118,7 @@ loop-less c =
     omega (arith, m .stand .filled, m .stand .within, m .behind .low, m .behind .inside)
 
 loop-again : tie.Need-loop-again Inv-loop μ-loop
-loop-again c = 
+loop-again c =
     let at-args = c .before .before .before .before .before .before .before .before .before .args in
     let at-loop = c .before .before .before .before .before .before .before .loop in
     let at-next-set = c .before .before .before .before .before .next-set in
