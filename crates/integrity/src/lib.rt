@@ -17,10 +17,13 @@ ghost use Rattle.records.specs.Heads.{HeadRows, HeadParts};
 ghost use Rattle.integrity.specs.Stages.{Granted};
 use dense::make_dense;
 use dense::may_join;
+use format::Descriptor;
 use format::File;
+use format::Record;
 use format::Refusal;
 use limits::Bounded;
 use rules::questions;
+use rules::tables::Tables;
 
 mod dense;
 
@@ -83,7 +86,7 @@ fn types_defined(
     while k < count {
         let a = starts[k];
         let e = ends[k];
-        if typedefs::types_well(&s[a..e], &mut *scratch) {} else {
+        if !typedefs::types_well(&s[a..e], &mut *scratch) {
             return false;
         }
         k += 1;
@@ -111,14 +114,14 @@ fn judge_sets(
     afters: &[usize],
     count: usize,
     scratch: &mut [u8],
-    entries: &mut [u32],
 ) -> u32
     requires { ⌜ length (now s) ≤ fileBytes ⌝ }
     requires { ⌜ Granted (records (readOf (now s))) ⌝ }
     requires { ⌜ HeadRows (now s) (now starts) (now ends) (now afters) count ⌝ }
-    requires { ⌜ (valueBytes ≤ length (now scratch)) × (16384 ≤ length (now entries)) ⌝ }
+    requires { ⌜ valueBytes ≤ length (now scratch) ⌝ }
     ensures { λ r. ⌜ r ≡ walkNo intBounds (records (readOf (now (s .entry)))) ⌝ }
 {
+    let mut entries = [0u32; Tables::END];
     let mut k = 0;
     let mut worst = 0;
     while k < count {
@@ -126,7 +129,7 @@ fn judge_sets(
         let e = ends[k];
         let b = afters[k];
         let next = members_end(starts, k + 1, count, s.len());
-        let n = rules::judge_set(&s[a..e], &s[b..next], &mut *scratch, &mut *entries);
+        let n = rules::judge_set(&s[a..e], &s[b..next], &mut *scratch, &mut entries);
         worst = questions::lesser(worst, n);
         k += 1;
     }
@@ -146,15 +149,14 @@ fn judge_described(
     requires { ⌜ HeadRows (now s) (now starts) (now ends) (now afters) count × (count ≤ descriptors) ⌝ }
     ensures { λ r. ⌜ r ≡ recordsNo intBounds (records (readOf (now (s .entry)))) ⌝ }
 {
-    let mut scratch = [0u8; 4096];
-    if descriptors::described_well(s, starts, ends, count, &mut scratch) {} else {
+    let mut scratch = [0u8; Record::VALUE];
+    if !descriptors::described_well(s, starts, ends, count, &mut scratch) {
         return Refusal::DESCRIPTOR;
     }
-    if types_defined(s, starts, ends, count, &mut scratch) {} else {
+    if !types_defined(s, starts, ends, count, &mut scratch) {
         return Refusal::TYPE;
     }
-    let mut entries = [0u32; 16384];
-    judge_sets(s, starts, ends, afters, count, &mut scratch, &mut entries)
+    judge_sets(s, starts, ends, afters, count, &mut scratch)
 }
 
 // Questions 3 to 14 of a text of which 2 says yes.
@@ -163,9 +165,9 @@ fn judge_lines(s: &[u8]) -> u32
     requires { ⌜ length (now s) ≤ fileBytes ⌝ }
     ensures { λ r. ⌜ r ≡ textNo (now (s .entry)) ⌝ }
 {
-    let mut starts = [0usize; 64];
-    let mut ends = [0usize; 64];
-    let mut afters = [0usize; 64];
+    let mut starts = [0usize; Descriptor::COUNT];
+    let mut ends = [0usize; Descriptor::COUNT];
+    let mut afters = [0usize; Descriptor::COUNT];
     let b = limits::bounds_of(s, &mut starts, &mut ends, &mut afters);
     match b {
         Bounded::Fault => Refusal::LINE,

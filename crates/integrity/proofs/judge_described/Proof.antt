@@ -1,4 +1,5 @@
 -- `integrity::judge_described` meets its contract, question by question.
+use borrow.Author.Tests.{not-true, not-false}
 use borrow.Author.Needs.{needs}
 use native.Mathlib.Omega.{arith}
 use mathlib.Core.Path.{sym, _∙_}
@@ -29,7 +30,7 @@ returns c =
     let at-pre = c .before .before .before .before .before .before .before .before .pre in
     let at-described-well = c .before .before .described-well in
     let at-if1 = c .if1 in
-    well-no (records (readOf (at-args .s .now))) (at-pre .1 .0 .0) (at-pre .1 .0 .1) (sym (at-described-well .ensures .0) ∙ at-if1 .left)
+    well-no (records (readOf (at-args .s .now))) (at-pre .1 .0 .0) (at-pre .1 .0 .1) (sym (at-described-well .ensures .0) ∙ not-true (at-described-well .result) (at-if1 .taken))
 
 slice-aggregate-types-defined : tie.Need-slice-aggregate-types-defined
 slice-aggregate-types-defined c = search needs
@@ -49,33 +50,30 @@ returns-2 c =
     let at-if1 = c .before .before .before .before .if1 in
     let at-types-defined = c .before .before .types-defined in
     let at-if2 = c .if2 in
-    types-no (records (readOf (at-args .s .now))) (at-pre .1 .0 .0) (at-pre .1 .0 .1) (sym (at-described-well .ensures .0) ∙ at-if1 .taken) (sym (at-types-defined .ensures) ∙ at-if2 .left)
+    types-no (records (readOf (at-args .s .now))) (at-pre .1 .0 .0) (at-pre .1 .0 .1) (sym (at-described-well .ensures .0) ∙ not-false (at-described-well .result) (at-if1 .left)) (sym (at-types-defined .ensures) ∙ not-true (at-types-defined .result) (at-if2 .taken))
 
 slice-aggregate-judge-sets : tie.Need-slice-aggregate-judge-sets
 slice-aggregate-judge-sets c = search needs
 
-slice-aggregate-judge-sets-2 : tie.Need-slice-aggregate-judge-sets-2
-slice-aggregate-judge-sets-2 c = search needs
-
 judge-sets-requires : tie.Need-judge-sets-requires
 judge-sets-requires c κs =
-    let at-pre = c .before .before .before .before .before .before .before .before .before .before .before .before .before .before .pre in
-    let at-described-well = c .before .before .before .before .before .before .before .before .described-well in
-    let at-if1 = c .before .before .before .before .before .before .if1 in
-    let at-types-defined = c .before .before .before .before .types-defined in
-    let at-if2 = c .before .before .if2 in
-    ((at-pre .0, (record { fit = at-pre .1 .0 .0; well = (sym (at-described-well .ensures .0) ∙ at-if1 .taken); types = sym (at-types-defined .ensures) ∙ at-if2 .taken }, (at-pre .1 .1 .0, (omega (arith, at-described-well .ensures .1), omega arith)))))
+    let at-pre = c .before .before .before .before .before .before .before .before .before .before .before .before .before .pre in
+    let at-described-well = c .before .before .before .before .before .before .before .described-well in
+    let at-if1 = c .before .before .before .before .before .if1 in
+    let at-types-defined = c .before .before .before .types-defined in
+    let at-if2 = c .before .if2 in
+    ((at-pre .0, (record { fit = at-pre .1 .0 .0; well = (sym (at-described-well .ensures .0) ∙ not-false (at-described-well .result) (at-if1 .left)); types = sym (at-types-defined .ensures) ∙ not-false (at-types-defined .result) (at-if2 .left) }, (at-pre .1 .1 .0, omega (arith, at-described-well .ensures .1)))))
 
 returns-3 : tie.Need-returns-3
 returns-3 c =
-    let at-judge-sets = c .before .before .judge-sets in
-    let at-args = c .before .before .before .before .before .before .before .before .before .before .before .before .before .before .before .before .before .args in
-    let at-pre = c .before .before .before .before .before .before .before .before .before .before .before .before .before .before .before .before .before .pre in
-    let at-described-well = c .before .before .before .before .before .before .before .before .before .before .before .described-well in
-    let at-if1 = c .before .before .before .before .before .before .before .before .before .if1 in
-    let at-types-defined = c .before .before .before .before .before .before .before .types-defined in
-    let at-if2 = c .before .before .before .before .before .if2 in
-    at-judge-sets .ensures ∙ sets-no (records (readOf (at-args .s .now))) (at-pre .1 .0 .0) (at-pre .1 .0 .1) (sym (at-described-well .ensures .0) ∙ at-if1 .taken) (sym (at-types-defined .ensures) ∙ at-if2 .taken)
+    let at-judge-sets = c .before .judge-sets in
+    let at-args = c .before .before .before .before .before .before .before .before .before .before .before .before .before .before .before .args in
+    let at-pre = c .before .before .before .before .before .before .before .before .before .before .before .before .before .before .before .pre in
+    let at-described-well = c .before .before .before .before .before .before .before .before .before .described-well in
+    let at-if1 = c .before .before .before .before .before .before .before .if1 in
+    let at-types-defined = c .before .before .before .before .before .types-defined in
+    let at-if2 = c .before .before .before .if2 in
+    at-judge-sets .ensures ∙ sets-no (records (readOf (at-args .s .now))) (at-pre .1 .0 .0) (at-pre .1 .0 .1) (sym (at-described-well .ensures .0) ∙ not-false (at-described-well .result) (at-if1 .left)) (sym (at-types-defined .ensures) ∙ not-false (at-types-defined .result) (at-if2 .left))
 
 pub judge-described-spec : {M : Type 1} → statement M
 judge-described-spec =
@@ -88,6 +86,5 @@ judge-described-spec =
     types-defined-requires
     returns-2
     slice-aggregate-judge-sets
-    slice-aggregate-judge-sets-2
     judge-sets-requires
     returns-3)

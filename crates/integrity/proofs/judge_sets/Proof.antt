@@ -16,15 +16,15 @@ use Rattle.rules.proofs.judge_set.Reads as judge-set-reads
 use Rattle.rules.proofs.questions.lesser.Reads as lesser-reads
 
 abbrev Inv-loop : tie.InvT-loop
-Inv-loop s starts ends afters count scratch₀ entries₀ k₀ worst₀ scratch entries k worst = SetsAt s starts ends afters count k worst × (length scratch ≡ length scratch₀) × (length entries ≡ length entries₀)
+Inv-loop s starts ends afters count scratch₀ entries₀ k₀ worst₀ scratch entries k worst = SetsAt s starts ends afters count k worst × (length scratch ≡ length scratch₀) × (length entries ≡ 16384)
 
 abbrev μ-loop : tie.MeasureT-loop
 μ-loop s starts ends afters count scratch₀ entries₀ k₀ worst₀ scratch entries k worst = count - k
 
 loop-holds : tie.Need-loop-holds Inv-loop μ-loop
 loop-holds c =
-    let at-args = c .before .before .before .before .before .before .args in
-    let at-pre = c .before .before .before .before .before .before .pre in
+    let at-args = c .before .before .before .before .before .args in
+    let at-pre = c .before .before .before .before .before .pre in
     (sets-start (at-args .s .now) (at-args .starts .now) (at-args .ends .now) (at-args .afters .now) (at-args .count) (at-pre .1 .1 .0) (at-pre .1 .0), refl, refl)
 
 mul-a : tie.Need-mul-a Inv-loop μ-loop
@@ -101,15 +101,18 @@ part-judge-set-end-2 c =
     let at-members-end = c .before .members-end in
     let m = sets-members (at-loop .inv .0) (at-loop-test .taken) (at-members-end .result) (at-members-end .ensures) in m .inside
 
+slice-aggregate-judge-set : tie.Need-slice-aggregate-judge-set Inv-loop μ-loop
+slice-aggregate-judge-set c = search needs
+
 judge-set-requires : tie.Need-judge-set-requires Inv-loop μ-loop
 judge-set-requires c κs =
     let at-loop = c .before .before .before .before .before .before .before .before .before .loop in
     let at-loop-test = c .before .before .before .before .before .before .before .before .loop-test in
     let at-members-end = c .before .before .before .before .members-end in
-    let at-pre = c .before .before .before .before .before .before .before .before .before .before .before .before .before .before .before .before .pre in
-    let at-args = c .before .before .before .before .before .before .before .before .before .before .before .before .before .before .before .before .args in
+    let at-pre = c .before .before .before .before .before .before .before .before .before .before .before .before .before .before .before .pre in
+    let at-args = c .before .before .before .before .before .before .before .before .before .before .before .before .before .before .before .args in
     let r = sets-row (at-loop .inv .0) (at-loop-test .taken) in let m = sets-members (at-loop .inv .0) (at-loop-test .taken) (at-members-end .result) (at-members-end .ensures) in
-    (((sets-rules (at-loop .inv .0) (at-loop-test .taken), omega (arith, span-length (at-args .s .now) (getD (at-args .starts .now) (at-loop .k) 0) (getD (at-args .ends .now) (at-loop .k) 0) (omega (arith, r .filled)) (omega (arith, r .within, r .inside)), r .within, r .inside, at-pre .0)), ((m .reads, omega (arith, span-length (at-args .s .now) (getD (at-args .afters .now) (at-loop .k) 0) (at-members-end .result) (m .ordered) (m .inside), m .inside, at-pre .0), members-fit (at-loop .inv .0) (at-loop-test .taken) (at-members-end .result) (at-members-end .ensures)), (omega (arith, at-pre .1 .1 .1 .0, at-loop .inv .1), omega (arith, at-pre .1 .1 .1 .1, at-loop .inv .2)))))
+    (((sets-rules (at-loop .inv .0) (at-loop-test .taken), omega (arith, span-length (at-args .s .now) (getD (at-args .starts .now) (at-loop .k) 0) (getD (at-args .ends .now) (at-loop .k) 0) (omega (arith, r .filled)) (omega (arith, r .within, r .inside)), r .within, r .inside, at-pre .0)), ((m .reads, omega (arith, span-length (at-args .s .now) (getD (at-args .afters .now) (at-loop .k) 0) (at-members-end .result) (m .ordered) (m .inside), m .inside, at-pre .0), members-fit (at-loop .inv .0) (at-loop-test .taken) (at-members-end .result) (at-members-end .ensures)), (omega (arith, at-pre .1 .1 .1, at-loop .inv .1), omega (arith, at-loop .inv .2)))))
 
 lesser-requires : tie.Need-lesser-requires Inv-loop μ-loop
 lesser-requires c κs = search needs
@@ -122,24 +125,19 @@ loop-less c = search needs
 
 loop-again : tie.Need-loop-again Inv-loop μ-loop
 loop-again c =
-    let at-loop = c .before .before .before .before .before .before .before .before .before .before .before .before .before .before .before .loop in
-    let at-loop-test = c .before .before .before .before .before .before .before .before .before .before .before .before .before .before .loop-test in
-    let at-members-end = c .before .before .before .before .before .before .before .before .before .before .members-end in
-    let at-judge-set = c .before .before .before .before .before .judge-set in
+    let at-loop = c .before .before .before .before .before .before .before .before .before .before .before .before .before .before .loop in
+    let at-loop-test = c .before .before .before .before .before .before .before .before .before .before .before .before .before .loop-test in
+    let at-members-end = c .before .before .before .before .before .before .before .before .before .members-end in
+    let at-judge-set = c .before .before .before .before .judge-set in
     let at-lesser = c .lesser in
-    let at-scratch = c .before .before .before .before .scratch in
-    let at-entries = c .before .before .entries in
-    (sets-on (at-loop .inv .0) (at-loop-test .taken) (at-members-end .result) (at-members-end .ensures) (at-judge-set .result) (at-lesser .result) (at-judge-set .ensures) (at-lesser .ensures), omega (arith, at-scratch .given, at-loop .inv .1), omega (arith, at-entries .given, at-loop .inv .2))
+    let at-scratch = c .before .before .before .scratch in
+    let at-entries2 = c .before .entries2 in
+    (sets-on (at-loop .inv .0) (at-loop-test .taken) (at-members-end .result) (at-members-end .ensures) (at-judge-set .result) (at-lesser .result) (at-judge-set .ensures) (at-lesser .ensures), omega (arith, at-scratch .given, at-loop .inv .1), omega (arith, at-entries2 .given, at-loop .inv .2))
 
 same-length : tie.Need-same-length Inv-loop μ-loop
 same-length c =
     let at-loop = c .before .loop in
     at-loop .inv .1
-
-same-length-2 : tie.Need-same-length-2 Inv-loop μ-loop
-same-length-2 c =
-    let at-loop = c .before .loop in
-    at-loop .inv .2
 
 returns : tie.Need-returns Inv-loop μ-loop
 returns c =
@@ -168,11 +166,11 @@ judge-sets-spec =
     sub-judge-set-2
     part-judge-set-start-2
     part-judge-set-end-2
+    slice-aggregate-judge-set
     judge-set-requires
     lesser-requires
     add-k
     loop-less
     loop-again
     same-length
-    same-length-2
     returns)

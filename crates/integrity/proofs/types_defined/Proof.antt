@@ -1,4 +1,5 @@
 -- `integrity::types_defined` meets its contract. The invariant: the types of all descriptors are well formed where those from row k on are. The measure is the number of rows left.
+use borrow.Author.Tests.{not-true, not-false}
 use borrow.Author.Needs.{needs}
 use Prim.Native.Nat.{_-_, _≤_}
 use native.Mathlib.Omega.{arith}
@@ -92,7 +93,7 @@ returns c =
     let at-loop-test = c .before .before .before .before .before .before .before .before .loop-test in
     let at-types-well = c .before .before .before .types-well in
     let at-if1 = c .if1 in
-    types-stop (at-loop .inv .0) (at-loop-test .taken) (at-types-well .result) (at-types-well .ensures) (at-if1 .left)
+    types-stop (at-loop .inv .0) (at-loop-test .taken) (at-types-well .result) (at-types-well .ensures) (not-true (at-types-well .result) (at-if1 .taken))
 
 add-k : tie.Need-add-k Inv-loop μ-loop
 add-k c = search needs
@@ -107,7 +108,7 @@ loop-again c =
     let at-types-well = c .before .before .before .types-well in
     let at-if1 = c .if1 in
     let at-scratch = c .before .before .scratch in
-    (types-on (at-loop .inv .0) (at-loop-test .taken) (at-types-well .result) (at-types-well .ensures) (at-if1 .taken), omega (arith, at-scratch .given, at-loop .inv .1))
+    (types-on (at-loop .inv .0) (at-loop-test .taken) (at-types-well .result) (at-types-well .ensures) (not-false (at-types-well .result) (at-if1 .left)), omega (arith, at-scratch .given, at-loop .inv .1))
 
 same-length-2 : tie.Need-same-length-2 Inv-loop μ-loop
 same-length-2 c =
