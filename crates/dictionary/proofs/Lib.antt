@@ -3,7 +3,7 @@ pub mod Numbering
 pub mod Places
 pub mod Finding
 pub mod Splitting
-pub mod Naming
+pub mod Parts
 pub mod Names
 pub mod Rows
 pub mod Listing

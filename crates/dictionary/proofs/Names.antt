@@ -13,7 +13,7 @@ use Rattle.format.specs.Words.{isGap, notGap}
 use Rattle.lines.specs.Value.{valueFrom}
 use Rattle.lines.proofs.Decoding.{nothing-at}
 use Rattle.dictionary.specs.Words.{wordFrom, nameOf, nameFrom}
-use Rattle.dictionary.proofs.Naming.{parts-none, parts-comma, parts-on}
+use Rattle.dictionary.proofs.Parts.{parts-none, parts-comma, parts-on}
 use Rattle.sorting.specs.Texts.{isWordByte, textAt}
 use Rattle.sorting.proofs.Tests.{by-bool, dec-lt}
 use Rattle.sorting.proofs.Texts.{front-stop, front-on}

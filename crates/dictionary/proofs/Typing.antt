@@ -23,12 +23,13 @@ use Rattle.words.specs.Spans.{span}
 use Rattle.records.specs.Places.{isReadable}
 use Rattle.records.specs.Walk.{recordIn}
 use Rattle.records.specs.Named.{valuesFrom, ValueHere}
+use Rattle.typedefs.proofs.Placing.{Passed}
 use Rattle.terms.specs.Sets.{Term, termOf}
 use Rattle.terms.specs.Adding.{Adding}
 use Rattle.dictionary.specs.Terms.{rowTerms}
 use Rattle.dictionary.specs.Known.{Described}
 use Rattle.terms.proofs.Adding.{adding-rest, adding-many}
-use Rattle.dictionary.proofs.Rows.{next-inside, next-rest, all-drop, names-few}
+use Rattle.dictionary.proofs.Rows.{next-rest, all-drop, names-few}
 
 -- a value whose names are names, and which is short
 abbrev pub isGood : Bytes → Bool
@@ -99,15 +100,7 @@ module _ (d : Bytes) (h : Described d) where
       and-eq-true-iff (all (isShaped intBounds) rules) k .0 (and-eq-true-iff (all (isShaped intBounds) rules && k) z .0 (h .well) .0) .0
 
 -- `row` of them are passed, and byte i is behind them
-pub record Behind (d : Bytes) (row i : ℕ) : Type 0 where
-  pub inside : i ≤ length d
-  pub readable : isReadable (drop i d) ≡ true
-  pub values : valuesFrom d (text "%type") i ≡ drop row (valuesFrom d (text "%type") 0)
-
-pub behind-start : (d : Bytes) → isReadable d ≡ true → Behind d 0 0
-behind-start d r = record { inside = omega arith; readable = r; values = refl }
-
-module _ (d : Bytes) (row i v e : ℕ) (b : Behind d row i) (f : ValueHere d (text "%type") i v e) where
+module _ (d : Bytes) (row i v e : ℕ) (b : Passed d (text "%type") row i) (f : ValueHere d (text "%type") i v e) where
   abbrev here : Bytes
   here = valueFrom (span v e d)
 
@@ -115,14 +108,8 @@ module _ (d : Bytes) (row i v e : ℕ) (b : Behind d row i) (f : ValueHere d (te
   pub row-is : drop row (valuesFrom d (text "%type") 0) ≡ here ∷ valuesFrom d (text "%type") e
   row-is = sym (b .values) ∙ f .values
 
-  pub row-inside : row < length (valuesFrom d (text "%type") 0)
-  row-inside = next-inside (valuesFrom d (text "%type") 0) row here (valuesFrom d (text "%type") e) row-is
-
   rest-is : drop (row + 1) (valuesFrom d (text "%type") 0) ≡ valuesFrom d (text "%type") e
   rest-is = next-rest (valuesFrom d (text "%type") 0) row here (valuesFrom d (text "%type") e) row-is
-
-  pub behind-more : Behind d (row + 1) e
-  behind-more = record { inside = f .inside; readable = f .readable; values = sym rest-is }
 
   module _ (h : Described d) where
     good : (all isName (typedNames here) ≡ true) × (length here ≤ 4096)
@@ -156,5 +143,5 @@ module _ (d : Bytes) (row i v e : ℕ) (b : Behind d row i) (f : ValueHere d (te
           (adding-rest (rowTerms row (drop row (valuesFrom d (text "%type") 0))) (ts ++ rowTerms (suc row) (valuesFrom d (text "%type") e)) cut a) c)
 
 -- none is left
-pub row-none : (d : Bytes) (row i : ℕ) → Behind d row i → valuesFrom d (text "%type") i ≡ [] → length (valuesFrom d (text "%type") 0) ≤ row
+pub row-none : (d : Bytes) (row i : ℕ) → Passed d (text "%type") row i → valuesFrom d (text "%type") i ≡ [] → length (valuesFrom d (text "%type") 0) ≤ row
 row-none d row i b e = omega (arith, ap length (sym (b .values) ∙ e), length-drop row (valuesFrom d (text "%type") 0))

@@ -21,7 +21,7 @@ use Rattle.records.specs.Named.{ValueHere}
 use Rattle.typedefs.proofs.Following.{kindOnly}
 use Rattle.typedefs.proofs.Placing.{passed-value}
 use Rattle.dictionary.specs.Known.{Described, typeValue}
-use Rattle.dictionary.proofs.Typing.{Behind, row-inside}
+use Rattle.typedefs.proofs.Placing.{Passed, passed-inside}
 use Rattle.symbols.specs.Enums.{typeAt}
 use Rattle.kinds.specs.Meets.{kindOf}
 use Rattle.kinds.specs.Rows.{TypeAt, EndAt, textOf, IsKind, anyRow}
@@ -35,12 +35,12 @@ kind-typed none e = e
 kind-typed (some t) e = refl
 
 -- the `%type` field behind `count` others
-module _ (d : Bytes) (h : Described d) (count i v e : ℕ) (b : Behind d count i) (f : ValueHere d (text "%type") i v e) where
+module _ (d : Bytes) (h : Described d) (count i v e : ℕ) (b : Passed d (text "%type") count i) (f : ValueHere d (text "%type") i v e) where
   value-is : valueFrom (drop v d) ≡ typeValue (recordIn d) count
   value-is = passed-value d (text "%type") count i (record { inside = b .inside; readable = b .readable; values = b .values }) v e f
 
   ends : isSome (kindOf d (typeValue (recordIn d) count)) ≡ true
-  ends = type-ends d h count (row-inside d count i v e b f)
+  ends = type-ends d h count (passed-inside d (text "%type") count i b v e f)
 
   pub type-here : TypeAt d v
   type-here =

@@ -3,5 +3,5 @@ pub mod Shapes
 pub mod Granted
 pub mod Ends
 pub mod Filling
-pub mod Asking
+pub mod Rows
 pub mod Named

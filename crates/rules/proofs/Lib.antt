@@ -1,9 +1,8 @@
 -- What a descriptor's granted questions mean for the walks, and a set's number from its records'.
 pub mod Regions
 pub mod Sets
-pub mod Numbers
 pub mod Fields
-pub mod Asking
+pub mod TallyNo
 pub mod Leasts
 pub mod Tags
 pub mod Walking

@@ -38,7 +38,7 @@ use Rattle.rules.specs.declared.tallies.Tally.{Tally}
 use Rattle.rules.specs.declared.tables.Seen.{Seen}
 use Rattle.rules.specs.declared.tables.SeenName.{SeenName}
 use Rattle.rules.proofs.Fields.{tallied-none, stands-more}
-use Rattle.rules.proofs.Asking.{tally-no}
+use Rattle.rules.proofs.TallyNo.{tally-no}
 use Rattle.rules.proofs.Leasts.{least-none, least-assoc}
 use Rattle.kinds.specs.Meets.{rowsMet}
 use Rattle.kinds.proofs.Named.{rows-known}

@@ -246,14 +246,16 @@ pub fn build(s: &[u8], entries: &mut [u32]) -> Table
     Table { count, sorted }
 }
 
-// The tags of all entries whose word is w, in any order of the entries.
-fn find_all(s: &[u8], entries: &[u32], w: &[u8], print: u32) -> u64
+// The tags of the entries from one on whose word is w, if all before it come before w; where no word is behind the next, a word behind w ends the search.
+fn find_from(s: &[u8], entries: &[u32], from: usize, sorted: bool, w: &[u8], print: u32) -> u64
     requires { ⌜ Entries (now s) (length (now entries)) (now entries) ⌝ }
     requires { ⌜ print ≡ printOf (now w) ⌝ }
+    requires { ⌜ (from ≤ length (now entries)) × Low (now s) (now entries) (now w) from ⌝ }
+    requires { ⌜ (sorted ≡ true → Rising (now s) (length (now entries)) (now entries)) ⌝ }
     ensures { λ r. ⌜ Answers (now (w .entry)) (termsOf (now (s .entry)) (now (entries .entry))) r ⌝ }
 {
     let mut set = 0;
-    let mut i = 0;
+    let mut i = from;
     while i < entries.len() {
         let x = entries[i];
         let c = compare(s, x, w, print);
@@ -266,11 +268,23 @@ fn find_all(s: &[u8], entries: &[u32], w: &[u8], print: u32) -> u64
                 i += 1;
             }
             Compared::Behind => {
+                if sorted {
+                    return set;
+                }
                 i += 1;
             }
         }
     }
     set
+}
+
+// The tags of all entries whose word is w, in any order of the entries.
+fn find_all(s: &[u8], entries: &[u32], w: &[u8], print: u32) -> u64
+    requires { ⌜ Entries (now s) (length (now entries)) (now entries) ⌝ }
+    requires { ⌜ print ≡ printOf (now w) ⌝ }
+    ensures { λ r. ⌜ Answers (now (w .entry)) (termsOf (now (s .entry)) (now (entries .entry))) r ⌝ }
+{
+    find_from(s, entries, 0, false, w, print)
 }
 
 // Where no word is behind the next: the first entry whose word is not before w.
@@ -299,31 +313,14 @@ fn first_of(s: &[u8], entries: &[u32], w: &[u8], print: u32) -> usize
     lo
 }
 
-// The tags of the entries from there on whose word is w: at most 64 turns, since twins are merged.
+// The same where no word is behind the next: at most 64 turns from the first on, since twins are merged.
 fn find_sorted(s: &[u8], entries: &[u32], w: &[u8], print: u32) -> u64
     requires { ⌜ Entries (now s) (length (now entries)) (now entries) ⌝ }
     requires { ⌜ (print ≡ printOf (now w)) × Rising (now s) (length (now entries)) (now entries) ⌝ }
     ensures { λ r. ⌜ Answers (now (w .entry)) (termsOf (now (s .entry)) (now (entries .entry))) r ⌝ }
 {
-    let mut set = 0;
-    let mut i = first_of(s, entries, w, print);
-    while i < entries.len() {
-        let x = entries[i];
-        let c = compare(s, x, w, print);
-        match c {
-            Compared::Equal => {
-                set = set | single(tag(x));
-                i += 1;
-            }
-            Compared::Before => {
-                i += 1;
-            }
-            Compared::Behind => {
-                return set;
-            }
-        }
-    }
-    set
+    let i = first_of(s, entries, w, print);
+    find_from(s, entries, i, true, w, print)
 }
 
 // The set of the tags that the word w has in a table.

@@ -3,7 +3,7 @@ use borrow.Author.Needs.{needs}
 use Prim.Native.Nat.{_-_}
 use native.Mathlib.Omega.{arith}
 use lib.ListN.{length}
-use Rattle.dictionary.proofs.Naming.{behind-told}
+use Rattle.dictionary.proofs.Parts.{behind-told}
 use Rattle.dictionary.proofs.Reading.{NamesLeft, names-start, names-there, names-room, names-end, names-more}
 use Rattle.dictionary.proofs.add_names.Statement.{statement}
 use Rattle.dictionary.proofs.add_names.Tie as tie

@@ -14,7 +14,8 @@ use Rattle.sorting.proofs.Tests.{dec-lt}
 use Rattle.terms.specs.Adding.{Adding}
 use Rattle.dictionary.specs.Terms.{rowTerms}
 use Rattle.terms.proofs.Adding.{adding-start}
-use Rattle.dictionary.proofs.Typing.{Behind, row-inside, behind-more, row-names, row-fits, rows-more, row-none, rows-few}
+use Rattle.typedefs.proofs.Placing.{Passed, passed-inside, passed-more}
+use Rattle.dictionary.proofs.Typing.{row-names, row-fits, rows-more, row-none, rows-few}
 use Rattle.dictionary.proofs.add_types.Statement.{statement}
 use Rattle.dictionary.proofs.add_types.Tie as tie
 use Rattle.dictionary.proofs.add_types.Reads as reads
@@ -24,7 +25,7 @@ use Rattle.dictionary.proofs.pass_types.Reads as pass-types-reads
 use Rattle.records.proofs.next_named.Reads as next-named-reads
 
 abbrev Inv-loop : tie.InvT-loop
-Inv-loop d from entries₀ n k₀ row₀ i₀ t12 entries k row i = (from ≤ row) × (row ≤ length (valuesFrom d (text "%type") 0)) × Behind d row i × (k ≤ length entries) × (length entries ≡ length entries₀) × (row ≡ from → k ≡ n) × Adding d entries₀ n (rowTerms from (drop from (valuesFrom d (text "%type") 0))) (rowTerms row (drop row (valuesFrom d (text "%type") 0))) entries k
+Inv-loop d from entries₀ n k₀ row₀ i₀ t12 entries k row i = (from ≤ row) × (row ≤ length (valuesFrom d (text "%type") 0)) × Passed d (text "%type") row i × (k ≤ length entries) × (length entries ≡ length entries₀) × (row ≡ from → k ≡ n) × Adding d entries₀ n (rowTerms from (drop from (valuesFrom d (text "%type") 0))) (rowTerms row (drop row (valuesFrom d (text "%type") 0))) entries k
 
 abbrev μ-loop : tie.MeasureT-loop
 μ-loop d from entries₀ n k₀ row₀ i₀ t12 entries k row i = length d - i
@@ -95,7 +96,7 @@ cast-add-names c =
     let at-v = c .before .before .v in
     let at-pre = c .before .before .before .before .before .before .before .before .before .before .pre in
     let h = value-told (at-args .d .now) (text "%type") (at-loop .i) (at-next-named .result) (at-next-named .ensures) (at-v .given .1) in
-    omega (arith, row-inside (at-args .d .now) (at-loop .row) (at-loop .i) _ _ (at-loop .inv .2) h, rows-few (at-args .d .now) (at-pre .0))
+    omega (arith, passed-inside (at-args .d .now) (text "%type") (at-loop .row) (at-loop .i) (at-loop .inv .2) _ _ h, rows-few (at-args .d .now) (at-pre .0))
 
 add-names-requires : tie.Need-add-names-requires Inv-loop μ-loop
 add-names-requires c κs =
@@ -109,7 +110,7 @@ add-names-requires c κs =
     let f = row-fits (at-args .d .now) (at-loop .row) (at-loop .i) _ _ (at-loop .inv .2) h (at-pre .0) in
     let z = at-loop .inv .3 in
     let y = at-if1 .left in
-    ((omega (arith, h .value-there), at-pre .0 .short, omega (arith, row-inside (at-args .d .now) (at-loop .row) (at-loop .i) _ _ (at-loop .inv .2) h, rows-few (at-args .d .now) (at-pre .0))), (omega arith, row-names (at-args .d .now) (at-loop .row) (at-loop .i) _ _ (at-loop .inv .2) h (at-pre .0)))
+    ((omega (arith, h .value-there), at-pre .0 .short, omega (arith, passed-inside (at-args .d .now) (text "%type") (at-loop .row) (at-loop .i) (at-loop .inv .2) _ _ h, rows-few (at-args .d .now) (at-pre .0))), (omega arith, row-names (at-args .d .now) (at-loop .row) (at-loop .i) _ _ (at-loop .inv .2) h (at-pre .0)))
 
 add-row : tie.Need-add-row Inv-loop μ-loop
 add-row c =
@@ -119,7 +120,7 @@ add-row c =
     let at-v = c .before .before .before .before .before .before .v in
     let at-pre = c .before .before .before .before .before .before .before .before .before .before .before .before .before .before .pre in
     let h = value-told (at-args .d .now) (text "%type") (at-loop .i) (at-next-named .result) (at-next-named .ensures) (at-v .given .1) in
-    omega (arith, row-inside (at-args .d .now) (at-loop .row) (at-loop .i) _ _ (at-loop .inv .2) h, rows-few (at-args .d .now) (at-pre .0))
+    omega (arith, passed-inside (at-args .d .now) (text "%type") (at-loop .row) (at-loop .i) (at-loop .inv .2) _ _ h, rows-few (at-args .d .now) (at-pre .0))
 
 loop-less : tie.Need-loop-less Inv-loop μ-loop
 loop-less c =
@@ -143,10 +144,10 @@ loop-again c =
     let f = row-fits (at-args .d .now) (at-loop .row) (at-loop .i) _ _ (at-loop .inv .2) h (at-pre .0) in
     let g = at-v .given .0 in
     let a = at-add-names .ensures in
-    let b = row-inside (at-args .d .now) (at-loop .row) (at-loop .i) _ _ (at-loop .inv .2) h in
+    let b = passed-inside (at-args .d .now) (text "%type") (at-loop .row) (at-loop .i) (at-loop .inv .2) _ _ h in
     let z = at-if1 .left in
     let y = at-loop .inv .3 in
-    (omega (arith, at-loop .inv .0), omega (arith, b), behind-more (at-args .d .now) (at-loop .row) (at-loop .i) _ _ (at-loop .inv .2) h, omega (arith, a .count, a .long, length-map (typedNames (valueFrom (drop (g .1 .0) (at-args .d .now)))) (termOf (at-loop .row))), a .long ∙ at-loop .inv .4, (λ e. absurd (omega (arith, at-loop .inv .0))), rows-more (at-args .d .now) (at-loop .row) (at-loop .i) _ _ (at-loop .inv .2) h (at-pre .0) (at-args .from) (at-args .entries .now) (at-args .n) (at-loop .entries) (at-loop .k) _ _ (at-loop .inv .6) a)
+    (omega (arith, at-loop .inv .0), omega (arith, b), passed-more (at-args .d .now) (text "%type") (at-loop .row) (at-loop .i) (at-loop .inv .2) _ _ h, omega (arith, a .count, a .long, length-map (typedNames (valueFrom (drop (g .1 .0) (at-args .d .now)))) (termOf (at-loop .row))), a .long ∙ at-loop .inv .4, (λ e. absurd (omega (arith, at-loop .inv .0))), rows-more (at-args .d .now) (at-loop .row) (at-loop .i) _ _ (at-loop .inv .2) h (at-pre .0) (at-args .from) (at-args .entries .now) (at-args .n) (at-loop .entries) (at-loop .k) _ _ (at-loop .inv .6) a)
 
 pub add-types-spec : {M : Type 1} → statement M
 add-types-spec =

@@ -7,7 +7,8 @@ use lib.ListN.{drop}
 use Rattle.format.specs.Bytes.{text}
 use Rattle.records.specs.Named.{valuesFrom}
 use Rattle.records.proofs.Named.{value-told}
-use Rattle.dictionary.proofs.Typing.{Behind, behind-start, behind-more, row-none}
+use Rattle.typedefs.proofs.Placing.{Passed, passed-start, passed-more}
+use Rattle.dictionary.proofs.Typing.{row-none}
 use Rattle.dictionary.proofs.pass_types.Statement.{statement}
 use Rattle.dictionary.proofs.pass_types.Tie as tie
 use Rattle.dictionary.proofs.pass_types.Reads as reads
@@ -15,7 +16,7 @@ use Rattle.dictionary.proofs.pass_types.Lts as lts
 use Rattle.records.proofs.next_named.Reads as next-named-reads
 
 abbrev Inv-loop : tie.InvT-loop
-Inv-loop d count i₀ row₀ t8 i row = (row ≤ count) × Behind d row i
+Inv-loop d count i₀ row₀ t8 i row = (row ≤ count) × Passed d (text "%type") row i
 
 abbrev μ-loop : tie.MeasureT-loop
 μ-loop d count i₀ row₀ t8 i row = count - row
@@ -24,7 +25,7 @@ loop-holds : tie.Need-loop-holds Inv-loop μ-loop
 loop-holds c =
     let at-args = c .before .args in
     let at-pre = c .before .pre in
-    (omega arith, behind-start (at-args .d .now) (at-pre .0))
+    (omega arith, passed-start (at-args .d .now) (text "%type") (at-pre .0))
 
 slice-aggregate-next-named : tie.Need-slice-aggregate-next-named Inv-loop μ-loop
 slice-aggregate-next-named c = search needs
@@ -65,7 +66,7 @@ loop-again c =
     let at-next-named = c .before .before .before .next-named in
     let at-v = c .before .v in
     let h = value-told (at-args .d .now) (text "%type") (at-loop .i) (at-next-named .result) (at-next-named .ensures) (at-v .given .1) in
-    (omega arith, behind-more (at-args .d .now) (at-loop .row) (at-loop .i) _ _ (at-loop .inv .1) h)
+    (omega arith, passed-more (at-args .d .now) (text "%type") (at-loop .row) (at-loop .i) (at-loop .inv .1) _ _ h)
 
 returns-2 : tie.Need-returns-2 Inv-loop μ-loop
 returns-2 c =

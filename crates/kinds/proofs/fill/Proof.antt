@@ -7,7 +7,8 @@ use lib.ListN.{length, length-set}
 use Rattle.format.specs.Bytes.{text}
 use Rattle.records.specs.Named.{valuesFrom}
 use Rattle.records.proofs.Named.{value-told}
-use Rattle.dictionary.proofs.Typing.{Behind, behind-start, behind-more, row-inside, row-none, rows-few}
+use Rattle.typedefs.proofs.Placing.{Passed, passed-start, passed-inside, passed-more}
+use Rattle.dictionary.proofs.Typing.{row-none, rows-few}
 use Rattle.kinds.proofs.Filling.{Filled, filled-more, type-here, end-typed, row-kind}
 use Rattle.kinds.proofs.fill.Statement.{statement}
 use Rattle.kinds.proofs.fill.Tie as tie
@@ -19,7 +20,7 @@ use Rattle.kinds.proofs.type_at.Reads as type-at-reads
 use Rattle.records.proofs.next_named.Reads as next-named-reads
 
 abbrev Inv-loop : tie.InvT-loop
-Inv-loop d names targets scratch₀ rows₀ texts₀ i₀ count₀ t15 scratch rows texts i count = Behind d count i × (count ≤ length (valuesFrom d (text "%type") 0)) × (length scratch ≡ length scratch₀) × (length rows ≡ 32) × (length texts ≡ 32) × Filled d rows texts count
+Inv-loop d names targets scratch₀ rows₀ texts₀ i₀ count₀ t15 scratch rows texts i count = Passed d (text "%type") count i × (count ≤ length (valuesFrom d (text "%type") 0)) × (length scratch ≡ length scratch₀) × (length rows ≡ 32) × (length texts ≡ 32) × Filled d rows texts count
 
 abbrev μ-loop : tie.MeasureT-loop
 μ-loop d names targets scratch₀ rows₀ texts₀ i₀ count₀ t15 scratch rows texts i count = length d - i
@@ -28,7 +29,7 @@ loop-holds : tie.Need-loop-holds Inv-loop μ-loop
 loop-holds c =
     let at-args = c .before .before .before .args in
     let at-pre = c .before .before .before .pre in
-    (behind-start (at-args .d .now) (at-pre .0 .0 .reads), omega arith, refl, refl, refl, λ k l. absurd (omega arith))
+    (passed-start (at-args .d .now) (text "%type") (at-pre .0 .0 .reads), omega arith, refl, refl, refl, λ k l. absurd (omega arith))
 
 slice-aggregate-next-named : tie.Need-slice-aggregate-next-named Inv-loop μ-loop
 slice-aggregate-next-named c = search needs
@@ -96,7 +97,7 @@ mul-rows c =
     let at-pre = c .before .before .before .before .before .before .before .before .before .before .before .before .before .before .before .before .before .pre in
     let d = at-args .d .now in
     let h = value-told d (text "%type") (at-loop .i) (at-next-named .result) (at-next-named .ensures) (at-v .given .1) in
-    omega (arith, row-inside d (at-loop .count) (at-loop .i) _ _ (at-loop .inv .0) h, rows-few d (at-pre .0 .0))
+    omega (arith, passed-inside d (text "%type") (at-loop .count) (at-loop .i) (at-loop .inv .0) _ _ h, rows-few d (at-pre .0 .0))
 
 array-set-from-rows : tie.Need-array-set-from-rows Inv-loop μ-loop
 array-set-from-rows c =
@@ -107,7 +108,7 @@ array-set-from-rows c =
     let at-pre = c .before .before .before .before .before .before .before .before .before .before .before .before .before .before .before .before .before .pre in
     let d = at-args .d .now in
     let h = value-told d (text "%type") (at-loop .i) (at-next-named .result) (at-next-named .ensures) (at-v .given .1) in
-    omega (arith, row-inside d (at-loop .count) (at-loop .i) _ _ (at-loop .inv .0) h, rows-few d (at-pre .0 .0))
+    omega (arith, passed-inside d (text "%type") (at-loop .count) (at-loop .i) (at-loop .inv .0) _ _ h, rows-few d (at-pre .0 .0))
 
 text-of-requires : tie.Need-text-of-requires Inv-loop μ-loop
 text-of-requires c κs = search needs
@@ -121,7 +122,7 @@ mul-texts c =
     let at-pre = c .before .before .before .before .before .before .before .before .before .before .before .before .before .before .before .before .before .before .pre in
     let d = at-args .d .now in
     let h = value-told d (text "%type") (at-loop .i) (at-next-named .result) (at-next-named .ensures) (at-v .given .1) in
-    omega (arith, row-inside d (at-loop .count) (at-loop .i) _ _ (at-loop .inv .0) h, rows-few d (at-pre .0 .0))
+    omega (arith, passed-inside d (text "%type") (at-loop .count) (at-loop .i) (at-loop .inv .0) _ _ h, rows-few d (at-pre .0 .0))
 
 array-write-texts : tie.Need-array-write-texts Inv-loop μ-loop
 array-write-texts c =
@@ -132,7 +133,7 @@ array-write-texts c =
     let at-pre = c .before .before .before .before .before .before .before .before .before .before .before .before .before .before .before .before .before .before .pre in
     let d = at-args .d .now in
     let h = value-told d (text "%type") (at-loop .i) (at-next-named .result) (at-next-named .ensures) (at-v .given .1) in
-    omega (arith, row-inside d (at-loop .count) (at-loop .i) _ _ (at-loop .inv .0) h, rows-few d (at-pre .0 .0))
+    omega (arith, passed-inside d (text "%type") (at-loop .count) (at-loop .i) (at-loop .inv .0) _ _ h, rows-few d (at-pre .0 .0))
 
 add-count : tie.Need-add-count Inv-loop μ-loop
 add-count c =
@@ -143,7 +144,7 @@ add-count c =
     let at-pre = c .before .before .before .before .before .before .before .before .before .before .before .before .before .before .before .before .before .before .pre in
     let d = at-args .d .now in
     let h = value-told d (text "%type") (at-loop .i) (at-next-named .result) (at-next-named .ensures) (at-v .given .1) in
-    omega (arith, row-inside d (at-loop .count) (at-loop .i) _ _ (at-loop .inv .0) h, rows-few d (at-pre .0 .0))
+    omega (arith, passed-inside d (text "%type") (at-loop .count) (at-loop .i) (at-loop .inv .0) _ _ h, rows-few d (at-pre .0 .0))
 
 loop-less : tie.Need-loop-less Inv-loop μ-loop
 loop-less c =
@@ -169,10 +170,10 @@ loop-again c =
     let d = at-args .d .now in
     let h = value-told d (text "%type") (at-loop .i) (at-next-named .result) (at-next-named .ensures) (at-v .given .1) in
     let b = at-loop .inv .0 in
-    let l = row-inside d (at-loop .count) (at-loop .i) _ _ b h in
+    let l = passed-inside d (text "%type") (at-loop .count) (at-loop .i) b _ _ h in
     let few = rows-few d (at-pre .0 .0) in
     let k = row-kind d (at-pre .0 .0) (at-loop .count) (at-loop .i) _ _ b h (at-end-of .result) (at-end-of .ensures) (at-type-at .result) (at-text-of .result) (at-type-at .ensures) (at-text-of .ensures) in
-    (behind-more d (at-loop .count) (at-loop .i) _ _ b h, omega (arith, l), omega (arith, at-scratch .given, at-scratch2 .given, at-loop .inv .2), simp length-set (at-loop .inv .3), simp length-set (at-loop .inv .4), filled-more d (at-loop .rows) (at-loop .texts) (at-loop .count) (record { kind = at-type-at .result }) (at-text-of .result) (omega (arith, l, at-loop .inv .3)) (omega (arith, l, at-loop .inv .4)) k (at-loop .inv .5))
+    (passed-more d (text "%type") (at-loop .count) (at-loop .i) b _ _ h, omega (arith, l), omega (arith, at-scratch .given, at-scratch2 .given, at-loop .inv .2), simp length-set (at-loop .inv .3), simp length-set (at-loop .inv .4), filled-more d (at-loop .rows) (at-loop .texts) (at-loop .count) (record { kind = at-type-at .result }) (at-text-of .result) (omega (arith, l, at-loop .inv .3)) (omega (arith, l, at-loop .inv .4)) k (at-loop .inv .5))
 
 pub fill-spec : {M : Type 1} → statement M
 fill-spec =

@@ -4,7 +4,7 @@ use Prim.Native.Nat.{_-_, _≤_}
 use native.Mathlib.Omega.{arith}
 use mathlib.Core.Path.{_≡_, refl, sym, _∙_}
 use Rattle.kinds.specs.Rows.{rowsAsk}
-use Rattle.kinds.proofs.Asking.{rows-end, row-passed, row-met, row-fails, row-said}
+use Rattle.kinds.proofs.Rows.{rows-end, row-passed, row-met, row-fails, row-said}
 use Rattle.kinds.proofs.rows_met.Statement.{statement}
 use Rattle.kinds.proofs.rows_met.Tie as tie
 use Rattle.kinds.proofs.rows_met.Reads as reads
@@ -22,7 +22,7 @@ abbrev μ-loop : tie.MeasureT-loop
 loop-holds : tie.Need-loop-holds Inv-loop μ-loop
 loop-holds c =
     let at-pre = c .before .before .before .pre in
-    (omega arith, at-pre .0 .0, refl)
+    (omega arith, omega (arith, at-pre .0 .0), refl)
 
 has-requires : tie.Need-has-requires Inv-loop μ-loop
 has-requires c κs =

@@ -5,7 +5,7 @@ use mathlib.Core.Path.{ap, _∙_}
 use Rattle.lines.specs.Value.{valueFrom}
 use Rattle.words.proofs.Decoded.{decoded-all, decoded-length}
 use Rattle.kinds.specs.Meets.{rowsMet}
-use Rattle.kinds.proofs.Asking.{all-asked}
+use Rattle.kinds.proofs.Rows.{all-asked}
 use borrow.Author.Needs.{needs}
 use borrow.Author.Needs.{needs}
 use Rattle.kinds.proofs.value_met.Statement.{statement}

@@ -12,7 +12,7 @@ use Rattle.lines.specs.Value.{valueFrom}
 use Rattle.lines.proofs.Decoding.{ended, goes-on}
 use Rattle.records.proofs.Words.{word-ended, word-on}
 use Rattle.dictionary.specs.Words.{wordFrom, othersFrom}
-use Rattle.dictionary.proofs.Naming.{parts-none, parts-comma, parts-on}
+use Rattle.dictionary.proofs.Parts.{parts-none, parts-comma, parts-on}
 use Rattle.dictionary.proofs.lists.part_next.Statement.{statement}
 use Rattle.dictionary.proofs.lists.part_next.Tie as tie
 use Rattle.dictionary.proofs.lists.part_next.Reads as reads

@@ -1,7 +1,7 @@
 -- `rules::tallies::number` meets its contract: each return by the tests before it.
 use mathlib.Core.Path.{refl, sym, _∙_}
 use borrow.Author.Tests.{eq-eqb, ne-eqb, not-true, not-false}
-use Rattle.rules.proofs.Numbers.{number-by}
+use Rattle.rules.proofs.TallyNo.{number-by}
 use Rattle.rules.proofs.tallies.number.Statement.{statement}
 use Rattle.rules.proofs.tallies.number.Tie as tie
 use Rattle.rules.proofs.tallies.number.Reads as reads

@@ -1,4 +1,4 @@
--- The number of a record's tally is that of questions 8 to 11.
+-- The number of a tally, by its tests; that of a record's tally is that of questions 8 to 11.
 use Prim.Native.Nat.{ℕ, zero, suc, _≤_, _<_, min}
 use native.Mathlib.Omega.{arith}
 use mathlib.Core.Path.{_≡_, refl, sym, ap, ap₂, _∙_}
@@ -23,7 +23,14 @@ use Rattle.terms.proofs.Sets.{in-none}
 use Rattle.rules.specs.Tallies.{hasAll, tallyNo, Tallied}
 use Rattle.rules.specs.declared.tallies.Tally.{Tally}
 use Rattle.rules.proofs.Sets.{no-place, all-tested}
-use Rattle.rules.proofs.Numbers.{number-by}
+
+-- the number, test by test
+pub number-by : (t : Tally) (limited keyed : Bool) (n : ℕ) {prohibited other present keyless single repeated : Bool}
+    → t .prohibited ≡ prohibited → (limited && t .other) ≡ other → hasAll n (t .present) ≡ present → (keyed && eqb (t .keys) 0) ≡ keyless → eqb (t .twice) 0 ≡ single
+    → (keyed && ltb 1 (t .keys)) ≡ repeated
+    → tallyNo t limited keyed n ≡ pick prohibited 8 (pick other 9 (pick present (pick keyless 10 (pick single (pick repeated 11 0) 11)) 10))
+unfolding tallyNo
+number-by t limited keyed n p o h z w r = (λ i. pick (p i) 8 (pick (o i) 9 (pick (h i) (pick (z i) 10 (pick (w i) (pick (r i) 11 0) 11)) 10)))
 
 -- a test of words, place by place
 place-of : (p : Bytes → Bool) (ws : List Bytes) → all p ws ≡ true → (k : ℕ) → k < length ws → p (getD ws k []) ≡ true
