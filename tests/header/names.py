@@ -11,16 +11,6 @@ ROOT = os.path.dirname(os.path.dirname(os.path.dirname(os.path.abspath(__file__)
 
 # the home of each name's number in the code: file, struct, constant
 HOMES = {
-    'REFUSED_FORM': ('requests/src/refusals.rt', 'Refusal', 'FORM'),
-    'REFUSED_NO_SET': ('requests/src/refusals.rt', 'Refusal', 'SET'),
-    'REFUSED_NO_RECORD': ('requests/src/refusals.rt', 'Refusal', 'RECORD'),
-    'REFUSED_NO_FIELD': ('requests/src/refusals.rt', 'Refusal', 'FIELD'),
-    'REFUSED_EMPTIED': ('requests/src/refusals.rt', 'Refusal', 'EMPTIED'),
-    'REFUSED_ILLEGAL': ('requests/src/refusals.rt', 'Refusal', 'ILLEGAL'),
-    'REFUSED_LARGE': ('requests/src/refusals.rt', 'Refusal', 'LARGE'),
-    'REFUSED_ROOM': ('requests/src/refusals.rt', 'Refusal', 'ROOM'),
-    'REFUSED_RESULT': ('requests/src/refusals.rt', 'Refusal', 'RESULT'),
-    'REFUSED_RESULT_LIMIT': ('requests/src/refusals.rt', 'Refusal', 'FIELDS'),
     'MAX_FILE': ('format/src/lib.rt', 'File', 'BYTES'),
     'MAX_NAME': ('format/src/lib.rt', 'Record', 'NAME'),
     'MAX_VALUE': ('format/src/lib.rt', 'Record', 'VALUE'),
@@ -31,6 +21,8 @@ HOMES = {
     'MAX_WORDS': ('format/src/lib.rt', 'Descriptor', 'WORDS'),
     'MAX_CONTENTS': ('requests/src/encoding.rt', 'Field', 'CONTENTS'),
 }
+# refusals that have another name in the code
+LACKING = {'SET': 'NO_SET', 'RECORD': 'NO_RECORD', 'FIELD': 'NO_FIELD'}
 # the questions of a file, by the row of the definitions that asks each; tests/c/calls.c has a file for each
 ASKS = {
     'LENGTH': 'leb (f .used) (f .room)', 'BYTE': 'all isAllowed', 'LINE': 'isSome (f .reads)', 'LIMIT': 'fitsLimits', 'REC': 'describesOnce',
@@ -55,6 +47,8 @@ def main():
     wanted = {'ACCEPTED': 0}
     for name, (path, struct, constant) in HOMES.items():
         wanted[name] = constants(path, struct)[constant]
+    for name, value in constants('format/src/refusals.rt', 'Refusal').items():
+        wanted['REFUSED_' + LACKING.get(name, name)] = value
     for name, value in constants('requests/src/fields.rt', 'Tag').items():
         wanted['TAG_' + name] = value
     for name, value in constants('requests/src/kinds.rt', 'Kind').items():
@@ -64,7 +58,8 @@ def main():
         numbers = [int(number) for number, row in rows if asks in row]
         if len(numbers) != 1:
             sys.exit('%d rows of Questions.antt ask %s' % (len(numbers), asks))
-        wanted['REFUSED_' + name] = numbers[0]
+        if wanted['REFUSED_' + name] != numbers[0]:
+            sys.exit('Refusal::%s is %d, and %d asks %s' % (name, wanted['REFUSED_' + name], numbers[0], asks))
         if numbers[0] >= 8:
             wanted['REFUSED_RESULT_' + name] = wanted['REFUSED_RESULT'] + numbers[0]
     if len(rows) != len(ASKS):
