@@ -1,16 +1,19 @@
 -- What a name asks of its value: a name is one of the rows, or no row's, or does not start with `%`.
-use Prim.Native.Nat.{ℕ}
+use Prim.Native.Nat.{ℕ, suc, _+_, _≤_, _<_}
+use native.Mathlib.Omega.{arith}
 use mathlib.Core.Path.{_≡_, refl, sym, ap, _∙_, subst}
 use mathlib.Core.Bool.{Bool, true, false, _&&_, _||_, not, or-false}
-use mathlib.Core.List.{List, [], _∷_}
-use lib.ListN.{getD}
+use mathlib.Core.List.{List, [], _∷_, map}
+use lib.ListN.{length, getD}
 use borrow.Author.Tests.{eq-eqb, ne-eqb}
 use Rattle.format.specs.Lines.{isSpecial}
-use Rattle.format.specs.Bytes.{Bytes, text, any, same}
+use Rattle.format.specs.Bytes.{Bytes, text, any, same, pick}
 use Rattle.format.specs.Numbers.{intBounds}
 use Rattle.format.specs.Rules.{Shape, shapes}
 use Rattle.format.proofs.Elements.{Each}
 use Rattle.format.proofs.Listing.{same-true}
+use Rattle.words.specs.RuleNames.{placeIn, ruleNames}
+use Rattle.words.proofs.RuleNames.{is-placed}
 use Rattle.descriptors.specs.Contents.{holds, Asks}
 use Rattle.descriptors.specs.declared.shapes.Content.{Content}
 
@@ -45,18 +48,30 @@ typedef-asks v k = refl
 pub type-asks : Asks (text "%type") Content.Free
 type-asks v k = refl
 
--- a name that is found to be one of them
-pub asks-is : (n m : Bytes) (c : Content) (t : Bool) → Asks m c → t ≡ same n m → t ≡ true → Asks n c
-asks-is n m c t a e h = subst (λ (x : Bytes). Asks x c) (sym (same-true n m (sym e ∙ h))) a
+-- a name that has the place of one of them
+pub asks-at : (n m : Bytes) (c : Content) (r k : ℕ) → r ≡ placeIn n ruleNames → getD ruleNames k [] ≡ m → k < length ruleNames → same m m ≡ true → Asks m c → r ≡ k → Asks n c
+asks-at n m c r k e f h s a q = subst (λ (x : Bytes). Asks x c) (same-true m n (is-placed n m ruleNames r k e f h s q)) a
 
--- one that is none of them
+-- one that has none of their places
+pub above : (r k : ℕ) → k ≤ r → (r ≡ k → ⊥) → k + 1 ≤ r
+above r k h e = omega (arith, h, e)
+
+rows-passed : (n : Bytes) (xs : List Shape) → length xs ≤ placeIn n (map (λ (x : Shape). x .name) xs) → Each (λ (x : Shape). same n (x .name) ≡ false) xs
+rows-passed n [] h = tt
+rows-passed n (x ∷ xs) h = go (same n (x .name)) refl (λ g. rows-passed n xs g) h
+  where
+    go : (b : Bool) → same n (x .name) ≡ b → (length xs ≤ placeIn n (map (λ (y : Shape). y .name) xs) → Each (λ (y : Shape). same n (y .name) ≡ false) xs) → suc (length xs) ≤ pick b 0 (suc (placeIn n (map (λ (y : Shape). y .name) xs))) → Each (λ (y : Shape). same n (y .name) ≡ false) (x ∷ xs)
+    go true q ih g = absurd (omega (arith, g))
+    go false q ih g = (q, ih (omega (arith, g)))
+
 no-row : (n v : Bytes) (xs : List Shape) → Each (λ (x : Shape). same n (x .name) ≡ false) xs → any (λ (x : Shape). same n (x .name) && x .fits v) xs ≡ false
 no-row n v [] h = refl
 no-row n v (x ∷ xs) h = ap (λ (b : Bool). (b && x .fits v) || any (λ (y : Shape). same n (y .name) && y .fits v) xs) (h .0) ∙ no-row n v xs (h .1)
 
-pub asks-none : (n : Bytes) → isSpecial n ≡ true → Each (λ (x : Shape). same n (x .name) ≡ false) (shapes intBounds) → Asks n Content.Fault
-asks-none n s h v k =
-    ap (λ (b : Bool). not b || any (λ (x : Shape). same n (x .name) && x .fits v) (shapes intBounds)) s ∙ no-row n v (shapes intBounds) h
+pub asks-none : (n : Bytes) (r : ℕ) → isSpecial n ≡ true → r ≡ placeIn n ruleNames → length ruleNames ≤ r → Asks n Content.Fault
+asks-none n r s e h v k =
+    ap (λ (b : Bool). not b || any (λ (x : Shape). same n (x .name) && x .fits v) (shapes intBounds)) s
+    ∙ no-row n v (shapes intBounds) (rows-passed n (shapes intBounds) (omega (arith, e, h)))
 
 -- one that does not start with `%`, by its first byte
 module _ (n : Bytes) (b : ℕ) (e : b ≡ getD n 0 0) where

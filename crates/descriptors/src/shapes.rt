@@ -28,6 +28,7 @@ use super::sizes::size_rule;
 use format::Descriptor;
 use records::FoundField;
 use records::NextField;
+use words::Rule;
 use words::Span;
 use words::Word;
 
@@ -78,11 +79,10 @@ fn each_name(s: &[u8]) -> bool
         let Word::At { start, end } = w else {
             return true;
         };
-        if words::is_name(&s[start..end]) {
-            i = end;
-        } else {
+        if !words::is_name(&s[start..end]) {
             return false;
         }
+        i = end;
     }
 }
 
@@ -112,37 +112,20 @@ fn special_content(name: &[u8]) -> Content
     requires { ⌜ isSpecial (now name) ≡ true ⌝ }
     ensures { λ r. ⌜ Asks (now (name .entry)) r ⌝ }
 {
-    if lines::same_bytes(name, b"%rec") {
-        return Content::TypeName;
+    let k = words::rule_of(name);
+    match k {
+        Rule::REC => Content::TypeName,
+        Rule::DOC => Content::Free,
+        Rule::MANDATORY => Content::Names,
+        Rule::PROHIBIT => Content::Names,
+        Rule::ALLOWED => Content::Names,
+        Rule::UNIQUE => Content::Names,
+        Rule::KEY => Content::Name,
+        Rule::SIZE => Content::Size,
+        Rule::TYPEDEF => Content::Free,
+        Rule::TYPE => Content::Free,
+        _ => Content::Fault,
     }
-    if lines::same_bytes(name, b"%doc") {
-        return Content::Free;
-    }
-    if lines::same_bytes(name, b"%mandatory") {
-        return Content::Names;
-    }
-    if lines::same_bytes(name, b"%prohibit") {
-        return Content::Names;
-    }
-    if lines::same_bytes(name, b"%allowed") {
-        return Content::Names;
-    }
-    if lines::same_bytes(name, b"%unique") {
-        return Content::Names;
-    }
-    if lines::same_bytes(name, b"%key") {
-        return Content::Name;
-    }
-    if lines::same_bytes(name, b"%size") {
-        return Content::Size;
-    }
-    if lines::same_bytes(name, b"%typedef") {
-        return Content::Free;
-    }
-    if lines::same_bytes(name, b"%type") {
-        return Content::Free;
-    }
-    Content::Fault
 }
 
 // What a field's name asks of its value.
@@ -199,11 +182,10 @@ fn all_shaped(d: &[u8], scratch: &mut [u8]) -> bool
         else {
             return true;
         };
-        if field_shaped(&d[start..named], &d[value..end], scratch) {
-            i = end;
-        } else {
+        if !field_shaped(&d[start..named], &d[value..end], scratch) {
             return false;
         }
+        i = end;
     }
 }
 
@@ -230,15 +212,13 @@ pub fn well_formed(d: &[u8], scratch: &mut [u8]) -> bool
     requires { ⌜ valueBytes ≤ length (now scratch) ⌝ }
     ensures { λ r. ⌜ (r ≡ isWellFormed intBounds (fieldsOf (readOf (now (d .entry))))) × (length (now (scratch .exit)) ≡ length (now (scratch .entry))) ⌝ }
 {
-    if all_shaped(d, scratch) {
-        if at_most_once(d, b"%key") {
-            at_most_once(d, b"%size")
-        } else {
-            false
-        }
-    } else {
-        false
+    if !all_shaped(d, scratch) {
+        return false;
     }
+    if !at_most_once(d, b"%key") {
+        return false;
+    }
+    at_most_once(d, b"%size")
 }
 
 // Where the first `%rec` value of a descriptor stands in it.
@@ -305,19 +285,17 @@ fn head_of(
     requires { ⌜ valueBytes ≤ length (now scratch) ⌝ }
     ensures { λ r. ⌜ Told (now (s .entry)) (fieldsOf (readOf (span a e (now (s .entry))))) (namesAt (now (s .entry)) (now (starts .entry)) (now (ends .entry))) r × (length (now (scratch .exit)) ≡ length (now (scratch .entry))) ⌝ }
 {
-    if well_formed(&s[a..e], scratch) {
-        let v = rec_value(&s[a..e]);
-        let start = a + v.start;
-        let end = a + v.end;
-        let n = lines::copy_value(&s[start..end], scratch);
-        if is_taken(s, starts, ends, &scratch[..n]) {
-            Head::Fault
-        } else {
-            Head::Named { start, end }
-        }
-    } else {
-        Head::Fault
+    if !well_formed(&s[a..e], scratch) {
+        return Head::Fault;
     }
+    let v = rec_value(&s[a..e]);
+    let start = a + v.start;
+    let end = a + v.end;
+    let n = lines::copy_value(&s[start..end], scratch);
+    if is_taken(s, starts, ends, &scratch[..n]) {
+        return Head::Fault;
+    }
+    Head::Named { start, end }
 }
 
 // Question 6: are all descriptors well formed, and no two sets called alike? count of them stand in s, from each start to the end beside it.

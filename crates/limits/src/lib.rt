@@ -24,6 +24,7 @@ use format::Record;
 use lines::Decoded;
 use lines::Next;
 use records::NextField;
+use words::Rule;
 
 // One where a test holds, else none.
 fn one_if(b: bool) -> usize
@@ -66,7 +67,7 @@ fn value_bound(s: &[u8]) -> usize
 fn is_special(name: &[u8]) -> bool
     ensures { λ r. ⌜ r ≡ isSpecial (now (name .entry)) ⌝ }
 {
-    lines::byte(name, 0) == 37
+    lines::byte(name, 0) == b'%'
 }
 
 // A record that goes on: how many fields it has so far, whether one of them has a `%` name, how many are `%rec`, where the first begins and where the last ends.
@@ -154,31 +155,36 @@ fn counted(d: Descriptor, name: &[u8], value: &[u8]) -> Descriptor
     ensures { λ r. ⌜ (r ≡ countOn d (now (name .entry)) (valueFrom (now (value .entry)))) × (total r ≤ total d + 1 + length (now (value .entry))) ⌝ }
 {
     let mut c = d;
-    if lines::same_bytes(b"%typedef", name) {
-        c.typedefs += 1;
-        return c;
+    let k = words::rule_of(name);
+    match k {
+        Rule::TYPEDEF => {
+            c.typedefs += 1;
+            return c;
+        }
+        Rule::TYPE => {
+            c.types += 1;
+            return c;
+        }
+        Rule::MANDATORY => {
+            c.mandatory += count_words(value);
+            return c;
+        }
+        Rule::PROHIBIT => {
+            c.prohibited += count_words(value);
+            return c;
+        }
+        Rule::ALLOWED => {
+            c.allowed += count_words(value);
+            return c;
+        }
+        Rule::UNIQUE => {
+            c.unique += count_words(value);
+            return c;
+        }
+        _ => {
+            return c;
+        }
     }
-    if lines::same_bytes(b"%type", name) {
-        c.types += 1;
-        return c;
-    }
-    if lines::same_bytes(b"%mandatory", name) {
-        c.mandatory += count_words(value);
-        return c;
-    }
-    if lines::same_bytes(b"%prohibit", name) {
-        c.prohibited += count_words(value);
-        return c;
-    }
-    if lines::same_bytes(b"%allowed", name) {
-        c.allowed += count_words(value);
-        return c;
-    }
-    if lines::same_bytes(b"%unique", name) {
-        c.unique += count_words(value);
-        return c;
-    }
-    c
 }
 
 // Are the limits of a descriptor held by the fields of a part?
@@ -278,7 +284,7 @@ fn walk_pieces(
                 let named = i + name;
                 let from = i + value;
                 let e = i + size;
-                if field_fits(o.fields, name, &s[from..e]) {} else {
+                if !field_fits(o.fields, name, &s[from..e]) {
                     return past(&s[e..]);
                 }
                 o = with_field(o, &s[i..named], i, e);
@@ -316,7 +322,7 @@ fn rules_held(s: &[u8], starts: &[usize], ends: &[usize], count: usize) -> bool
     while k < count {
         let a = starts[k];
         let e = ends[k];
-        if rules_fit(&s[a..e]) {} else {
+        if !rules_fit(&s[a..e]) {
             return false;
         }
         k += 1;
@@ -358,7 +364,7 @@ pub fn bounds_of(
             if count > Descriptor::COUNT {
                 return Bounded::Past;
             }
-            if rules_held(s, starts, ends, count) {} else {
+            if !rules_held(s, starts, ends, count) {
                 return Bounded::Past;
             }
             if once {

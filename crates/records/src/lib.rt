@@ -26,7 +26,7 @@ pub fn is_readable(s: &[u8]) -> bool
     if len == 0 {
         return true;
     }
-    if s[len - 1] != 10 {
+    if s[len - 1] != b'\n' {
         return false;
     }
     let mut i = 0;

@@ -2,6 +2,7 @@
 ghost use mathlib.Core.Path.{_≡_};
 ghost use mathlib.Core.Bool.{true};
 ghost use Rattle.records.specs.Places.{isReadable};
+use format::Record;
 use records::NextField;
 use records::NextRecord;
 
@@ -63,7 +64,7 @@ fn dump_record(s: &[u8])
 fn dump_value(s: &[u8]) {
     let mut value = io::buffer();
     let n = lines::value_len(s);
-    if 4096 < n {
+    if Record::VALUE < n {
         io::write_all(1, b" (over 4,096 bytes)");
         return;
     }
@@ -75,7 +76,7 @@ fn dump_value(s: &[u8]) {
     while i < n {
         let e = i + 1;
         io::write_all(1, &value[i..e]);
-        if value[i] == 10 {
+        if value[i] == b'\n' {
             io::write_all(1, b"+ ");
         }
         i = e;

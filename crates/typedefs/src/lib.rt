@@ -324,7 +324,7 @@ fn parts_named(s: &[u8]) -> bool
 {
     let mut i = 0;
     loop {
-        let e = words::part_end(s, i, 44);
+        let e = words::part_end(s, i, b',');
         if !words::is_name(&s[i..e]) {
             return false;
         }

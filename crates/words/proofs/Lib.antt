@@ -5,3 +5,4 @@ pub mod Finding
 pub mod Splitting
 pub mod Trimming
 pub mod Naming
+pub mod RuleNames

@@ -9,6 +9,12 @@ ghost use Rattle.format.specs.Words.{isGap, notGap, trim, isTypeName};
 ghost use Rattle.words.specs.Spans.{span, runEnd, notByte, wordAt};
 use format::Class;
 
+mod rules;
+
+pub use rules::Rule;
+pub use rules::rule_of;
+pub use rules::word_place;
+
 // Is this byte a blank or a newline?
 pub fn is_gap(b: u8) -> bool
     ensures { λ r. ⌜ r ≡ isGap b ⌝ }

@@ -6,6 +6,7 @@ use Rattle.format.proofs.Records.{records}
 use Rattle.limits.specs.Bounds.{Scanned}
 use Rattle.limits.proofs.Questions.{past-told, rules-told, many-told, all-told}
 use borrow.Author.Needs.{needs}
+use borrow.Author.Tests.{not-true, not-false}
 use Rattle.limits.proofs.bounds_of.Statement.{statement}
 use Rattle.limits.proofs.bounds_of.Tie as tie
 use Rattle.limits.proofs.bounds_of.Reads as reads
@@ -103,7 +104,7 @@ returns-4 c =
     let at-r = c .before .before .before .before .before .before .r in
     let at-rules-held = c .before .rules-held in
     let at-if2 = c .if2 in
-    let rs = records (readOf (at-args .s .now)) in let t = subst (Scanned (at-args .s .now) (at-walk-pieces .last .1 .1 .0) (at-walk-pieces .last .1 .1 .1 .0) (at-walk-pieces .last .1 .1 .1 .1 .0)) (at-r .given .1) (at-walk-pieces .ensures) in (t .0, rules-told rs (sym (at-rules-held .ensures) ∙ at-if2 .left))
+    let rs = records (readOf (at-args .s .now)) in let t = subst (Scanned (at-args .s .now) (at-walk-pieces .last .1 .1 .0) (at-walk-pieces .last .1 .1 .1 .0) (at-walk-pieces .last .1 .1 .1 .1 .0)) (at-r .given .1) (at-walk-pieces .ensures) in (t .0, rules-told rs (sym (at-rules-held .ensures) ∙ not-true (at-rules-held .result) (at-if2 .taken)))
 
 same-length-13 : tie.Need-same-length-13
 same-length-13 c = search needs
@@ -123,7 +124,7 @@ returns-5 c =
     let at-if2 = c .before .if2 in
     let at-if1 = c .before .before .before .before .before .if1 in
     let at-if3 = c .if3 in
-    let rs = records (readOf (at-args .s .now)) in let t = subst (Scanned (at-args .s .now) (at-walk-pieces .last .1 .1 .0) (at-walk-pieces .last .1 .1 .1 .0) (at-walk-pieces .last .1 .1 .1 .1 .0)) (at-r .given .1) (at-walk-pieces .ensures) in (t .0, all-told rs (t .1) (sym (at-rules-held .ensures) ∙ at-if2 .taken) (omega (arith, t .3, at-if1 .left)), t .2 ∙ at-if3 .taken, t .3, t .4 (at-if1 .left))
+    let rs = records (readOf (at-args .s .now)) in let t = subst (Scanned (at-args .s .now) (at-walk-pieces .last .1 .1 .0) (at-walk-pieces .last .1 .1 .1 .0) (at-walk-pieces .last .1 .1 .1 .1 .0)) (at-r .given .1) (at-walk-pieces .ensures) in (t .0, all-told rs (t .1) (sym (at-rules-held .ensures) ∙ not-false (at-rules-held .result) (at-if2 .left)) (omega (arith, t .3, at-if1 .left)), t .2 ∙ at-if3 .taken, t .3, t .4 (at-if1 .left))
 
 same-length-16 : tie.Need-same-length-16
 same-length-16 c = search needs
@@ -143,7 +144,7 @@ returns-6 c =
     let at-if2 = c .before .if2 in
     let at-if1 = c .before .before .before .before .before .if1 in
     let at-if3 = c .if3 in
-    let rs = records (readOf (at-args .s .now)) in let t = subst (Scanned (at-args .s .now) (at-walk-pieces .last .1 .1 .0) (at-walk-pieces .last .1 .1 .1 .0) (at-walk-pieces .last .1 .1 .1 .1 .0)) (at-r .given .1) (at-walk-pieces .ensures) in (t .0, all-told rs (t .1) (sym (at-rules-held .ensures) ∙ at-if2 .taken) (omega (arith, t .3, at-if1 .left)), t .2 ∙ at-if3 .left)
+    let rs = records (readOf (at-args .s .now)) in let t = subst (Scanned (at-args .s .now) (at-walk-pieces .last .1 .1 .0) (at-walk-pieces .last .1 .1 .1 .0) (at-walk-pieces .last .1 .1 .1 .1 .0)) (at-r .given .1) (at-walk-pieces .ensures) in (t .0, all-told rs (t .1) (sym (at-rules-held .ensures) ∙ not-false (at-rules-held .result) (at-if2 .left)) (omega (arith, t .3, at-if1 .left)), t .2 ∙ at-if3 .left)
 
 pub bounds-of-spec : {M : Type 1} → statement M
 bounds-of-spec =

@@ -1,5 +1,6 @@
 -- `limits::rules_held` meets its contract. The invariant: the limits of all descriptors are held where those from row k on are. The measure is the number of rows left.
 use borrow.Author.Needs.{needs}
+use borrow.Author.Tests.{not-true, not-false}
 use Prim.Native.Nat.{ℕ, _+_, _-_, _≤_}
 use native.Mathlib.Omega.{arith}
 use mathlib.Core.Path.{_≡_, refl, sym, ap, _∙_}
@@ -82,7 +83,7 @@ returns c =
     let at-args = c .before .before .before .before .before .before .before .before .before .before .args in
     let at-rules-fit = c .before .rules-fit in
     let at-if1 = c .if1 in
-    sym (at-loop .inv .2 ∙ ap (all fitsRules) (row-heads (at-loop .inv .0 .1) (at-loop .k) (at-loop-test .taken)) ∙ ap (λ (b : Bool). b && all fitsRules (heads (recordsFrom (at-args .s .now) (rowFrom (at-loop .inv .0 .0) (at-loop .k + 1))))) (sym (at-rules-fit .ensures) ∙ at-if1 .left))
+    sym (at-loop .inv .2 ∙ ap (all fitsRules) (row-heads (at-loop .inv .0 .1) (at-loop .k) (at-loop-test .taken)) ∙ ap (λ (b : Bool). b && all fitsRules (heads (recordsFrom (at-args .s .now) (rowFrom (at-loop .inv .0 .0) (at-loop .k + 1))))) (sym (at-rules-fit .ensures) ∙ not-true (at-rules-fit .result) (at-if1 .taken)))
 
 add-k : tie.Need-add-k Inv-loop μ-loop
 add-k c = search needs
@@ -97,7 +98,7 @@ loop-again c =
     let at-args = c .before .before .before .before .before .before .before .before .before .before .args in
     let at-rules-fit = c .before .rules-fit in
     let at-if1 = c .if1 in
-    (at-loop .inv .0, omega (arith, at-loop-test .taken), at-loop .inv .2 ∙ ap (all fitsRules) (row-heads (at-loop .inv .0 .1) (at-loop .k) (at-loop-test .taken)) ∙ ap (λ (b : Bool). b && all fitsRules (heads (recordsFrom (at-args .s .now) (rowFrom (at-loop .inv .0 .0) (at-loop .k + 1))))) (sym (at-rules-fit .ensures) ∙ at-if1 .taken))
+    (at-loop .inv .0, omega (arith, at-loop-test .taken), at-loop .inv .2 ∙ ap (all fitsRules) (row-heads (at-loop .inv .0 .1) (at-loop .k) (at-loop-test .taken)) ∙ ap (λ (b : Bool). b && all fitsRules (heads (recordsFrom (at-args .s .now) (rowFrom (at-loop .inv .0 .0) (at-loop .k + 1))))) (sym (at-rules-fit .ensures) ∙ not-false (at-rules-fit .result) (at-if1 .left)))
 
 returns-2 : tie.Need-returns-2 Inv-loop μ-loop
 returns-2 c =

@@ -1,6 +1,7 @@
 -- `limits::walk_pieces` meets its contract. The invariant: the file is readable where the part from i on is; where it is, `Walked` tells what is known at i of the record that
 -- goes on, of the records before it, and of their descriptors. The measure is what is left of the file.
 use borrow.Author.Needs.{needs}
+use borrow.Author.Tests.{not-true, not-false}
 use Prim.Native.Nat.{_+_, _-_, _≤_}
 use native.Mathlib.Omega.{arith}
 use mathlib.Core.Path.{_≡_, refl, sym, ap, _∙_, subst}
@@ -202,7 +203,7 @@ returns c =
     let at-past = c .past in
     let at-field-fits = c .before .before .before .field-fits in
     let at-if1 = c .before .before .if1 in
-    let p = (looks (at-args .s .now) (at-loop .i) (at-next-piece .result) (at-pre .1 .0 .0) (at-next-piece .ensures) (at-n2 .given .1)) in let g = at-n2 .given .0 in past-scanned (at-args .s .now) (at-loop .starts) (at-loop .ends) (at-loop .afters) (at-past .result) (at-loop .i + g .1 .1 .0) (at-loop .inv .1 ∙ p .0) (at-past .ensures) (λ r. walked-past (at-loop .inv .8 r) (g .0) (g .1 .0) (g .1 .1 .0) (steps (at-args .s .now) (at-loop .i) (at-next-piece .result) (sym (at-loop .inv .1) ∙ r) (at-next-piece .ensures) (at-n2 .given .1)) (at-field-fits .result) (at-field-fits .ensures) (at-if1 .left))
+    let p = (looks (at-args .s .now) (at-loop .i) (at-next-piece .result) (at-pre .1 .0 .0) (at-next-piece .ensures) (at-n2 .given .1)) in let g = at-n2 .given .0 in past-scanned (at-args .s .now) (at-loop .starts) (at-loop .ends) (at-loop .afters) (at-past .result) (at-loop .i + g .1 .1 .0) (at-loop .inv .1 ∙ p .0) (at-past .ensures) (λ r. walked-past (at-loop .inv .8 r) (g .0) (g .1 .0) (g .1 .1 .0) (steps (at-args .s .now) (at-loop .i) (at-next-piece .result) (sym (at-loop .inv .1) ∙ r) (at-next-piece .ensures) (at-n2 .given .1)) (at-field-fits .result) (at-field-fits .ensures) (not-true (at-field-fits .result) (at-if1 .taken)))
 
 sub-with-field : tie.Need-sub-with-field Inv-loop μ-loop
 sub-with-field c =
@@ -256,8 +257,8 @@ loop-again-2 c =
     let at-field-fits = c .before .before .before .field-fits in
     let at-if1 = c .before .before .if1 in
     let p = (looks (at-args .s .now) (at-loop .i) (at-next-piece .result) (at-pre .1 .0 .0) (at-next-piece .ensures) (at-n2 .given .1)) in let g = at-n2 .given .0 in let e = at-with-field .ensures in
-    let few = field-few (at-loop .o .fields) (leb (g .0) nameBytes) (leb (length (valueFrom (take ((at-loop .i + g .1 .1 .0) - (at-loop .i + g .1 .0)) (drop (at-loop .i + g .1 .0) (at-args .s .now))))) valueBytes) (at-field-fits .result) (at-field-fits .ensures) (at-if1 .taken) in
-    (p .2, at-loop .inv .1 ∙ p .0, omega (arith, ap (λ (x : Open). x .fields) e, few), omega (arith, ap (λ (x : Open). x .fields) e, ap (λ (x : Open). x .recs) e, at-loop .inv .3, one-most (same (text "%rec") (take ((at-loop .i + g .0) - at-loop .i) (drop (at-loop .i) (at-args .s .now))))), omega (arith, at-loop .inv .4), at-loop .inv .5, at-loop .inv .6, at-loop .inv .7, λ r. walked-field (at-loop .inv .8 r) (g .0) (g .1 .0) (g .1 .1 .0) (steps (at-args .s .now) (at-loop .i) (at-next-piece .result) (sym (at-loop .inv .1) ∙ r) (at-next-piece .ensures) (at-n2 .given .1)) (at-field-fits .result) (at-field-fits .ensures) (at-if1 .taken) (at-with-field .result) e)
+    let few = field-few (at-loop .o .fields) (leb (g .0) nameBytes) (leb (length (valueFrom (take ((at-loop .i + g .1 .1 .0) - (at-loop .i + g .1 .0)) (drop (at-loop .i + g .1 .0) (at-args .s .now))))) valueBytes) (at-field-fits .result) (at-field-fits .ensures) (not-false (at-field-fits .result) (at-if1 .left)) in
+    (p .2, at-loop .inv .1 ∙ p .0, omega (arith, ap (λ (x : Open). x .fields) e, few), omega (arith, ap (λ (x : Open). x .fields) e, ap (λ (x : Open). x .recs) e, at-loop .inv .3, one-most (same (text "%rec") (take ((at-loop .i + g .0) - at-loop .i) (drop (at-loop .i) (at-args .s .now))))), omega (arith, at-loop .inv .4), at-loop .inv .5, at-loop .inv .6, at-loop .inv .7, λ r. walked-field (at-loop .inv .8 r) (g .0) (g .1 .0) (g .1 .1 .0) (steps (at-args .s .now) (at-loop .i) (at-next-piece .result) (sym (at-loop .inv .1) ∙ r) (at-next-piece .ensures) (at-n2 .given .1)) (at-field-fits .result) (at-field-fits .ensures) (not-false (at-field-fits .result) (at-if1 .left)) (at-with-field .result) e)
 
 enum-known-n-3 : tie.Need-enum-known-n-3 Inv-loop μ-loop
 enum-known-n-3 c = search needs

@@ -1,6 +1,7 @@
 -- `descriptors::shapes::all_shaped` meets its contract. The invariant: the part from i on is readable and holds the limits, the scratch keeps its length, and all fields pass
 -- if those from i on do, and only then. The measure is what is left of the length.
 use borrow.Author.Needs.{needs}
+use borrow.Author.Tests.{not-true, not-false}
 use Prim.Native.Nat.{_-_, _≤_}
 use native.Mathlib.Omega.{arith}
 use mathlib.Core.Path.{_≡_, refl, sym, ap, _∙_}
@@ -130,6 +131,28 @@ field-shaped-requires c κs =
     let h = all-both fitsField (fieldsFrom d i) x rest (f .fields) (at-loop .inv .2) in
     (omega (arith, fits-value x (h .0), at-pre .1 .1, at-loop .inv .3))
 
+same-length-2 : tie.Need-same-length-2 Inv-loop μ-loop
+same-length-2 c =
+    let at-field-shaped = c .before .before .before .field-shaped in
+    let at-loop = c .before .before .before .before .before .before .before .before .before .before .before .loop in
+    at-field-shaped .ensures .1 ∙ at-loop .inv .3
+
+returns-2 : tie.Need-returns-2 Inv-loop μ-loop
+returns-2 c =
+    let at-args = c .before .before .before .before .before .before .before .before .before .before .before .before .before .before .args in
+    let at-loop = c .before .before .before .before .before .before .before .before .before .before .before .loop in
+    let at-n = c .before .before .before .before .before .before .before .before .n in
+    let at-next-field = c .before .before .before .before .before .before .before .before .before .before .next-field in
+    let at-field-shaped = c .before .before .before .field-shaped in
+    let at-if1 = c .if1 in
+    let d = at-args .d .now in
+    let i = at-loop .i in
+    let g = at-n .given .0 in
+    let f = next-told d i (at-next-field .result) (at-next-field .ensures) (at-n .given .1) in
+    let x = fieldBetween d (g .0) (g .1 .0) (g .1 .1 .0) (g .1 .1 .1 .0) in
+    let rest = fieldsFrom d (g .1 .1 .1 .0) in
+    (sym (at-loop .inv .4 ∙ all-stop (isShaped intBounds) (fieldsFrom d i) x rest (f .fields) (sym (at-field-shaped .ensures .0 (x .count)) ∙ not-true (at-field-shaped .result) (at-if1 .taken))), at-field-shaped .ensures .1 ∙ at-loop .inv .3)
+
 loop-less : tie.Need-loop-less Inv-loop μ-loop
 loop-less c =
     let at-args = c .before .before .before .before .before .before .before .before .before .before .before .before .before .before .args in
@@ -154,29 +177,7 @@ loop-again c =
     let x = fieldBetween d (g .0) (g .1 .0) (g .1 .1 .0) (g .1 .1 .1 .0) in
     let rest = fieldsFrom d (g .1 .1 .1 .0) in
     let h = all-both fitsField (fieldsFrom d i) x rest (f .fields) (at-loop .inv .2) in
-    (f .inside, f .readable, h .1, at-field-shaped .ensures .1 ∙ at-loop .inv .3, at-loop .inv .4 ∙ all-more (isShaped intBounds) (fieldsFrom d i) x rest (f .fields) (sym (at-field-shaped .ensures .0 (x .count)) ∙ at-if1 .taken))
-
-same-length-2 : tie.Need-same-length-2 Inv-loop μ-loop
-same-length-2 c =
-    let at-field-shaped = c .before .before .before .field-shaped in
-    let at-loop = c .before .before .before .before .before .before .before .before .before .before .before .loop in
-    at-field-shaped .ensures .1 ∙ at-loop .inv .3
-
-returns-2 : tie.Need-returns-2 Inv-loop μ-loop
-returns-2 c =
-    let at-args = c .before .before .before .before .before .before .before .before .before .before .before .before .before .before .args in
-    let at-loop = c .before .before .before .before .before .before .before .before .before .before .before .loop in
-    let at-n = c .before .before .before .before .before .before .before .before .n in
-    let at-next-field = c .before .before .before .before .before .before .before .before .before .before .next-field in
-    let at-field-shaped = c .before .before .before .field-shaped in
-    let at-if1 = c .if1 in
-    let d = at-args .d .now in
-    let i = at-loop .i in
-    let g = at-n .given .0 in
-    let f = next-told d i (at-next-field .result) (at-next-field .ensures) (at-n .given .1) in
-    let x = fieldBetween d (g .0) (g .1 .0) (g .1 .1 .0) (g .1 .1 .1 .0) in
-    let rest = fieldsFrom d (g .1 .1 .1 .0) in
-    (sym (at-loop .inv .4 ∙ all-stop (isShaped intBounds) (fieldsFrom d i) x rest (f .fields) (sym (at-field-shaped .ensures .0 (x .count)) ∙ at-if1 .left)), at-field-shaped .ensures .1 ∙ at-loop .inv .3)
+    (f .inside, f .readable, h .1, at-field-shaped .ensures .1 ∙ at-loop .inv .3, at-loop .inv .4 ∙ all-more (isShaped intBounds) (fieldsFrom d i) x rest (f .fields) (sym (at-field-shaped .ensures .0 (x .count)) ∙ not-false (at-field-shaped .result) (at-if1 .left)))
 
 pub all-shaped-spec : {M : Type 1} → statement M
 all-shaped-spec =
@@ -197,7 +198,7 @@ all-shaped-spec =
     part-field-shaped-start-2
     part-field-shaped-end-2
     field-shaped-requires
-    loop-less
-    loop-again
     same-length-2
-    returns-2)
+    returns-2
+    loop-less
+    loop-again)

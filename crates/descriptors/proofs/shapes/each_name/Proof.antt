@@ -1,6 +1,7 @@
 -- `descriptors::shapes::each_name` meets its contract. The invariant: all words are names if all from i on are, and only then.
 -- The measure is what is left of the length.
 use borrow.Author.Needs.{needs}
+use borrow.Author.Tests.{not-true, not-false}
 use Prim.Native.Nat.{_≤_, _-_}
 use native.Mathlib.Omega.{arith}
 use mathlib.Core.Path.{_≡_, refl, sym, ap, _∙_}
@@ -71,6 +72,19 @@ part-is-name-end c =
 is-name-requires : tie.Need-is-name-requires Inv-loop μ-loop
 is-name-requires c κs = search needs
 
+returns-2 : tie.Need-returns-2 Inv-loop μ-loop
+returns-2 c =
+    let at-args = c .before .before .before .before .before .before .before .before .before .args in
+    let at-w = c .before .before .before .before .w in
+    let at-loop = c .before .before .before .before .before .before .before .loop in
+    let at-next-word = c .before .before .before .before .before .before .next-word in
+    let at-is-name = c .before .is-name in
+    let at-if1 = c .if1 in
+    let s = at-args .s .now in
+    let g = at-w .given in
+    let f = found s (at-loop .i) (at-next-word .ensures) (g .1) (at-loop .inv .0) in
+    sym (at-loop .inv .1 ∙ all-stop isName (words (drop (at-loop .i) s)) (span (g .0 .0) (g .0 .1 .0) s) (words (drop (g .0 .1 .0) s)) (f .3) (sym (at-is-name .ensures) ∙ not-true (at-is-name .result) (at-if1 .taken)))
+
 loop-less : tie.Need-loop-less Inv-loop μ-loop
 loop-less c =
     let at-args = c .before .before .before .before .before .before .before .before .before .args in
@@ -90,20 +104,7 @@ loop-again c =
     let s = at-args .s .now in
     let g = at-w .given in
     let f = found s (at-loop .i) (at-next-word .ensures) (g .1) (at-loop .inv .0) in
-    (f .2, at-loop .inv .1 ∙ all-more isName (words (drop (at-loop .i) s)) (span (g .0 .0) (g .0 .1 .0) s) (words (drop (g .0 .1 .0) s)) (f .3) (sym (at-is-name .ensures) ∙ at-if1 .taken))
-
-returns-2 : tie.Need-returns-2 Inv-loop μ-loop
-returns-2 c =
-    let at-args = c .before .before .before .before .before .before .before .before .before .args in
-    let at-w = c .before .before .before .before .w in
-    let at-loop = c .before .before .before .before .before .before .before .loop in
-    let at-next-word = c .before .before .before .before .before .before .next-word in
-    let at-is-name = c .before .is-name in
-    let at-if1 = c .if1 in
-    let s = at-args .s .now in
-    let g = at-w .given in
-    let f = found s (at-loop .i) (at-next-word .ensures) (g .1) (at-loop .inv .0) in
-    sym (at-loop .inv .1 ∙ all-stop isName (words (drop (at-loop .i) s)) (span (g .0 .0) (g .0 .1 .0) s) (words (drop (g .0 .1 .0) s)) (f .3) (sym (at-is-name .ensures) ∙ at-if1 .left))
+    (f .2, at-loop .inv .1 ∙ all-more isName (words (drop (at-loop .i) s)) (span (g .0 .0) (g .0 .1 .0) s) (words (drop (g .0 .1 .0) s)) (f .3) (sym (at-is-name .ensures) ∙ not-false (at-is-name .result) (at-if1 .left)))
 
 pub each-name-spec : {M : Type 1} → statement M
 each-name-spec =
@@ -120,6 +121,6 @@ each-name-spec =
     part-is-name-start
     part-is-name-end
     is-name-requires
+    returns-2
     loop-less
-    loop-again
-    returns-2)
+    loop-again)

@@ -13,6 +13,7 @@ use Rattle.words.proofs.Decoded.{decoded-all, decoded-length, decoded-inside, s
 use Rattle.descriptors.proofs.Naming.{name-inside, name-part, value-part}
 use Rattle.descriptors.proofs.Judging.{fault-told, taken-told, new-told}
 use borrow.Author.Needs.{needs}
+use borrow.Author.Tests.{not-true, not-false}
 use Rattle.descriptors.proofs.shapes.head_of.Statement.{statement}
 use Rattle.descriptors.proofs.shapes.head_of.Tie as tie
 use Rattle.descriptors.proofs.shapes.head_of.Reads as reads
@@ -41,6 +42,16 @@ well-formed-requires : tie.Need-well-formed-requires
 well-formed-requires c κs =
     let at-pre = c .before .before .before .before .before .before .pre in
     ((at-pre .1 .0, (at-pre .1 .1 .0, at-pre .1 .1 .1 .1)))
+
+same-length : tie.Need-same-length
+same-length c = search needs
+
+returns : tie.Need-returns
+returns c =
+    let at-args = c .before .before .before .before .before .before .before .before .before .before .args in
+    let at-well-formed = c .before .before .before .well-formed in
+    let at-if1 = c .if1 in
+    (fault-told (fieldsOf (readOf (span (at-args .a) (at-args .e) (at-args .s .now)))) (namesAt (at-args .s .now) (at-args .starts .now) (at-args .ends .now)) (at-well-formed .result) (at-well-formed .ensures .0) (not-true (at-well-formed .result) (at-if1 .taken)), at-well-formed .ensures .1)
 
 sub-rec-value : tie.Need-sub-rec-value
 sub-rec-value c =
@@ -123,27 +134,6 @@ is-taken-requires c κs =
     let at-pre = c .before .before .before .before .before .before .before .before .before .before .before .before .before .before .before .before .before .before .before .before .pre in
     at-pre .1 .1 .1 .0
 
-same-length : tie.Need-same-length
-same-length c =
-    let at-args = c .before .before .before .before .before .before .before .before .before .before .before .before .before .before .before .before .before .before .before .before .before .before .args in
-    let at-rec-value = c .before .before .before .before .before .before .before .before .before .before .rec-value in
-    let at-well-formed = c .before .before .before .before .before .before .before .before .before .before .before .before .before .before .before .well-formed in
-    let at-copy-value = c .before .before .before .before .before .copy-value in
-    let at-pre = c .before .before .before .before .before .before .before .before .before .before .before .before .before .before .before .before .before .before .before .before .before .before .pre in
-    scratch-length (valueFrom (span (at-args .a + at-rec-value .result .start) (at-args .a + at-rec-value .result .end) (at-args .s .now))) (at-well-formed .last .1 .0) (at-copy-value .last .1 .0) (at-copy-value .result) (at-copy-value .ensures .0) (at-copy-value .ensures .1) (omega (arith, value-part (at-args .s .now) (at-args .a) (at-args .e) (at-rec-value .result) (at-pre .0 .0) (at-pre .0 .1) (at-rec-value .ensures) (at-pre .1 .1 .0), at-pre .1 .1 .1 .1, at-well-formed .ensures .1)) ∙ at-well-formed .ensures .1
-
-returns : tie.Need-returns
-returns c =
-    let at-args = c .before .before .before .before .before .before .before .before .before .before .before .before .before .before .before .before .before .before .before .before .before .before .args in
-    let at-well-formed = c .before .before .before .before .before .before .before .before .before .before .before .before .before .before .before .well-formed in
-    let at-is-taken = c .before .is-taken in
-    let at-copy-value = c .before .before .before .before .before .copy-value in
-    let at-rec-value = c .before .before .before .before .before .before .before .before .before .before .rec-value in
-    let at-pre = c .before .before .before .before .before .before .before .before .before .before .before .before .before .before .before .before .before .before .before .before .before .before .pre in
-    let at-if1 = c .before .before .before .before .before .before .before .before .before .before .before .before .if1 in
-    let at-if2 = c .if2 in
-    (taken-told (fieldsOf (readOf (span (at-args .a) (at-args .e) (at-args .s .now)))) (namesAt (at-args .s .now) (at-args .starts .now) (at-args .ends .now)) (at-well-formed .result) (at-well-formed .ensures .0) (at-is-taken .result) (firstWord (take (at-copy-value .result) (at-copy-value .last .1 .0))) (at-is-taken .ensures) (ap firstWord (decoded-all (valueFrom (span (at-args .a + at-rec-value .result .start) (at-args .a + at-rec-value .result .end) (at-args .s .now))) (at-well-formed .last .1 .0) (at-copy-value .last .1 .0) (at-copy-value .result) (at-copy-value .ensures .0) (at-copy-value .ensures .1)) ∙ name-part (at-args .s .now) (at-args .a) (at-args .e) (at-rec-value .result) (at-pre .0 .0) (at-pre .0 .1) (at-rec-value .ensures)) (at-if1 .taken) (at-if2 .taken), scratch-length (valueFrom (span (at-args .a + at-rec-value .result .start) (at-args .a + at-rec-value .result .end) (at-args .s .now))) (at-well-formed .last .1 .0) (at-copy-value .last .1 .0) (at-copy-value .result) (at-copy-value .ensures .0) (at-copy-value .ensures .1) (omega (arith, value-part (at-args .s .now) (at-args .a) (at-args .e) (at-rec-value .result) (at-pre .0 .0) (at-pre .0 .1) (at-rec-value .ensures) (at-pre .1 .1 .0), at-pre .1 .1 .1 .1, at-well-formed .ensures .1)) ∙ at-well-formed .ensures .1)
-
 same-length-2 : tie.Need-same-length-2
 same-length-2 c =
     let at-args = c .before .before .before .before .before .before .before .before .before .before .before .before .before .before .before .before .before .before .before .before .before .before .args in
@@ -163,17 +153,28 @@ returns-2 c =
     let at-pre = c .before .before .before .before .before .before .before .before .before .before .before .before .before .before .before .before .before .before .before .before .before .before .pre in
     let at-if1 = c .before .before .before .before .before .before .before .before .before .before .before .before .if1 in
     let at-if2 = c .if2 in
-    ((new-told (fieldsOf (readOf (span (at-args .a) (at-args .e) (at-args .s .now)))) (namesAt (at-args .s .now) (at-args .starts .now) (at-args .ends .now)) (at-well-formed .result) (at-well-formed .ensures .0) (at-is-taken .result) (firstWord (take (at-copy-value .result) (at-copy-value .last .1 .0))) (at-is-taken .ensures) (ap firstWord (decoded-all (valueFrom (span (at-args .a + at-rec-value .result .start) (at-args .a + at-rec-value .result .end) (at-args .s .now))) (at-well-formed .last .1 .0) (at-copy-value .last .1 .0) (at-copy-value .result) (at-copy-value .ensures .0) (at-copy-value .ensures .1)) ∙ name-part (at-args .s .now) (at-args .a) (at-args .e) (at-rec-value .result) (at-pre .0 .0) (at-pre .0 .1) (at-rec-value .ensures)) (at-if1 .taken) (at-if2 .left), omega (arith, at-rec-value .ensures .0), name-inside (at-args .s .now) (at-args .a) (at-args .e) (at-rec-value .result) (at-pre .0 .0) (at-pre .0 .1) (at-rec-value .ensures), name-part (at-args .s .now) (at-args .a) (at-args .e) (at-rec-value .result) (at-pre .0 .0) (at-pre .0 .1) (at-rec-value .ensures)), scratch-length (valueFrom (span (at-args .a + at-rec-value .result .start) (at-args .a + at-rec-value .result .end) (at-args .s .now))) (at-well-formed .last .1 .0) (at-copy-value .last .1 .0) (at-copy-value .result) (at-copy-value .ensures .0) (at-copy-value .ensures .1) (omega (arith, value-part (at-args .s .now) (at-args .a) (at-args .e) (at-rec-value .result) (at-pre .0 .0) (at-pre .0 .1) (at-rec-value .ensures) (at-pre .1 .1 .0), at-pre .1 .1 .1 .1, at-well-formed .ensures .1)) ∙ at-well-formed .ensures .1)
+    (taken-told (fieldsOf (readOf (span (at-args .a) (at-args .e) (at-args .s .now)))) (namesAt (at-args .s .now) (at-args .starts .now) (at-args .ends .now)) (at-well-formed .result) (at-well-formed .ensures .0) (at-is-taken .result) (firstWord (take (at-copy-value .result) (at-copy-value .last .1 .0))) (at-is-taken .ensures) (ap firstWord (decoded-all (valueFrom (span (at-args .a + at-rec-value .result .start) (at-args .a + at-rec-value .result .end) (at-args .s .now))) (at-well-formed .last .1 .0) (at-copy-value .last .1 .0) (at-copy-value .result) (at-copy-value .ensures .0) (at-copy-value .ensures .1)) ∙ name-part (at-args .s .now) (at-args .a) (at-args .e) (at-rec-value .result) (at-pre .0 .0) (at-pre .0 .1) (at-rec-value .ensures)) (not-false (at-well-formed .result) (at-if1 .left)) (at-if2 .taken), scratch-length (valueFrom (span (at-args .a + at-rec-value .result .start) (at-args .a + at-rec-value .result .end) (at-args .s .now))) (at-well-formed .last .1 .0) (at-copy-value .last .1 .0) (at-copy-value .result) (at-copy-value .ensures .0) (at-copy-value .ensures .1) (omega (arith, value-part (at-args .s .now) (at-args .a) (at-args .e) (at-rec-value .result) (at-pre .0 .0) (at-pre .0 .1) (at-rec-value .ensures) (at-pre .1 .1 .0), at-pre .1 .1 .1 .1, at-well-formed .ensures .1)) ∙ at-well-formed .ensures .1)
 
 same-length-3 : tie.Need-same-length-3
-same-length-3 c = search needs
+same-length-3 c =
+    let at-args = c .before .before .before .before .before .before .before .before .before .before .before .before .before .before .before .before .before .before .before .before .before .before .args in
+    let at-rec-value = c .before .before .before .before .before .before .before .before .before .before .rec-value in
+    let at-well-formed = c .before .before .before .before .before .before .before .before .before .before .before .before .before .before .before .well-formed in
+    let at-copy-value = c .before .before .before .before .before .copy-value in
+    let at-pre = c .before .before .before .before .before .before .before .before .before .before .before .before .before .before .before .before .before .before .before .before .before .before .pre in
+    scratch-length (valueFrom (span (at-args .a + at-rec-value .result .start) (at-args .a + at-rec-value .result .end) (at-args .s .now))) (at-well-formed .last .1 .0) (at-copy-value .last .1 .0) (at-copy-value .result) (at-copy-value .ensures .0) (at-copy-value .ensures .1) (omega (arith, value-part (at-args .s .now) (at-args .a) (at-args .e) (at-rec-value .result) (at-pre .0 .0) (at-pre .0 .1) (at-rec-value .ensures) (at-pre .1 .1 .0), at-pre .1 .1 .1 .1, at-well-formed .ensures .1)) ∙ at-well-formed .ensures .1
 
 returns-3 : tie.Need-returns-3
 returns-3 c =
-    let at-args = c .before .before .before .before .before .before .before .before .before .before .args in
-    let at-well-formed = c .before .before .before .well-formed in
-    let at-if1 = c .if1 in
-    (fault-told (fieldsOf (readOf (span (at-args .a) (at-args .e) (at-args .s .now)))) (namesAt (at-args .s .now) (at-args .starts .now) (at-args .ends .now)) (at-well-formed .result) (at-well-formed .ensures .0) (at-if1 .left), at-well-formed .ensures .1)
+    let at-args = c .before .before .before .before .before .before .before .before .before .before .before .before .before .before .before .before .before .before .before .before .before .before .args in
+    let at-well-formed = c .before .before .before .before .before .before .before .before .before .before .before .before .before .before .before .well-formed in
+    let at-is-taken = c .before .is-taken in
+    let at-copy-value = c .before .before .before .before .before .copy-value in
+    let at-rec-value = c .before .before .before .before .before .before .before .before .before .before .rec-value in
+    let at-pre = c .before .before .before .before .before .before .before .before .before .before .before .before .before .before .before .before .before .before .before .before .before .before .pre in
+    let at-if1 = c .before .before .before .before .before .before .before .before .before .before .before .before .if1 in
+    let at-if2 = c .if2 in
+    ((new-told (fieldsOf (readOf (span (at-args .a) (at-args .e) (at-args .s .now)))) (namesAt (at-args .s .now) (at-args .starts .now) (at-args .ends .now)) (at-well-formed .result) (at-well-formed .ensures .0) (at-is-taken .result) (firstWord (take (at-copy-value .result) (at-copy-value .last .1 .0))) (at-is-taken .ensures) (ap firstWord (decoded-all (valueFrom (span (at-args .a + at-rec-value .result .start) (at-args .a + at-rec-value .result .end) (at-args .s .now))) (at-well-formed .last .1 .0) (at-copy-value .last .1 .0) (at-copy-value .result) (at-copy-value .ensures .0) (at-copy-value .ensures .1)) ∙ name-part (at-args .s .now) (at-args .a) (at-args .e) (at-rec-value .result) (at-pre .0 .0) (at-pre .0 .1) (at-rec-value .ensures)) (not-false (at-well-formed .result) (at-if1 .left)) (at-if2 .left), omega (arith, at-rec-value .ensures .0), name-inside (at-args .s .now) (at-args .a) (at-args .e) (at-rec-value .result) (at-pre .0 .0) (at-pre .0 .1) (at-rec-value .ensures), name-part (at-args .s .now) (at-args .a) (at-args .e) (at-rec-value .result) (at-pre .0 .0) (at-pre .0 .1) (at-rec-value .ensures)), scratch-length (valueFrom (span (at-args .a + at-rec-value .result .start) (at-args .a + at-rec-value .result .end) (at-args .s .now))) (at-well-formed .last .1 .0) (at-copy-value .last .1 .0) (at-copy-value .result) (at-copy-value .ensures .0) (at-copy-value .ensures .1) (omega (arith, value-part (at-args .s .now) (at-args .a) (at-args .e) (at-rec-value .result) (at-pre .0 .0) (at-pre .0 .1) (at-rec-value .ensures) (at-pre .1 .1 .0), at-pre .1 .1 .1 .1, at-well-formed .ensures .1)) ∙ at-well-formed .ensures .1)
 
 pub head-of-spec : {M : Type 1} → statement M
 head-of-spec =
@@ -183,6 +184,8 @@ head-of-spec =
     part-well-formed-start
     part-well-formed-end
     well-formed-requires
+    same-length
+    returns
     sub-rec-value
     part-rec-value-start
     part-rec-value-end
@@ -196,8 +199,6 @@ head-of-spec =
     slice-reshare-prefix-is-taken
     slice-aggregate-is-taken
     is-taken-requires
-    same-length
-    returns
     same-length-2
     returns-2
     same-length-3
