@@ -1,26 +1,22 @@
--- The fields of a part go: what stays of it moves to the part's front, piece by piece, and then the text's tail closes up behind it.
+-- The fields of a part go: what stays of it moves to the part's front, field by field, and then the text's tail closes up behind it.
 use Prim.Native.Nat.{ℕ, _+_, _-_, _≤_, max}
 use native.Mathlib.Omega.{arith}
 use mathlib.Core.Path.{_≡_, refl, sym, ap, _∙_}
-use mathlib.Core.Bool.{true, false}
+use mathlib.Core.Bool.{true}
 use mathlib.Core.List.{[], _++_, append-assoc, append-nil}
 use lib.ListN.{length, take, drop, replicate, length-drop}
-use lib.Seq.{paste, take-paste, drop-paste, length-paste, take-add, take-take, take-at, drop-at, drop-drop, take-append-le, length-take-le}
+use lib.Seq.{paste, take-paste, drop-paste, length-paste, take-add, take-take, take-at, drop-at, drop-drop, take-all, take-append-le, length-take-le}
 use borrow.Rule.Slice.PartMut.{putMid}
 use Rattle.format.specs.Bytes.{Bytes}
-use Rattle.format.specs.Lines.{Line, isEnded}
-use Rattle.format.specs.Pieces.{Piece, readOf}
 use Rattle.format.specs.Calls.{placed}
-use Rattle.lines.specs.Piece.{nextOf, isFault}
-use Rattle.lines.specs.declared.Next.{Next}
 use Rattle.words.specs.Spans.{span}
 use Rattle.records.specs.Places.{isReadable}
-use Rattle.records.proofs.Readings.{part-ended}
-use Rattle.records.proofs.Steps.{Passed, FieldAt, Steps, steps, part-formed, drop-take}
-use Rattle.records.proofs.Unfielding.{leftOf, left-none, left-field, left-blank, left-comment}
+use Rattle.records.specs.Fields.{fieldsFrom, FieldHere}
+use Rattle.records.proofs.Steps.{drop-take}
+use Rattle.records.proofs.Unfielding.{leftOf, left-all, left-field}
 use Rattle.splices.specs.Space.{spliced}
 
--- The state between two pieces: n bytes stand in front that stay of s's first i, and from i on s is as it was.
+-- The state between two fields: n bytes stand in front that stay of s's first i, and from i on s is as it was.
 pub record Keeping (s now : Bytes) (n i : ℕ) : Type 0 where
   pub same : length now ≡ length s
   pub low : n ≤ i
@@ -33,78 +29,67 @@ pub keeping-begins : (s : Bytes) → isReadable s ≡ true → Keeping s s 0 0
 keeping-begins s e = record { same = refl; low = omega arith; inside = omega arith; rest = refl; readable = e; kept = refl }
 
 module _ {s now : Bytes} {n i : ℕ} (c : Keeping s now n i) where
-  unread : take (length now - i) (drop i now) ≡ take (length s - i) (drop i s)
-  unread j = take (c .same j - i) (c .rest j)
-
-  pub keeping-ended : isEnded (take (length now - i) (drop i now)) ≡ true
-  keeping-ended = ap isEnded unread ∙ part-ended s i (c .readable)
-
-  pub keeping-formed : isFault (nextOf (take (length now - i) (drop i now))) ≡ false
-  keeping-formed = ap (λ (t : Bytes). isFault (nextOf t)) unread ∙ part-formed s i (c .readable)
-
-  pub keeping-steps : (x : Next) {y : Next} → x ≡ nextOf (take (length now - i) (drop i now)) → x ≡ y → Steps s i y
-  keeping-steps x f g = steps s i x (c .readable) (f ∙ ap nextOf unread) g
+  pub keeping-readable : isReadable (drop i now) ≡ true
+  keeping-readable = ap isReadable (c .rest) ∙ c .readable
 
   -- k bytes that stay
-  module _ (k : ℕ) (fits : i + k ≤ length s) (ok : isReadable (drop (i + k) s) ≡ true) where
-    moved : Bytes
-    moved = paste now n (drop i now) k
+  module _ (k : ℕ) (fits : i + k ≤ length s) (now′ : Bytes) (e : now′ ≡ paste now n (drop i now) k) where
+    front : k ≤ length (drop i now)
+    front = omega (arith, length-drop i now, c .same)
 
-    moved-rest : drop (i + k) moved ≡ drop (i + k) s
-    unfolding moved
-    moved-rest =
-        let z : i + k ≡ (n + k) + (i - n) = omega (arith, c .low) in
-        let front : k ≤ length (drop i now) = omega (arith, length-drop i now, c .same) in
-        ap (λ (j : ℕ). drop j moved) z
-        ∙ sym (drop-drop (i - n) (n + k) moved)
-        ∙ ap (drop (i - n)) (drop-paste now n (drop i now) k (omega (arith, c .low, c .same)) front)
-        ∙ drop-drop (i - n) (n + k) now
-        ∙ ap (λ (j : ℕ). drop j now) (sym z)
-        ∙ sym (drop-drop k i now)
-        ∙ ap (drop k) (c .rest)
-        ∙ drop-drop k i s
+    moved-same : length now′ ≡ length s
+    moved-same = ap length e ∙ length-paste now n (drop i now) k (omega (arith, c .low, c .same)) front ∙ c .same
 
-    keeping-moved : leftOf (drop i s) ≡ take k (drop i s) ++ leftOf (drop (i + k) s) → (now′ : Bytes) → now′ ≡ paste now n (drop i now) k → Keeping s now′ (n + k) (i + k)
-    unfolding moved
-    keeping-moved f now′ e =
-        let front : k ≤ length (drop i now) = omega (arith, length-drop i now, c .same) in
-        let low : n ≤ length now = omega (arith, c .low, c .same) in
-        let left : Bytes = leftOf (drop (i + k) s) in
-        record {
-          same = ap length e ∙ length-paste now n (drop i now) k (omega (arith, c .low, c .same)) front ∙ c .same;
-          low = omega (arith, c .low);
-          inside = fits;
-          rest = ap (drop (i + k)) e ∙ moved-rest;
-          readable = ok;
-          kept =
-              ap (λ (x : Bytes). take (n + k) x ++ left) e
-              ∙ ap (λ (x : Bytes). x ++ left) (take-paste now n (drop i now) k low front)
-              ∙ append-assoc (take n now) (take k (drop i now)) left
-              ∙ ap (λ (x : Bytes). take n now ++ (take k x ++ left)) (c .rest)
-              ∙ ap (λ (x : Bytes). take n now ++ x) (sym f)
-              ∙ c .kept;
-        }
+    moved-front : take (n + k) now′ ≡ take n now ++ take k (drop i now)
+    moved-front = ap (take (n + k)) e ∙ take-paste now n (drop i now) k (omega (arith, c .low, c .inside, c .same)) front
 
-  pub keeping-blank : (l : Line) (k : ℕ) → Passed s i (Piece.blank l) k → (now′ : Bytes) → now′ ≡ paste now n (drop i now) k → Keeping s now′ (n + k) (i + k)
-  keeping-blank l k p = keeping-moved k (p .inside) (p .readable) (left-blank s i (c .readable) l k p)
+    -- what stands behind them is as it was
+    moved-rest : (j : ℕ) → i + k ≤ j → drop j now′ ≡ drop j s
+    moved-rest j h =
+        let z : j ≡ (n + k) + (j - (n + k)) = omega (arith, c .low) in
+        let y : j ≡ i + (j - i) = omega arith in
+        ap (drop j) e
+        ∙ ap (λ (x : ℕ). drop x (paste now n (drop i now) k)) z
+        ∙ sym (drop-drop (j - (n + k)) (n + k) (paste now n (drop i now) k))
+        ∙ ap (drop (j - (n + k))) (drop-paste now n (drop i now) k (omega (arith, c .low, c .same)) front)
+        ∙ drop-drop (j - (n + k)) (n + k) now
+        ∙ ap (λ (x : ℕ). drop x now) (sym z)
+        ∙ ap (λ (x : ℕ). drop x now) y
+        ∙ sym (drop-drop (j - i) i now)
+        ∙ ap (drop (j - i)) (c .rest)
+        ∙ drop-drop (j - i) i s
+        ∙ ap (λ (x : ℕ). drop x s) (sym y)
 
-  pub keeping-comment : (l : Line) (k : ℕ) → Passed s i (Piece.comment l) k → (now′ : Bytes) → now′ ≡ paste now n (drop i now) k → Keeping s now′ (n + k) (i + k)
-  keeping-comment l k p = keeping-moved k (p .inside) (p .readable) (left-comment s i (c .readable) l k p)
+    -- all that is left of the part
+    pub keeping-ends : i + k ≡ length s → fieldsFrom now i ≡ [] → (n + k ≤ length s) × (take (n + k) now′ ≡ leftOf s)
+    keeping-ends h f = (
+      omega (arith, c .low),
+      moved-front
+          ∙ ap (λ (x : Bytes). take n now ++ x) (take-all k (drop i now) (omega (arith, length-drop i now, c .same)) ∙ sym (left-all now i keeping-readable f) ∙ ap leftOf (c .rest))
+          ∙ c .kept,
+    )
 
-  -- k bytes that go
-  pub keeping-field : (m v k : ℕ) → FieldAt s i m v k → Keeping s now n (i + k)
-  keeping-field m v k f =
+  -- what stands before the next field stays, and the field goes
+  pub keeping-field : (a m v e : ℕ) → FieldHere now i a m v e → (now′ : Bytes) → now′ ≡ paste now n (drop i now) (a - i) → Keeping s now′ (n + (a - i)) e
+  keeping-field a m v e f now′ q =
+      let k : ℕ = a - i in
+      let fits : i + k ≤ length s = omega (arith, f .begins, f .moves, f .inside, c .same) in
+      let beyond : i + k ≤ e = omega (arith, f .begins, f .moves) in
+      let y : e ≡ i + (e - i) = omega (arith, f .begins, f .moves) in
+      let here : drop e now ≡ drop e s = ap (λ (x : ℕ). drop x now) y ∙ sym (drop-drop (e - i) i now) ∙ ap (drop (e - i)) (c .rest) ∙ drop-drop (e - i) i s ∙ ap (λ (x : ℕ). drop x s) (sym y) in
       record {
-        same = c .same;
-        low = omega (arith, c .low);
-        inside = f .passed .inside;
-        rest = sym (drop-drop k i now) ∙ ap (drop k) (c .rest) ∙ drop-drop k i s;
-        readable = f .passed .readable;
-        kept = ap (λ (x : Bytes). take n now ++ x) (sym (left-field s i m v k f)) ∙ c .kept;
+        same = moved-same k fits now′ q;
+        low = omega (arith, f .begins, f .moves, c .low);
+        inside = omega (arith, f .inside, c .same);
+        rest = moved-rest k fits now′ q e beyond;
+        readable = sym (ap isReadable here) ∙ f .readable;
+        kept =
+            ap (λ (x : Bytes). x ++ leftOf (drop e s)) (moved-front k fits now′ q)
+            ∙ append-assoc (take n now) (take k (drop i now)) (leftOf (drop e s))
+            ∙ ap (λ (x : Bytes). take n now ++ (take k (drop i now) ++ leftOf x)) (sym here)
+            ∙ ap (λ (x : Bytes). take n now ++ x) (sym (left-field now i keeping-readable a m v e f) ∙ ap leftOf (c .rest))
+            ∙ c .kept;
       }
-
-  pub keeping-ends : readOf (drop i s) ≡ [] → (n ≤ length s) × (take n now ≡ leftOf s)
-  keeping-ends f = (omega (arith, c .low, c .inside), sym (append-nil (take n now)) ∙ ap (λ (x : Bytes). take n now ++ x) (sym (left-none s i f)) ∙ c .kept)
 
 -- a part that ends in the front of a text
 pub span-front : (b : Bytes) (n a e : ℕ) → e ≤ n → span a e (take n b) ≡ span a e b

@@ -10,7 +10,7 @@ ghost use Rattle.records.proofs.Unfielding.{leftOf};
 ghost use Rattle.splices.specs.Space.{spliced};
 use super::cut_text;
 use super::moves::move_down;
-use lines::Next;
+use records::NextField;
 
 // What stays of a part, its comments and blank lines, moves to its front: how many bytes that are.
 fn keep_loose(part: &mut [u8]) -> usize
@@ -20,32 +20,22 @@ fn keep_loose(part: &mut [u8]) -> usize
     let mut n = 0;
     let mut i = 0;
     loop {
-        let p = lines::read_piece(&part[i..]);
-        match p {
-            Next::Blank { size } => {
-                move_down(part, i, n, size);
-                n += size;
-                i += size;
-            }
-            Next::Comment { size } => {
-                move_down(part, i, n, size);
-                n += size;
-                i += size;
-            }
-            Next::Field {
-                name: _,
-                value: _,
-                size,
-            } => {
-                i += size;
-            }
-            Next::End => {
-                return n;
-            }
-            Next::Fault => {
-                return n;
-            }
-        }
+        let f = records::next_field(part, i);
+        let NextField::At {
+            start,
+            named: _,
+            value: _,
+            end,
+        } = f
+        else {
+            let last = part.len() - i;
+            move_down(part, i, n, last);
+            return n + last;
+        };
+        let size = start - i;
+        move_down(part, i, n, size);
+        n += size;
+        i = end;
     }
 }
 
