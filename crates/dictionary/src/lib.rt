@@ -24,6 +24,7 @@ use lists::Part;
 use records::FoundField;
 use records::NextField;
 use terms::Table;
+use words::Rule;
 
 pub mod lists;
 pub mod wordsets;
@@ -52,22 +53,15 @@ impl Tag {
 fn list_tag(name: &[u8]) -> u32
     ensures { λ r. ⌜ r ≡ listTag (now (name .entry)) ⌝ }
 {
-    if lines::same_bytes(b"%mandatory", name) {
-        return Tag::MANDATORY;
+    let k = words::rule_of(name);
+    match k {
+        Rule::MANDATORY => Tag::MANDATORY,
+        Rule::PROHIBIT => Tag::PROHIBITED,
+        Rule::ALLOWED => Tag::ALLOWED,
+        Rule::UNIQUE => Tag::UNIQUE,
+        Rule::KEY => Tag::KEY,
+        _ => Tag::NONE,
     }
-    if lines::same_bytes(b"%prohibit", name) {
-        return Tag::PROHIBITED;
-    }
-    if lines::same_bytes(b"%allowed", name) {
-        return Tag::ALLOWED;
-    }
-    if lines::same_bytes(b"%unique", name) {
-        return Tag::UNIQUE;
-    }
-    if lines::same_bytes(b"%key", name) {
-        return Tag::KEY;
-    }
-    Tag::NONE
 }
 
 // The words of the value at i, which are names, put behind the first n entries; how many entries there are then.

@@ -32,7 +32,7 @@ fn keep_line(text: &mut [u8], from: usize, end: usize, to: usize) -> usize
         return to;
     }
     let size = end - from;
-    splices::move_down(text, from, to, size);
+    writing::move_down(text, from, to, size);
     to + size
 }
 

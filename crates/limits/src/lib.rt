@@ -133,11 +133,7 @@ fn field_fits(fields: usize, name: usize, value: &[u8]) -> bool
     ensures { λ b. ⌜ b ≡ (leb (fields + 1) recordFields && leb name nameBytes && leb (length (valueFrom (now (value .entry)))) valueBytes) ⌝ }
 {
     let len = value_bound(value);
-    let c = Record {
-        fields: fields + 1,
-        name,
-        value: len,
-    };
+    let c = Record::new(fields + 1, name, len);
     c.fits()
 }
 

@@ -9,7 +9,6 @@ ghost use Rattle.records.specs.Places.{isReadable};
 ghost use Rattle.records.proofs.Unfielding.{leftOf};
 ghost use Rattle.splices.specs.Space.{spliced};
 use super::cut_text;
-use super::moves::move_down;
 use records::NextField;
 
 // What stays of a part, its comments and blank lines, moves to its front: how many bytes that are.
@@ -29,11 +28,11 @@ fn keep_loose(part: &mut [u8]) -> usize
         } = f
         else {
             let last = part.len() - i;
-            move_down(part, i, n, last);
+            writing::move_down(part, i, n, last);
             return n + last;
         };
         let size = start - i;
-        move_down(part, i, n, size);
+        writing::move_down(part, i, n, size);
         n += size;
         i = end;
     }

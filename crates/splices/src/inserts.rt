@@ -9,7 +9,7 @@ ghost use Rattle.format.specs.Written.{writtenAll};
 ghost use Rattle.format.specs.Calls.{placed};
 ghost use Rattle.requests.specs.Pairs.{pairsFrom, pairsAt};
 ghost use Rattle.splices.specs.Space.{spliced, inserted};
-use super::moves::open_space;
+use super::space::open_space;
 
 // A newline and the text of pairs, which has `len` bytes, at `at`.
 fn put_behind(buf: &mut [u8], used: usize, at: usize, req: &[u8], from: usize, len: usize) -> usize

@@ -10,12 +10,11 @@ ghost use Rattle.splices.specs.Space.{spliced};
 
 mod cuts;
 mod inserts;
-mod moves;
+mod space;
 
 pub use cuts::cut_fields;
 pub use inserts::put_record;
-pub use moves::move_down;
-use moves::open_space;
+use space::open_space;
 
 // `text` in place of `old` bytes at `at`, in a text of `used` bytes: the length of the new one, which the buffer then holds.
 pub fn splice(buf: &mut [u8], used: usize, at: usize, old: usize, text: &[u8]) -> usize

@@ -2,3 +2,4 @@
 pub mod Naming
 pub mod Plain
 pub mod Texts
+pub mod Moving

@@ -12,6 +12,11 @@ ghost use Rattle.writing.specs.Value.{isPlainFrom};
 use format::Class;
 use format::Record;
 
+mod moves;
+
+pub use moves::move_down;
+pub use moves::move_up;
+
 // Is it a name of at most 64 bytes that does not begin with `%`?
 pub fn is_legal_name(s: &[u8]) -> bool
     ensures { λ r. ⌜ r ≡ isLegalName (now (s .entry)) ⌝ }

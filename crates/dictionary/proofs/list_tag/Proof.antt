@@ -1,130 +1,69 @@
--- `dictionary::list_tag` meets its contract: the names of the five lists are compared one after the other.
-use mathlib.Core.Path.{sym, _∙_}
+-- `dictionary::list_tag` meets its contract: the number of the name tells the list.
+use mathlib.Core.Path.{refl}
+use native.Mathlib.Omega.{arith}
+use borrow.Author.Needs.{needs}
+use Rattle.format.specs.Bytes.{text}
+use Rattle.words.specs.RuleNames.{ruleNames}
+use Rattle.words.proofs.RuleNames.{is-placed, not-placed}
 use Rattle.dictionary.specs.Tags.{listTag}
 use borrow.Author.Needs.{needs}
 use Rattle.dictionary.proofs.list_tag.Statement.{statement}
 use Rattle.dictionary.proofs.list_tag.Tie as tie
 use Rattle.dictionary.proofs.list_tag.Reads as reads
 use Rattle.dictionary.proofs.list_tag.Lts as lts
-use Rattle.lines.proofs.same_bytes.Reads as same-bytes-reads
+use Rattle.words.proofs.rule_of.Reads as rule-of-reads
 
-slice-aggregate-same-bytes : tie.Need-slice-aggregate-same-bytes
-slice-aggregate-same-bytes c = search needs
-
-same-bytes-requires : tie.Need-same-bytes-requires
-same-bytes-requires c κs = search needs
+rule-of-requires : tie.Need-rule-of-requires
+rule-of-requires c κs = search needs
 
 returns : tie.Need-returns
 unfolding listTag
-returns c =
-    let at-same-bytes = c .before .same-bytes in
-    let at-if1 = c .if1 in
-    rw (sym (at-same-bytes .ensures) ∙ at-if1 .taken)
-
-slice-aggregate-same-bytes-2 : tie.Need-slice-aggregate-same-bytes-2
-slice-aggregate-same-bytes-2 c = search needs
-
-same-bytes-requires-2 : tie.Need-same-bytes-requires-2
-same-bytes-requires-2 c κs = search needs
+returns c = 
+    let at-args = c .before .before .before .args in
+    let at-rule-of = c .before .rule-of in
+    let at-match = c .match in
+    rw (is-placed (at-args .name .now) (text "%mandatory") ruleNames (at-rule-of .result) 2 (at-rule-of .ensures) refl (omega arith) refl (at-match .keys1))
 
 returns-2 : tie.Need-returns-2
 unfolding listTag
-returns-2 c =
-    let at-same-bytes = c .before .before .before .before .same-bytes in
-    let at-if1 = c .before .before .before .if1 in
-    let at-same-bytes2 = c .before .same-bytes2 in
-    let at-if2 = c .if2 in
-    rw (sym (at-same-bytes .ensures) ∙ at-if1 .left, sym (at-same-bytes2 .ensures) ∙ at-if2 .taken)
-
-slice-aggregate-same-bytes-3 : tie.Need-slice-aggregate-same-bytes-3
-slice-aggregate-same-bytes-3 c = search needs
-
-same-bytes-requires-3 : tie.Need-same-bytes-requires-3
-same-bytes-requires-3 c κs = search needs
+returns-2 c = 
+    let at-args = c .before .before .before .args in
+    let at-rule-of = c .before .rule-of in
+    let at-match = c .match in
+    rw (not-placed (at-args .name .now) (text "%mandatory") ruleNames (at-rule-of .result) 2 (at-rule-of .ensures) refl (λ e. absurd (omega (arith, e, at-match .keys2))), is-placed (at-args .name .now) (text "%prohibit") ruleNames (at-rule-of .result) 3 (at-rule-of .ensures) refl (omega arith) refl (at-match .keys2))
 
 returns-3 : tie.Need-returns-3
 unfolding listTag
-returns-3 c =
-    let at-same-bytes = c .before .before .before .before .before .before .before .same-bytes in
-    let at-if1 = c .before .before .before .before .before .before .if1 in
-    let at-same-bytes2 = c .before .before .before .before .same-bytes2 in
-    let at-if2 = c .before .before .before .if2 in
-    let at-same-bytes3 = c .before .same-bytes3 in
-    let at-if3 = c .if3 in
-    rw (sym (at-same-bytes .ensures) ∙ at-if1 .left, sym (at-same-bytes2 .ensures) ∙ at-if2 .left, sym (at-same-bytes3 .ensures) ∙ at-if3 .taken)
-
-slice-aggregate-same-bytes-4 : tie.Need-slice-aggregate-same-bytes-4
-slice-aggregate-same-bytes-4 c = search needs
-
-same-bytes-requires-4 : tie.Need-same-bytes-requires-4
-same-bytes-requires-4 c κs = search needs
+returns-3 c = 
+    let at-args = c .before .before .before .args in
+    let at-rule-of = c .before .rule-of in
+    let at-match = c .match in
+    rw (not-placed (at-args .name .now) (text "%mandatory") ruleNames (at-rule-of .result) 2 (at-rule-of .ensures) refl (λ e. absurd (omega (arith, e, at-match .keys3))), not-placed (at-args .name .now) (text "%prohibit") ruleNames (at-rule-of .result) 3 (at-rule-of .ensures) refl (λ e. absurd (omega (arith, e, at-match .keys3))), is-placed (at-args .name .now) (text "%allowed") ruleNames (at-rule-of .result) 4 (at-rule-of .ensures) refl (omega arith) refl (at-match .keys3))
 
 returns-4 : tie.Need-returns-4
 unfolding listTag
-returns-4 c =
-    let at-same-bytes = c .before .before .before .before .before .before .before .before .before .before .same-bytes in
-    let at-if1 = c .before .before .before .before .before .before .before .before .before .if1 in
-    let at-same-bytes2 = c .before .before .before .before .before .before .before .same-bytes2 in
-    let at-if2 = c .before .before .before .before .before .before .if2 in
-    let at-same-bytes3 = c .before .before .before .before .same-bytes3 in
-    let at-if3 = c .before .before .before .if3 in
-    let at-same-bytes4 = c .before .same-bytes4 in
-    let at-if4 = c .if4 in
-    rw (sym (at-same-bytes .ensures) ∙ at-if1 .left, sym (at-same-bytes2 .ensures) ∙ at-if2 .left, sym (at-same-bytes3 .ensures) ∙ at-if3 .left, sym (at-same-bytes4 .ensures) ∙ at-if4 .taken)
-
-slice-aggregate-same-bytes-5 : tie.Need-slice-aggregate-same-bytes-5
-slice-aggregate-same-bytes-5 c = search needs
-
-same-bytes-requires-5 : tie.Need-same-bytes-requires-5
-same-bytes-requires-5 c κs = search needs
+returns-4 c = 
+    let at-args = c .before .before .before .args in
+    let at-rule-of = c .before .rule-of in
+    let at-match = c .match in
+    rw (not-placed (at-args .name .now) (text "%mandatory") ruleNames (at-rule-of .result) 2 (at-rule-of .ensures) refl (λ e. absurd (omega (arith, e, at-match .keys4))), not-placed (at-args .name .now) (text "%prohibit") ruleNames (at-rule-of .result) 3 (at-rule-of .ensures) refl (λ e. absurd (omega (arith, e, at-match .keys4))), not-placed (at-args .name .now) (text "%allowed") ruleNames (at-rule-of .result) 4 (at-rule-of .ensures) refl (λ e. absurd (omega (arith, e, at-match .keys4))), is-placed (at-args .name .now) (text "%unique") ruleNames (at-rule-of .result) 5 (at-rule-of .ensures) refl (omega arith) refl (at-match .keys4))
 
 returns-5 : tie.Need-returns-5
 unfolding listTag
-returns-5 c =
-    let at-same-bytes = c .before .before .before .before .before .before .before .before .before .before .before .before .before .same-bytes in
-    let at-if1 = c .before .before .before .before .before .before .before .before .before .before .before .before .if1 in
-    let at-same-bytes2 = c .before .before .before .before .before .before .before .before .before .before .same-bytes2 in
-    let at-if2 = c .before .before .before .before .before .before .before .before .before .if2 in
-    let at-same-bytes3 = c .before .before .before .before .before .before .before .same-bytes3 in
-    let at-if3 = c .before .before .before .before .before .before .if3 in
-    let at-same-bytes4 = c .before .before .before .before .same-bytes4 in
-    let at-if4 = c .before .before .before .if4 in
-    let at-same-bytes5 = c .before .same-bytes5 in
-    let at-if5 = c .if5 in
-    rw (sym (at-same-bytes .ensures) ∙ at-if1 .left, sym (at-same-bytes2 .ensures) ∙ at-if2 .left, sym (at-same-bytes3 .ensures) ∙ at-if3 .left, sym (at-same-bytes4 .ensures) ∙ at-if4 .left, sym (at-same-bytes5 .ensures) ∙ at-if5 .taken)
+returns-5 c = 
+    let at-args = c .before .before .before .args in
+    let at-rule-of = c .before .rule-of in
+    let at-match = c .match in
+    rw (not-placed (at-args .name .now) (text "%mandatory") ruleNames (at-rule-of .result) 2 (at-rule-of .ensures) refl (λ e. absurd (omega (arith, e, at-match .keys5))), not-placed (at-args .name .now) (text "%prohibit") ruleNames (at-rule-of .result) 3 (at-rule-of .ensures) refl (λ e. absurd (omega (arith, e, at-match .keys5))), not-placed (at-args .name .now) (text "%allowed") ruleNames (at-rule-of .result) 4 (at-rule-of .ensures) refl (λ e. absurd (omega (arith, e, at-match .keys5))), not-placed (at-args .name .now) (text "%unique") ruleNames (at-rule-of .result) 5 (at-rule-of .ensures) refl (λ e. absurd (omega (arith, e, at-match .keys5))), is-placed (at-args .name .now) (text "%key") ruleNames (at-rule-of .result) 6 (at-rule-of .ensures) refl (omega arith) refl (at-match .keys5))
 
 returns-6 : tie.Need-returns-6
 unfolding listTag
-returns-6 c =
-    let at-same-bytes = c .before .before .before .before .before .before .before .before .before .before .before .before .before .same-bytes in
-    let at-if1 = c .before .before .before .before .before .before .before .before .before .before .before .before .if1 in
-    let at-same-bytes2 = c .before .before .before .before .before .before .before .before .before .before .same-bytes2 in
-    let at-if2 = c .before .before .before .before .before .before .before .before .before .if2 in
-    let at-same-bytes3 = c .before .before .before .before .before .before .before .same-bytes3 in
-    let at-if3 = c .before .before .before .before .before .before .if3 in
-    let at-same-bytes4 = c .before .before .before .before .same-bytes4 in
-    let at-if4 = c .before .before .before .if4 in
-    let at-same-bytes5 = c .before .same-bytes5 in
-    let at-if5 = c .if5 in
-    rw (sym (at-same-bytes .ensures) ∙ at-if1 .left, sym (at-same-bytes2 .ensures) ∙ at-if2 .left, sym (at-same-bytes3 .ensures) ∙ at-if3 .left, sym (at-same-bytes4 .ensures) ∙ at-if4 .left, sym (at-same-bytes5 .ensures) ∙ at-if5 .left)
+returns-6 c = 
+    let at-args = c .before .before .before .args in
+    let at-rule-of = c .before .rule-of in
+    let at-match = c .match in
+    rw (not-placed (at-args .name .now) (text "%mandatory") ruleNames (at-rule-of .result) 2 (at-rule-of .ensures) refl (at-match .rest .0 .0 .0 .0 .1), not-placed (at-args .name .now) (text "%prohibit") ruleNames (at-rule-of .result) 3 (at-rule-of .ensures) refl (at-match .rest .0 .0 .0 .1), not-placed (at-args .name .now) (text "%allowed") ruleNames (at-rule-of .result) 4 (at-rule-of .ensures) refl (at-match .rest .0 .0 .1), not-placed (at-args .name .now) (text "%unique") ruleNames (at-rule-of .result) 5 (at-rule-of .ensures) refl (at-match .rest .0 .1), not-placed (at-args .name .now) (text "%key") ruleNames (at-rule-of .result) 6 (at-rule-of .ensures) refl (at-match .rest .1))
 
 pub list-tag-spec : {M : Type 1} → statement M
 list-tag-spec =
-    tie.close
-    (tie.spec
-    slice-aggregate-same-bytes
-    same-bytes-requires
-    returns
-    slice-aggregate-same-bytes-2
-    same-bytes-requires-2
-    returns-2
-    slice-aggregate-same-bytes-3
-    same-bytes-requires-3
-    returns-3
-    slice-aggregate-same-bytes-4
-    same-bytes-requires-4
-    returns-4
-    slice-aggregate-same-bytes-5
-    same-bytes-requires-5
-    returns-5
-    returns-6)
+    tie.close (tie.spec rule-of-requires returns returns-2 returns-3 returns-4 returns-5 returns-6)

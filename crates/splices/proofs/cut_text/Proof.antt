@@ -10,7 +10,7 @@ use Rattle.splices.proofs.cut_text.Statement.{statement}
 use Rattle.splices.proofs.cut_text.Tie as tie
 use Rattle.splices.proofs.cut_text.Reads as reads
 use Rattle.splices.proofs.cut_text.Lts as lts
-use Rattle.splices.proofs.moves.open_space.Reads as open-space-reads
+use Rattle.splices.proofs.space.open_space.Reads as open-space-reads
 
 open-space-requires : tie.Need-open-space-requires
 open-space-requires c κs = search needs

@@ -12,7 +12,7 @@ use Rattle.splices.proofs.put_text.Statement.{statement}
 use Rattle.splices.proofs.put_text.Tie as tie
 use Rattle.splices.proofs.put_text.Reads as reads
 use Rattle.splices.proofs.put_text.Lts as lts
-use Rattle.splices.proofs.moves.open_space.Reads as open-space-reads
+use Rattle.splices.proofs.space.open_space.Reads as open-space-reads
 use Rattle.writing.proofs.put_field.Reads as put-field-reads
 use Rattle.writing.proofs.written_len.Reads as written-len-reads
 

@@ -12,7 +12,7 @@ use Rattle.splices.proofs.splice.Tie as tie
 use Rattle.splices.proofs.splice.Reads as reads
 use Rattle.splices.proofs.splice.Lts as lts
 use Rattle.writing.proofs.put_bytes.Reads as put-bytes-reads
-use Rattle.splices.proofs.moves.open_space.Reads as open-space-reads
+use Rattle.splices.proofs.space.open_space.Reads as open-space-reads
 
 open-space-requires : tie.Need-open-space-requires
 open-space-requires c κs = search needs

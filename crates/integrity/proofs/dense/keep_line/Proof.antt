@@ -13,7 +13,7 @@ use Rattle.integrity.proofs.dense.keep_line.Tie as tie
 use Rattle.integrity.proofs.dense.keep_line.Reads as reads
 use Rattle.integrity.proofs.dense.keep_line.Lts as lts
 use Rattle.lines.proofs.same_bytes.Reads as same-bytes-reads
-use Rattle.splices.proofs.move_down.Reads as move-down-reads
+use Rattle.writing.proofs.move_down.Reads as move-down-reads
 
 sub-newline : tie.Need-sub-newline
 sub-newline c = search needs

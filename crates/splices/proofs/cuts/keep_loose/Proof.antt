@@ -12,7 +12,7 @@ use Rattle.splices.proofs.cuts.keep_loose.Tie as tie
 use Rattle.splices.proofs.cuts.keep_loose.Reads as reads
 use Rattle.splices.proofs.cuts.keep_loose.Lts as lts
 use Rattle.records.proofs.next_field.Reads as next-field-reads
-use Rattle.splices.proofs.moves.move_down.Reads as move-down-reads
+use Rattle.writing.proofs.move_down.Reads as move-down-reads
 
 abbrev Inv-loop : tie.InvT-loop
 Inv-loop part₀ n₀ i₀ part n i = Keeping part₀ part n i

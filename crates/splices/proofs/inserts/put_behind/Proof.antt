@@ -16,7 +16,7 @@ use Rattle.splices.proofs.inserts.put_behind.Tie as tie
 use Rattle.splices.proofs.inserts.put_behind.Reads as reads
 use Rattle.splices.proofs.inserts.put_behind.Lts as lts
 use Rattle.requests.proofs.put_pairs.Reads as put-pairs-reads
-use Rattle.splices.proofs.moves.open_space.Reads as open-space-reads
+use Rattle.splices.proofs.space.open_space.Reads as open-space-reads
 
 add-new : tie.Need-add-new
 add-new c = search needs

@@ -17,7 +17,7 @@ use Rattle.splices.proofs.inserts.put_front.Tie as tie
 use Rattle.splices.proofs.inserts.put_front.Reads as reads
 use Rattle.splices.proofs.inserts.put_front.Lts as lts
 use Rattle.requests.proofs.put_pairs.Reads as put-pairs-reads
-use Rattle.splices.proofs.moves.open_space.Reads as open-space-reads
+use Rattle.splices.proofs.space.open_space.Reads as open-space-reads
 
 put-pairs-requires : tie.Need-put-pairs-requires
 put-pairs-requires c κs =

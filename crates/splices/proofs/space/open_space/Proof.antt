@@ -1,15 +1,15 @@
--- `splices::moves::open_space` meets its contract: the tail moves up, or it moves down and zeros follow it.
+-- `splices::space::open_space` meets its contract: the tail moves up, or it moves down and zeros follow it.
 use native.Mathlib.Omega.{arith}
 use denote.Ref.{now}
 use Rattle.splices.proofs.Opening.{opened-up, opened-down}
 use borrow.Author.Needs.{needs}
-use Rattle.splices.proofs.moves.open_space.Statement.{statement}
-use Rattle.splices.proofs.moves.open_space.Tie as tie
-use Rattle.splices.proofs.moves.open_space.Reads as reads
-use Rattle.splices.proofs.moves.open_space.Lts as lts
-use Rattle.splices.proofs.moves.clear.Reads as clear-reads
-use Rattle.splices.proofs.moves.move_down.Reads as move-down-reads
-use Rattle.splices.proofs.moves.move_up.Reads as move-up-reads
+use Rattle.splices.proofs.space.open_space.Statement.{statement}
+use Rattle.splices.proofs.space.open_space.Tie as tie
+use Rattle.splices.proofs.space.open_space.Reads as reads
+use Rattle.splices.proofs.space.open_space.Lts as lts
+use Rattle.splices.proofs.space.clear.Reads as clear-reads
+use Rattle.writing.proofs.move_down.Reads as move-down-reads
+use Rattle.writing.proofs.move_up.Reads as move-up-reads
 
 add-from : tie.Need-add-from
 add-from c = search needs

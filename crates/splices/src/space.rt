@@ -1,33 +1,8 @@
-// Moves within a lent buffer, and room for new bytes in the text at its front.
+// Room for new bytes in the text at the front of a lent buffer.
 ghost use mathlib.Core.Path.{_≡_};
 ghost use Prim.Native.Nat.{_+_, _-_, _≤_};
-ghost use lib.ListN.{length, drop, replicate};
-ghost use lib.Seq.{paste};
+ghost use lib.ListN.{length, replicate};
 ghost use Rattle.splices.specs.Space.{Opened};
-
-// n bytes go up from `from` to `to`, the last one first.
-fn move_up(buf: &mut [u8], from: usize, to: usize, n: usize)
-    requires { ⌜ (from ≤ to) × (to + n ≤ length (now buf)) ⌝ }
-    ensures { λ _. ⌜ now (buf .exit) ≡ paste (now (buf .entry)) to (drop from (now (buf .entry))) n ⌝ }
-{
-    let mut i = n;
-    while 0 < i {
-        i -= 1;
-        buf[to + i] = buf[from + i];
-    }
-}
-
-// n bytes go down from `from` to `to`, the first one first.
-pub fn move_down(buf: &mut [u8], from: usize, to: usize, n: usize)
-    requires { ⌜ (to ≤ from) × (from + n ≤ length (now buf)) ⌝ }
-    ensures { λ _. ⌜ now (buf .exit) ≡ paste (now (buf .entry)) to (drop from (now (buf .entry))) n ⌝ }
-{
-    let mut i = 0;
-    while i < n {
-        buf[to + i] = buf[from + i];
-        i += 1;
-    }
-}
 
 // Every byte becomes 0.
 fn clear(part: &mut [u8])
@@ -50,9 +25,9 @@ pub(crate) fn open_space(buf: &mut [u8], used: usize, at: usize, old: usize, new
     let to = at + new;
     let n = used - from;
     if from < to {
-        move_up(buf, from, to, n);
+        writing::move_up(buf, from, to, n);
     } else {
-        move_down(buf, from, to, n);
+        writing::move_down(buf, from, to, n);
         let end = to + n;
         clear(&mut buf[end..used]);
     }

@@ -1,4 +1,4 @@
--- `splices::moves::move_up` meets its contract. The loop's invariant: the last n - i bytes of the run stand at their new place, all else is as it was.
+-- `writing::moves::move_up` meets its contract. The loop's invariant: the last n - i bytes of the run stand at their new place, all else is as it was.
 -- The measure is i.
 use Prim.Native.Nat.{ℕ, _+_, _-_, _≤_}
 use native.Mathlib.Omega.{arith}
@@ -6,11 +6,11 @@ use mathlib.Core.Path.{_≡_, refl}
 use denote.Ref.{now}
 use lib.ListN.{length, take, drop, length-set, length-take, length-drop}
 use Rattle.format.specs.Bytes.{Bytes}
-use Rattle.splices.proofs.Moving.{hung, hung-none, hung-all, moved-up}
-use Rattle.splices.proofs.moves.move_up.Statement.{statement}
-use Rattle.splices.proofs.moves.move_up.Tie as tie
-use Rattle.splices.proofs.moves.move_up.Reads as reads
-use Rattle.splices.proofs.moves.move_up.Lts as lts
+use Rattle.writing.proofs.Moving.{hung, hung-none, hung-all, moved-up}
+use Rattle.writing.proofs.moves.move_up.Statement.{statement}
+use Rattle.writing.proofs.moves.move_up.Tie as tie
+use Rattle.writing.proofs.moves.move_up.Reads as reads
+use Rattle.writing.proofs.moves.move_up.Lts as lts
 
 abbrev Inv-loop : tie.InvT-loop
 Inv-loop buf₀ from to n i₀ buf i = (i ≤ n) × (length buf ≡ length buf₀) × (buf ≡ hung buf₀ to (take n (drop from buf₀)) i)

@@ -1,4 +1,4 @@
--- `splices::moves::clear` meets its contract. The loop's invariant: i zeros, and the part from there on as it was.
+-- `splices::space::clear` meets its contract. The loop's invariant: i zeros, and the part from there on as it was.
 -- The measure is what is left of the length.
 use Prim.Native.Nat.{_-_, _≤_}
 use native.Mathlib.Omega.{arith}
@@ -8,10 +8,10 @@ use denote.Ref.{now}
 use lib.ListN.{length, drop, replicate, length-set}
 use lib.Seq.{drop-length}
 use borrow.Author.Fill.{fill-more}
-use Rattle.splices.proofs.moves.clear.Statement.{statement}
-use Rattle.splices.proofs.moves.clear.Tie as tie
-use Rattle.splices.proofs.moves.clear.Reads as reads
-use Rattle.splices.proofs.moves.clear.Lts as lts
+use Rattle.splices.proofs.space.clear.Statement.{statement}
+use Rattle.splices.proofs.space.clear.Tie as tie
+use Rattle.splices.proofs.space.clear.Reads as reads
+use Rattle.splices.proofs.space.clear.Lts as lts
 
 abbrev Inv-loop : tie.InvT-loop
 Inv-loop part₀ i₀ part i = (i ≤ length part₀) × (length part ≡ length part₀) × (part ≡ replicate i 0 ++ drop i part₀)

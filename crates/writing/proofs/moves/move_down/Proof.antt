@@ -1,4 +1,4 @@
--- `splices::moves::move_down` meets its contract. The loop's invariant: the first i bytes of the run are pasted at their new place.
+-- `writing::moves::move_down` meets its contract. The loop's invariant: the first i bytes of the run are pasted at their new place.
 -- The measure is what is left of n.
 use Prim.Native.Nat.{_-_, _≤_}
 use native.Mathlib.Omega.{arith}
@@ -6,11 +6,11 @@ use mathlib.Core.Path.{_≡_, refl}
 use denote.Ref.{now}
 use lib.ListN.{length, drop, length-set}
 use lib.Seq.{paste, paste-zero}
-use Rattle.splices.proofs.Moving.{moved-down}
-use Rattle.splices.proofs.moves.move_down.Statement.{statement}
-use Rattle.splices.proofs.moves.move_down.Tie as tie
-use Rattle.splices.proofs.moves.move_down.Reads as reads
-use Rattle.splices.proofs.moves.move_down.Lts as lts
+use Rattle.writing.proofs.Moving.{moved-down}
+use Rattle.writing.proofs.moves.move_down.Statement.{statement}
+use Rattle.writing.proofs.moves.move_down.Tie as tie
+use Rattle.writing.proofs.moves.move_down.Reads as reads
+use Rattle.writing.proofs.moves.move_down.Lts as lts
 
 abbrev Inv-loop : tie.InvT-loop
 Inv-loop buf₀ from to n i₀ buf i = (i ≤ n) × (length buf ≡ length buf₀) × (buf ≡ paste buf₀ to (drop from buf₀) i)
