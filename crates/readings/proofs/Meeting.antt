@@ -9,9 +9,9 @@ use Rattle.format.specs.Bytes.{Bytes, among}
 use Rattle.format.specs.Words.{trim}
 use Rattle.format.specs.Types.{uncomment}
 use Rattle.words.specs.Spans.{span}
-use Rattle.types.specs.Meaning.{symbolsIn, Sound, meetsIn}
-use Rattle.types.specs.declared.Shape.{Shape}
-use Rattle.types.proofs.Shape.{the-type as shape-type}
+use Rattle.typing.specs.Meaning.{symbolsIn, Sound, meetsIn}
+use Rattle.typing.specs.declared.Shape.{Shape}
+use Rattle.typing.proofs.Shape.{the-type as shape-type}
 use Rattle.readings.specs.Readings.{metBy}
 
 pub met-shape : (symbol : Bool) (v : Bytes) {k j : Shape} → k ≡ j → metBy j symbol v ≡ metBy k symbol v

@@ -2,8 +2,8 @@
 use mathlib.Core.Bool.{Bool, false}
 use mathlib.Core.List.{[]}
 use Rattle.format.specs.Bytes.{Bytes}
-use Rattle.types.specs.Meaning.{meetsIn}
-use Rattle.types.specs.declared.Shape.{Shape}
+use Rattle.typing.specs.Meaning.{meetsIn}
+use Rattle.typing.specs.declared.Shape.{Shape}
 
 abbrev pub metBy : Shape → Bool → Bytes → Bool
 metBy Shape.Int symbol v = meetsIn [] Shape.Int v

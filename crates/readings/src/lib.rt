@@ -8,7 +8,7 @@ ghost use Rattle.numbers.specs.Meaning.{intIn, intAnswer};
 ghost use Rattle.readings.specs.Readings.{metBy};
 use numbers::IntOf;
 use numbers::Whole;
-use types::Shape;
+use typing::Shape;
 
 // The int that a value is, blanks and newlines around it aside.
 pub fn int_in(v: &[u8]) -> IntOf
@@ -53,6 +53,6 @@ pub fn shape_met(kind: Shape, v: &[u8], x: IntOf, symbol: bool) -> bool
         Shape::Range(low, high) => is_between(low, high, x),
         Shape::Enum { start: _, end: _ } => symbol,
         Shape::Alias { start: _, end: _ } => false,
-        _ => types::meets(kind, b"", v),
+        _ => typing::meets(kind, b"", v),
     }
 }

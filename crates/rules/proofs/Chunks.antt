@@ -17,7 +17,7 @@ use Rattle.format.proofs.Least.{least, leasts, eachOf, first-leasts, first-appe
 use Rattle.format.proofs.Judging.{recordRows, recordNo}
 use Rattle.records.specs.Walk.{recordIn}
 use Rattle.records.specs.Named.{valuesFrom}
-use Rattle.kinds.proofs.Named.{between-split, typed-rows}
+use Rattle.columns.proofs.Named.{between-split, typed-rows}
 use Rattle.rules.proofs.Leasts.{least-assoc}
 use Rattle.rules.specs.Members.{namesNo, isMet, partNo}
 use Rattle.rules.specs.declared.members.Asked.{Asked}

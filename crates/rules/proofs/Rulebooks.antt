@@ -13,9 +13,9 @@ use Rattle.records.specs.Walk.{recordIn}
 use Rattle.dictionary.specs.Known.{Described, IsDictionary}
 use Rattle.dictionary.specs.Numbered.{IsWords}
 use Rattle.dictionary.specs.declared.wordsets.Words.{Words}
-use Rattle.symbols.specs.Rows.{Texts, IsSymbols, Reaches}
-use Rattle.symbols.specs.declared.Symbols.{Symbols}
-use Rattle.kinds.proofs.Named.{kinds-texts}
+use Rattle.enums.specs.Rows.{Texts, IsSymbols, Reaches}
+use Rattle.enums.specs.declared.Symbols.{Symbols}
+use Rattle.columns.proofs.Named.{kinds-texts}
 use Rattle.rules.specs.Tables.{uniqueAt, namesAt, symbolsAt, entriesEnd, IsTables}
 use Rattle.rules.specs.Members.{IsRulebook, partNo}
 use Rattle.rules.specs.Chunks.{IsBook, Chunked}

@@ -7,7 +7,7 @@ use lib.Dec.{eqb}
 use borrow.Author.Tests.{ne-eqb}
 use Rattle.format.specs.Bytes.{Bytes}
 use Rattle.terms.specs.Sets.{inSet}
-use Rattle.kinds.specs.Meets.{rowMet, rowsMet}
+use Rattle.columns.specs.Meets.{rowMet, rowsMet}
 
 -- doubled j times, a number has no tag below j
 abbrev doubled : ℕ → ℕ → ℕ

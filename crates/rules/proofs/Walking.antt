@@ -40,8 +40,8 @@ use Rattle.rules.specs.declared.tables.SeenName.{SeenName}
 use Rattle.rules.proofs.Fields.{tallied-none, stands-more}
 use Rattle.rules.proofs.TallyNo.{tally-no}
 use Rattle.rules.proofs.Leasts.{least-none, least-assoc}
-use Rattle.kinds.specs.Meets.{rowsMet}
-use Rattle.kinds.proofs.Named.{rows-known}
+use Rattle.columns.specs.Meets.{rowsMet}
+use Rattle.columns.proofs.Named.{rows-known}
 use Rattle.rules.specs.Members.{IsRulebook, fitsIn, namesNo, isMet, partNo}
 use Rattle.rules.specs.declared.members.Rulebook.{Rulebook}
 

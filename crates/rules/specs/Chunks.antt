@@ -17,7 +17,7 @@ use Rattle.format.proofs.Least.{leasts}
 use Rattle.format.proofs.Judging.{recordNo}
 use Rattle.records.specs.Walk.{recordIn}
 use Rattle.dictionary.specs.Known.{Described}
-use Rattle.kinds.specs.Rows.{IsKinds}
+use Rattle.columns.specs.Rows.{IsKinds}
 use Rattle.rules.specs.Members.{partNo}
 use Rattle.rules.specs.declared.members.Asked.{Asked}
 use Rattle.rules.specs.declared.Book.{Book}

@@ -17,8 +17,8 @@ use Rattle.format.proofs.Judging.{recordRows}
 use Rattle.records.specs.Walk.{recordIn}
 use Rattle.words.specs.Spans.{span}
 use Rattle.rules.specs.Tables.{symbolsAt, entriesEnd, IsTables}
-use Rattle.kinds.specs.Meets.{typedBetween}
-use Rattle.kinds.specs.Rows.{IsTyped}
+use Rattle.columns.specs.Meets.{typedBetween}
+use Rattle.columns.specs.Rows.{IsTyped}
 use Rattle.rules.specs.declared.members.Rulebook.{Rulebook}
 
 -- the tables of a descriptor's rules; they and the symbols are of the `%type` fields from one on, the symbols of no more of them

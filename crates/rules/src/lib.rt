@@ -21,9 +21,9 @@ ghost use Rattle.rules.specs.Tables.{entriesEnd};
 ghost use Rattle.rules.specs.Members.{fitsIn};
 ghost use Rattle.rules.specs.Described.{IsRules, AllFit};
 ghost use Rattle.rules.specs.Chunks.{IsBook, HaveKeys, Chunked, SetAsked};
+use columns::Kinds;
+use columns::Typed;
 use format::Refusal;
-use kinds::Kinds;
-use kinds::Typed;
 use members::Asked;
 use members::Rulebook;
 use records::FoundField;
@@ -84,7 +84,7 @@ fn judge_rows(
     let to = tables.names.next;
     let kinds = b.kinds;
     let texts = kinds.texts;
-    let symbols = symbols::read(
+    let symbols = enums::read(
         d,
         &texts,
         from,
@@ -137,7 +137,7 @@ fn judge_members(d: &[u8], part: &[u8], scratch: &mut [u8], entries: &mut [u32])
     requires { ⌜ (valueBytes ≤ length (now scratch)) × (entriesEnd ≤ length (now entries)) ⌝ }
     ensures { λ r. ⌜ SetAsked (recordIn (now (d .entry))) (records (readOf (now (part .entry)))) r ⌝ }
 {
-    let kinds = kinds::read(d, &mut *scratch);
+    let kinds = columns::read(d, &mut *scratch);
     let limited = has_field(d, b"%allowed");
     let keyed = has_field(d, b"%key");
     let b = Book {

@@ -14,8 +14,8 @@ ghost use Rattle.lines.specs.Value.{valueFrom};
 ghost use Rattle.records.specs.Places.{isReadable};
 ghost use Rattle.records.specs.Walk.{recordIn};
 ghost use Rattle.rules.specs.Tallies.{tallyNo};
-ghost use Rattle.kinds.specs.Meets.{rowsMet};
-ghost use Rattle.kinds.specs.Rows.{IsTyped};
+ghost use Rattle.columns.specs.Meets.{rowsMet};
+ghost use Rattle.columns.specs.Rows.{IsTyped};
 ghost use Rattle.rules.specs.Members.{IsRulebook, fitsIn, partNo};
 use super::questions;
 use super::tables;
@@ -24,9 +24,9 @@ use super::tables::SeenName;
 use super::tables::Tables;
 use super::tallies;
 use super::tallies::Tally;
+use columns::Typed;
 use dictionary::Tag;
 use format::Refusal;
-use kinds::Typed;
 use lines::Next;
 
 // The rules of a descriptor, from one of its `%type` fields on: the tables of its names, the kinds of its types and the symbols of those; whether only
@@ -85,7 +85,7 @@ fn value_met(
     if tags % Tag::TYPES == 0 {
         return true;
     }
-    kinds::value_met(d, entries, typed, tags, s, &mut *scratch)
+    columns::value_met(d, entries, typed, tags, s, &mut *scratch)
 }
 
 // The least number of the records of a part and how many they are, from the `%type` field on at which the tables begin. What was seen of a name is kept by the number of its field,

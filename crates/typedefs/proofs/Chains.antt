@@ -12,10 +12,10 @@ use types.Run.{OneOf, miss}
 use Rattle.format.specs.Bytes.{Bytes, pick, same}
 use Rattle.format.specs.Words.{afterWord}
 use Rattle.format.specs.Types.{Typed}
-use Rattle.types.specs.Meaning.{typedIn, typeAnswer, SoundType, Sound, Told}
-use Rattle.types.specs.declared.Shape.{Shape}
-use Rattle.types.specs.declared.TypeOf.{TypeOf}
-use Rattle.types.proofs.Shape.{the-type}
+use Rattle.typing.specs.Meaning.{typedIn, typeAnswer, SoundType, Sound, Told}
+use Rattle.typing.specs.declared.Shape.{Shape}
+use Rattle.typing.specs.declared.TypeOf.{TypeOf}
+use Rattle.typing.proofs.Shape.{the-type}
 use Rattle.words.specs.Spans.{wordAt}
 use Rattle.words.specs.declared.Word.{Word}
 use Rattle.words.proofs.Finding.{afterBy, Within, after-at, word-within}

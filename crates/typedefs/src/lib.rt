@@ -23,8 +23,8 @@ ghost use Rattle.typedefs.specs.Targets.{indexFrom, targetBy, targetIn, 
 use format::Descriptor;
 use records::FoundField;
 use terms::Table;
-use types::Shape;
-use types::TypeOf;
+use typing::Shape;
+use typing::TypeOf;
 use words::Word;
 
 // The place behind the first word of a text.
@@ -129,7 +129,7 @@ pub fn target_in(d: &[u8], names: Names, s: &[u8]) -> usize
     requires { ⌜ AreNames (now d) names ⌝ }
     ensures { λ r. ⌜ r ≡ targetBy (namesFrom (now (d .entry)) 0) (typeOf intBounds (now (s .entry))) ⌝ }
 {
-    let t = types::type_of(s);
+    let t = typing::type_of(s);
     let TypeOf::Is(k) = t else {
         return Targets::FAULT;
     };
@@ -234,7 +234,7 @@ pub fn all_end(targets: &[usize]) -> bool
 fn is_reserved(s: &[u8]) -> bool
     ensures { λ r. ⌜ r ≡ among (now (s .entry)) reserved ⌝ }
 {
-    types::is_among(
+    typing::is_among(
         s,
         b"int range real line size enum bool field uuid email date regexp rec",
     )

@@ -9,11 +9,11 @@ ghost use Rattle.format.specs.Words.{isGap, notGap, trim, isTypeName};
 ghost use Rattle.words.specs.Spans.{span, runEnd, notByte, wordAt};
 use format::Class;
 
-mod rules;
+mod fieldnames;
 
-pub use rules::Rule;
-pub use rules::rule_of;
-pub use rules::word_place;
+pub use fieldnames::Rule;
+pub use fieldnames::rule_of;
+pub use fieldnames::word_place;
 
 // Is this byte a blank or a newline?
 pub fn is_gap(b: u8) -> bool

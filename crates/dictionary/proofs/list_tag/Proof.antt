@@ -18,7 +18,7 @@ rule-of-requires c κs = search needs
 
 returns : tie.Need-returns
 unfolding listTag
-returns c = 
+returns c =
     let at-args = c .before .before .before .args in
     let at-rule-of = c .before .rule-of in
     let at-match = c .match in
@@ -26,7 +26,7 @@ returns c =
 
 returns-2 : tie.Need-returns-2
 unfolding listTag
-returns-2 c = 
+returns-2 c =
     let at-args = c .before .before .before .args in
     let at-rule-of = c .before .rule-of in
     let at-match = c .match in
@@ -34,7 +34,7 @@ returns-2 c =
 
 returns-3 : tie.Need-returns-3
 unfolding listTag
-returns-3 c = 
+returns-3 c =
     let at-args = c .before .before .before .args in
     let at-rule-of = c .before .rule-of in
     let at-match = c .match in
@@ -42,7 +42,7 @@ returns-3 c =
 
 returns-4 : tie.Need-returns-4
 unfolding listTag
-returns-4 c = 
+returns-4 c =
     let at-args = c .before .before .before .args in
     let at-rule-of = c .before .rule-of in
     let at-match = c .match in
@@ -50,7 +50,7 @@ returns-4 c =
 
 returns-5 : tie.Need-returns-5
 unfolding listTag
-returns-5 c = 
+returns-5 c =
     let at-args = c .before .before .before .args in
     let at-rule-of = c .before .rule-of in
     let at-match = c .match in
@@ -58,7 +58,7 @@ returns-5 c =
 
 returns-6 : tie.Need-returns-6
 unfolding listTag
-returns-6 c = 
+returns-6 c =
     let at-args = c .before .before .before .args in
     let at-rule-of = c .before .rule-of in
     let at-match = c .match in

@@ -12,7 +12,7 @@ use Rattle.readings.proofs.shape_met.Reads as reads
 use Rattle.readings.proofs.shape_met.Lts as lts
 use Rattle.readings.proofs.is_between.Reads as is-between-reads
 use Rattle.readings.proofs.is_int.Reads as is-int-reads
-use Rattle.types.proofs.meets.Reads as meets-reads
+use Rattle.typing.proofs.meets.Reads as meets-reads
 
 enum-told : tie.Need-enum-told
 enum-told c = search needs

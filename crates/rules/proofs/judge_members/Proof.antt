@@ -14,7 +14,7 @@ use Rattle.rules.proofs.judge_members.Statement.{statement}
 use Rattle.rules.proofs.judge_members.Tie as tie
 use Rattle.rules.proofs.judge_members.Reads as reads
 use Rattle.rules.proofs.judge_members.Lts as lts
-use Rattle.kinds.proofs.read.Reads as read-reads
+use Rattle.columns.proofs.read.Reads as read-reads
 use Rattle.rules.proofs.has_field.Reads as has-field-reads
 use Rattle.rules.proofs.judge_records.Reads as judge-records-reads
 

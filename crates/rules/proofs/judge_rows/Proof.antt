@@ -15,7 +15,7 @@ use Rattle.rules.proofs.judge_rows.Reads as reads
 use Rattle.rules.proofs.judge_rows.Lts as lts
 use Rattle.rules.proofs.members.judge_part.Reads as judge-part-reads
 use Rattle.rules.proofs.tables.read.Reads as tables-read-reads
-use Rattle.symbols.proofs.read.Reads as read-reads
+use Rattle.enums.proofs.read.Reads as read-reads
 
 slice-aggregate-read : tie.Need-slice-aggregate-read
 slice-aggregate-read c = search needs

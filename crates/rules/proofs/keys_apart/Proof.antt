@@ -12,7 +12,7 @@ use Rattle.words.specs.Spans.{span}
 use Rattle.words.proofs.Decoded.{decoded-all, decoded-length, decoded-inside}
 use Rattle.words.proofs.Finding.{found, not-found}
 use Rattle.records.proofs.Named.{value-told}
-use Rattle.kinds.proofs.Granted.{fits-at}
+use Rattle.columns.proofs.Granted.{fits-at}
 use Rattle.rules.proofs.Walking.{key-few}
 use Rattle.rules.proofs.Granted.{described-by}
 use Rattle.rules.proofs.Keys.{no-key, no-word, key-room, key-values, key-once-named, word-span}

@@ -4,9 +4,9 @@ use mathlib.Core.Option.{some}
 use native.Mathlib.Omega.{arith}
 use Rattle.format.specs.Numbers.{intBounds}
 use Rattle.format.specs.Types.{typeOf}
-use Rattle.types.specs.Meaning.{typedIn}
-use Rattle.types.specs.declared.Shape.{Shape}
-use Rattle.types.proofs.Meeting.{sound-shape}
+use Rattle.typing.specs.Meaning.{typedIn}
+use Rattle.typing.specs.declared.Shape.{Shape}
+use Rattle.typing.proofs.Meeting.{sound-shape}
 use Rattle.typedefs.specs.Walks.{namesFrom}
 use Rattle.typedefs.specs.Targets.{targetBy}
 use Rattle.typedefs.proofs.Chains.{told-none, told-some, told-sound, target-kind}
@@ -16,7 +16,7 @@ use Rattle.typedefs.proofs.target_in.Tie as tie
 use Rattle.typedefs.proofs.target_in.Reads as reads
 use Rattle.typedefs.proofs.target_in.Lts as lts
 use Rattle.typedefs.proofs.index_from.Reads as index-from-reads
-use Rattle.types.proofs.type_of.Reads as type-of-reads
+use Rattle.typing.proofs.type_of.Reads as type-of-reads
 
 type-of-requires : tie.Need-type-of-requires
 type-of-requires c κs = search needs

@@ -10,7 +10,7 @@ use Rattle.rules.proofs.members.value_met.Statement.{statement}
 use Rattle.rules.proofs.members.value_met.Tie as tie
 use Rattle.rules.proofs.members.value_met.Reads as reads
 use Rattle.rules.proofs.members.value_met.Lts as lts
-use Rattle.kinds.proofs.value_met.Reads as value-met-reads
+use Rattle.columns.proofs.value_met.Reads as value-met-reads
 
 returns : tie.Need-returns
 returns c =

@@ -1,0 +1,200 @@
+-- `columns::fill` meets its contract. The invariant: the rows so far are those of the fields passed. The measure is what is left of the text.
+use borrow.Author.Needs.{needs}
+use Prim.Native.Nat.{_-_, _≤_}
+use native.Mathlib.Omega.{arith}
+use mathlib.Core.Path.{_≡_, refl}
+use lib.ListN.{length, length-set}
+use Rattle.format.specs.Bytes.{text}
+use Rattle.records.specs.Named.{valuesFrom}
+use Rattle.records.proofs.Named.{value-told}
+use Rattle.typedefs.proofs.Placing.{Passed, passed-start, passed-inside, passed-more}
+use Rattle.dictionary.proofs.Typing.{row-none, rows-few}
+use Rattle.columns.proofs.Filling.{Filled, filled-more, type-here, end-typed, row-kind}
+use Rattle.columns.proofs.fill.Statement.{statement}
+use Rattle.columns.proofs.fill.Tie as tie
+use Rattle.columns.proofs.fill.Reads as reads
+use Rattle.columns.proofs.fill.Lts as lts
+use Rattle.columns.proofs.end_of.Reads as end-of-reads
+use Rattle.columns.proofs.text_of.Reads as text-of-reads
+use Rattle.columns.proofs.type_at.Reads as type-at-reads
+use Rattle.records.proofs.next_named.Reads as next-named-reads
+
+abbrev Inv-loop : tie.InvT-loop
+Inv-loop d names targets scratch₀ rows₀ texts₀ i₀ count₀ t15 scratch rows texts i count = Passed d (text "%type") count i × (count ≤ length (valuesFrom d (text "%type") 0)) × (length scratch ≡ length scratch₀) × (length rows ≡ 32) × (length texts ≡ 32) × Filled d rows texts count
+
+abbrev μ-loop : tie.MeasureT-loop
+μ-loop d names targets scratch₀ rows₀ texts₀ i₀ count₀ t15 scratch rows texts i count = length d - i
+
+loop-holds : tie.Need-loop-holds Inv-loop μ-loop
+loop-holds c =
+    let at-args = c .before .before .before .args in
+    let at-pre = c .before .before .before .pre in
+    (passed-start (at-args .d .now) (text "%type") (at-pre .0 .0 .reads), omega arith, refl, refl, refl, λ k l. absurd (omega arith))
+
+slice-aggregate-next-named : tie.Need-slice-aggregate-next-named Inv-loop μ-loop
+slice-aggregate-next-named c = search needs
+
+next-named-requires : tie.Need-next-named-requires Inv-loop μ-loop
+next-named-requires c κs =
+    let at-loop = c .before .loop in
+    ((at-loop .inv .0 .inside, at-loop .inv .0 .readable))
+
+enum-known-v : tie.Need-enum-known-v Inv-loop μ-loop
+enum-known-v c = search needs
+
+enum-told : tie.Need-enum-told Inv-loop μ-loop
+enum-told c = search needs
+
+same-length : tie.Need-same-length Inv-loop μ-loop
+same-length c =
+    let at-loop = c .before .before .before .before .loop in
+    at-loop .inv .2
+
+returns : tie.Need-returns Inv-loop μ-loop
+returns c =
+    let at-args = c .before .before .before .before .before .before .before .before .args in
+    let at-loop = c .before .before .before .before .loop in
+    let at-next-named = c .before .before .next-named in
+    let at-enum-told = c .enum-told in
+    let at-pre = c .before .before .before .before .before .before .before .before .pre in
+    let d = at-args .d .now in
+    let e = value-told d (text "%type") (at-loop .i) (at-next-named .result) (at-next-named .ensures) (at-enum-told .given .1) in
+    let n = row-none d (at-loop .count) (at-loop .i) (at-loop .inv .0) e in
+    let few = rows-few d (at-pre .0 .0) in
+    record { few = omega (arith, at-loop .inv .1); count = omega (arith, at-loop .inv .1); rows-long = at-loop .inv .3; texts-long = at-loop .inv .4; row = at-loop .inv .5 }
+
+end-of-requires : tie.Need-end-of-requires Inv-loop μ-loop
+end-of-requires c κs =
+    let at-args = c .before .before .before .before .before .before .before .before .before .before .args in
+    let at-loop = c .before .before .before .before .before .before .loop in
+    let at-next-named = c .before .before .before .before .next-named in
+    let at-v = c .before .before .v in
+    let at-pre = c .before .before .before .before .before .before .before .before .before .before .pre in
+    let d = at-args .d .now in
+    let h = value-told d (text "%type") (at-loop .i) (at-next-named .result) (at-next-named .ensures) (at-v .given .1) in
+    ((at-pre .0, (type-here d (at-pre .0 .0) (at-loop .count) (at-loop .i) _ _ (at-loop .inv .0) h, omega (arith, at-loop .inv .2, at-pre .1))))
+
+type-at-requires : tie.Need-type-at-requires Inv-loop μ-loop
+type-at-requires c κs =
+    let at-args = c .before .before .before .before .before .before .before .before .before .before .before .before .before .before .args in
+    let at-loop = c .before .before .before .before .before .before .before .before .before .before .loop in
+    let at-next-named = c .before .before .before .before .before .before .before .before .next-named in
+    let at-v = c .before .before .before .before .before .before .v in
+    let at-end-of = c .before .before .before .end-of in
+    let at-pre = c .before .before .before .before .before .before .before .before .before .before .before .before .before .before .pre in
+    let at-scratch = c .before .before .scratch in
+    let d = at-args .d .now in
+    let h = value-told d (text "%type") (at-loop .i) (at-next-named .result) (at-next-named .ensures) (at-v .given .1) in
+    let a = at-end-of .ensures in
+    (((omega (arith, a .there), omega (arith, a .fits, at-scratch .given, at-loop .inv .2, at-pre .1)), end-typed d (at-pre .0 .0) (at-loop .count) (at-loop .i) _ _ (at-loop .inv .0) h (at-end-of .result) a))
+
+mul-rows : tie.Need-mul-rows Inv-loop μ-loop
+mul-rows c =
+    let at-args = c .before .before .before .before .before .before .before .before .before .before .before .before .before .before .before .before .before .args in
+    let at-loop = c .before .before .before .before .before .before .before .before .before .before .before .before .before .loop in
+    let at-next-named = c .before .before .before .before .before .before .before .before .before .before .before .next-named in
+    let at-v = c .before .before .before .before .before .before .before .before .before .v in
+    let at-pre = c .before .before .before .before .before .before .before .before .before .before .before .before .before .before .before .before .before .pre in
+    let d = at-args .d .now in
+    let h = value-told d (text "%type") (at-loop .i) (at-next-named .result) (at-next-named .ensures) (at-v .given .1) in
+    omega (arith, passed-inside d (text "%type") (at-loop .count) (at-loop .i) (at-loop .inv .0) _ _ h, rows-few d (at-pre .0 .0))
+
+array-set-from-rows : tie.Need-array-set-from-rows Inv-loop μ-loop
+array-set-from-rows c =
+    let at-args = c .before .before .before .before .before .before .before .before .before .before .before .before .before .before .before .before .before .args in
+    let at-loop = c .before .before .before .before .before .before .before .before .before .before .before .before .before .loop in
+    let at-next-named = c .before .before .before .before .before .before .before .before .before .before .before .next-named in
+    let at-v = c .before .before .before .before .before .before .before .before .before .v in
+    let at-pre = c .before .before .before .before .before .before .before .before .before .before .before .before .before .before .before .before .before .pre in
+    let d = at-args .d .now in
+    let h = value-told d (text "%type") (at-loop .i) (at-next-named .result) (at-next-named .ensures) (at-v .given .1) in
+    omega (arith, passed-inside d (text "%type") (at-loop .count) (at-loop .i) (at-loop .inv .0) _ _ h, rows-few d (at-pre .0 .0))
+
+text-of-requires : tie.Need-text-of-requires Inv-loop μ-loop
+text-of-requires c κs = search needs
+
+mul-texts : tie.Need-mul-texts Inv-loop μ-loop
+mul-texts c =
+    let at-args = c .before .before .before .before .before .before .before .before .before .before .before .before .before .before .before .before .before .before .args in
+    let at-loop = c .before .before .before .before .before .before .before .before .before .before .before .before .before .before .loop in
+    let at-next-named = c .before .before .before .before .before .before .before .before .before .before .before .before .next-named in
+    let at-v = c .before .before .before .before .before .before .before .before .before .before .v in
+    let at-pre = c .before .before .before .before .before .before .before .before .before .before .before .before .before .before .before .before .before .before .pre in
+    let d = at-args .d .now in
+    let h = value-told d (text "%type") (at-loop .i) (at-next-named .result) (at-next-named .ensures) (at-v .given .1) in
+    omega (arith, passed-inside d (text "%type") (at-loop .count) (at-loop .i) (at-loop .inv .0) _ _ h, rows-few d (at-pre .0 .0))
+
+array-write-texts : tie.Need-array-write-texts Inv-loop μ-loop
+array-write-texts c =
+    let at-args = c .before .before .before .before .before .before .before .before .before .before .before .before .before .before .before .before .before .before .args in
+    let at-loop = c .before .before .before .before .before .before .before .before .before .before .before .before .before .before .loop in
+    let at-next-named = c .before .before .before .before .before .before .before .before .before .before .before .before .next-named in
+    let at-v = c .before .before .before .before .before .before .before .before .before .before .v in
+    let at-pre = c .before .before .before .before .before .before .before .before .before .before .before .before .before .before .before .before .before .before .pre in
+    let d = at-args .d .now in
+    let h = value-told d (text "%type") (at-loop .i) (at-next-named .result) (at-next-named .ensures) (at-v .given .1) in
+    omega (arith, passed-inside d (text "%type") (at-loop .count) (at-loop .i) (at-loop .inv .0) _ _ h, rows-few d (at-pre .0 .0))
+
+add-count : tie.Need-add-count Inv-loop μ-loop
+add-count c =
+    let at-args = c .before .before .before .before .before .before .before .before .before .before .before .before .before .before .before .before .before .before .args in
+    let at-loop = c .before .before .before .before .before .before .before .before .before .before .before .before .before .before .loop in
+    let at-next-named = c .before .before .before .before .before .before .before .before .before .before .before .before .next-named in
+    let at-v = c .before .before .before .before .before .before .before .before .before .before .v in
+    let at-pre = c .before .before .before .before .before .before .before .before .before .before .before .before .before .before .before .before .before .before .pre in
+    let d = at-args .d .now in
+    let h = value-told d (text "%type") (at-loop .i) (at-next-named .result) (at-next-named .ensures) (at-v .given .1) in
+    omega (arith, passed-inside d (text "%type") (at-loop .count) (at-loop .i) (at-loop .inv .0) _ _ h, rows-few d (at-pre .0 .0))
+
+loop-less : tie.Need-loop-less Inv-loop μ-loop
+loop-less c =
+    let at-args = c .before .before .before .before .before .before .before .before .before .before .before .before .before .before .before .before .before .before .args in
+    let at-loop = c .before .before .before .before .before .before .before .before .before .before .before .before .before .before .loop in
+    let at-next-named = c .before .before .before .before .before .before .before .before .before .before .before .before .next-named in
+    let at-v = c .before .before .before .before .before .before .before .before .before .before .v in
+    let h = value-told (at-args .d .now) (text "%type") (at-loop .i) (at-next-named .result) (at-next-named .ensures) (at-v .given .1) in
+    omega (arith, h .moves, h .inside)
+
+loop-again : tie.Need-loop-again Inv-loop μ-loop
+loop-again c =
+    let at-args = c .before .before .before .before .before .before .before .before .before .before .before .before .before .before .before .before .before .before .args in
+    let at-loop = c .before .before .before .before .before .before .before .before .before .before .before .before .before .before .loop in
+    let at-next-named = c .before .before .before .before .before .before .before .before .before .before .before .before .next-named in
+    let at-v = c .before .before .before .before .before .before .before .before .before .before .v in
+    let at-pre = c .before .before .before .before .before .before .before .before .before .before .before .before .before .before .before .before .before .before .pre in
+    let at-end-of = c .before .before .before .before .before .before .before .end-of in
+    let at-type-at = c .before .before .before .type-at in
+    let at-text-of = c .text-of in
+    let at-scratch = c .before .before .before .before .before .before .scratch in
+    let at-scratch2 = c .before .before .scratch2 in
+    let d = at-args .d .now in
+    let h = value-told d (text "%type") (at-loop .i) (at-next-named .result) (at-next-named .ensures) (at-v .given .1) in
+    let b = at-loop .inv .0 in
+    let l = passed-inside d (text "%type") (at-loop .count) (at-loop .i) b _ _ h in
+    let few = rows-few d (at-pre .0 .0) in
+    let k = row-kind d (at-pre .0 .0) (at-loop .count) (at-loop .i) _ _ b h (at-end-of .result) (at-end-of .ensures) (at-type-at .result) (at-text-of .result) (at-type-at .ensures) (at-text-of .ensures) in
+    (passed-more d (text "%type") (at-loop .count) (at-loop .i) b _ _ h, omega (arith, l), omega (arith, at-scratch .given, at-scratch2 .given, at-loop .inv .2), simp length-set (at-loop .inv .3), simp length-set (at-loop .inv .4), filled-more d (at-loop .rows) (at-loop .texts) (at-loop .count) (record { kind = at-type-at .result }) (at-text-of .result) (omega (arith, l, at-loop .inv .3)) (omega (arith, l, at-loop .inv .4)) k (at-loop .inv .5))
+
+pub fill-spec : {M : Type 1} → statement M
+fill-spec =
+    tie.close
+    (tie.spec
+    Inv-loop
+    μ-loop
+    loop-holds
+    slice-aggregate-next-named
+    next-named-requires
+    enum-known-v
+    enum-told
+    same-length
+    returns
+    end-of-requires
+    type-at-requires
+    mul-rows
+    array-set-from-rows
+    text-of-requires
+    mul-texts
+    array-write-texts
+    add-count
+    loop-less
+    loop-again)
