@@ -4,7 +4,7 @@ pub mod Folds
 pub mod Sizing
 pub mod Limits
 pub mod Wording
-pub mod Asking
-pub mod Naming
+pub mod Contents
+pub mod Names
 pub mod Judging
 pub mod Walks

@@ -20,7 +20,7 @@ use Rattle.records.proofs.Rows.{row-heads}
 use Rattle.words.specs.Spans.{span}
 use Rattle.descriptors.specs.Names.{nameAt, namesAt, Inside, Told}
 use Rattle.descriptors.specs.declared.shapes.Head.{Head}
-use Rattle.descriptors.proofs.Naming.{inside-more, names-more}
+use Rattle.descriptors.proofs.Names.{inside-more, names-more}
 use Rattle.descriptors.proofs.Judging.{wellFrom, well-start, well-stop, well-more, walk-fit}
 
 pub record WalkAt (s : Bytes) (starts ends : List ℕ) (count n : ℕ) (from to : List ℕ) : Type 0 where

@@ -44,7 +44,7 @@ use Rattle.splices.proofs.Inserted.{told-inserted}
 use Rattle.edits.specs.declared.Located.{Located}
 use Rattle.edits.specs.declared.Splice.{Splice}
 use Rattle.edits.specs.Places.{placeNo, changeAt, Locates, LocatesIn}
-use Rattle.edits.proofs.Asking.{own-readable, no-set, insert-asked, no-record, delete-asked, add-asked, no-field, change-asked}
+use Rattle.edits.proofs.PlaceQuestions.{own-readable, no-set, insert-asked, no-record, delete-asked, add-asked, no-field, change-asked}
 
 -- a text with its bytes from x to y replaced, and with so many bytes replaced from x on
 as-spliced : (s : Bytes) (x y old : ℕ) (t : Bytes) → y ≡ x + old → replaced s x y t ≡ spliced s x old t

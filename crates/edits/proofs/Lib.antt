@@ -1,4 +1,4 @@
 -- Laws of edits: what is asked of their places, what they make of the text, and whether it fits.
-pub mod Asking
+pub mod PlaceQuestions
 pub mod Acting
 pub mod Sizes

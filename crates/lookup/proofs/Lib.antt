@@ -1,4 +1,4 @@
 -- Count, fetch, view and the sets' names: of a text that is known to be readable, and of a buffer.
 pub mod Looking
-pub mod Naming
+pub mod Names
 pub mod Buffers

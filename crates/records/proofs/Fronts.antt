@@ -19,7 +19,7 @@ use Rattle.records.specs.declared.Place.{Place}
 use Rattle.records.proofs.Walks.{size-append, placesRun, places-walk}
 use Rattle.records.proofs.Shifts.{raise}
 use Rattle.records.proofs.Readings.{Reads, reads-readable, reads-of, readable-reads, reads-take, places-read}
-use Rattle.records.proofs.Firsts.{lead-first, until-from}
+use Rattle.records.proofs.FirstPlaces.{lead-first, until-from}
 use Rattle.records.proofs.Parting.{lead-bare}
 use Rattle.records.proofs.Searches.{Met}
 

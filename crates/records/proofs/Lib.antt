@@ -4,7 +4,7 @@ pub mod Shifts
 pub mod Readings
 pub mod Steps
 pub mod FieldNames
-pub mod Firsts
+pub mod FirstPlaces
 pub mod Looks
 pub mod NextFields
 pub mod Fields

@@ -20,7 +20,7 @@ use Rattle.records.specs.declared.FoundSet.{FoundSet}
 use Rattle.records.specs.declared.FoundRecord.{FoundRecord}
 use Rattle.records.proofs.Shifts.{raise, raise-none, raise-twice}
 use Rattle.records.proofs.Readings.{Reads, reads-of}
-use Rattle.records.proofs.Firsts.{First, first-place}
+use Rattle.records.proofs.FirstPlaces.{First, first-place}
 
 -- the set of no name is the default set, and stands first
 pub set-default : (n : Bytes) (ps : List Placed) → length n ≡ 0 → setPlace n ps ≡ FoundSet.At 0

@@ -28,7 +28,7 @@ use Rattle.records.specs.declared.FoundRecord.{FoundRecord}
 use Rattle.records.proofs.Shifts.{raise, fieldsIn}
 use Rattle.records.proofs.Walks.{size-append, size-none}
 use Rattle.records.proofs.Readings.{readable-reads, places-read}
-use Rattle.records.proofs.Firsts.{lead-first, to-last}
+use Rattle.records.proofs.FirstPlaces.{lead-first, to-last}
 use Rattle.records.proofs.Searches.{placesAt, places-all, set-default, set-named}
 use Rattle.records.proofs.Members.{set-told, record-told, stepOn, indexBy, Stands, stands, others, othersBy, others-enter, members-on, firstMembers, other-index, sets-places}
 

@@ -10,13 +10,12 @@ use lib.Dec.{eqb}
 use lib.ListN.{length, drop, getD, drop-of-length-le}
 use lib.Seq.{drop-cons}
 use Rattle.format.specs.Bytes.{Bytes, text, pick, same, among, all, upFrom}
-use Rattle.format.specs.Lists.{front}
-use Rattle.format.specs.Words.{isGap, notGap, firstWord}
+use Rattle.format.specs.Words.{firstWord}
 use Rattle.format.specs.Rules.{isTypedefName, distinct}
 use Rattle.lines.specs.Value.{valueFrom}
-use Rattle.words.specs.Spans.{span, runEnd, wordAt}
+use Rattle.words.specs.Spans.{span, wordAt}
 use Rattle.words.specs.declared.Word.{Word}
-use Rattle.words.proofs.Finding.{firstBy, first-at, front-at, behind-at}
+use Rattle.words.proofs.Finding.{firstBy, first-at}
 use Rattle.records.specs.Named.{ValueHere}
 use Rattle.typedefs.specs.Walks.{namesFrom}
 use Rattle.typedefs.specs.Targets.{indexFrom, followOf, isEnd, endsIn}
@@ -42,10 +41,6 @@ first-found s w a e p q = first-at s 0 ∙ ap (firstBy s) (sym p ∙ q)
 
 pub first-none : (s : Bytes) (w : Word) → w ≡ wordAt s 0 → w ≡ Word.Nothing → firstWord s ≡ []
 first-none s w p q = first-at s 0 ∙ ap (firstBy s) (sym p ∙ q)
-
-pub first-run : (s : Bytes) (a e : ℕ) → a ≡ runEnd isGap s 0 → e ≡ runEnd notGap s a → span a e s ≡ firstWord s
-first-run s a e p q =
-    ap (λ (k : ℕ). span a k s) q ∙ sym (front-at notGap s a) ∙ ap (λ (k : ℕ). front notGap (drop k s)) p ∙ sym (ap (front notGap) (behind-at isGap s 0))
 
 -- the names from byte i on, and from name k on
 pub good-cut : (d : Bytes) (i v e : ℕ) (t : Bool) → ValueHere d (text "%typedef") i v e → t ≡ isTypedefName (firstWord (valueFrom (span v e d))) → all isTypedefName (namesFrom d i) ≡ (t && all isTypedefName (namesFrom d e))

@@ -197,3 +197,8 @@ pub byte-inside : (s : Bytes) (i : ℕ) → 0 < getD s i 0 → i < length s
 byte-inside [] i h = absurd (omega arith)
 byte-inside (c ∷ s) zero h = omega arith
 byte-inside (c ∷ s) (suc i) h = omega (arith, byte-inside s i h)
+
+-- the first word of a text, by its ends
+pub first-span : (s : Bytes) (a e : ℕ) → a ≡ runEnd isGap s 0 → e ≡ runEnd notGap s a → span a e s ≡ firstWord s
+first-span s a e p q =
+    ap (λ (k : ℕ). span a k s) q ∙ sym (front-at notGap s a) ∙ ap (λ (k : ℕ). front notGap (drop k s)) p ∙ sym (ap (front notGap) (behind-at isGap s 0))

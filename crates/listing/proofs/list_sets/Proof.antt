@@ -4,7 +4,7 @@ use Prim.Native.Nat.{_-_}
 use native.Mathlib.Omega.{arith}
 use mathlib.Core.Path.{sym}
 use lib.Seq.{length-take-le}
-use Rattle.lookup.proofs.Naming.{name-inside}
+use Rattle.lookup.proofs.Names.{name-inside}
 use Rattle.listing.proofs.list_sets.Statement.{statement}
 use Rattle.listing.proofs.list_sets.Tie as tie
 use Rattle.listing.proofs.list_sets.Reads as reads

@@ -13,7 +13,7 @@ use Rattle.records.proofs.Walks.{blank-loose, comment-loose}
 use Rattle.records.proofs.Readings.{part-ended}
 use Rattle.records.proofs.Steps.{part-formed, steps, lead-loose}
 use Rattle.records.proofs.FieldNames.{field-named, rec-told}
-use Rattle.records.proofs.Firsts.{next-nothing, next-found}
+use Rattle.records.proofs.FirstPlaces.{next-nothing, next-found}
 use Rattle.records.proofs.next_record.Statement.{statement}
 use Rattle.records.proofs.next_record.Tie as tie
 use Rattle.records.proofs.next_record.Reads as reads

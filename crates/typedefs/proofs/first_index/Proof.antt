@@ -8,7 +8,7 @@ use Rattle.format.specs.Words.{isGap, notGap}
 use Rattle.words.proofs.Finding.{run-end-le}
 use Rattle.typedefs.specs.Walks.{namesFrom}
 use Rattle.typedefs.specs.Targets.{indexFrom}
-use Rattle.typedefs.proofs.Good.{first-run}
+use Rattle.words.proofs.Finding.{first-span}
 use borrow.Author.Needs.{needs}
 use Rattle.typedefs.proofs.first_index.Statement.{statement}
 use Rattle.typedefs.proofs.first_index.Tie as tie
@@ -56,7 +56,7 @@ returns c =
     let at-args = c .before .before .before .before .before .before .args in
     let at-gap-end = c .before .before .before .gap-end in
     let at-word-end = c .before .before .word-end in
-    at-index-from .ensures ∙ ap (λ (w : Bytes). indexFrom (at-args .from) w (drop (at-args .from) (namesFrom (at-args .d .now) 0))) (first-run (at-args .s .now) (at-gap-end .result) (at-word-end .result) (at-gap-end .ensures) (at-word-end .ensures))
+    at-index-from .ensures ∙ ap (λ (w : Bytes). indexFrom (at-args .from) w (drop (at-args .from) (namesFrom (at-args .d .now) 0))) (first-span (at-args .s .now) (at-gap-end .result) (at-word-end .result) (at-gap-end .ensures) (at-word-end .ensures))
 
 pub first-index-spec : {M : Type 1} → statement M
 first-index-spec =

@@ -1,5 +1,5 @@
 -- `descriptors::shapes::content_of` meets its contract, by the name's first byte.
-use Rattle.descriptors.proofs.Asking.{special, asks-plain}
+use Rattle.descriptors.proofs.Contents.{special, asks-plain}
 use borrow.Author.Needs.{needs}
 use Rattle.descriptors.proofs.shapes.content_of.Statement.{statement}
 use Rattle.descriptors.proofs.shapes.content_of.Tie as tie

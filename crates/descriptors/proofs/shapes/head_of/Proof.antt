@@ -10,7 +10,7 @@ use Rattle.lines.specs.Value.{valueFrom}
 use Rattle.words.specs.Spans.{span}
 use Rattle.descriptors.specs.Names.{namesAt}
 use Rattle.words.proofs.Decoded.{decoded-all, decoded-length, decoded-inside, scratch-length}
-use Rattle.descriptors.proofs.Naming.{name-inside, name-part, value-part}
+use Rattle.descriptors.proofs.Names.{name-inside, name-part, value-part}
 use Rattle.descriptors.proofs.Judging.{fault-told, taken-told, new-told}
 use borrow.Author.Needs.{needs}
 use borrow.Author.Tests.{not-true, not-false}

@@ -8,7 +8,7 @@ use mathlib.Core.Bool.{Bool, _||_}
 use lib.ListN.{length, drop, drop-of-length-le}
 use Rattle.format.specs.Bytes.{among}
 use Rattle.descriptors.specs.Names.{namesAt, Inside}
-use Rattle.descriptors.proofs.Naming.{place-at}
+use Rattle.descriptors.proofs.Names.{place-at}
 use Rattle.descriptors.proofs.shapes.is_named.Statement.{statement}
 use Rattle.descriptors.proofs.shapes.is_named.Tie as tie
 use Rattle.descriptors.proofs.shapes.is_named.Reads as reads

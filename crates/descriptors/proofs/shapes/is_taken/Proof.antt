@@ -8,7 +8,7 @@ use Rattle.format.specs.Words.{isGap, notGap}
 use Rattle.words.specs.Spans.{span}
 use Rattle.words.proofs.Finding.{run-end-le}
 use Rattle.descriptors.specs.Names.{namesAt}
-use Rattle.descriptors.proofs.Naming.{first-span}
+use Rattle.words.proofs.Finding.{first-span}
 use borrow.Author.Needs.{needs}
 use Rattle.descriptors.proofs.shapes.is_taken.Statement.{statement}
 use Rattle.descriptors.proofs.shapes.is_taken.Tie as tie

@@ -1,7 +1,7 @@
 -- `descriptors::shapes::rec_value` meets its contract: the first `%rec` field is found, or there is none and no name.
 use Rattle.format.specs.Bytes.{text}
 use Rattle.records.proofs.Fields.{field-told}
-use Rattle.descriptors.proofs.Naming.{rec-found, rec-missing}
+use Rattle.descriptors.proofs.Names.{rec-found, rec-missing}
 use borrow.Author.Needs.{needs}
 use Rattle.descriptors.proofs.shapes.rec_value.Statement.{statement}
 use Rattle.descriptors.proofs.shapes.rec_value.Tie as tie

@@ -11,7 +11,7 @@ use Rattle.format.specs.Words.{notGap}
 use Rattle.lines.specs.Value.{valueFrom}
 use Rattle.records.specs.Walk.{recordIn}
 use Rattle.records.proofs.Fields.{field-told}
-use Rattle.lookup.proofs.Naming.{titled-none, titled-long, titled-first}
+use Rattle.lookup.proofs.Names.{titled-none, titled-long, titled-first}
 use borrow.Author.Needs.{needs}
 use Rattle.lookup.proofs.inside.descriptor_name.Statement.{statement}
 use Rattle.lookup.proofs.inside.descriptor_name.Tie as tie

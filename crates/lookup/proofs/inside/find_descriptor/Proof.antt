@@ -11,7 +11,7 @@ use Rattle.records.proofs.Readings.{part-readable}
 use Rattle.records.proofs.Searches.{placesAt, places-all}
 use Rattle.records.proofs.Sets.{raiseSet, sets-met}
 use Rattle.lookup.specs.Names.{descriptorAt}
-use Rattle.lookup.proofs.Naming.{descriptor-none, descriptor-here, descriptor-later}
+use Rattle.lookup.proofs.Names.{descriptor-none, descriptor-here, descriptor-later}
 use Rattle.lookup.proofs.inside.find_descriptor.Statement.{statement}
 use Rattle.lookup.proofs.inside.find_descriptor.Tie as tie
 use Rattle.lookup.proofs.inside.find_descriptor.Reads as reads

@@ -3,7 +3,7 @@ use native.Mathlib.Omega.{arith}
 use Prim.Native.Nat.{_-_}
 use mathlib.Core.Path.{_∙_}
 use Rattle.records.proofs.Readings.{reads-readable}
-use Rattle.lookup.proofs.Naming.{descriptor-told, name-default, name-missing, name-found}
+use Rattle.lookup.proofs.Names.{descriptor-told, name-default, name-missing, name-found}
 use borrow.Author.Needs.{needs}
 use Rattle.lookup.proofs.inside.name_in.Statement.{statement}
 use Rattle.lookup.proofs.inside.name_in.Tie as tie

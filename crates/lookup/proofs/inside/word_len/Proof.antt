@@ -12,7 +12,7 @@ use Rattle.format.specs.Words.{notGap}
 use Rattle.lines.specs.Value.{valueFrom}
 use Rattle.lines.proofs.Decoding.{ended, goes-on}
 use Rattle.records.proofs.Words.{word-ended, word-on}
-use Rattle.lookup.proofs.Naming.{word-length}
+use Rattle.lookup.proofs.Names.{word-length}
 use Rattle.lookup.proofs.inside.word_len.Statement.{statement}
 use Rattle.lookup.proofs.inside.word_len.Tie as tie
 use Rattle.lookup.proofs.inside.word_len.Reads as reads

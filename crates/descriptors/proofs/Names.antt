@@ -8,27 +8,20 @@ use mathlib.Core.List.{List, [], _∷_, _++_}
 use lib.ListN.{length, take, drop, getD, set, length-drop, length-take, take-append-drop}
 use lib.Seq.{drop-cons, drop-drop, take-suc-set, take-append-le, drop-append-le, length-take-le}
 use Rattle.format.specs.Pieces.{readOf}
-use Rattle.format.specs.Lists.{front}
 use Rattle.format.specs.Bytes.{Bytes, text}
 use Rattle.format.specs.Limits.{valueBytes}
 use Rattle.format.specs.Questions.{fitsRecord}
 use Rattle.format.specs.Records.{fieldsOf}
 use Rattle.format.specs.Sets.{valuesOf}
-use Rattle.format.specs.Words.{isGap, notGap, firstWord}
+use Rattle.format.specs.Words.{firstWord}
 use Rattle.format.proofs.Walking.{nameIn, headName}
 use Rattle.lines.specs.Value.{valueFrom}
 use Rattle.lines.proofs.Decoding.{nothing-at}
 use Rattle.records.proofs.Fields.{FieldFound}
-use Rattle.words.specs.Spans.{span, runEnd}
-use Rattle.words.proofs.Finding.{front-at, behind-at}
+use Rattle.words.specs.Spans.{span}
 use Rattle.words.specs.declared.Span.{Span}
 use Rattle.descriptors.specs.Names.{nameAt, namesAt, Inside, NamedBy}
 use Rattle.descriptors.proofs.Limits.{fits-fields, first-short}
-
--- the first word of a text, by its ends
-pub first-span : (t : Bytes) (a e : ℕ) → a ≡ runEnd isGap t 0 → e ≡ runEnd notGap t a → span a e t ≡ firstWord t
-first-span t a e p q =
-    ap (λ (k : ℕ). span a k t) q ∙ sym (front-at notGap t a) ∙ ap (λ (k : ℕ). front notGap (drop k t)) p ∙ sym (ap (front notGap) (behind-at isGap t 0))
 
 -- a part of a part
 pub part-part : (s : Bytes) (a e b f : ℕ) → a ≤ e → e ≤ length s → b ≤ f → f ≤ length (span a e s) → span b f (span a e s) ≡ span (a + b) (a + f) s
