@@ -1,5 +1,5 @@
 -- How far the walk over the `%type` fields has come, and what the limits and the questions passed grant of them.
-use Prim.Native.Nat.{ℕ, suc, _+_, _-_, _≤_, _<_}
+use Prim.Native.Nat.{ℕ, suc, _+_, _-_, _≤_}
 use native.Mathlib.Numerals.{add-one}
 use native.Mathlib.Omega.{arith}
 use mathlib.Core.Path.{_≡_, refl, sym, ap, _∙_}
@@ -20,7 +20,6 @@ use Rattle.format.specs.Rules.{mandatory, prohibited, allowed, unique, typedNam
 use Rattle.format.specs.Questions.{fitsField}
 use Rattle.lines.specs.Value.{valueFrom}
 use Rattle.words.specs.Spans.{span}
-use Rattle.records.specs.Places.{isReadable}
 use Rattle.records.specs.Walk.{recordIn}
 use Rattle.records.specs.Named.{valuesFrom, ValueHere}
 use Rattle.typedefs.proofs.Placing.{Passed}

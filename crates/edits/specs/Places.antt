@@ -10,7 +10,7 @@ use Rattle.format.specs.Written.{isLegalName, isLegalValue}
 use Rattle.format.specs.Edits.{Edit}
 use Rattle.format.specs.Requests.{Request}
 use Rattle.format.specs.Plain.{plainOf}
-use Rattle.format.proofs.Asking.{asked}
+use Rattle.format.proofs.Questions.{asked}
 use Rattle.format.proofs.Results.{placeRows}
 use Rattle.words.specs.declared.Span.{Span}
 use Rattle.records.specs.Places.{placesOf, setPlace}

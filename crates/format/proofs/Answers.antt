@@ -12,7 +12,7 @@ use Rattle.format.specs.Requests.{Request, requestOf}
 use Rattle.format.specs.Plain.{Plain, plainOf, apply, editQuestions, Step, stepBy, stepOf, step}
 use Rattle.format.specs.Calls.{Answer, thenNo, Filled, placed, edited, editAnswer}
 use Rattle.format.proofs.Requested.{request-pairs}
-use Rattle.format.proofs.Asking.{asked}
+use Rattle.format.proofs.Questions.{asked}
 use Rattle.format.proofs.Passing.{verdict-read, holds-start}
 use Rattle.format.proofs.Results.{placeRows, editNo, edit-number}
 

@@ -23,7 +23,7 @@ use Rattle.format.specs.Origins.{ifAccepted}
 use Rattle.format.specs.Demand.{inserted, deleted, ifSet, toSet, tally, Demand}
 use Rattle.format.proofs.Describing.{apply-names}
 use Rattle.format.proofs.Applying.{Agrees, Granted, granted-set}
-use Rattle.format.proofs.Asking.{yes-granted, asked, Accepted, step-accepted, step-refused}
+use Rattle.format.proofs.Questions.{yes-granted, asked, Accepted, step-accepted, step-refused}
 use Rattle.format.proofs.Passing.{verdict-read, holds-agrees, holds-start}
 use Rattle.format.proofs.Tallying.{apply-number, apply-others}
 use Rattle.format.proofs.Running.{Stands, stands-start, stands-room, stands-length, call-stands, call-told}

@@ -4,10 +4,10 @@ use mathlib.Core.Bool.{Bool, true, false, _&&_, not, and-eq-true-iff}
 use mathlib.Core.List.{List, [], _∷_, _++_, map}
 use mathlib.Core.Option.{Option, none, some, Option·none-ne-some, Option·some-injective}
 use Rattle.format.specs.Bytes.{Bytes, pick, same, isAllowed, all}
-use Rattle.format.specs.Lists.{onward, filter, onto, keep, kept, cutAt}
+use Rattle.format.specs.Lists.{onward, filter, onto, cutAt}
 use Rattle.format.specs.Lines.{Line, lines, bytes, isEnded, Form, cut}
 use Rattle.format.specs.Pieces.{Piece, Mode, after, seen, Reading, takeLine, readFrom, piecesIn, pieces}
-use Rattle.format.specs.Records.{Record, Block, isBlankLine, fieldOf, fieldsOf}
+use Rattle.format.specs.Records.{Record, Block, isBlankLine, fieldsOf}
 use Rattle.format.specs.Numbers.{intBounds}
 use Rattle.format.proofs.Elements.{Each, all-each, each-all}
 use Rattle.format.proofs.Lists.{each-pick}
@@ -16,7 +16,7 @@ use Rattle.format.proofs.Listing.{same-true}
 use Rattle.format.proofs.Records.{close, recordsIn, records}
 use Rattle.format.proofs.Judging.{textNo}
 use Rattle.format.proofs.Walking.{recordsNo, text-walk}
-use Rattle.format.proofs.Uncounted.{uncounted, bare, number-bare}
+use Rattle.format.proofs.Uncounted.{bare, number-bare}
 
 abbrev pub isJoint : Line → Bool
 isJoint l = same l (92 ∷ [])

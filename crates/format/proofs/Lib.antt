@@ -18,7 +18,7 @@ pub mod Keeping
 pub mod Requested
 pub mod Encoding
 pub mod Applying
-pub mod Asking
+pub mod Questions
 pub mod Describing
 pub mod Judging
 pub mod Passing

@@ -17,7 +17,7 @@ use Rattle.format.specs.Plain.{Plain, indexOf, applyIn, apply, lengthOf,
 use Rattle.format.specs.Runs.{Call, callStep, plainRun}
 use Rattle.format.specs.Origins.{Fate, setFates, requestFates, ifAccepted, fates, Origin, pieceOf, numberOf, Trace, carried, namedOf, startFrom, traced, Stays}
 use Rattle.format.proofs.Fates.{Goes, goes-edit}
-use Rattle.format.proofs.Asking.{step-accepted, step-refused}
+use Rattle.format.proofs.Questions.{step-accepted, step-refused}
 
 -- a request, on the plain file
 

@@ -24,7 +24,7 @@ use Rattle.format.proofs.Lines.{ended-bytes}
 use Rattle.format.proofs.Whole.{Sound, pieces-sound, sound-pieces}
 use Rattle.format.proofs.Grouping.{HasPairs}
 use Rattle.format.proofs.Applying.{Agrees, agrees-length, agrees-sets, apply-agrees, apply-allowed}
-use Rattle.format.proofs.Asking.{Yes, verdict-yes, yes-verdict, yes-granted, yes-fits, asked, Accepted, accepted-pairs}
+use Rattle.format.proofs.Questions.{Yes, verdict-yes, yes-verdict, yes-granted, yes-fits, asked, Accepted, accepted-pairs}
 use Rattle.format.proofs.Describing.{describes-once, describes-well, types-well}
 
 -- questions 4 to 14 say yes of sets

@@ -20,7 +20,7 @@ use Rattle.format.specs.Plain.{Plain, lengthOf, apply, Asked, raised, ed
 use Rattle.format.proofs.Whole.{sound-pieces}
 use Rattle.format.proofs.Grouping.{HasPairs}
 use Rattle.format.proofs.Applying.{Agrees, agrees-length, agrees-sets, Granted, apply-agrees, apply-allowed}
-use Rattle.format.proofs.Asking.{first-yes, asked}
+use Rattle.format.proofs.Questions.{first-yes, asked}
 use Rattle.format.proofs.Describing.{describes-once, describes-well, types-well}
 use Rattle.format.proofs.Passing.{SetsPass, bytes-ended, Holds, holds-passes, holds-bytes, holds-agrees}
 use Rattle.format.proofs.Least.{Rise, rise-less, first-append}

@@ -10,7 +10,7 @@ use Rattle.format.specs.Plain.{Plain, plainOf, lengthOf, Step, step}
 use Rattle.format.specs.Calls.{numberIn, valueOr, thenNo, Filled, placed, edited, editAnswer}
 use Rattle.format.specs.Runs.{Call, callAnswer, callStep}
 use Rattle.format.proofs.Applying.{agrees-length}
-use Rattle.format.proofs.Asking.{Accepted, accepted-fits, step-accepted, step-refused}
+use Rattle.format.proofs.Questions.{Accepted, accepted-fits, step-accepted, step-refused}
 use Rattle.format.proofs.Passing.{reads-as, Holds, holds-passes, holds-bytes, holds-agrees, edit-holds}
 use Rattle.format.proofs.Filling.{padded, padded-length, padded-self, placed-padded}
 

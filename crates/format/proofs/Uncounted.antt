@@ -1,6 +1,6 @@
 -- The questions ask for names and values, never for how many bytes a field takes.
 use Prim.Native.Nat.{ℕ}
-use mathlib.Core.Path.{_≡_, refl, sym, ap, _∙_}
+use mathlib.Core.Path.{_≡_, refl, ap, _∙_}
 use mathlib.Core.Bool.{Bool, true, false, _&&_, _||_, not}
 use mathlib.Core.List.{List, [], _∷_, _++_, map}
 use lib.Dec.{leb, eqb}
@@ -10,14 +10,14 @@ use Rattle.format.specs.Lists.{isFilled, flat, kept}
 use Rattle.format.specs.Lines.{isName, isSpecial}
 use Rattle.format.specs.Words.{firstWord, words}
 use Rattle.format.specs.Records.{Field, Record}
-use Rattle.format.specs.Sets.{valuesOf, RecSet}
+use Rattle.format.specs.Sets.{valuesOf}
 use Rattle.format.specs.Limits.{recordFields, descriptors, typedefs, typeFields, listWords}
 use Rattle.format.specs.Numbers.{Bounds}
 use Rattle.format.specs.Rules.{listed, typedNames, endKind, typedefOf, typeRuleOf, typedefsOf, typeRules, isTyped, isShaped, isWellFormed, isTypedefName, isTypedWell, distinct, sizeRule, meetsSize}
-use Rattle.format.specs.Questions.{firstNo, fitsField, fitsRecord, fitsRules, hasRecOnce, noneProhibited, allAllowed, allPresent, noneRepeated, allTyped, valuesIn, keysOf, sizeMet}
+use Rattle.format.specs.Questions.{fitsField, fitsRecord, fitsRules, hasRecOnce, noneProhibited, allAllowed, allPresent, noneRepeated, allTyped, keysOf, sizeMet}
 use Rattle.format.proofs.Least.{least, leasts}
 use Rattle.format.proofs.Judging.{recordNo, setNo}
-use Rattle.format.proofs.Walking.{isHead, nameIn, headName, heads, headNames, before, walkFits, walkOnce, walkWell, walkTypes, ruled, walkNo, recordsNo}
+use Rattle.format.proofs.Walking.{isHead, nameIn, headName, heads, headNames, before, walkFits, walkWell, walkTypes, ruled, walkNo, recordsNo}
 
 -- a field as if it took no byte
 abbrev pub uncounted : Field → Field

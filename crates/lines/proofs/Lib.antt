@@ -3,7 +3,7 @@ pub mod Cuts
 pub mod Heads
 pub mod Extents
 pub mod Nexts
-pub mod Firsts
+pub mod Faultless
 pub mod Owned
 pub mod Shapes
 pub mod Over

@@ -8,7 +8,6 @@ use Rattle.format.specs.Sets.{valuesOf, groups, RecSet, setsOf}
 use Rattle.format.specs.Questions.{firstNo, nameOf}
 use Rattle.format.specs.Plain.{Sought, soughtMembers, soughtRecord, foundRows}
 use Rattle.format.specs.Calls.{Answer, answer, soughtSet, Filled, filled, soughtField, soughtOrder, Viewed, viewedAt, soughtRow}
-use Rattle.format.specs.declared.Answer.{Answer as Reply}
 use Rattle.lookup.specs.declared.inside.Seen.{Seen}
 
 -- a view as a place of the text

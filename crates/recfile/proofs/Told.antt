@@ -5,7 +5,7 @@ use mathlib.Core.Path.{_≡_, sym, ap, _∙_, subst}
 use lib.ListN.{length, take, drop, length-drop}
 use lib.Seq.{length-take-le}
 use Rattle.format.specs.Bytes.{Bytes}
-use Rattle.format.specs.Calls.{Answer, answered, numberIn, valueOr, Filled, filledBy, Viewed}
+use Rattle.format.specs.Calls.{answered, numberIn, valueOr, Filled, filledBy, Viewed}
 use Rattle.format.specs.declared.Answer.{Answer as Reply}
 use Rattle.lookup.specs.declared.inside.Seen.{Seen}
 use Rattle.lookup.specs.Answers.{seenAnswer, SeenInside}

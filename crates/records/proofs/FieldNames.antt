@@ -9,7 +9,7 @@ use Rattle.lines.specs.Line.{nameLen}
 use Rattle.lines.specs.Piece.{nextOf}
 use Rattle.lines.specs.declared.Next.{Next}
 use Rattle.lines.proofs.Cuts.{rest}
-use Rattle.lines.proofs.Firsts.{NameBy, next-name}
+use Rattle.lines.proofs.Faultless.{NameBy, next-name}
 use Rattle.records.specs.Places.{isReadable}
 use Rattle.records.specs.Walk.{isRec}
 use Rattle.records.proofs.Readings.{readable-ended}

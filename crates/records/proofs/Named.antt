@@ -1,5 +1,5 @@
 -- The next field of a name, by the next field of a part.
-use Prim.Native.Nat.{ℕ, zero, suc, _≤_}
+use Prim.Native.Nat.{ℕ, suc, _≤_}
 use native.Mathlib.Omega.{arith}
 use mathlib.Core.Path.{_≡_, refl, ap, _∙_, subst}
 use mathlib.Core.Bool.{Bool, true, false}
@@ -9,7 +9,7 @@ use Rattle.format.specs.Sets.{valuesOf}
 use Rattle.lines.specs.Value.{valueFrom}
 use Rattle.words.specs.Spans.{span}
 use Rattle.records.specs.Fields.{fieldsFrom, FieldHere}
-use Rattle.records.specs.Named.{valuesFrom, ValueHere, ValueNext, occurrence, firstOr, OccurrenceNext, NamedNext}
+use Rattle.records.specs.Named.{valuesFrom, ValueNext, occurrence, firstOr, NamedNext}
 use Rattle.records.specs.declared.FoundField.{FoundField}
 use Rattle.records.proofs.Fields.{occurrence-none, occurrence-other, occurrence-here}
 

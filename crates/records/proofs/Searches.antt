@@ -2,24 +2,21 @@
 use Prim.Native.Nat.{ℕ, suc, _+_, _-_, _≤_, _<_}
 use native.Mathlib.Omega.{arith}
 use mathlib.Core.Path.{_≡_, refl, sym, ap, _∙_, subst}
-use mathlib.Core.Bool.{Bool, true, false, false≢true}
+use mathlib.Core.Bool.{Bool, true, false}
 use mathlib.Core.List.{List, [], _∷_, map}
 use lib.ListN.{length, take, drop, length-drop}
 use lib.Seq.{drop-drop}
-use Rattle.format.specs.Lists.{isFilled}
-use Rattle.format.specs.Bytes.{Bytes, text, pick}
+use Rattle.format.specs.Bytes.{Bytes, pick}
 use Rattle.format.specs.Pieces.{Piece}
 use Rattle.format.specs.Records.{Record, fieldsOf}
-use Rattle.format.specs.Sets.{valuesOf}
 use Rattle.lines.proofs.Cuts.{rest}
-use Rattle.records.specs.Places.{isReadable, Placed, placesOf, isDescriptor, placeOf, firstPlace, namesSet, descriptorPlace, setPlace, recordBy, recordPlace, countBefore}
-use Rattle.records.specs.Walk.{opensSet}
+use Rattle.records.specs.Places.{isReadable, Placed, placesOf, isDescriptor, placeOf, firstPlace, descriptorPlace, setPlace, recordBy, recordPlace, countBefore}
 use Rattle.records.specs.declared.Place.{Place}
 use Rattle.records.specs.declared.NextRecord.{NextRecord}
 use Rattle.records.specs.declared.FoundSet.{FoundSet}
 use Rattle.records.specs.declared.FoundRecord.{FoundRecord}
 use Rattle.records.proofs.Shifts.{raise, raise-none, raise-twice}
-use Rattle.records.proofs.Readings.{Reads, reads-of}
+use Rattle.records.proofs.Readings.{Reads}
 use Rattle.records.proofs.FirstPlaces.{First, first-place}
 
 -- the set of no name is the default set, and stands first

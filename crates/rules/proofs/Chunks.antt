@@ -1,5 +1,5 @@
 -- The number of records by some `%type` fields, by those behind them, and by all.
-use Prim.Native.Nat.{ℕ, zero, suc, _+_, _-_, _≤_, _<_}
+use Prim.Native.Nat.{ℕ, zero, suc, _+_, _-_, _≤_}
 use native.Mathlib.Omega.{arith}
 use mathlib.Core.Path.{_≡_, refl, sym, ap, _∙_}
 use mathlib.Core.Bool.{Bool, true, false, _&&_}
@@ -20,8 +20,7 @@ use Rattle.records.specs.Named.{valuesFrom}
 use Rattle.columns.proofs.Named.{between-split, typed-rows}
 use Rattle.rules.proofs.Leasts.{least-assoc}
 use Rattle.rules.specs.Members.{namesNo, isMet, partNo}
-use Rattle.rules.specs.declared.members.Asked.{Asked}
-use Rattle.rules.specs.Chunks.{Chunked, SetAsked}
+use Rattle.rules.specs.Chunks.{Chunked}
 use Rattle.rules.specs.declared.Chunk.{Chunk}
 
 least-swap : (a b : ℕ) → least a b ≡ least b a

@@ -1,13 +1,13 @@
 -- What the limits and the forms of a descriptor grant: lists that tables hold, of names; a key; values that fit a scratch.
-use Prim.Native.Nat.{ℕ, zero, suc, _≤_}
+use Prim.Native.Nat.{ℕ, suc, _≤_}
 use native.Mathlib.Omega.{arith}
-use mathlib.Core.Path.{_≡_, refl, sym, ap, _∙_, subst}
+use mathlib.Core.Path.{_≡_, refl, sym, ap, _∙_}
 use mathlib.Core.Bool.{Bool, true, false, _&&_, _||_, not, and-eq-true-iff}
-use mathlib.Core.List.{List, [], _∷_, _++_}
+use mathlib.Core.List.{List, [], _∷_}
 use lib.Dec.{leb, eqb}
 use lib.ListN.{length}
 use borrow.Author.Tests.{leb-true, le-leb, ne-eqb}
-use Rattle.format.specs.Lists.{isFilled, flat}
+use Rattle.format.specs.Lists.{isFilled}
 use Rattle.format.specs.Bytes.{Bytes, text, pick, all, same}
 use Rattle.format.specs.Lines.{isName}
 use Rattle.format.specs.Words.{words}
@@ -17,7 +17,7 @@ use Rattle.format.specs.Sets.{valuesOf}
 use Rattle.format.specs.Limits.{valueBytes, typedefs, typeFields, listWords}
 use Rattle.format.specs.Numbers.{intBounds}
 use Rattle.format.specs.Rules.{listed, mandatory, prohibited, allowed, unique, key}
-use Rattle.format.specs.Questions.{fitsField, fitsRecord, fitsRules}
+use Rattle.format.specs.Questions.{fitsField, fitsRecord}
 use Rattle.format.proofs.Elements.{each-all, each-imp, all-each}
 use Rattle.format.proofs.Lines.{all-append}
 use Rattle.format.proofs.Listing.{same-true, listed-cons}

@@ -2,8 +2,7 @@
 use Prim.Native.Nat.{ℕ, zero, suc, _+_, _*_, _/_, _%_, _≤_, _<_}
 use native.Mathlib.Omega.{arith}
 use mathlib.Core.Path.{_≡_, refl, ap, _∙_}
-use mathlib.Core.Bool.{Bool, true, false, _&&_, _||_, not}
-use lib.Dec.{eqb}
+use mathlib.Core.Bool.{true, false, _&&_, _||_, not}
 use borrow.Author.Tests.{ne-eqb}
 use Rattle.format.specs.Bytes.{Bytes}
 use Rattle.terms.specs.Sets.{inSet}

@@ -2,7 +2,7 @@
 use Prim.Native.Nat.{ℕ, zero, suc, _+_, _-_, _≤_, _<_}
 use native.Mathlib.Omega.{arith}
 use mathlib.Core.Path.{_≡_, refl, sym, ap, _∙_, subst}
-use mathlib.Core.Bool.{Bool, true, false, _&&_, and-assoc, and-true, and-eq-true-iff}
+use mathlib.Core.Bool.{Bool, true, _&&_, and-assoc, and-true, and-eq-true-iff}
 use mathlib.Core.List.{List, [], _∷_, _++_, map}
 use lib.Dec.{leb, eqb}
 use lib.ListN.{length, take, drop, set, getD, replicate, getD-replicate, length-append}
@@ -20,7 +20,6 @@ use Rattle.format.proofs.Least.{least, leasts}
 use Rattle.format.proofs.Lines.{all-append}
 use Rattle.format.proofs.Records.{close, records}
 use Rattle.lines.specs.Value.{valueFrom}
-use Rattle.words.specs.Spans.{span}
 use Rattle.records.specs.Places.{isReadable}
 use Rattle.records.specs.Walk.{recordIn}
 use Rattle.records.specs.Fields.{fieldsFrom}

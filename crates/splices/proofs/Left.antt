@@ -3,7 +3,7 @@ use Prim.Native.Nat.{ℕ, _+_, _-_, _≤_, max}
 use native.Mathlib.Omega.{arith}
 use mathlib.Core.Path.{_≡_, refl, sym, ap, _∙_}
 use mathlib.Core.Bool.{true}
-use mathlib.Core.List.{[], _++_, append-assoc, append-nil}
+use mathlib.Core.List.{[], _++_, append-assoc}
 use lib.ListN.{length, take, drop, replicate, length-drop}
 use lib.Seq.{paste, take-paste, drop-paste, length-paste, take-add, take-take, take-at, drop-at, drop-drop, take-all, take-append-le, length-take-le}
 use borrow.Rule.Slice.PartMut.{putMid}

@@ -1,14 +1,12 @@
 -- Question 7 by the code's numbers: the typedefs are well formed, and each `%type` field has names and ends in a kind.
-use Prim.Native.Nat.{ℕ, zero, suc, _+_, _-_, _≤_, _<_}
+use Prim.Native.Nat.{ℕ, _+_, _-_, _≤_, _<_}
 use native.Mathlib.Omega.{arith}
 use mathlib.Core.Path.{_≡_, refl, sym, ap, _∙_}
 use mathlib.Core.Bool.{Bool, true, false, _&&_, not, and-eq-true-iff}
 use mathlib.Core.List.{List, [], _∷_, map}
 use borrow.Author.Tests.{le-leb, lt-leb, eq-eqb, ne-eqb}
-use lib.Dec.{leb, eqb}
-use lib.ListN.{length, take, drop, drop-of-length-le}
-use Rattle.format.specs.Lists.{flat}
-use Rattle.format.specs.Bytes.{Bytes, text, pick, all, among, isSome}
+use lib.ListN.{length, drop, drop-of-length-le}
+use Rattle.format.specs.Bytes.{Bytes, text, all, among, isSome}
 use Rattle.format.specs.Lines.{isName}
 use Rattle.format.specs.Words.{firstWord, split, isTypeName}
 use Rattle.format.specs.Numbers.{intBounds}
@@ -20,7 +18,7 @@ use Rattle.lines.proofs.Cuts.{at-cons}
 use Rattle.words.specs.Spans.{span, runEnd, notByte}
 use Rattle.words.proofs.Splitting.{splitBehind, split-at}
 use Rattle.records.specs.Named.{valuesFrom, ValueHere}
-use Rattle.typedefs.specs.Targets.{targetIn, followOf, isEnd, endsIn, leads, areDefined, wellBy}
+use Rattle.typedefs.specs.Targets.{targetIn, followOf, isEnd, leads, areDefined, wellBy}
 use Rattle.typedefs.specs.declared.Followed.{Followed}
 use Rattle.typedefs.proofs.Filling.{both-true}
 use Rattle.typedefs.proofs.Defined.{swap, defsOf, type-leads}

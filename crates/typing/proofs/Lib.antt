@@ -2,6 +2,6 @@
 pub mod Spelling
 pub mod Comments
 pub mod Uuids
-pub mod Firsts
+pub mod TypeHeads
 pub mod Meeting
 pub mod Among

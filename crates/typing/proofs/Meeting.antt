@@ -6,10 +6,8 @@ use mathlib.Core.List.{[], _∷_}
 use lib.Dec.{eqb, eqb·zero-suc, eqb·suc-suc}
 use lib.ListN.{length}
 use Rattle.format.specs.Bytes.{Bytes, pick, isNewline, any}
-use Rattle.format.specs.Numbers.{intBounds}
-use Rattle.format.specs.Types.{Kind, Typed, meets}
 use Rattle.lines.specs.Line.{lineLen}
-use Rattle.typing.specs.Meaning.{typedIn, Sound, meetsTyped, meetsIn}
+use Rattle.typing.specs.Meaning.{Sound, meetsIn}
 use Rattle.typing.specs.declared.Shape.{Shape}
 
 pub meets-shape : (s v : Bytes) {k j : Shape} → k ≡ j → meetsIn s j v ≡ meetsIn s k v

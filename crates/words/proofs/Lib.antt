@@ -4,5 +4,5 @@ pub mod Decoded
 pub mod Finding
 pub mod Splitting
 pub mod Trimming
-pub mod Naming
+pub mod IsName
 pub mod RuleNames

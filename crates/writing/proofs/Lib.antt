@@ -1,5 +1,5 @@
 -- Laws of legal names and values and of a field's text.
-pub mod Naming
+pub mod IsLegalName
 pub mod Plain
 pub mod Texts
 pub mod Moving

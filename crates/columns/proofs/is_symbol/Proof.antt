@@ -1,14 +1,13 @@
 -- `columns::is_symbol` meets its contract.
 use native.Mathlib.Omega.{arith}
 use mathlib.Core.Path.{sym, ap, _∙_}
-use mathlib.Core.Bool.{Bool, true, _&&_}
+use mathlib.Core.Bool.{Bool, _&&_}
 use borrow.Author.Tests.{lt-ltb, le-ltb}
 use lib.ListN.{getD}
 use Prim.Native.Nat.{ℕ}
 use Rattle.terms.specs.Sets.{inSet}
 use Rattle.enums.specs.Rows.{leaderOf}
 use Rattle.columns.specs.Rows.{isSymbol}
-use borrow.Author.Needs.{needs}
 use borrow.Author.Needs.{needs}
 use Rattle.columns.proofs.is_symbol.Statement.{statement}
 use Rattle.columns.proofs.is_symbol.Tie as tie

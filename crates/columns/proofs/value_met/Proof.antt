@@ -7,7 +7,6 @@ use Rattle.words.proofs.Decoded.{decoded-all, decoded-length}
 use Rattle.columns.specs.Meets.{rowsMet}
 use Rattle.columns.proofs.Rows.{all-asked}
 use borrow.Author.Needs.{needs}
-use borrow.Author.Needs.{needs}
 use Rattle.columns.proofs.value_met.Statement.{statement}
 use Rattle.columns.proofs.value_met.Tie as tie
 use Rattle.columns.proofs.value_met.Reads as reads

@@ -6,7 +6,6 @@ use Rattle.format.specs.Bytes.{text}
 use Rattle.words.specs.RuleNames.{ruleNames}
 use Rattle.words.proofs.RuleNames.{is-placed, not-placed}
 use Rattle.dictionary.specs.Tags.{listTag}
-use borrow.Author.Needs.{needs}
 use Rattle.dictionary.proofs.list_tag.Statement.{statement}
 use Rattle.dictionary.proofs.list_tag.Tie as tie
 use Rattle.dictionary.proofs.list_tag.Reads as reads

@@ -4,7 +4,6 @@ use mathlib.Core.Path.{sym}
 use Rattle.format.specs.Calls.{checkAnswer}
 use Rattle.format.proofs.Answers.{answer-file}
 use borrow.Author.Needs.{needs}
-use borrow.Author.Needs.{needs}
 use Rattle.editor.proofs.edit_judged.Statement.{statement}
 use Rattle.editor.proofs.edit_judged.Tie as tie
 use Rattle.editor.proofs.edit_judged.Reads as reads

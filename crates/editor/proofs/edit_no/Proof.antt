@@ -9,7 +9,6 @@ use Rattle.format.proofs.Results.{raisedNo, text-below}
 use Rattle.edits.specs.Splices.{madeBy}
 use borrow.Author.Needs.{needs}
 use Rattle.editor.proofs.Making.{number-asked, number-raised, within-file}
-use borrow.Author.Needs.{needs}
 use Rattle.editor.proofs.edit_no.Statement.{statement}
 use Rattle.editor.proofs.edit_no.Tie as tie
 use Rattle.editor.proofs.edit_no.Reads as reads

@@ -10,7 +10,6 @@ use Rattle.edits.specs.Splices.{madeBy}
 use Rattle.edits.specs.Places.{askedBy, Locates}
 use borrow.Author.Needs.{needs}
 use Rattle.editor.proofs.Editing.{number-zero, file-inside, file-length, file-small, file-readable, place-refused, edit-refused, edit-accepted}
-use borrow.Author.Needs.{needs}
 use Rattle.editor.proofs.edit_passing.Statement.{statement}
 use Rattle.editor.proofs.edit_passing.Tie as tie
 use Rattle.editor.proofs.edit_passing.Reads as reads

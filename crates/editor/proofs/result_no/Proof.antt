@@ -1,10 +1,9 @@
 -- `editor::result_no` meets its contract: the copy begins with the text, so what is made of it is what is made of the text.
 use native.Mathlib.Omega.{arith}
-use mathlib.Core.Path.{sym, ap, _∙_}
+use mathlib.Core.Path.{ap, _∙_}
 use lib.ListN.{length}
 use Rattle.format.proofs.Judging.{textNo}
 use Rattle.editor.proofs.Making.{copied-sound, copied-made, copied-judged}
-use borrow.Author.Needs.{needs}
 use borrow.Author.Needs.{needs}
 use Rattle.editor.proofs.result_no.Statement.{statement}
 use Rattle.editor.proofs.result_no.Tie as tie

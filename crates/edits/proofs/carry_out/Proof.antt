@@ -1,14 +1,12 @@
 -- `edits::carry_out` meets its contract: each kind of splice is one change of the text in the buffer.
-use Prim.Native.Nat.{ℕ, _-_, max}
+use Prim.Native.Nat.{_-_}
 use native.Mathlib.Omega.{arith}
-use mathlib.Core.Path.{_≡_, sym, ap, _∙_}
-use mathlib.Core.List.{_++_}
+use mathlib.Core.Path.{_≡_}
 use denote.Ref.{now}
-use lib.ListN.{length, take, drop, replicate}
+use lib.ListN.{length, take}
 use lib.Seq.{length-take-le}
 use Rattle.format.specs.Bytes.{Bytes}
 use Rattle.format.specs.Written.{written}
-use Rattle.format.proofs.Filling.{padded-self}
 use Rattle.requests.specs.Fields.{bytesOf}
 use Rattle.requests.proofs.Reading.{span-length}
 use Rattle.splices.proofs.Opening.{spliced-length}

@@ -11,7 +11,6 @@ use Rattle.format.specs.Limits.{fileBytes}
 use Rattle.format.proofs.Judging.{textNo}
 use Rattle.integrity.proofs.Staging.{used-no, used-text, used-inside}
 use borrow.Author.Needs.{needs}
-use borrow.Author.Needs.{needs}
 use Rattle.integrity.proofs.check_with.Statement.{statement}
 use Rattle.integrity.proofs.check_with.Tie as tie
 use Rattle.integrity.proofs.check_with.Reads as reads

@@ -12,7 +12,6 @@ use Rattle.format.proofs.Judging.{textNo}
 use Rattle.integrity.proofs.Staging.{text-no, text-ended, lines-no}
 use Rattle.integrity.proofs.Joints.{number-dense}
 use borrow.Author.Needs.{needs}
-use borrow.Author.Needs.{needs}
 use Rattle.integrity.proofs.judge_dense.Statement.{statement}
 use Rattle.integrity.proofs.judge_dense.Tie as tie
 use Rattle.integrity.proofs.judge_dense.Reads as reads

@@ -6,7 +6,6 @@ use mathlib.Core.Path.{sym, _∙_}
 use Rattle.format.specs.Pieces.{readOf}
 use Rattle.format.proofs.Records.{records}
 use Rattle.integrity.proofs.Staging.{well-no, types-no, sets-no}
-use borrow.Author.Needs.{needs}
 use Rattle.integrity.proofs.judge_described.Statement.{statement}
 use Rattle.integrity.proofs.judge_described.Tie as tie
 use Rattle.integrity.proofs.judge_described.Reads as reads

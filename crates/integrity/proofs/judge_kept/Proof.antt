@@ -5,7 +5,6 @@ use lib.Seq.{take-at}
 use Rattle.format.specs.Bytes.{Bytes}
 use Rattle.format.proofs.Judging.{textNo}
 use borrow.Author.Needs.{needs}
-use borrow.Author.Needs.{needs}
 use Rattle.integrity.proofs.judge_kept.Statement.{statement}
 use Rattle.integrity.proofs.judge_kept.Tie as tie
 use Rattle.integrity.proofs.judge_kept.Reads as reads

@@ -3,7 +3,6 @@ use native.Mathlib.Omega.{arith}
 use mathlib.Core.Path.{sym}
 use lib.Seq.{length-take-le}
 use borrow.Author.Needs.{needs}
-use borrow.Author.Needs.{needs}
 use Rattle.integrity.proofs.judge_spent.Statement.{statement}
 use Rattle.integrity.proofs.judge_spent.Tie as tie
 use Rattle.integrity.proofs.judge_spent.Reads as reads

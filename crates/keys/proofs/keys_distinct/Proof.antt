@@ -2,7 +2,6 @@
 use borrow.Author.Needs.{needs}
 use mathlib.Core.Path.{ap, _∙_}
 use Rattle.format.specs.Rules.{distinct}
-use borrow.Author.Needs.{needs}
 use Rattle.keys.proofs.keys_distinct.Statement.{statement}
 use Rattle.keys.proofs.keys_distinct.Tie as tie
 use Rattle.keys.proofs.keys_distinct.Reads as reads

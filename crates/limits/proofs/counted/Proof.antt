@@ -8,7 +8,6 @@ use Rattle.words.proofs.RuleNames.{is-placed, not-placed}
 use Rattle.limits.specs.Counts.{countOn}
 use Rattle.limits.proofs.Tallies.{counts-path, count-named, count-other}
 use borrow.Author.Needs.{needs}
-use borrow.Author.Needs.{needs}
 use Rattle.limits.proofs.counted.Statement.{statement}
 use Rattle.limits.proofs.counted.Tie as tie
 use Rattle.limits.proofs.counted.Reads as reads

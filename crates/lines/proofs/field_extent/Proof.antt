@@ -1,5 +1,4 @@
 -- `lines::field_extent` meets its contract. The invariant: the line from i on is taken, with i bytes before it, and gives the answer; no backslash stands directly before i.
-use borrow.Author.Needs.{needs}
 use Prim.Native.Nat.{_+_, _<_, _-_}
 use native.Mathlib.Omega.{arith}
 use mathlib.Core.Path.{_≡_}

@@ -4,7 +4,7 @@ use native.Mathlib.Omega.{arith}
 use mathlib.Core.Path.{_≡_}
 use mathlib.Core.Logic.{⊎-elim}
 use borrow.Author.Tests.{eq-eqb, ne-eqb}
-use Rattle.lines.proofs.Firsts.{colon-behind, next-formed, room-behind, goes-behind}
+use Rattle.lines.proofs.Faultless.{colon-behind, next-formed, room-behind, goes-behind}
 use borrow.Author.Needs.{needs}
 use Rattle.lines.proofs.read_field.Statement.{statement}
 use Rattle.lines.proofs.read_field.Tie as tie

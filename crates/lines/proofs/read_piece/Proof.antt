@@ -8,7 +8,7 @@ use Rattle.format.specs.Bytes.{Bytes}
 use Rattle.lines.specs.Line.{lineLen}
 use Rattle.lines.proofs.Cuts.{line-inside}
 use Rattle.lines.proofs.Nexts.{next-end, next-newline}
-use Rattle.lines.proofs.Firsts.{next-low, high-named}
+use Rattle.lines.proofs.Faultless.{next-low, high-named}
 use borrow.Author.Needs.{needs}
 use Rattle.lines.proofs.read_piece.Statement.{statement}
 use Rattle.lines.proofs.read_piece.Tie as tie

@@ -3,7 +3,7 @@ use Prim.Native.Nat.{ℕ, _-_}
 use native.Mathlib.Omega.{arith}
 use mathlib.Core.Path.{_≡_, sym, ap, _∙_, subst}
 use mathlib.Core.Bool.{true}
-use lib.ListN.{length, take}
+use lib.ListN.{take}
 use Rattle.format.specs.Bytes.{Bytes}
 use Rattle.records.specs.Places.{isReadable}
 use Rattle.lookup.specs.Answers.{countIn}

@@ -2,7 +2,6 @@
 use borrow.Author.Needs.{needs}
 use mathlib.Core.Path.{ap, _∙_}
 use Rattle.format.specs.Numbers.{intBounds, intOf}
-use borrow.Author.Needs.{needs}
 use Rattle.readings.proofs.int_in.Statement.{statement}
 use Rattle.readings.proofs.int_in.Tie as tie
 use Rattle.readings.proofs.int_in.Reads as reads

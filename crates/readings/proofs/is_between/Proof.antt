@@ -3,7 +3,6 @@ use borrow.Author.Needs.{needs}
 use mathlib.Core.Path.{sym, ap, _∙_}
 use Rattle.format.specs.Types.{isInRange}
 use Rattle.numbers.specs.Meaning.{intIn, intAnswer}
-use borrow.Author.Needs.{needs}
 use Rattle.readings.proofs.is_between.Statement.{statement}
 use Rattle.readings.proofs.is_between.Tie as tie
 use Rattle.readings.proofs.is_between.Reads as reads

@@ -5,7 +5,6 @@ use Rattle.format.specs.Bytes.{isSome}
 use Rattle.format.specs.Types.{isInRange}
 use Rattle.numbers.specs.Meaning.{intIn}
 use Rattle.readings.proofs.Meeting.{met-shape, apart}
-use borrow.Author.Needs.{needs}
 use Rattle.readings.proofs.shape_met.Statement.{statement}
 use Rattle.readings.proofs.shape_met.Tie as tie
 use Rattle.readings.proofs.shape_met.Reads as reads

@@ -2,7 +2,6 @@
 use borrow.Author.Needs.{needs}
 use mathlib.Core.Path.{ap, _∙_}
 use Rattle.format.specs.Calls.{numberIn, valueOr}
-use borrow.Author.Needs.{needs}
 use Rattle.recfile.proofs.recfile_count.Statement.{statement}
 use Rattle.recfile.proofs.recfile_count.Tie as tie
 use Rattle.recfile.proofs.recfile_count.Reads as reads

@@ -2,7 +2,6 @@
 use borrow.Author.Needs.{needs}
 use mathlib.Core.Path.{sym, _∙_}
 use Rattle.recfile.proofs.Told.{filled-told}
-use borrow.Author.Needs.{needs}
 use Rattle.recfile.proofs.recfile_set_name.Statement.{statement}
 use Rattle.recfile.proofs.recfile_set_name.Tie as tie
 use Rattle.recfile.proofs.recfile_set_name.Reads as reads

@@ -2,7 +2,6 @@
 use borrow.Author.Needs.{needs}
 use mathlib.Core.Path.{_∙_}
 use Rattle.recfile.proofs.Told.{filled-told}
-use borrow.Author.Needs.{needs}
 use Rattle.recfile.proofs.recfile_write.Statement.{statement}
 use Rattle.recfile.proofs.recfile_write.Tie as tie
 use Rattle.recfile.proofs.recfile_write.Reads as reads

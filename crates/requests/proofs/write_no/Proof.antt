@@ -3,7 +3,6 @@ use mathlib.Core.Path.{sym, subst}
 use Rattle.requests.specs.Pairs.{pairsAt, Weighs}
 use Rattle.requests.proofs.Weighing.{asked-illegal, asked-long, asked-many, asked-room, asked-none}
 use borrow.Author.Needs.{needs}
-use borrow.Author.Needs.{needs}
 use Rattle.requests.proofs.write_no.Statement.{statement}
 use Rattle.requests.proofs.write_no.Tie as tie
 use Rattle.requests.proofs.write_no.Reads as reads

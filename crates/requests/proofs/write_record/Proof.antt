@@ -8,7 +8,6 @@ use Rattle.requests.specs.Pairs.{pairsAt}
 use Rattle.requests.proofs.Weighing.{asked-fits}
 use Rattle.requests.proofs.Filling.{filledAs, filled-refused, filled-written, write-fault, write-other, write-insert, request-found, request-missed, insert-inside, request-bytes}
 use borrow.Author.Needs.{needs}
-use borrow.Author.Needs.{needs}
 use Rattle.requests.proofs.write_record.Statement.{statement}
 use Rattle.requests.proofs.write_record.Tie as tie
 use Rattle.requests.proofs.write_record.Reads as reads

@@ -1,9 +1,8 @@
 -- `rules::has_field` meets its contract.
 use borrow.Author.Needs.{needs}
 use native.Mathlib.Omega.{arith}
-use Prim.Native.Nat.{ℕ}
-use mathlib.Core.Path.{sym, ap, _∙_}
-use mathlib.Core.Bool.{Bool, not}
+use mathlib.Core.Path.{sym, ap}
+use mathlib.Core.Bool.{not}
 use mathlib.Core.List.{List}
 use lib.Dec.{eqb}
 use lib.ListN.{length}
@@ -11,7 +10,6 @@ use borrow.Author.Tests.{ne-eqb}
 use Rattle.format.specs.Bytes.{Bytes}
 use Rattle.records.specs.Named.{valuesFrom}
 use Rattle.records.proofs.Named.{value-told}
-use borrow.Author.Needs.{needs}
 use Rattle.rules.proofs.has_field.Statement.{statement}
 use Rattle.rules.proofs.has_field.Tie as tie
 use Rattle.rules.proofs.has_field.Reads as reads

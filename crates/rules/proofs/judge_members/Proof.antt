@@ -1,15 +1,12 @@
 -- `rules::judge_members` meets its contract: what is read of the descriptor is a book, and the records are asked by it.
 use borrow.Author.Needs.{needs}
 use Prim.Native.Nat.{ℕ}
-use native.Mathlib.Omega.{arith}
 use mathlib.Core.Path.{_≡_, sym, _∙_, subst}
 use mathlib.Core.Bool.{true}
-use lib.ListN.{length}
 use Rattle.format.specs.Bytes.{all}
 use Rattle.records.specs.Walk.{recordIn}
 use Rattle.rules.specs.Members.{fitsIn}
 use Rattle.rules.proofs.Granted.{key-there}
-use borrow.Author.Needs.{needs}
 use Rattle.rules.proofs.judge_members.Statement.{statement}
 use Rattle.rules.proofs.judge_members.Tie as tie
 use Rattle.rules.proofs.judge_members.Reads as reads

@@ -7,7 +7,7 @@ use borrow.Rule.Slice.PartMut.{mid-len}
 use Rattle.format.specs.Pieces.{readOf}
 use Rattle.format.proofs.Records.{records}
 use Rattle.rules.specs.Tables.{symbolsAt, entriesEnd}
-use Rattle.rules.proofs.Rulebooks.{next-few, texts-to, symbols-length, rulebook, chunked}
+use Rattle.rules.proofs.Rulebooks.{next-few, texts-to, rulebook, chunked}
 use borrow.Author.Needs.{needs}
 use Rattle.rules.proofs.judge_rows.Statement.{statement}
 use Rattle.rules.proofs.judge_rows.Tie as tie

@@ -1,7 +1,6 @@
 -- `rules::judge_set` meets its contract: the records' number, else the set's.
 use borrow.Author.Needs.{needs}
 use native.Mathlib.Omega.{arith}
-use mathlib.Core.Path.{_≡_, sym, _∙_}
 use lib.ListN.{length}
 use Rattle.format.specs.Pieces.{readOf}
 use Rattle.format.proofs.Records.{records}
@@ -9,7 +8,6 @@ use Rattle.records.specs.Walk.{recordIn}
 use Rattle.rules.proofs.Granted.{described-by, values-fit}
 use Rattle.rules.proofs.Keys.{have-keys}
 use Rattle.rules.proofs.Whole.{set-stops, set-whole}
-use borrow.Author.Needs.{needs}
 use Rattle.rules.proofs.judge_set.Statement.{statement}
 use Rattle.rules.proofs.judge_set.Tie as tie
 use Rattle.rules.proofs.judge_set.Reads as reads

@@ -6,7 +6,6 @@ use Rattle.format.specs.Pieces.{readOf}
 use Rattle.format.proofs.Records.{records}
 use Rattle.records.specs.Walk.{recordIn}
 use Rattle.rules.proofs.Whole.{keys-stop, size-stop, whole-passes}
-use borrow.Author.Needs.{needs}
 use Rattle.rules.proofs.judge_whole.Statement.{statement}
 use Rattle.rules.proofs.judge_whole.Tie as tie
 use Rattle.rules.proofs.judge_whole.Reads as reads

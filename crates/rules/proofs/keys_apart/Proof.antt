@@ -2,11 +2,10 @@
 use borrow.Author.Needs.{needs}
 use native.Mathlib.Omega.{arith}
 use Prim.Native.Nat.{_≤_}
-use mathlib.Core.Path.{_≡_, sym, ap, _∙_}
-use mathlib.Core.List.{List, [], _∷_}
-use lib.ListN.{length, take, drop, getD}
+use mathlib.Core.Path.{ap}
+use mathlib.Core.List.{List, []}
+use lib.ListN.{length, getD}
 use Rattle.format.specs.Bytes.{Bytes, text}
-use Rattle.format.specs.Words.{words}
 use Rattle.lines.specs.Value.{valueFrom}
 use Rattle.words.specs.Spans.{span}
 use Rattle.words.proofs.Decoded.{decoded-all, decoded-length, decoded-inside}
@@ -16,7 +15,6 @@ use Rattle.columns.proofs.Granted.{fits-at}
 use Rattle.rules.proofs.Walking.{key-few}
 use Rattle.rules.proofs.Granted.{described-by}
 use Rattle.rules.proofs.Keys.{no-key, no-word, key-room, key-values, key-once-named, word-span}
-use borrow.Author.Needs.{needs}
 use Rattle.rules.proofs.keys_apart.Statement.{statement}
 use Rattle.rules.proofs.keys_apart.Tie as tie
 use Rattle.rules.proofs.keys_apart.Reads as reads

@@ -1,6 +1,5 @@
 -- `terms::find_all` meets its contract: no entry is before the first.
 use native.Mathlib.Omega.{arith}
-use mathlib.Core.Path.{sym}
 use mathlib.Core.Bool.{false≢true}
 use borrow.Author.Needs.{needs}
 use Rattle.terms.proofs.find_all.Statement.{statement}

@@ -1,8 +1,6 @@
 -- `test_dump::dump_value` meets its contract: the value fits the buffer, and the place stays within it.
 use borrow.Author.Needs.{needs}
 use Prim.Native.Nat.{_≤_, _-_}
-use lib.ListN.{length}
-use native.Mathlib.Omega.{arith}
 use Rattle.test_dump.proofs.dump_value.Statement.{statement}
 use Rattle.test_dump.proofs.dump_value.Tie as tie
 use Rattle.test_dump.proofs.dump_value.Reads as reads

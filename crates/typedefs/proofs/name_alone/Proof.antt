@@ -1,12 +1,11 @@
 -- `typedefs::name_alone` meets its contract: the name has no number from the next one on.
 use Prim.Native.Nat.{_+_, _≤_}
 use native.Mathlib.Omega.{arith}
-use mathlib.Core.Path.{_≡_, sym, ap, ap₂, _∙_, subst}
+use mathlib.Core.Path.{sym, ap, _∙_, subst}
 use mathlib.Core.List.{[]}
-use mathlib.Core.Bool.{not}
 use lib.Dec.{eqb}
-use lib.ListN.{length, take, drop, getD, length-drop}
-use Rattle.format.specs.Bytes.{Bytes, text, among}
+use lib.ListN.{length, drop, getD, length-drop}
+use Rattle.format.specs.Bytes.{Bytes, text}
 use Rattle.format.specs.Words.{firstWord}
 use Rattle.lines.specs.Value.{valueFrom}
 use Rattle.lines.proofs.Cuts.{rest}

@@ -1,5 +1,4 @@
 -- `typedefs::parts_named` meets its contract. The invariant: all parts are names if those from i on are, and only then. The measure is what is left of the length.
-use borrow.Author.Needs.{needs}
 use Prim.Native.Nat.{_-_, _≤_}
 use native.Mathlib.Omega.{arith}
 use mathlib.Core.Path.{_≡_, refl, sym, _∙_}

@@ -3,13 +3,12 @@ use borrow.Author.Needs.{needs}
 use Prim.Native.Nat.{ℕ, _-_, _≤_}
 use native.Mathlib.Omega.{arith}
 use mathlib.Core.Path.{_≡_, refl, sym, ap, _∙_}
-use mathlib.Core.Bool.{true}
-use mathlib.Core.List.{List, map}
-use lib.ListN.{length, take, getD, length-set}
+use mathlib.Core.List.{map}
+use lib.ListN.{length, take, length-set}
 use lib.Seq.{take-all}
-use Rattle.format.specs.Bytes.{Bytes, text}
+use Rattle.format.specs.Bytes.{text}
 use Rattle.records.specs.Named.{valuesFrom}
-use Rattle.typedefs.specs.Walks.{namesFrom, fitFrom}
+use Rattle.typedefs.specs.Walks.{namesFrom}
 use Rattle.typedefs.specs.Targets.{targetIn}
 use Rattle.typedefs.proofs.Placing.{place-fits}
 use Rattle.typedefs.proofs.Filling.{rows-more}

@@ -1,5 +1,4 @@
 -- `typedefs::target_ends` meets its contract.
-use native.Mathlib.Omega.{arith}
 use mathlib.Core.Path.{sym, ap, _∙_}
 use Rattle.typedefs.specs.Targets.{isEnd}
 use Rattle.typedefs.proofs.Deciding.{leads-kind, leads-nowhere, leads-there}

@@ -1,15 +1,14 @@
 -- `typedefs::types_well` meets its contract: the names are good and distinct, every chain ends, and then the `%type` fields are asked.
 use Prim.Native.Nat.{ℕ}
 use native.Mathlib.Omega.{arith}
-use mathlib.Core.Path.{_≡_, refl, sym, ap, _∙_}
+use mathlib.Core.Path.{refl, sym, ap, _∙_}
 use mathlib.Core.Bool.{Bool, true, _&&_}
 use mathlib.Core.List.{List, map}
 use borrow.Author.Tests.{not-true, not-false}
-use lib.ListN.{length, take}
+use lib.ListN.{length}
 use lib.Seq.{length-take-le}
 use Rattle.format.specs.Pieces.{readOf}
 use Rattle.format.specs.Bytes.{text, all, upFrom}
-use Rattle.format.specs.Words.{firstWord}
 use Rattle.format.specs.Records.{fieldsOf}
 use Rattle.format.specs.Rules.{distinct}
 use Rattle.records.specs.Named.{valuesFrom}

@@ -1,7 +1,7 @@
 -- `words::is_name` meets its contract.
 use mathlib.Core.Path.{sym}
 use native.Mathlib.Omega.{arith}
-use Rattle.words.proofs.Naming.{name-by, name-not-empty}
+use Rattle.words.proofs.IsName.{name-by, name-not-empty}
 use borrow.Author.Needs.{needs}
 use Rattle.words.proofs.is_name.Statement.{statement}
 use Rattle.words.proofs.is_name.Tie as tie

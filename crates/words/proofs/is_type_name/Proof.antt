@@ -4,7 +4,7 @@ use native.Mathlib.Omega.{arith}
 use borrow.Author.Tests.{eq-eqb, ne-eqb}
 use lib.ListN.{getD}
 use Rattle.format.proofs.Table.{letter-class}
-use Rattle.words.proofs.Naming.{type-name-by, type-name-not-empty}
+use Rattle.words.proofs.IsName.{type-name-by, type-name-not-empty}
 use borrow.Author.Needs.{needs}
 use Rattle.words.proofs.is_type_name.Statement.{statement}
 use Rattle.words.proofs.is_type_name.Tie as tie

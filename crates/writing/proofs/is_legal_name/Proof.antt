@@ -1,7 +1,7 @@
 -- `writing::is_legal_name` meets its contract: a name is legal by its length, its first byte and the run of name bytes at its front.
 use native.Mathlib.Omega.{arith}
 use mathlib.Core.Path.{sym, _∙_}
-use Rattle.writing.proofs.Naming.{name-long, name-special, name-unnamed, name-legal}
+use Rattle.writing.proofs.IsLegalName.{name-long, name-special, name-unnamed, name-legal}
 use borrow.Author.Needs.{needs}
 use Rattle.writing.proofs.is_legal_name.Statement.{statement}
 use Rattle.writing.proofs.is_legal_name.Tie as tie

@@ -5,7 +5,6 @@ use Rattle.format.specs.Bytes.{text}
 use Rattle.descriptors.specs.declared.shapes.Content.{Content}
 use Rattle.descriptors.proofs.Contents.{rec-asks, doc-asks, mandatory-asks, prohibit-asks, allowed-asks, unique-asks, key-asks, size-asks, typedef-asks, type-asks, asks-at, above, asks-none}
 use borrow.Author.Needs.{needs}
-use borrow.Author.Needs.{needs}
 use Rattle.descriptors.proofs.shapes.special_content.Statement.{statement}
 use Rattle.descriptors.proofs.shapes.special_content.Tie as tie
 use Rattle.descriptors.proofs.shapes.special_content.Reads as reads

@@ -10,7 +10,6 @@ use Rattle.format.specs.Words.{words}
 use Rattle.lines.specs.Value.{valueFrom}
 use Rattle.words.proofs.Decoded.{decoded-all, decoded-length, scratch-length}
 use borrow.Author.Needs.{needs}
-use borrow.Author.Needs.{needs}
 use Rattle.descriptors.proofs.sizes.value_met.Statement.{statement}
 use Rattle.descriptors.proofs.sizes.value_met.Tie as tie
 use Rattle.descriptors.proofs.sizes.value_met.Reads as reads

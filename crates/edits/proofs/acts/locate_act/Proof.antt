@@ -1,10 +1,9 @@
 -- `edits::acts::locate_act` meets its contract: the record and the field stand where the searches find them, and what is not found is refused by questions 22 and 23.
 use Prim.Native.Nat.{_+_}
 use native.Mathlib.Omega.{arith}
-use mathlib.Core.Path.{sym, ap, _∙_, subst}
+use mathlib.Core.Path.{sym, _∙_, subst}
 use borrow.Author.Tests.{not-true, not-false}
 use Rattle.records.proofs.Readings.{part-readable}
-use Rattle.records.proofs.RecordEdits.{ownPart}
 use Rattle.format.specs.Edits.{Edit}
 use Rattle.requests.specs.Fields.{bytesOf}
 use Rattle.requests.specs.declared.kinds.Act.{Act as ReadAct}

@@ -6,7 +6,6 @@ use Rattle.records.proofs.Sets.{members-end, members-inside}
 use Rattle.requests.specs.Pairs.{pairsAt, Weighs}
 use Rattle.edits.proofs.Acting.{insert-illegal, insert-located}
 use borrow.Author.Needs.{needs}
-use borrow.Author.Needs.{needs}
 use Rattle.edits.proofs.places.locate_insert.Statement.{statement}
 use Rattle.edits.proofs.places.locate_insert.Tie as tie
 use Rattle.edits.proofs.places.locate_insert.Reads as reads

@@ -1,5 +1,4 @@
 -- `File::fits` meets its contract: each test of the code is one of the definition's.
-use borrow.Author.Needs.{needs}
 use borrow.Author.Tests.{le-leb, lt-leb}
 use Rattle.format.proofs.File.fits.Statement.{statement}
 use Rattle.format.proofs.File.fits.Tie as tie

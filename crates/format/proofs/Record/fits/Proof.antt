@@ -1,5 +1,4 @@
 -- `Record::fits` meets its contract: each test of the code is one of the definition's.
-use borrow.Author.Needs.{needs}
 use borrow.Author.Tests.{le-leb, lt-leb}
 use Rattle.format.proofs.Record.fits.Statement.{statement}
 use Rattle.format.proofs.Record.fits.Tie as tie

@@ -7,7 +7,6 @@ use Rattle.format.proofs.Dense.{isJoint}
 use Rattle.words.specs.Spans.{span}
 use Rattle.integrity.proofs.Joints.{joint-stays, line-moves}
 use borrow.Author.Needs.{needs}
-use borrow.Author.Needs.{needs}
 use Rattle.integrity.proofs.dense.keep_line.Statement.{statement}
 use Rattle.integrity.proofs.dense.keep_line.Tie as tie
 use Rattle.integrity.proofs.dense.keep_line.Reads as reads

@@ -1,6 +1,5 @@
 -- `integrity::dense::make_dense` meets its contract. The invariant: the lines before i are dense in the first n bytes, the others stand where they stood. The measure is what is left
 -- of the used length.
-use borrow.Author.Needs.{needs}
 use Prim.Native.Nat.{_+_, _-_}
 use mathlib.Core.Path.{refl, sym, ap, _∙_}
 use lib.ListN.{length}

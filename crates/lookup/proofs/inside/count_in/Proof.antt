@@ -6,7 +6,6 @@ use Rattle.records.proofs.Members.{set-told}
 use Rattle.records.proofs.Sets.{members-count}
 use Rattle.lookup.proofs.Looking.{count-missing, count-found}
 use borrow.Author.Needs.{needs}
-use borrow.Author.Needs.{needs}
 use Rattle.lookup.proofs.inside.count_in.Statement.{statement}
 use Rattle.lookup.proofs.inside.count_in.Tie as tie
 use Rattle.lookup.proofs.inside.count_in.Reads as reads

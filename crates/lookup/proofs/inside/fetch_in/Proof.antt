@@ -2,7 +2,7 @@
 use Prim.Native.Nat.{_+_, _-_}
 use native.Mathlib.Omega.{arith}
 use mathlib.Core.Path.{sym, ap, _∙_}
-use lib.ListN.{length, take, drop, length-drop, length-take}
+use lib.ListN.{take, drop, length-drop, length-take}
 use Rattle.format.specs.Bytes.{Bytes}
 use Rattle.format.specs.Calls.{Answer}
 use Rattle.records.proofs.Readings.{part-readable}

@@ -1,7 +1,7 @@
 -- `lookup::inside::view_in` meets its contract: what the searches for the set and the record tell is what questions 21 and 22 ask.
 use native.Mathlib.Omega.{arith}
 use mathlib.Core.Path.{sym, ap, _∙_}
-use lib.ListN.{length, take, drop, length-drop}
+use lib.ListN.{drop, length-drop}
 use Rattle.format.specs.Bytes.{Bytes}
 use Rattle.records.proofs.Readings.{part-readable}
 use Rattle.records.proofs.Members.{set-told, record-told}

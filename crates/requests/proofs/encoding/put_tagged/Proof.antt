@@ -1,11 +1,10 @@
 -- `requests::encoding::put_tagged` meets its contract: the head, and the contents in the part behind it.
-use native.Mathlib.Nat.{div-lt-iff-lt-mul}
 use native.Mathlib.Omega.{arith}
 use mathlib.Core.Path.{refl}
-use lib.ListN.{length, length-take, length-drop, length-set}
+use lib.ListN.{length-take, length-drop, length-set}
 use Rattle.format.specs.Requests.{tag, taggedBytes}
 use Rattle.writing.proofs.Texts.{length-over}
-use Rattle.requests.proofs.Building.{length-head, tagged-over}
+use Rattle.requests.proofs.Building.{tagged-over}
 use borrow.Author.Needs.{needs}
 use Rattle.requests.proofs.encoding.put_tagged.Statement.{statement}
 use Rattle.requests.proofs.encoding.put_tagged.Tie as tie

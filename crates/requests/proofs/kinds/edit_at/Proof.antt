@@ -1,9 +1,9 @@
 -- `requests::kinds::edit_at` meets its contract: each kind by its number.
 use native.Mathlib.Omega.{arith}
-use mathlib.Core.List.{List, [], _∷_}
-use mathlib.Core.Path.{_≡_, refl, ap, _∙_}
+use mathlib.Core.List.{[], _∷_}
+use mathlib.Core.Path.{ap}
 use Prim.Native.Nat.{ℕ}
-use Rattle.format.specs.Requests.{Tagged, byKind, changes}
+use Rattle.format.specs.Requests.{byKind, changes}
 use Rattle.requests.specs.Kinds.{insertKind, deleteKind, addKind, changeKind}
 use Rattle.requests.proofs.Kinding.{kind-reads, kind-changes, kind-unknown}
 use borrow.Author.Needs.{needs}

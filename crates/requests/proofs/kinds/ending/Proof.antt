@@ -1,5 +1,4 @@
 -- `requests::kinds::ending` meets its contract: the request goes on behind its last field, or ends there.
-use borrow.Author.Needs.{needs}
 use Rattle.requests.proofs.Kinding.{goes-on, ends-there}
 use Rattle.requests.proofs.kinds.ending.Statement.{statement}
 use Rattle.requests.proofs.kinds.ending.Tie as tie

@@ -1,14 +1,12 @@
 -- `rules::members::closed` meets its contract.
 use borrow.Author.Needs.{needs}
-use native.Mathlib.Omega.{arith}
-use Prim.Native.Nat.{ℕ, _+_}
+use Prim.Native.Nat.{_+_}
 use mathlib.Core.Path.{sym, ap, _∙_}
 use mathlib.Core.Bool.{Bool}
 use borrow.Author.Tests.{eq-eqb, ne-eqb}
 use Rattle.format.specs.Bytes.{pick}
 use Rattle.format.proofs.Least.{least}
 use Rattle.rules.specs.Tallies.{tallyNo}
-use borrow.Author.Needs.{needs}
 use Rattle.rules.proofs.members.closed.Statement.{statement}
 use Rattle.rules.proofs.members.closed.Tie as tie
 use Rattle.rules.proofs.members.closed.Reads as reads

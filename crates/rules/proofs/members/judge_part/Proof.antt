@@ -1,13 +1,12 @@
 -- `rules::members::judge_part` meets its contract. The invariant: the record that goes on has its tally, those before it their least number and their count, typed tells whether the fields so far meet
 -- their types, what was seen of names holds, and the values to come fit the scratch. The measure is what is left of the part.
 use borrow.Author.Needs.{needs}
-use Prim.Native.Nat.{ℕ, _+_, _-_, _≤_, _<_}
+use Prim.Native.Nat.{_-_}
 use native.Mathlib.Omega.{arith}
-use mathlib.Core.Path.{_≡_, refl, sym, ap, _∙_, subst}
+use mathlib.Core.Path.{_≡_, refl, sym, ap, _∙_}
 use mathlib.Core.Bool.{true}
-use lib.ListN.{length, take, drop, length-set}
-use Rattle.format.specs.Bytes.{Bytes, all}
-use Rattle.lines.specs.Value.{valueFrom}
+use lib.ListN.{length, length-set}
+use Rattle.format.specs.Bytes.{all}
 use Rattle.records.specs.Walk.{recordIn}
 use Rattle.records.specs.Fields.{fieldsFrom}
 use Rattle.records.proofs.Readings.{part-ended}

@@ -5,7 +5,6 @@ use Prim.Native.Nat.{_-_}
 use mathlib.Core.Path.{sym}
 use Rattle.lines.specs.Value.{valueFrom}
 use Rattle.rules.proofs.Tags.{none-met}
-use borrow.Author.Needs.{needs}
 use Rattle.rules.proofs.members.value_met.Statement.{statement}
 use Rattle.rules.proofs.members.value_met.Tie as tie
 use Rattle.rules.proofs.members.value_met.Reads as reads

@@ -6,7 +6,6 @@ use mathlib.Core.Bool.{Bool}
 use Rattle.format.specs.Bytes.{pick}
 use Rattle.format.proofs.Least.{least}
 use Rattle.rules.proofs.Leasts.{least-none}
-use borrow.Author.Needs.{needs}
 use Rattle.rules.proofs.members.with_types.Statement.{statement}
 use Rattle.rules.proofs.members.with_types.Tie as tie
 use Rattle.rules.proofs.members.with_types.Reads as reads

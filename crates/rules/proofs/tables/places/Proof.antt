@@ -2,7 +2,6 @@
 use mathlib.Core.Path.{sym, _∙_}
 use Rattle.dictionary.proofs.Finding.{places-found}
 use Rattle.rules.proofs.Fields.{no-places}
-use borrow.Author.Needs.{needs}
 use Rattle.rules.proofs.tables.places.Statement.{statement}
 use Rattle.rules.proofs.tables.places.Tie as tie
 use Rattle.rules.proofs.tables.places.Reads as reads

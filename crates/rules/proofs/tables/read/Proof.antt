@@ -4,9 +4,9 @@ use Prim.Native.Nat.{_≤_}
 use mathlib.Core.Path.{_≡_, _∙_}
 use lib.ListN.{length}
 use borrow.Rule.Slice.PartMut.{mid-len}
-use Rattle.rules.specs.Tables.{uniqueAt, namesAt, symbolsAt, entriesEnd}
+use Rattle.rules.specs.Tables.{uniqueAt, namesAt, symbolsAt}
 use Rattle.rules.proofs.Granted.{mandatory-names, unique-names, mandatory-few, unique-few}
-use Rattle.rules.proofs.Rulebooks.{mandatory-room, unique-room, with-words, words-length, names-length, mandatory-stand, unique-stand, tables-are}
+use Rattle.rules.proofs.Rulebooks.{mandatory-room, unique-room, with-words, words-length, mandatory-stand, unique-stand, tables-are}
 use borrow.Author.Needs.{needs}
 use Rattle.rules.proofs.tables.read.Statement.{statement}
 use Rattle.rules.proofs.tables.read.Tie as tie

@@ -5,7 +5,6 @@ use mathlib.Core.Path.{ap, _∙_}
 use mathlib.Core.Bool.{Bool, _||_, not}
 use lib.Bits.{bitAnd, bitOr}
 use Rattle.format.specs.Bytes.{pick}
-use borrow.Author.Needs.{needs}
 use Rattle.rules.proofs.tallies.count.Statement.{statement}
 use Rattle.rules.proofs.tallies.count.Tie as tie
 use Rattle.rules.proofs.tallies.count.Reads as reads

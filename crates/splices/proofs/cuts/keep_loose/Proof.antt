@@ -3,7 +3,6 @@
 use borrow.Author.Needs.{needs}
 use Prim.Native.Nat.{_-_}
 use native.Mathlib.Omega.{arith}
-use mathlib.Core.Path.{refl, _∙_}
 use lib.ListN.{length}
 use Rattle.records.proofs.NextFields.{next-told}
 use Rattle.splices.proofs.Left.{Keeping, keeping-begins, keeping-readable, keeping-field, keeping-ends}

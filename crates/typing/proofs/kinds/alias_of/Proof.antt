@@ -3,7 +3,7 @@ use mathlib.Core.Path.{sym, ap, _∙_}
 use Rattle.words.specs.Spans.{span}
 use Rattle.words.proofs.Finding.{found, not-found}
 use Rattle.format.specs.Types.{aliasOf}
-use Rattle.typing.proofs.Firsts.{told-fault}
+use Rattle.typing.proofs.TypeHeads.{told-fault}
 use borrow.Author.Needs.{needs}
 use Rattle.typing.proofs.kinds.alias_of.Statement.{statement}
 use Rattle.typing.proofs.kinds.alias_of.Tie as tie

@@ -1,6 +1,6 @@
 -- `typing::kinds::enum_type` meets its contract.
 use mathlib.Core.Path.{sym, _∙_}
-use Rattle.typing.proofs.Firsts.{told-enum, told-no-enum}
+use Rattle.typing.proofs.TypeHeads.{told-enum, told-no-enum}
 use borrow.Author.Needs.{needs}
 use Rattle.typing.proofs.kinds.enum_type.Statement.{statement}
 use Rattle.typing.proofs.kinds.enum_type.Tie as tie

@@ -7,7 +7,7 @@ use lib.ListN.{drop}
 use Rattle.format.specs.Numbers.{intBounds}
 use Rattle.format.specs.Words.{words}
 use Rattle.format.specs.Types.{plainKind}
-use Rattle.typing.proofs.Firsts.{told-fault, told-same, told-bare, told-not-bare, told-by-head}
+use Rattle.typing.proofs.TypeHeads.{told-fault, told-same, told-bare, told-not-bare, told-by-head}
 use borrow.Author.Needs.{needs}
 use Rattle.typing.proofs.kinds.plain_type.Statement.{statement}
 use Rattle.typing.proofs.kinds.plain_type.Tie as tie

@@ -10,7 +10,7 @@ use Rattle.format.specs.Numbers.{intBounds, plus}
 use Rattle.format.specs.Types.{rangeOf, ranged}
 use Rattle.numbers.specs.declared.IntOf.{IntOf}
 use Rattle.numbers.specs.declared.Whole.{Whole}
-use Rattle.typing.proofs.Firsts.{told-fault, told-range}
+use Rattle.typing.proofs.TypeHeads.{told-fault, told-range}
 use borrow.Author.Needs.{needs}
 use Rattle.typing.proofs.kinds.range_of.Statement.{statement}
 use Rattle.typing.proofs.kinds.range_of.Tie as tie

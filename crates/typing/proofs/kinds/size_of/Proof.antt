@@ -10,7 +10,7 @@ use Rattle.words.proofs.Finding.{found, not-found}
 use Rattle.format.specs.Numbers.{intBounds}
 use Rattle.format.specs.Types.{Kind, Typed, sizeOf}
 use Rattle.numbers.specs.Meaning.{naturalAnswer}
-use Rattle.typing.proofs.Firsts.{told-fault}
+use Rattle.typing.proofs.TypeHeads.{told-fault}
 use borrow.Author.Needs.{needs}
 use Rattle.typing.proofs.kinds.size_of.Statement.{statement}
 use Rattle.typing.proofs.kinds.size_of.Tie as tie

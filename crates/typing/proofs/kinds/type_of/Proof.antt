@@ -4,7 +4,7 @@ use native.Mathlib.Omega.{arith}
 use Rattle.format.specs.Words.{isGap}
 use Rattle.format.specs.Types.{beforeComment}
 use Rattle.words.proofs.Finding.{run-end-le}
-use Rattle.typing.proofs.Firsts.{told-enum-type, told-plain-type}
+use Rattle.typing.proofs.TypeHeads.{told-enum-type, told-plain-type}
 use borrow.Author.Needs.{needs}
 use Rattle.typing.proofs.kinds.type_of.Statement.{statement}
 use Rattle.typing.proofs.kinds.type_of.Tie as tie
