@@ -35,19 +35,14 @@ pub enum SizeRule {
 fn size_by(sign: &[u8], n: u64) -> SizeRule
     ensures { λ r. ⌜ sizeAnswer r ≡ sizeBy (orderOf (now (sign .entry))) (some n) ⌝ }
 {
-    if lines::same_bytes(sign, b"<") {
-        return SizeRule::Below(n);
+    let k = words::word_place(sign, b"< <= > >=");
+    match k {
+        0 => SizeRule::Below(n),
+        1 => SizeRule::AtMost(n),
+        2 => SizeRule::Above(n),
+        3 => SizeRule::AtLeast(n),
+        _ => SizeRule::None,
     }
-    if lines::same_bytes(sign, b"<=") {
-        return SizeRule::AtMost(n);
-    }
-    if lines::same_bytes(sign, b">") {
-        return SizeRule::Above(n);
-    }
-    if lines::same_bytes(sign, b">=") {
-        return SizeRule::AtLeast(n);
-    }
-    SizeRule::None
 }
 
 // The size that one word stands for.

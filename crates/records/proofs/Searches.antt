@@ -2,21 +2,24 @@
 use Prim.Native.Nat.{ℕ, suc, _+_, _-_, _≤_, _<_}
 use native.Mathlib.Omega.{arith}
 use mathlib.Core.Path.{_≡_, refl, sym, ap, _∙_, subst}
-use mathlib.Core.Bool.{Bool, true, false}
+use mathlib.Core.Bool.{Bool, true, false, false≢true}
 use mathlib.Core.List.{List, [], _∷_, map}
 use lib.ListN.{length, take, drop, length-drop}
 use lib.Seq.{drop-drop}
-use Rattle.format.specs.Bytes.{Bytes, pick}
+use Rattle.format.specs.Lists.{isFilled}
+use Rattle.format.specs.Bytes.{Bytes, text, pick}
 use Rattle.format.specs.Pieces.{Piece}
 use Rattle.format.specs.Records.{Record, fieldsOf}
+use Rattle.format.specs.Sets.{valuesOf}
 use Rattle.lines.proofs.Cuts.{rest}
-use Rattle.records.specs.Places.{isReadable, Placed, placesOf, isDescriptor, placeOf, firstPlace, descriptorPlace, setPlace, recordBy, recordPlace, countBefore}
+use Rattle.records.specs.Places.{isReadable, Placed, placesOf, isDescriptor, placeOf, firstPlace, namesSet, descriptorPlace, setPlace, recordBy, recordPlace, countBefore}
+use Rattle.records.specs.Walk.{opensSet}
 use Rattle.records.specs.declared.Place.{Place}
 use Rattle.records.specs.declared.NextRecord.{NextRecord}
 use Rattle.records.specs.declared.FoundSet.{FoundSet}
 use Rattle.records.specs.declared.FoundRecord.{FoundRecord}
 use Rattle.records.proofs.Shifts.{raise, raise-none, raise-twice}
-use Rattle.records.proofs.Readings.{Reads}
+use Rattle.records.proofs.Readings.{Reads, reads-of}
 use Rattle.records.proofs.FirstPlaces.{First, first-place}
 
 -- the set of no name is the default set, and stands first
@@ -96,6 +99,9 @@ module _ (s : Bytes) (i : ℕ) where
   unfolding recordPlace
   record-end k e = ap (λ (ps : List Placed). recordPlace ps k) e
 
+  pub set-end : (n : Bytes) → placesAt s i ≡ [] → descriptorPlace n (placesAt s i) ≡ FoundSet.Missing
+  set-end n e = ap (descriptorPlace n) e
+
   module _ (q : Place) (m : Met s i q) where
     later : List Placed
     later = placesAt s (i + q .after)
@@ -132,3 +138,30 @@ module _ (s : Bytes) (i : ℕ) where
     record-later k j d z =
         record-on k ∙ ap (λ (b : Bool). recordBy b k (raise i (m .here)) (λ (n : ℕ). recordPlace later n)) d
         ∙ ap (λ (n : ℕ). recordBy false n (raise i (m .here)) (λ (x : ℕ). recordPlace later x)) z
+
+    set-on : (n : Bytes) → descriptorPlace n (placesAt s i) ≡ pick (namesSet n (valuesOf (text "%rec") (m .here .fields))) (FoundSet.At (i + q .after)) (descriptorPlace n later)
+    unfolding later
+    set-on n =
+        ap (descriptorPlace n) (m .places)
+        ∙ ap (λ (x : Place). pick (namesSet n (valuesOf (text "%rec") (m .here .fields))) (FoundSet.At (i + x .after)) (descriptorPlace n (placesAt s (i + q .after)))) (m .is)
+
+    -- a record that is no descriptor names no set
+    no-name : (n : Bytes) (vs : List Bytes) → isFilled vs ≡ false → namesSet n vs ≡ false
+    no-name n [] e = refl
+    no-name n (v ∷ vs) e = absurd (false≢true (sym e))
+
+    pub set-member : (n : Bytes) → q .descriptor ≡ false → descriptorPlace n (placesAt s i) ≡ descriptorPlace n (placesAt s (i + q .after))
+    unfolding later
+    set-member n d = set-on n ∙ ap (λ (b : Bool). pick b (FoundSet.At (i + q .after)) (descriptorPlace n later)) (no-name n (valuesOf (text "%rec") (m .here .fields)) (described ∙ d))
+
+    -- the descriptor's own part tells which set it opens
+    opened : (n : Bytes) → opensSet n (take ((i + q .end) - (i + q .start)) (drop (i + q .start) s)) ≡ namesSet n (valuesOf (text "%rec") (m .here .fields))
+    unfolding opensSet
+    opened n = ap (λ (ps : List Piece). namesSet n (valuesOf (text "%rec") (fieldsOf ps))) (reads-of (m .stand .own-reads)) ∙ ap (λ r. namesSet n (valuesOf (text "%rec") r)) (m .stand .own-fields)
+
+    pub set-here : (n : Bytes) (t : Bool) → t ≡ opensSet n (take ((i + q .end) - (i + q .start)) (drop (i + q .start) s)) → t ≡ true → descriptorPlace n (placesAt s i) ≡ FoundSet.At (i + q .after)
+    set-here n t e d = set-on n ∙ ap (λ (b : Bool). pick b (FoundSet.At (i + q .after)) (descriptorPlace n later)) (sym (opened n) ∙ sym e ∙ d)
+
+    pub set-other : (n : Bytes) (t : Bool) → t ≡ opensSet n (take ((i + q .end) - (i + q .start)) (drop (i + q .start) s)) → t ≡ false → descriptorPlace n (placesAt s i) ≡ descriptorPlace n (placesAt s (i + q .after))
+    unfolding later
+    set-other n t e d = set-on n ∙ ap (λ (b : Bool). pick b (FoundSet.At (i + q .after)) (descriptorPlace n later)) (sym (opened n) ∙ sym e ∙ d)

@@ -2,25 +2,18 @@
 use Prim.Native.Nat.{ℕ, suc, _+_, _-_, _≤_}
 use native.Mathlib.Omega.{arith}
 use mathlib.Core.Path.{_≡_, refl, sym, ap, _∙_, subst}
-use mathlib.Core.Bool.{Bool, true, false, false≢true}
+use mathlib.Core.Bool.{Bool, true, false}
 use mathlib.Core.List.{List, [], _∷_, map}
 use lib.ListN.{length, take, drop, length-drop}
-use Rattle.format.specs.Lists.{isFilled}
-use Rattle.format.specs.Bytes.{Bytes, text, pick}
-use Rattle.format.specs.Pieces.{Piece}
-use Rattle.format.specs.Records.{Record, fieldsOf}
-use Rattle.format.specs.Sets.{valuesOf}
+use Rattle.format.specs.Bytes.{Bytes, pick}
 use Rattle.lines.proofs.Cuts.{rest}
-use Rattle.records.specs.Places.{isReadable, Placed, placesOf, isDescriptor, countBefore, namesSet, descriptorPlace}
+use Rattle.records.specs.Places.{isReadable, Placed, placesOf, isDescriptor, countBefore}
 use Rattle.records.specs.Sets.{setEnd, leading, setAt, firstSet}
-use Rattle.records.specs.Walk.{opensSet}
 use Rattle.records.specs.declared.Place.{Place}
 use Rattle.records.specs.declared.MemberRun.{MemberRun}
 use Rattle.records.specs.declared.RecordSet.{RecordSet}
 use Rattle.records.specs.declared.NextSet.{NextSet}
-use Rattle.records.specs.declared.FoundSet.{FoundSet}
 use Rattle.records.proofs.Shifts.{raise}
-use Rattle.records.proofs.Readings.{reads-of}
 use Rattle.records.proofs.Searches.{placesAt, Stand, Met}
 use Rattle.records.proofs.Members.{Stands, stands-at}
 use Rattle.records.proofs.SetEnds.{end-raised, end-whole, end-inside}
@@ -142,44 +135,3 @@ module _ (s : Bytes) (i : ℕ) where
     set-here r d e =
         set-on true d
         ∙ (λ t. NextSet.At (record { start = i + q .start; end = i + q .end; begin = b; after = (end-whole s b ∙ ap (λ (x : ℕ). b + x) (sym (members-end s b r e))) t; count = (count-raised b (placesOf (drop b s)) ∙ sym (members-count s b r e)) t }))
-
--- The search for a set, set by set.
-no-name : (n : Bytes) (vs : List Bytes) → isFilled vs ≡ false → namesSet n vs ≡ false
-no-name n [] e = refl
-no-name n (v ∷ vs) e = absurd (false≢true (sym e))
-
--- a record that is no descriptor names no set
-place-from : (n : Bytes) (ps : List Placed) → descriptorPlace n (fromHead ps) ≡ descriptorPlace n ps
-place-from n [] = refl
-place-from n (p ∷ ps) = go (isDescriptor p) refl (place-from n ps)
-  where
-    go : (b : Bool) → isDescriptor p ≡ b → descriptorPlace n (fromHead ps) ≡ descriptorPlace n ps → descriptorPlace n (pick b (p ∷ ps) (fromHead ps)) ≡ descriptorPlace n (p ∷ ps)
-    go true e x = refl
-    go false e x = x ∙ sym (ap (λ (t : Bool). pick t (FoundSet.At (p .after)) (descriptorPlace n ps)) (no-name n (valuesOf (text "%rec") (p .fields)) e))
-
-module _ (s : Bytes) (i : ℕ) (n : Bytes) where
-  pub place-none : fromHead (placesAt s i) ≡ [] → descriptorPlace n (placesAt s i) ≡ FoundSet.Missing
-  place-none e = sym (place-from n (placesAt s i)) ∙ ap (descriptorPlace n) e
-
-  module _ (q : RecordSet) (m : SetMet s (fromHead (placesAt s i)) q) where
-    names : Bool
-    names = namesSet n (valuesOf (text "%rec") (m .here .fields))
-
-    place-on : descriptorPlace n (placesAt s i) ≡ pick names (FoundSet.At (q .begin)) (descriptorPlace n (placesAt s (q .after)))
-    unfolding names
-    place-on =
-        sym (place-from n (placesAt s i))
-        ∙ ap (descriptorPlace n) (m .places)
-        ∙ (λ t. pick (namesSet n (valuesOf (text "%rec") (m .here .fields))) (FoundSet.At (m .is t .begin)) ((sym (place-from n (m .later)) ∙ ap (descriptorPlace n) (sym (m .behind .places))) t))
-
-    -- the descriptor's own part tells which set it opens
-    opened : opensSet n (take (q .end - q .start) (drop (q .start) s)) ≡ names
-    unfolding opensSet names
-    opened = ap (λ (ps : List Piece). namesSet n (valuesOf (text "%rec") (fieldsOf ps))) (reads-of (m .stand .own-reads)) ∙ ap (λ (r : Record). namesSet n (valuesOf (text "%rec") r)) (m .stand .own-fields)
-
-    module _ (t : Bool) (e : t ≡ opensSet n (take (q .end - q .start) (drop (q .start) s))) where
-      pub place-here : t ≡ true → descriptorPlace n (placesAt s i) ≡ FoundSet.At (q .begin)
-      place-here d = place-on ∙ ap (λ (b : Bool). pick b (FoundSet.At (q .begin)) (descriptorPlace n (placesAt s (q .after)))) (sym opened ∙ sym e ∙ d)
-
-      pub place-later : t ≡ false → descriptorPlace n (placesAt s i) ≡ descriptorPlace n (placesAt s (q .after))
-      place-later d = place-on ∙ ap (λ (b : Bool). pick b (FoundSet.At (q .begin)) (descriptorPlace n (placesAt s (q .after)))) (sym opened ∙ sym e ∙ d)

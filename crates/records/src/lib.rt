@@ -462,14 +462,16 @@ pub fn find_set(s: &[u8], name: &[u8]) -> FoundSet
     }
     let mut i = 0;
     loop {
-        let r = next_set(&s[i..]);
-        let NextSet::At(p) = r else {
+        let r = next_record(&s[i..]);
+        let NextRecord::At(p) = r else {
             return FoundSet::Missing;
         };
-        let a = i + p.start;
-        let e = i + p.end;
-        if opens_set(&s[a..e], name) {
-            return FoundSet::At(i + p.begin);
+        if p.descriptor {
+            let a = i + p.start;
+            let e = i + p.end;
+            if opens_set(&s[a..e], name) {
+                return FoundSet::At(i + p.after);
+            }
         }
         i += p.after;
     }

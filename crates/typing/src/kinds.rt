@@ -30,31 +30,18 @@ enum Head {
 fn head_of(w: &[u8]) -> Head
     ensures { λ r. ⌜ r ≡ headOf (now (w .entry)) ⌝ }
 {
-    if lines::same_bytes(w, b"int") {
-        return Head::Bare(Shape::Int);
+    let k = words::word_place(w, b"int range real line size bool field uuid");
+    match k {
+        0 => Head::Bare(Shape::Int),
+        1 => Head::Range,
+        2 => Head::Bare(Shape::Real),
+        3 => Head::Bare(Shape::Line),
+        4 => Head::Size,
+        5 => Head::Bare(Shape::Bool),
+        6 => Head::Bare(Shape::Field),
+        7 => Head::Bare(Shape::Uuid),
+        _ => Head::Name,
     }
-    if lines::same_bytes(w, b"range") {
-        return Head::Range;
-    }
-    if lines::same_bytes(w, b"real") {
-        return Head::Bare(Shape::Real);
-    }
-    if lines::same_bytes(w, b"line") {
-        return Head::Bare(Shape::Line);
-    }
-    if lines::same_bytes(w, b"size") {
-        return Head::Size;
-    }
-    if lines::same_bytes(w, b"bool") {
-        return Head::Bare(Shape::Bool);
-    }
-    if lines::same_bytes(w, b"field") {
-        return Head::Bare(Shape::Field);
-    }
-    if lines::same_bytes(w, b"uuid") {
-        return Head::Bare(Shape::Uuid);
-    }
-    Head::Name
 }
 
 // The end of the bytes from i on that no gap and no comment ends.
