@@ -1,4 +1,4 @@
-// Byte classes and limits of recfiles. The definitions of the format stand in specs/, the laws about them in proofs/.
+// What every crate shares: byte classes and their table, the limits, what a call answers and the numbers of refusals. The definitions of the format stand in specs/, the laws about them in proofs/.
 ghost use mathlib.Core.Path.{_≡_};
 ghost use mathlib.Core.Bool.{_&&_};
 ghost use lib.Dec.{leb};
@@ -50,7 +50,7 @@ const CLASSES: [u8; 256] = *b"\x00\x00\x00\x00\x00\x00\x00\x00\x00\x03\x04\x00\x
     \x07\x07\x07\x07\x07\x07\x07\x07\x07\x07\x07\x07\x07\x07\x07\x07\
     \x07\x07\x07\x07\x07\x07\x07\x07\x07\x07\x07\x07\x07\x07\x07\x07";
 
-// The table, to be lent to the readers: an array that is copied once is cheaper than a constant that is indexed.
+// The table, for whoever asks for the classes of many bytes: an array that is copied once is cheaper than a constant that is indexed.
 pub fn classes() -> [u8; 256]
     ensures { λ r. ⌜ r ≡ classTable ⌝ }
 {
