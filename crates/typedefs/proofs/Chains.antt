@@ -1,13 +1,12 @@
--- Typedefs by their numbers: the first of a name, the number that a type's text leads to, and the end of a chain.
+-- Typedefs by their numbers: the first of a name, the target of a type's text, and a chain of targets step by step.
 use Prim.Native.Nat.{ℕ, zero, suc, _+_, _-_, _≤_, _<_}
 use native.Mathlib.Omega.{arith}
 use mathlib.Core.Path.{_≡_, refl, sym, ap, _∙_, subst}
 use mathlib.Core.Bool.{Bool, true, false}
-use mathlib.Core.List.{List, [], _∷_}
+use mathlib.Core.List.{List, [], _∷_, map}
 use mathlib.Core.Option.{Option, none, some}
-use borrow.Author.Tests.{le-leb, lt-leb, eq-eqb, ne-eqb}
 use denote.Enum.Declared.{tagOf}
-use lib.ListN.{length, drop, getD}
+use lib.ListN.{length, take, drop, getD}
 use types.Run.{OneOf, miss}
 use Rattle.format.specs.Bytes.{Bytes, pick, same}
 use Rattle.format.specs.Words.{afterWord}
@@ -19,22 +18,25 @@ use Rattle.typing.proofs.Shape.{the-type}
 use Rattle.words.specs.Spans.{wordAt}
 use Rattle.words.specs.declared.Word.{Word}
 use Rattle.words.proofs.Finding.{afterBy, Within, after-at, word-within}
-use Rattle.typedefs.specs.Targets.{indexFrom, targetBy, followOf}
+use Rattle.typedefs.specs.Targets.{indexFrom, targetBy, Bounded, targetsIn, onward, followOf}
+use Rattle.typedefs.specs.declared.Target.{Target}
+use Rattle.typedefs.specs.declared.Link.{Link}
+use Rattle.typedefs.specs.declared.Targets.{Targets}
 use Rattle.typedefs.specs.declared.Followed.{Followed}
 
 -- the first of a name among none, at the head, and behind it
 module _ (at : ℕ) (n : Bytes) (ns : List Bytes) where
-  pub index-none : ns ≡ [] → indexFrom at n ns ≡ 32
+  pub index-none : ns ≡ [] → indexFrom at n ns ≡ Target.Missing
   unfolding indexFrom
   index-none e = ap (indexFrom at n) e
 
-  pub index-here : (m : Bytes) (ms : List Bytes) → ns ≡ m ∷ ms → same n m ≡ true → indexFrom at n ns ≡ at
+  pub index-here : (m : Bytes) (ms : List Bytes) → ns ≡ m ∷ ms → same n m ≡ true → indexFrom at n ns ≡ Target.Alias at
   unfolding indexFrom
-  index-here m ms e q = ap (indexFrom at n) e ∙ ap (λ (t : Bool). pick t at (indexFrom (at + 1) n ms)) q
+  index-here m ms e q = ap (indexFrom at n) e ∙ ap (λ (t : Bool). pick t (Target.Alias at) (indexFrom (at + 1) n ms)) q
 
   pub index-later : (m : Bytes) (ms : List Bytes) → ns ≡ m ∷ ms → same n m ≡ false → indexFrom at n ns ≡ indexFrom (at + 1) n ms
   unfolding indexFrom
-  index-later m ms e q = ap (indexFrom at n) e ∙ ap (λ (t : Bool). pick t at (indexFrom (at + 1) n ms)) q
+  index-later m ms e q = ap (indexFrom at n) e ∙ ap (λ (t : Bool). pick t (Target.Alias at) (indexFrom (at + 1) n ms)) q
 
 -- the text behind a first word
 module _ (s : Bytes) (w : Word) (q : w ≡ wordAt s 0) where
@@ -57,7 +59,7 @@ told-some s x r k t e = sym (t .answers) ∙ ap (typeAnswer s) e
 pub told-sound : (s : Bytes) (x : Option Typed) (r : TypeOf) (k : Shape) → Told s x r → r ≡ TypeOf.Is k → Sound s k
 told-sound s x r k t e = subst (SoundType s) e (t .sound)
 
-pub target-kind : (ns : List Bytes) (s : Bytes) (k : Shape) → OneOf (0 ∷ 1 ∷ 2 ∷ 3 ∷ 4 ∷ 5 ∷ 6 ∷ 7 ∷ 8 ∷ []) (tagOf the-type k) → targetBy ns (some (typedIn s k)) ≡ 33
+pub target-kind : (ns : List Bytes) (s : Bytes) (k : Shape) → OneOf (0 ∷ 1 ∷ 2 ∷ 3 ∷ 4 ∷ 5 ∷ 6 ∷ 7 ∷ 8 ∷ []) (tagOf the-type k) → targetBy ns (some (typedIn s k)) ≡ Target.Kind
 target-kind ns s Shape.Int h = refl
 target-kind ns s (Shape.Range a b) h = refl
 target-kind ns s Shape.Real h = refl
@@ -69,32 +71,46 @@ target-kind ns s Shape.Field h = refl
 target-kind ns s Shape.Uuid h = refl
 target-kind ns s (Shape.Alias a e) h = absurd (miss (0 ∷ 1 ∷ 2 ∷ 3 ∷ 4 ∷ 5 ∷ 6 ∷ 7 ∷ 8 ∷ []) 9 tt h)
 
--- the end of a chain, step by step
-module _ (ts : List ℕ) (i : ℕ) where
-  pub chain-missing : (left : ℕ) → length ts ≤ i → followOf left ts i ≡ Followed.Missing
-  unfolding followOf
-  chain-missing zero h = rw (le-leb _ _ h)
-  chain-missing (suc left) h = rw (le-leb _ _ h)
+-- a table of targets: its rows, and that there is none behind them
+row-in : (l : List Link) (n i : ℕ) (other : Link) → i < n → i < length l → getD (map (λ (x : Link). x .to) (take n l)) i Target.Missing ≡ getD l i other .to
+row-in [] n i other h g = absurd (omega arith)
+row-in (x ∷ l) zero i other h g = absurd (omega arith)
+row-in (x ∷ l) (suc n) zero other h g = refl
+row-in (x ∷ l) (suc n) (suc i) other h g = row-in l n i other (omega arith) (omega arith)
 
-  pub chain-end : (left : ℕ) → i < length ts → getD ts i 0 ≡ 33 → followOf left ts i ≡ Followed.End i
-  unfolding followOf
-  chain-end zero h e = rw (lt-leb _ _ h, eq-eqb _ _ e)
-  chain-end (suc left) h e = rw (lt-leb _ _ h, eq-eqb _ _ e)
+row-past : (l : List Link) (n i : ℕ) → n ≤ i → getD (map (λ (x : Link). x .to) (take n l)) i Target.Missing ≡ Target.Missing
+row-past [] zero i h = refl
+row-past [] (suc n) i h = refl
+row-past (x ∷ l) zero i h = refl
+row-past (x ∷ l) (suc n) zero h = absurd (omega arith)
+row-past (x ∷ l) (suc n) (suc i) h = row-past l n i (omega arith)
 
-  pub chain-loop : i < length ts → (getD ts i 0 ≡ 33 → ⊥) → followOf zero ts i ≡ Followed.Loop
-  unfolding followOf
-  chain-loop h e = rw (lt-leb _ _ h, ne-eqb _ _ e)
+rows-length : (l : List Link) (n : ℕ) → n ≤ length l → length (map (λ (x : Link). x .to) (take n l)) ≡ n
+rows-length [] zero h = refl
+rows-length [] (suc n) h = absurd (omega arith)
+rows-length (x ∷ l) zero h = refl
+rows-length (x ∷ l) (suc n) h = ap suc (rows-length l n (omega arith))
 
-  pub chain-on : (left : ℕ) → i < length ts → (getD ts i 0 ≡ 33 → ⊥) → followOf (suc left) ts i ≡ followOf left ts (getD ts i 0)
-  unfolding followOf
-  chain-on left h e = rw (lt-leb _ _ h, ne-eqb _ _ e)
+module _ (t : Targets) (b : Bounded t) where
+  pub targets-length : length (targetsIn t) ≡ t .count
+  targets-length = rows-length (t .rows) (t .count) (omega (arith, b .0, b .1))
 
--- the same of a number that is none, or not
-module _ (ts : List ℕ) (i left : ℕ) (h : i < length ts) (e : getD ts i 0 ≡ 33 → ⊥) where
-  pub chain-stops : left ≡ 0 → followOf left ts i ≡ Followed.Loop
-  chain-stops z = ap (λ (m : ℕ). followOf m ts i) z ∙ chain-loop ts i h e
+  pub target-at : (i : ℕ) (other : Link) → i < t .count → getD (targetsIn t) i Target.Missing ≡ getD (t .rows) i other .to
+  target-at i other h = row-in (t .rows) (t .count) i other h (omega (arith, b .0, b .1))
 
-  pub chain-goes : (left ≡ 0 → ⊥) → followOf left ts i ≡ followOf (left - 1) ts (getD ts i 0)
-  chain-goes z =
-      let y : left ≡ suc (left - 1) = omega (arith, z) in
-      ap (λ (m : ℕ). followOf m ts i) y ∙ chain-on ts i (left - 1) h e
+  -- a chain, step by step
+  module _ (i left : ℕ) where
+    pub chain-stops : left ≡ 0 → followOf left (targetsIn t) i ≡ Followed.Loop
+    unfolding followOf
+    chain-stops z = ap (λ (m : ℕ). followOf m (targetsIn t) i) z
+
+    steps : (left ≡ 0 → ⊥) → followOf left (targetsIn t) i ≡ onward (getD (targetsIn t) i Target.Missing) i (λ j. followOf (left - 1) (targetsIn t) j)
+    unfolding followOf
+    steps z = let y : left ≡ suc (left - 1) = omega (arith, z) in ap (λ (m : ℕ). followOf m (targetsIn t) i) y
+
+    pub chain-past : (left ≡ 0 → ⊥) → t .count ≤ i → followOf left (targetsIn t) i ≡ Followed.Missing
+    chain-past z h = steps z ∙ ap (λ (x : Target). onward x i (λ j. followOf (left - 1) (targetsIn t) j)) (row-past (t .rows) (t .count) i h)
+
+    -- x is the target of typedef i
+    pub chain-goes : (left ≡ 0 → ⊥) → i < t .count → (other : Link) (x : Target) → getD (t .rows) i other .to ≡ x → followOf left (targetsIn t) i ≡ onward x i (λ j. followOf (left - 1) (targetsIn t) j)
+    chain-goes z h other x e = steps z ∙ ap (λ (y : Target). onward y i (λ j. followOf (left - 1) (targetsIn t) j)) (target-at i other h ∙ e)

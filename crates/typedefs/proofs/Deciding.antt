@@ -1,10 +1,9 @@
 -- Question 7 by the code's numbers: the typedefs are well formed, and each `%type` field has names and ends in a kind.
-use Prim.Native.Nat.{ℕ, _+_, _-_, _≤_, _<_}
+use Prim.Native.Nat.{ℕ, _+_, _≤_, _<_}
 use native.Mathlib.Omega.{arith}
 use mathlib.Core.Path.{_≡_, refl, sym, ap, _∙_}
 use mathlib.Core.Bool.{Bool, true, false, _&&_, not, and-eq-true-iff}
 use mathlib.Core.List.{List, [], _∷_, map}
-use borrow.Author.Tests.{le-leb, lt-leb, eq-eqb, ne-eqb}
 use lib.ListN.{length, drop, drop-of-length-le}
 use Rattle.format.specs.Bytes.{Bytes, text, all, among, isSome}
 use Rattle.format.specs.Lines.{isName}
@@ -18,8 +17,7 @@ use Rattle.lines.proofs.Cuts.{at-cons}
 use Rattle.words.specs.Spans.{span, runEnd, notByte}
 use Rattle.words.proofs.Splitting.{splitBehind, split-at}
 use Rattle.records.specs.Named.{valuesFrom, ValueHere}
-use Rattle.typedefs.specs.Targets.{targetIn, followOf, isEnd, leads, areDefined, wellBy}
-use Rattle.typedefs.specs.declared.Followed.{Followed}
+use Rattle.typedefs.specs.Targets.{targetIn, leads, areDefined, wellBy}
 use Rattle.typedefs.proofs.Filling.{both-true}
 use Rattle.typedefs.proofs.Defined.{swap, defsOf, type-leads}
 
@@ -69,23 +67,12 @@ module _ (r : Record) where
   pub not-defined : areDefined defs ≡ false → isTypedWell intBounds r ≡ false
   not-defined e = well-by ∙ ap (λ (t : Bool). t && rest) e
 
-  pub well-types : length defs ≤ 32 → areDefined defs ≡ true → isTypedWell intBounds r ≡ all (wellBy (map firstWord defs) (map (targetIn (map firstWord defs)) defs)) uses
-  well-types few e =
+  pub well-types : areDefined defs ≡ true → isTypedWell intBounds r ≡ all (wellBy (map firstWord defs) (map (targetIn (map firstWord defs)) defs)) uses
+  well-types e =
       let b = both-true (all isTypedefName (map firstWord defs) && distinct (map firstWord defs)) (all (λ (v : Bytes). isSome (endKind intBounds (defsOf defs) v)) defs) e in
       well-by ∙ ap (λ (t : Bool). t && rest) e
       ∙ both-all (λ (v : Bytes). all isName (typedNames v)) (λ (v : Bytes). isSome (endKind intBounds (defsOf defs) v))
-      (λ (v : Bytes). leads (map (targetIn (map firstWord defs)) defs) (targetIn (map firstWord defs) v)) (type-leads defs few (b .1)) uses
-
--- where a target leads
-module _ (ts : List ℕ) (t : ℕ) where
-  pub leads-kind : t ≡ 33 → leads ts t ≡ true
-  leads-kind e = rw (eq-eqb t 33 e)
-
-  pub leads-nowhere : (t ≡ 33 → ⊥) → length ts ≤ t → leads ts t ≡ false
-  leads-nowhere n h = rw (ne-eqb t 33 n, le-leb (length ts) t h)
-
-  pub leads-there : (f : Followed) → (t ≡ 33 → ⊥) → t < length ts → f ≡ followOf (length ts - 1) ts t → leads ts t ≡ isEnd f
-  leads-there f n h q = rw (ne-eqb t 33 n, lt-leb (length ts) t h, q)
+      (λ (v : Bytes). leads (map (targetIn (map firstWord defs)) defs) (targetIn (map firstWord defs) v)) (type-leads defs (b .1)) uses
 
 -- one field more
 pub all-cut : (p : Bytes → Bool) (d name : Bytes) (i v e : ℕ) (t : Bool) → ValueHere d name i v e → t ≡ p (valueFrom (drop v d)) → all p (valuesFrom d name i) ≡ (t && all p (valuesFrom d name e))

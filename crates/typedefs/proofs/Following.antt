@@ -1,17 +1,17 @@
--- Following the numbers of typedefs is following their names: each chain ends in the kind that the definitions give, or in none.
+-- Following the targets of typedefs is following their names: a type ends in the kind that the definitions give, or in none.
 use Prim.Native.Nat.{ℕ, zero, suc, _+_, _-_, _≤_, _<_}
 use native.Mathlib.Omega.{arith}
-use mathlib.Core.Path.{_≡_, refl, sym, ap, _∙_, subst}
+use mathlib.Core.Path.{_≡_, refl, sym, ap, _∙_}
 use mathlib.Core.Bool.{Bool, true, false}
 use mathlib.Core.List.{List, [], _∷_, map}
-use mathlib.Core.Option.{Option, none, some, Option·none-ne-some}
+use mathlib.Core.Option.{Option, none, some}
 use lib.ListN.{length, getD}
 use Rattle.format.specs.Lists.{onward}
 use Rattle.format.specs.Bytes.{Bytes, pick, same, isSome}
-use Rattle.format.specs.Types.{Kind, Typed, Typedef, lookup, follow}
-use Rattle.typedefs.specs.Targets.{indexFrom, targetBy, followOf, isEnd}
+use Rattle.format.specs.Types.{Kind, Typed, Typedef, lookup, follow, kindOf}
+use Rattle.typedefs.specs.Targets.{indexFrom, targetBy, onward as goOn, followOf, isEnd, leads}
+use Rattle.typedefs.specs.declared.Target.{Target}
 use Rattle.typedefs.specs.declared.Followed.{Followed}
-use Rattle.typedefs.proofs.Chains.{chain-missing, chain-end, chain-loop, chain-on}
 
 abbrev pub typeAt : List Typedef → ℕ → Option Typed
 typeAt [] i = none
@@ -21,7 +21,7 @@ typeAt (d ∷ ds) (suc i) = typeAt ds i
 abbrev pub namesIn : List Typedef → List Bytes
 namesIn ds = map (λ (d : Typedef). d .name) ds
 
-abbrev pub targetsBy : List Bytes → List Typedef → List ℕ
+abbrev pub targetsBy : List Bytes → List Typedef → List Target
 targetsBy ns ds = map (λ (d : Typedef). targetBy ns (some (d .type))) ds
 
 -- the kind of a type that is one
@@ -36,116 +36,123 @@ kindBy ds (Followed.End j) = kindOnly (typeAt ds j)
 kindBy ds Followed.Missing = none
 kindBy ds Followed.Loop = none
 
--- a number is within the places that are left, or 32
-index-least : (at : ℕ) (n : Bytes) (ns : List Bytes) → at + length ns ≤ 32 → at ≤ indexFrom at n ns
+-- and that in which a type does that has a target
+abbrev pub kindTo : List Typedef → List Target → ℕ → Option Typed → Target → Option Kind
+kindTo ds ts left x Target.Kind = kindOnly x
+kindTo ds ts left x (Target.Alias j) = kindBy ds (followOf left ts j)
+kindTo ds ts left x Target.Missing = none
+
+-- the target of a name is no kind
+pub index-by : (P : Target → Type 0) → ((j : ℕ) → P (Target.Alias j)) → P Target.Missing → (at : ℕ) (n : Bytes) (ns : List Bytes) → P (indexFrom at n ns)
 unfolding indexFrom
-index-least at n [] h = omega arith
-index-least at n (m ∷ ns) h = go (same n m) (index-least (at + 1) n ns (omega arith))
+index-by P a m at n [] = m
+index-by P a m at n (x ∷ ns) = go (same n x) (index-by P a m (at + 1) n ns)
   where
-    go : (t : Bool) → at + 1 ≤ indexFrom (at + 1) n ns → at ≤ pick t at (indexFrom (at + 1) n ns)
-    go true l = omega arith
-    go false l = omega arith
+    go : (t : Bool) → P (indexFrom (at + 1) n ns) → P (pick t (Target.Alias at) (indexFrom (at + 1) n ns))
+    go true h = a at
+    go false h = h
 
-pub index-most : (at : ℕ) (n : Bytes) (ns : List Bytes) → at + length ns ≤ 32 → indexFrom at n ns ≤ 32
+-- the type of a target whose numbers begin at a number
+abbrev typeFrom : ℕ → List Typedef → Target → Option Typed
+typeFrom at ds Target.Kind = none
+typeFrom at ds (Target.Alias j) = typeAt ds (j - at)
+typeFrom at ds Target.Missing = none
+
+abbrev Least : ℕ → Target → Type 0
+Least at Target.Kind = Unit {0}
+Least at (Target.Alias j) = at ≤ j
+Least at Target.Missing = Unit {0}
+
+index-least : (at : ℕ) (n : Bytes) (ns : List Bytes) → Least at (indexFrom at n ns)
 unfolding indexFrom
-index-most at n [] h = omega arith
-index-most at n (m ∷ ns) h = go (same n m) (index-most (at + 1) n ns (omega arith))
+index-least at n [] = tt
+index-least at n (m ∷ ns) = go (same n m) (indexFrom (at + 1) n ns) (index-least (at + 1) n ns)
   where
-    go : (t : Bool) → indexFrom (at + 1) n ns ≤ 32 → pick t at (indexFrom (at + 1) n ns) ≤ 32
-    go true l = omega arith
-    go false l = l
+    go : (t : Bool) (x : Target) → Least (at + 1) x → Least at (pick t (Target.Alias at) x)
+    go true x l = omega arith
+    go false Target.Kind l = tt
+    go false (Target.Alias j) l = omega arith
+    go false Target.Missing l = tt
 
-type-past : (ds : List Typedef) (i : ℕ) → length ds ≤ i → typeAt ds i ≡ none
-type-past [] i h = refl
-type-past (d ∷ ds) zero h = absurd (omega arith)
-type-past (d ∷ ds) (suc i) h = type-past ds i (omega arith)
-
-length-names : (ds : List Typedef) → length (namesIn ds) ≡ length ds
-length-names [] = refl
-length-names (d ∷ ds) = ap suc (length-names ds)
-
--- looking a name up is taking the typedef of its number
-lookup-from : (at : ℕ) (n : Bytes) (ds : List Typedef) → at + length ds ≤ 32 → lookup n ds ≡ typeAt ds (indexFrom at n (namesIn ds) - at)
+-- looking a name up is taking the type of its target
+lookup-from : (at : ℕ) (n : Bytes) (ds : List Typedef) → lookup n ds ≡ typeFrom at ds (indexFrom at n (namesIn ds))
 unfolding indexFrom
-lookup-from at n [] h = refl
-lookup-from at n (d ∷ ds) h = go (same n (d .name)) (lookup-from (at + 1) n ds (omega arith)) (index-least (at + 1) n (namesIn ds) (omega (arith, length-names ds)))
+lookup-from at n [] = refl
+lookup-from at n (d ∷ ds) = go (same n (d .name)) (indexFrom (at + 1) n (namesIn ds)) (index-least (at + 1) n (namesIn ds)) (lookup-from (at + 1) n ds)
   where
-    go : (t : Bool) → lookup n ds ≡ typeAt ds (indexFrom (at + 1) n (namesIn ds) - (at + 1)) → at + 1 ≤ indexFrom (at + 1) n (namesIn ds)
-        → pick t (some (d .type)) (lookup n ds) ≡ typeAt (d ∷ ds) (pick t at (indexFrom (at + 1) n (namesIn ds)) - at)
-    go true e l = let z : 0 ≡ at - at = omega arith in ap (typeAt (d ∷ ds)) z
-    go false e l =
-        let j : ℕ = indexFrom (at + 1) n (namesIn ds) in
-        let z : suc (j - (at + 1)) ≡ j - at = omega arith in
-        e ∙ ap (typeAt (d ∷ ds)) z
+    go : (t : Bool) (x : Target) → Least (at + 1) x → lookup n ds ≡ typeFrom (at + 1) ds x → pick t (some (d .type)) (lookup n ds) ≡ typeFrom at (d ∷ ds) (pick t (Target.Alias at) x)
+    go true x l e = let z : 0 ≡ at - at = omega arith in ap (typeAt (d ∷ ds)) z
+    go false Target.Kind l e = e
+    go false (Target.Alias j) l e = let z : suc (j - (at + 1)) ≡ j - at = omega arith in e ∙ ap (typeAt (d ∷ ds)) z
+    go false Target.Missing l e = e
 
-pub lookup-index : (n : Bytes) (ds : List Typedef) → length ds ≤ 32 → lookup n ds ≡ typeAt ds (indexFrom 0 n (namesIn ds))
-lookup-index n ds h =
-    let j : ℕ = indexFrom 0 n (namesIn ds) in
-    let z : j - 0 ≡ j = omega arith in
-    lookup-from 0 n ds (omega arith) ∙ ap (typeAt ds) z
+-- the target of the typedef of a number
+target-of : (ns : List Bytes) (ds : List Typedef) (i : ℕ) → getD (targetsBy ns ds) i Target.Missing ≡ targetBy ns (typeAt ds i)
+target-of ns [] i = refl
+target-of ns (d ∷ ds) zero = refl
+target-of ns (d ∷ ds) (suc i) = target-of ns ds i
 
--- the target of a typedef that is there
-module _ (ns : List Bytes) where
-  target-there : (ds : List Typedef) (i : ℕ) (t : Typed) → typeAt ds i ≡ some t → (i < length (targetsBy ns ds)) × (getD (targetsBy ns ds) i 0 ≡ targetBy ns (some t))
-  target-there [] i t e = absurd (Option·none-ne-some t e)
-  target-there (d ∷ ds) zero t e = (omega arith, ap (targetBy ns) e)
-  target-there (d ∷ ds) (suc i) t e = let r = target-there ds i t e in (omega (arith, r .0), r .1)
+pub kind-stays : (m : ℕ) (ds : List Typedef) (k : Kind) → follow m ds (Typed.kind k) ≡ some k
+kind-stays zero ds k = refl
+kind-stays (suc m) ds k = refl
 
-  target-past : (ds : List Typedef) (i : ℕ) → typeAt ds i ≡ none → length (targetsBy ns ds) ≤ i
-  target-past [] i e = omega arith
-  target-past (d ∷ ds) zero e = absurd (Option·none-ne-some (d .type) (sym e))
-  target-past (d ∷ ds) (suc i) e = omega (arith, target-past ds i e)
+module _ (ds : List Typedef) where
+  abbrev ns : List Bytes
+  ns = namesIn ds
 
-module _ (ds : List Typedef) (few : length ds ≤ 32) where
-  abbrev ts : List ℕ
-  ts = targetsBy (namesIn ds) ds
+  abbrev ts : List Target
+  ts = targetsBy ns ds
 
-  -- a kind ends its chain
-  ends-here : (left i : ℕ) (k : Kind) → typeAt ds i ≡ some (Typed.kind k) → kindBy ds (followOf left ts i) ≡ some k
-  ends-here left i k e =
-      let r = target-there (namesIn ds) ds i (Typed.kind k) e in
-      ap (kindBy ds) (chain-end ts i left (r .0) (r .1)) ∙ ap kindOnly e
+  -- one step of a chain, by the target of typedef j
+  step : (left j : ℕ) (t : Target) → kindTo ds ts left (typeAt ds j) t ≡ kindBy ds (goOn t j (λ i. followOf left ts i))
+  step left j Target.Kind = refl
+  step left j (Target.Alias i) = refl
+  step left j Target.Missing = refl
 
-  not-33 : (i : ℕ) (n : Bytes) → getD ts i 0 ≡ indexFrom 0 n (namesIn ds) → getD ts i 0 ≡ 33 → ⊥
-  not-33 i n e q = omega (arith, index-most 0 n (namesIn ds) (omega (arith, length-names ds)))
+  step-in : (left j : ℕ) → kindTo ds ts left (typeAt ds j) (targetBy ns (typeAt ds j)) ≡ kindBy ds (followOf (suc left) ts j)
+  unfolding followOf
+  step-in left j = step left j (targetBy ns (typeAt ds j)) ∙ ap (λ (t : Target). kindBy ds (goOn t j (λ i. followOf left ts i))) (sym (target-of ns ds j))
 
-  -- one step, given what is known of one typedef fewer
-  follow-step : (left i : ℕ) → ((l : ℕ) → left ≡ suc l → (j : ℕ) → onward (follow l ds) (typeAt ds j) ≡ kindBy ds (followOf l ts j))
-      → (x : Option Typed) → typeAt ds i ≡ x → onward (follow left ds) x ≡ kindBy ds (followOf left ts i)
-  follow-step left i ih none e = sym (ap (kindBy ds) (chain-missing ts i left (target-past (namesIn ds) ds i e)))
-  follow-step zero i ih (some (Typed.kind k)) e = sym (ends-here zero i k e)
-  follow-step (suc left) i ih (some (Typed.kind k)) e = sym (ends-here (suc left) i k e)
-  follow-step zero i ih (some (Typed.alias n)) e =
-      let r = target-there (namesIn ds) ds i (Typed.alias n) e in
-      sym (ap (kindBy ds) (chain-loop ts i (r .0) (not-33 i n (r .1))))
-  follow-step (suc left) i ih (some (Typed.alias n)) e =
-      let r = target-there (namesIn ds) ds i (Typed.alias n) e in
-      let j : ℕ = indexFrom 0 n (namesIn ds) in
-      ap (onward (follow left ds)) (lookup-index n ds few) ∙ ih left refl j
-      ∙ ap (λ (m : ℕ). kindBy ds (followOf left ts m)) (sym (r .1)) ∙ sym (ap (kindBy ds) (chain-on ts i left (r .0) (not-33 i n (r .1))))
+  -- what a type ends in, by its target
+  by-type : (left : ℕ) → ((n : Bytes) → follow left ds (Typed.alias n) ≡ kindTo ds ts left (some (Typed.alias n)) (indexFrom 0 n ns))
+      → (x : Option Typed) → onward (follow left ds) x ≡ kindTo ds ts left x (targetBy ns x)
+  by-type left h none = refl
+  by-type left h (some (Typed.kind k)) = kind-stays left ds k
+  by-type left h (some (Typed.alias n)) = h n
 
-  pub follow-of : (left i : ℕ) → onward (follow left ds) (typeAt ds i) ≡ kindBy ds (followOf left ts i)
-  follow-of zero i = follow-step zero i (λ l q j. absurd (omega arith)) (typeAt ds i) refl
-  follow-of (suc left) i = follow-step (suc left) i (λ l q j. let z : left ≡ l = omega arith in subst (λ (m : ℕ). onward (follow m ds) (typeAt ds j) ≡ kindBy ds (followOf m ts j)) z (follow-of left j)) (typeAt ds i) refl
+  by-name : (left : ℕ) (n : Bytes) → follow left ds (Typed.alias n) ≡ kindTo ds ts left (some (Typed.alias n)) (indexFrom 0 n ns)
+  unfolding followOf
+  by-name zero n = index-by (λ (t : Target). none ≡ kindTo ds ts zero (some (Typed.alias n)) t) (λ j. refl) refl 0 n ns
+  by-name (suc left) n =
+      ap (onward (follow left ds)) (lookup-from 0 n ds)
+      ∙ index-by (λ (t : Target). onward (follow left ds) (typeFrom 0 ds t) ≡ kindTo ds ts (suc left) (some (Typed.alias n)) t)
+      (λ j. let z : j - 0 ≡ j = omega arith in ap (λ (i : ℕ). onward (follow left ds) (typeAt ds i)) z ∙ by-type left (λ m. by-name left m) (typeAt ds j) ∙ step-in left j) refl 0 n ns
+
+  pub follow-target : (left : ℕ) (x : Option Typed) → onward (follow left ds) x ≡ kindTo ds ts left x (targetBy ns x)
+  follow-target left x = by-type left (by-name left) x
 
   -- a chain that ends does so in a kind
-  end-step : (left i : ℕ) → ((l : ℕ) → left ≡ suc l → (j : ℕ) → isSome (kindBy ds (followOf l ts j)) ≡ isEnd (followOf l ts j))
-      → (x : Option Typed) → typeAt ds i ≡ x → isSome (kindBy ds (followOf left ts i)) ≡ isEnd (followOf left ts i)
-  end-step left i ih none e =
-      let m = chain-missing ts i left (target-past (namesIn ds) ds i e) in
-      ap (λ (f : Followed). isSome (kindBy ds f)) m ∙ sym (ap isEnd m)
-  end-step left i ih (some (Typed.kind k)) e =
-      let r = target-there (namesIn ds) ds i (Typed.kind k) e in
-      ap isSome (ends-here left i k e) ∙ sym (ap isEnd (chain-end ts i left (r .0) (r .1)))
-  end-step zero i ih (some (Typed.alias n)) e =
-      let r = target-there (namesIn ds) ds i (Typed.alias n) e in
-      let m = chain-loop ts i (r .0) (not-33 i n (r .1)) in
-      ap (λ (f : Followed). isSome (kindBy ds f)) m ∙ sym (ap isEnd m)
-  end-step (suc left) i ih (some (Typed.alias n)) e =
-      let r = target-there (namesIn ds) ds i (Typed.alias n) e in
-      let m = chain-on ts i left (r .0) (not-33 i n (r .1)) in
-      ap (λ (f : Followed). isSome (kindBy ds f)) m ∙ ih left refl (getD ts i 0) ∙ sym (ap isEnd m)
+  follows-end : (left j : ℕ) → isSome (kindBy ds (followOf left ts j)) ≡ isEnd (followOf left ts j)
+  unfolding followOf
+  follows-end zero j = refl
+  follows-end (suc left) j =
+      ap (λ (t : Target). isSome (kindBy ds (goOn t j (λ i. followOf left ts i)))) (target-of ns ds j)
+      ∙ go (typeAt ds j) refl (λ i. follows-end left i)
+      ∙ sym (ap (λ (t : Target). isEnd (goOn t j (λ i. followOf left ts i))) (target-of ns ds j))
+    where
+      go : (x : Option Typed) → typeAt ds j ≡ x → ((i : ℕ) → isSome (kindBy ds (followOf left ts i)) ≡ isEnd (followOf left ts i))
+          → isSome (kindBy ds (goOn (targetBy ns x) j (λ i. followOf left ts i))) ≡ isEnd (goOn (targetBy ns x) j (λ i. followOf left ts i))
+      go none e ih = refl
+      go (some (Typed.kind k)) e ih = ap (λ (x : Option Typed). isSome (kindOnly x)) e
+      go (some (Typed.alias n)) e ih = index-by (λ (t : Target). isSome (kindBy ds (goOn t j (λ i. followOf left ts i))) ≡ isEnd (goOn t j (λ i. followOf left ts i))) ih refl 0 n ns
 
-  pub follows-end : (left i : ℕ) → isSome (kindBy ds (followOf left ts i)) ≡ isEnd (followOf left ts i)
-  follows-end zero i = end-step zero i (λ l q j. absurd (omega arith)) (typeAt ds i) refl
-  follows-end (suc left) i = end-step (suc left) i (λ l q j. let z : left ≡ l = omega arith in subst (λ (m : ℕ). isSome (kindBy ds (followOf m ts j)) ≡ isEnd (followOf m ts j)) z (follows-end left j)) (typeAt ds i) refl
+  -- so the definitions give a type a kind if its target ends, and only then
+  pub kind-leads : length ds ≡ length ts → (x : Option Typed) → isSome (onward (kindOf ds) x) ≡ leads ts (targetBy ns x)
+  kind-leads e x = ap isSome (follow-target (length ds) x) ∙ go x
+    where
+      go : (x : Option Typed) → isSome (kindTo ds ts (length ds) x (targetBy ns x)) ≡ leads ts (targetBy ns x)
+      go none = refl
+      go (some (Typed.kind k)) = refl
+      go (some (Typed.alias n)) =
+          index-by (λ (t : Target). isSome (kindTo ds ts (length ds) (some (Typed.alias n)) t) ≡ leads ts t)
+          (λ j. follows-end (length ds) j ∙ ap (λ (m : ℕ). isEnd (followOf m ts j)) e) refl 0 n ns

@@ -1,15 +1,14 @@
--- The names of typedefs: each is one for a typedef and stands once. And the chains of all typedefs, one after another.
-use Prim.Native.Nat.{ℕ, suc, _+_, _-_, _≤_, _<_}
+-- The names of typedefs: each is one for a typedef and stands once. And the targets of all typedefs, one after another.
+use Prim.Native.Nat.{ℕ, suc, _+_, _≤_, _<_}
 use native.Mathlib.Numerals.{add-one}
-use native.Mathlib.Omega.{arith}
 use mathlib.Core.Path.{_≡_, refl, sym, ap, _∙_}
 use mathlib.Core.Bool.{Bool, true, false, _&&_, _||_, not}
 use mathlib.Core.List.{List, [], _∷_, map}
-use borrow.Author.Tests.{ne-eqb}
-use lib.Dec.{eqb}
+use denote.Enum.Declared.{tagOf}
 use lib.ListN.{length, drop, getD, drop-of-length-le}
 use lib.Seq.{drop-cons}
-use Rattle.format.specs.Bytes.{Bytes, text, pick, same, among, all, upFrom}
+use types.Run.{OneOf, miss}
+use Rattle.format.specs.Bytes.{Bytes, text, pick, same, among, all}
 use Rattle.format.specs.Words.{firstWord}
 use Rattle.format.specs.Rules.{isTypedefName, distinct}
 use Rattle.lines.specs.Value.{valueFrom}
@@ -18,22 +17,33 @@ use Rattle.words.specs.declared.Word.{Word}
 use Rattle.words.proofs.Finding.{firstBy, first-at}
 use Rattle.records.specs.Named.{ValueHere}
 use Rattle.typedefs.specs.Walks.{namesFrom}
-use Rattle.typedefs.specs.Targets.{indexFrom, followOf, isEnd, endsIn}
-use Rattle.typedefs.specs.declared.Followed.{Followed}
+use Rattle.typedefs.specs.Targets.{indexFrom, leads}
+use Rattle.typedefs.specs.declared.Target.{Target}
+use Rattle.typedefs.proofs.Target.{the-type}
 
 pub words-length : (vs : List Bytes) → length (map firstWord vs) ≡ length vs
 words-length [] = refl
 words-length (v ∷ vs) = ap suc (words-length vs)
 
--- a name that stands nowhere has the number 32
-pub among-index : (at : ℕ) (n : Bytes) (ns : List Bytes) → at + length ns ≤ 32 → eqb (indexFrom at n ns) 32 ≡ not (among n ns)
+-- a name that stands nowhere has no typedef
+abbrev pub isMissing : Target → Bool
+isMissing Target.Kind = false
+isMissing (Target.Alias j) = false
+isMissing Target.Missing = true
+
+pub among-index : (at : ℕ) (n : Bytes) (ns : List Bytes) → isMissing (indexFrom at n ns) ≡ not (among n ns)
 unfolding indexFrom
-among-index at n [] h = refl
-among-index at n (m ∷ ns) h = go (same n m) (among-index (at + 1) n ns (omega arith))
+among-index at n [] = refl
+among-index at n (m ∷ ns) = go (same n m) (among-index (at + 1) n ns)
   where
-    go : (t : Bool) → eqb (indexFrom (at + 1) n ns) 32 ≡ not (among n ns) → eqb (pick t at (indexFrom (at + 1) n ns)) 32 ≡ not (t || among n ns)
-    go true e = ne-eqb at 32 (λ q. omega arith)
+    go : (t : Bool) → isMissing (indexFrom (at + 1) n ns) ≡ not (among n ns) → isMissing (pick t (Target.Alias at) (indexFrom (at + 1) n ns)) ≡ not (t || among n ns)
+    go true e = refl
     go false e = e
+
+pub not-missing : (t : Target) → OneOf (0 ∷ 1 ∷ []) (tagOf the-type t) → false ≡ isMissing t
+not-missing Target.Kind h = refl
+not-missing (Target.Alias j) h = refl
+not-missing Target.Missing h = absurd (miss (0 ∷ 1 ∷ []) 2 tt h)
 
 -- the first word that was found
 pub first-found : (s : Bytes) (w : Word) (a e : ℕ) → w ≡ wordAt s 0 → w ≡ Word.At a e → firstWord s ≡ span a e s
@@ -55,14 +65,12 @@ module _ (ns : List Bytes) (k : ℕ) where
       ap distinct (drop-cons ns k [] h ∙ ap (λ (j : ℕ). getD ns k [] ∷ drop j ns) (sym (add-one k)))
       ∙ ap (λ (b : Bool). b && distinct (drop (k + 1) ns)) (sym q)
 
--- the chains from typedef i on
-module _ (ts : List ℕ) (i : ℕ) where
-  pub ends-done : length ts ≤ i → all (endsIn ts) (upFrom (length ts - i) i) ≡ true
-  ends-done h = let z : length ts - i ≡ 0 = omega arith in ap (λ (m : ℕ). all (endsIn ts) (upFrom m i)) z
+-- the targets from typedef i on
+module _ (ts : List Target) (i : ℕ) where
+  pub ends-done : length ts ≤ i → all (leads ts) (drop i ts) ≡ true
+  ends-done h = ap (all (leads ts)) (drop-of-length-le ts h)
 
-  pub ends-cut : (f : Followed) → i < length ts → f ≡ followOf (length ts) ts i → all (endsIn ts) (upFrom (length ts - i) i) ≡ (isEnd f && all (endsIn ts) (upFrom (length ts - (i + 1)) (i + 1)))
-  ends-cut f h q =
-      let z : length ts - i ≡ suc (length ts - (i + 1)) = omega arith in
-      ap (λ (m : ℕ). all (endsIn ts) (upFrom m i)) z
-      ∙ ap (λ (j : ℕ). endsIn ts i && all (endsIn ts) (upFrom (length ts - (i + 1)) j)) (sym (add-one i))
-      ∙ ap (λ (g : Followed). isEnd g && all (endsIn ts) (upFrom (length ts - (i + 1)) (i + 1))) (sym q)
+  pub ends-cut : (t : Bool) → i < length ts → t ≡ leads ts (getD ts i Target.Missing) → all (leads ts) (drop i ts) ≡ (t && all (leads ts) (drop (i + 1) ts))
+  ends-cut t h q =
+      ap (all (leads ts)) (drop-cons ts i Target.Missing h ∙ ap (λ (j : ℕ). getD ts i Target.Missing ∷ drop j ts) (sym (add-one i)))
+      ∙ ap (λ (b : Bool). b && all (leads ts) (drop (i + 1) ts)) (sym q)

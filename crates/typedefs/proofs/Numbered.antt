@@ -14,26 +14,27 @@ use Rattle.records.specs.Named.{valuesFrom}
 use Rattle.typedefs.specs.Walks.{namesFrom}
 use Rattle.typedefs.specs.Names.{numbered, tagFrom, AreNames}
 use Rattle.typedefs.specs.Targets.{indexFrom}
+use Rattle.typedefs.specs.declared.Target.{Target}
 use Rattle.typedefs.specs.declared.Names.{Names}
 use Rattle.typedefs.proofs.Good.{words-length}
 
 -- the first tag, one after another
 module _ (x k count : ℕ) where
-  pub tag-none : count ≤ k → tagFrom x k (count - k) ≡ 32
+  pub tag-none : count ≤ k → tagFrom x k (count - k) ≡ Target.Missing
   unfolding tagFrom
   tag-none h = let z : count - k ≡ 0 = omega arith in ap (tagFrom x k) z
 
-  tag-cut : k < count → tagFrom x k (count - k) ≡ pick (inSet k x) k (tagFrom x (k + 1) (count - (k + 1)))
+  tag-cut : k < count → tagFrom x k (count - k) ≡ pick (inSet k x) (Target.Alias k) (tagFrom x (k + 1) (count - (k + 1)))
   unfolding tagFrom
   tag-cut h =
       let z : count - k ≡ suc (count - (k + 1)) = omega arith in
-      ap (tagFrom x k) z ∙ ap (λ (j : ℕ). pick (inSet k x) k (tagFrom x j (count - (k + 1)))) (sym (add-one k))
+      ap (tagFrom x k) z ∙ ap (λ (j : ℕ). pick (inSet k x) (Target.Alias k) (tagFrom x j (count - (k + 1)))) (sym (add-one k))
 
-  pub tag-here : k < count → inSet k x ≡ true → tagFrom x k (count - k) ≡ k
-  tag-here h e = tag-cut h ∙ ap (λ (t : Bool). pick t k (tagFrom x (k + 1) (count - (k + 1)))) e
+  pub tag-here : k < count → inSet k x ≡ true → tagFrom x k (count - k) ≡ Target.Alias k
+  tag-here h e = tag-cut h ∙ ap (λ (t : Bool). pick t (Target.Alias k) (tagFrom x (k + 1) (count - (k + 1)))) e
 
   pub tag-later : k < count → inSet k x ≡ false → tagFrom x k (count - k) ≡ tagFrom x (k + 1) (count - (k + 1))
-  tag-later h e = tag-cut h ∙ ap (λ (t : Bool). pick t k (tagFrom x (k + 1) (count - (k + 1)))) e
+  tag-later h e = tag-cut h ∙ ap (λ (t : Bool). pick t (Target.Alias k) (tagFrom x (k + 1) (count - (k + 1)))) e
 
 -- the tags of one name
 module _ (w : Bytes) where
@@ -64,8 +65,8 @@ module _ (w : Bytes) where
   tags-index x k [] h = refl
   tags-index x k (n ∷ ns) h =
       let later = tags-index x (suc k) ns (λ j l. h j (omega arith) ∙ other j k n (numbered (suc k) ns) (λ e. omega arith)) in
-      ap (λ (t : Bool). pick t k (tagFrom x (suc k) (length ns))) (h k (omega arith) ∙ own k n ns)
-      ∙ ap (pick (same w n) k) (later ∙ ap (λ (i : ℕ). indexFrom i w ns) (sym (add-one k)))
+      ap (λ (t : Bool). pick t (Target.Alias k) (tagFrom x (suc k) (length ns))) (h k (omega arith) ∙ own k n ns)
+      ∙ ap (pick (same w n) (Target.Alias k)) (later ∙ ap (λ (i : ℕ). indexFrom i w ns) (sym (add-one k)))
 
 -- what a search in the table answers
 pub found-index : (d : Bytes) (r : Names) → AreNames d r → (w : Bytes) (x : ℕ) → Answers w (termsOf d (take (r .table .count) (r .entries))) x

@@ -10,6 +10,7 @@ use Rattle.terms.specs.Entries.{termsOf}
 use Rattle.terms.specs.Order.{IsTable}
 use Rattle.records.specs.Named.{valuesFrom}
 use Rattle.typedefs.specs.Walks.{namesFrom}
+use Rattle.typedefs.specs.declared.Target.{Target}
 use Rattle.typedefs.specs.declared.Names.{Names}
 
 -- names with their numbers, from k on
@@ -17,10 +18,10 @@ abbrev pub numbered : ℕ → List Bytes → List Term
 numbered k [] = []
 numbered k (n ∷ ns) = termOf k n ∷ numbered (suc k) ns
 
--- the first tag from k on, among m of them, that is in a set; 32 where there is none
-unfoldable pub tagFrom : ℕ → ℕ → ℕ → ℕ
-tagFrom x k zero = 32
-tagFrom x k (suc m) = pick (inSet k x) k (tagFrom x (suc k) m)
+-- the first tag from k on, among m of them, that is in a set
+unfoldable pub tagFrom : ℕ → ℕ → ℕ → Target
+tagFrom x k zero = Target.Missing
+tagFrom x k (suc m) = pick (inSet k x) (Target.Alias k) (tagFrom x (suc k) m)
 
 -- a value of a typedef stands at each of the first n places
 abbrev pub PlacesTo : Bytes → List ℕ → ℕ → Type 0

@@ -1,10 +1,10 @@
--- Typedefs by their numbers: which one a type names, and where a chain of names ends.
-use Prim.Native.Nat.{ℕ, zero, suc, _+_, _-_}
+-- Where types lead: to a kind, or to a typedef by its number; and where a chain of typedefs ends.
+use Prim.Native.Nat.{ℕ, zero, suc, _+_, _≤_}
+use mathlib.Core.Path.{_≡_}
 use mathlib.Core.Bool.{Bool, true, false, _&&_}
 use mathlib.Core.List.{List, [], _∷_, map}
 use mathlib.Core.Option.{Option, none, some}
-use lib.Dec.{leb, eqb}
-use lib.ListN.{length, getD}
+use lib.ListN.{length, getD, take}
 use Rattle.format.specs.Lists.{kept}
 use Rattle.format.specs.Bytes.{Bytes, pick, same, all, isSome}
 use Rattle.format.specs.Lines.{isName}
@@ -12,44 +12,52 @@ use Rattle.format.specs.Words.{firstWord, afterWord}
 use Rattle.format.specs.Numbers.{intBounds}
 use Rattle.format.specs.Types.{Typed, typeOf}
 use Rattle.format.specs.Rules.{typedefOf, typedNames, endKind, isTypedefName, distinct}
+use Rattle.typedefs.specs.declared.Target.{Target}
+use Rattle.typedefs.specs.declared.Link.{Link}
+use Rattle.typedefs.specs.declared.Targets.{Targets}
 use Rattle.typedefs.specs.declared.Followed.{Followed}
 
--- the number of the first of a name, 32 where there is none
-unfoldable pub indexFrom : ℕ → Bytes → List Bytes → ℕ
-indexFrom at n [] = 32
-indexFrom at n (m ∷ ms) = pick (same n m) at (indexFrom (at + 1) n ms)
+-- the first of a name, numbered from `at` on
+unfoldable pub indexFrom : ℕ → Bytes → List Bytes → Target
+indexFrom at n [] = Target.Missing
+indexFrom at n (m ∷ ms) = pick (same n m) (Target.Alias at) (indexFrom (at + 1) n ms)
 
--- the number of the typedef that a type names; 33 of a kind, 34 of no type
-abbrev pub targetBy : List Bytes → Option Typed → ℕ
-targetBy ns none = 34
-targetBy ns (some (Typed.kind k)) = 33
+-- the target of a type, by the names of the typedefs
+abbrev pub targetBy : List Bytes → Option Typed → Target
+targetBy ns none = Target.Missing
+targetBy ns (some (Typed.kind k)) = Target.Kind
 targetBy ns (some (Typed.alias n)) = indexFrom 0 n ns
 
-abbrev pub targetIn : List Bytes → Bytes → ℕ
+abbrev pub targetIn : List Bytes → Bytes → Target
 targetIn ns v = targetBy ns (typeOf intBounds (afterWord v))
 
--- the end of the chain from typedef i on
-abbrev pub onward : Bool → Bool → ℕ → Followed → Followed
-onward true k i later = Followed.Missing
-onward false true i later = Followed.End i
-onward false false i later = later
+-- what a table of targets holds
+abbrev pub Bounded : Targets → Type 0
+Bounded t = (t .count ≤ 32) × (length (t .rows) ≡ 32)
 
-unfoldable pub followOf : ℕ → List ℕ → ℕ → Followed
-followOf zero ts i = onward (leb (length ts) i) (eqb (getD ts i 0) 33) i Followed.Loop
-followOf (suc left) ts i = onward (leb (length ts) i) (eqb (getD ts i 0) 33) i (followOf left ts (getD ts i 0))
+abbrev pub targetsIn : Targets → List Target
+targetsIn t = map (λ (x : Link). x .to) (take (t .count) (t .rows))
+
+-- the end of the chain from typedef i on, by its target and what is later
+abbrev pub onward : Target → ℕ → (ℕ → Followed) → Followed
+onward Target.Kind i later = Followed.End i
+onward (Target.Alias j) i later = later j
+onward Target.Missing i later = Followed.Missing
+
+unfoldable pub followOf : ℕ → List Target → ℕ → Followed
+followOf zero ts i = Followed.Loop
+followOf (suc left) ts i = onward (getD ts i Target.Missing) i (λ j. followOf left ts j)
 
 abbrev pub isEnd : Followed → Bool
 isEnd (Followed.End i) = true
 isEnd Followed.Missing = false
 isEnd Followed.Loop = false
 
--- does the chain from typedef i on end in a kind
-abbrev pub endsIn : List ℕ → ℕ → Bool
-endsIn ts i = isEnd (followOf (length ts) ts i)
-
 -- does a target end in a kind
-abbrev pub leads : List ℕ → ℕ → Bool
-leads ts t = pick (eqb t 33) true (pick (leb (length ts) t) false (isEnd (followOf (length ts - 1) ts t)))
+abbrev pub leads : List Target → Target → Bool
+leads ts Target.Kind = true
+leads ts (Target.Alias j) = isEnd (followOf (length ts) ts j)
+leads ts Target.Missing = false
 
 -- question 7 of the typedefs, by their values
 abbrev pub areDefined : List Bytes → Bool
@@ -58,5 +66,5 @@ areDefined vs =
     && all (λ (v : Bytes). isSome (endKind intBounds (kept (typedefOf intBounds) vs) v)) vs
 
 -- and of a `%type` value, by the targets of the typedefs: its names are names, and its type ends in a kind
-abbrev pub wellBy : List Bytes → List ℕ → Bytes → Bool
+abbrev pub wellBy : List Bytes → List Target → Bytes → Bool
 wellBy ns ts v = all isName (typedNames v) && leads ts (targetIn ns v)

@@ -1,25 +1,26 @@
 // Typedefs of a descriptor and question 7: the typedef that each type names, the end of a chain of names, and are all well formed?
 ghost use mathlib.Core.Path.{_≡_};
 ghost use mathlib.Core.Bool.{true, not};
-ghost use mathlib.Core.List.{[], map};
+ghost use mathlib.Core.List.{[]};
 ghost use Prim.Native.Nat.{_+_, _-_, _≤_, _<_};
-ghost use lib.ListN.{length, take, drop, getD};
+ghost use lib.ListN.{length, drop, getD};
 ghost use Rattle.format.specs.Pieces.{readOf};
 ghost use Rattle.format.specs.Records.{fieldsOf};
 ghost use Rattle.format.specs.Lines.{isName};
-ghost use Rattle.format.specs.Bytes.{text, all, among, upFrom};
+ghost use Rattle.format.specs.Bytes.{text, all, among};
 ghost use Rattle.format.specs.Limits.{fileBytes, typedefs};
 ghost use Rattle.format.specs.Words.{firstWord, afterWord, split, isTypeName};
 ghost use Rattle.format.specs.Numbers.{intBounds};
-ghost use Rattle.format.specs.Types.{typeOf};
 ghost use Rattle.format.specs.Rules.{reserved, isTypedefName, distinct, typedNames, isTypedWell};
 ghost use Rattle.lines.specs.Value.{valueFrom};
 ghost use Rattle.records.specs.Places.{isReadable};
 ghost use Rattle.terms.specs.Adding.{Adding};
 ghost use Rattle.records.specs.Named.{valuesFrom};
+ghost use Rattle.typing.specs.Meaning.{typeAnswer, SoundType};
 ghost use Rattle.typedefs.specs.Walks.{namesFrom, fitFrom};
 ghost use Rattle.typedefs.specs.Names.{numbered, ArePlaces, AreNames, tagFrom};
-ghost use Rattle.typedefs.specs.Targets.{indexFrom, targetBy, targetIn, followOf, endsIn, leads, wellBy};
+ghost use Rattle.typedefs.specs.Targets.{indexFrom, targetBy, targetIn, Bounded, targetsIn, followOf, leads, wellBy};
+ghost use Rattle.typedefs.specs.Typedefs.{IsTypedef, AreTypedefs, endRow};
 use format::Descriptor;
 use records::FoundField;
 use terms::Table;
@@ -97,23 +98,30 @@ pub fn read_names(d: &[u8]) -> Names
     }
 }
 
-// The first tag of a set from one on and below count, or that there is none.
-fn first_tag(set: u64, from: usize, count: usize) -> usize
+// Where a type leads: it is a kind, or the name of the typedef of a number. A name that no typedef has and a text that is no type lead nowhere.
+pub enum Target {
+    Kind,
+    Alias(u8),
+    Missing,
+}
+
+// The typedef of the first tag of a set from one on and below count.
+fn first_tag(set: u64, from: usize, count: usize) -> Target
     requires { ⌜ (from ≤ count) × (count ≤ typedefs) ⌝ }
     ensures { λ r. ⌜ r ≡ tagFrom set from (count - from) ⌝ }
 {
     let mut k = from;
     while k < count {
         if terms::has(set, k as u64) {
-            return k;
+            return Target::Alias(k as u8);
         }
         k += 1;
     }
-    Targets::MISSING
+    Target::Missing
 }
 
-// The number of the first typedef of a name from one on, or that there is none.
-fn index_from(d: &[u8], names: Names, from: usize, name: &[u8]) -> usize
+// The first typedef of a name from one on.
+fn index_from(d: &[u8], names: Names, from: usize, name: &[u8]) -> Target
     requires { ⌜ AreNames (now d) names × (from ≤ names .count) ⌝ }
     ensures { λ r. ⌜ r ≡ indexFrom from (now (name .entry)) (drop from (namesFrom (now (d .entry)) 0)) ⌝ }
 {
@@ -124,64 +132,86 @@ fn index_from(d: &[u8], names: Names, from: usize, name: &[u8]) -> usize
     first_tag(set, from, count)
 }
 
-// The target of a type's text.
-pub fn target_in(d: &[u8], names: Names, s: &[u8]) -> usize
-    requires { ⌜ AreNames (now d) names ⌝ }
-    ensures { λ r. ⌜ r ≡ targetBy (namesFrom (now (d .entry)) 0) (typeOf intBounds (now (s .entry))) ⌝ }
+// The target of a type that was read from a text.
+fn target_in(d: &[u8], names: Names, s: &[u8], t: TypeOf) -> Target
+    requires { ⌜ AreNames (now d) names × SoundType (now s) t ⌝ }
+    ensures { λ r. ⌜ r ≡ targetBy (namesFrom (now (d .entry)) 0) (typeAnswer (now (s .entry)) t) ⌝ }
 {
-    let t = typing::type_of(s);
     let TypeOf::Is(k) = t else {
-        return Targets::FAULT;
+        return Target::Missing;
     };
     match k {
         Shape::Alias { start, end } => index_from(d, names, 0, &s[start..end]),
-        _ => Targets::KIND,
+        _ => Target::Kind,
     }
 }
 
-// The same of the value at a place, whose type stands behind its first word.
-pub fn target_of(d: &[u8], names: Names, value: usize, scratch: &mut [u8]) -> usize
+// A typedef, or a `%type` field but for the names that it is about: where its value stands, the type behind the first word of that, and where the type leads.
+pub struct Typedef {
+    pub value: usize,
+    pub kind: TypeOf,
+    pub target: Target,
+}
+
+// The typedef whose value stands at a place.
+pub fn read_typedef(d: &[u8], names: Names, value: usize, scratch: &mut [u8]) -> Typedef
     requires { ⌜ AreNames (now d) names ⌝ }
     requires { ⌜ (value ≤ length (now d)) × (length (valueFrom (drop value (now d))) ≤ length (now scratch)) ⌝ }
-    ensures { λ r. ⌜ r ≡ targetIn (namesFrom (now (d .entry)) 0) (valueFrom (drop value (now (d .entry)))) ⌝ }
+    ensures { λ r. ⌜ IsTypedef (now (d .entry)) value r ⌝ }
 {
     let n = lines::copy_value(&d[value..], &mut *scratch);
     let at = behind_word(&scratch[..n]);
-    target_in(d, names, &scratch[at..n])
+    let kind = typing::type_of(&scratch[at..n]);
+    let target = target_in(d, names, &scratch[at..n], kind);
+    Typedef {
+        value,
+        kind,
+        target,
+    }
 }
 
-// The targets of the typedefs of a descriptor, in order: the number of the typedef that is named, or one of three above all numbers.
+// The targets of a descriptor's typedefs, in order. They go by value down a recursion, for which the typedefs are too large.
+pub struct Link {
+    pub to: Target,
+}
+
 pub struct Targets {
-    pub rows: [usize; Descriptor::TYPEDEFS],
+    pub rows: [Link; Descriptor::TYPEDEFS],
     pub count: usize,
 }
 
-impl Targets {
-    // No typedef has the name.
-    pub const MISSING: usize = 32;
-
-    // The type is a kind.
-    pub const KIND: usize = 33;
-
-    // The text is no type.
-    pub const FAULT: usize = 34;
+// The typedefs of a descriptor, in order.
+pub struct Typedefs {
+    pub rows: [Typedef; Descriptor::TYPEDEFS],
+    pub targets: Targets,
 }
 
-pub fn read_targets(d: &[u8], names: Names, scratch: &mut [u8]) -> Targets
+pub fn read_typedefs(d: &[u8], names: Names, scratch: &mut [u8]) -> Typedefs
     requires { ⌜ AreNames (now d) names ⌝ }
     requires { ⌜ fitFrom (length (now scratch)) (now d) (text "%typedef") 0 ≡ true ⌝ }
-    ensures { λ r. ⌜ (r .count ≤ typedefs) × (length (r .rows) ≡ typedefs) × (take (r .count) (r .rows) ≡ map (targetIn (namesFrom (now (d .entry)) 0)) (valuesFrom (now (d .entry)) (text "%typedef") 0)) ⌝ }
+    ensures { λ r. ⌜ AreTypedefs (now (d .entry)) (names .places) r ⌝ }
 {
     let places = names.places;
     let count = names.count;
-    let mut rows = [Targets::KIND; Descriptor::TYPEDEFS];
+    let none = Typedef {
+        value: 0,
+        kind: TypeOf::Fault,
+        target: Target::Missing,
+    };
+    let mut rows = [none; Descriptor::TYPEDEFS];
+    let mut links = [Link {
+        to: Target::Missing,
+    }; Descriptor::TYPEDEFS];
     let mut k = 0;
     while k < count {
-        let t = target_of(d, names, places[k], &mut *scratch);
+        let t = read_typedef(d, names, places[k], &mut *scratch);
+        let to = t.target;
         rows[k] = t;
+        links[k] = Link { to };
         k += 1;
     }
-    Targets { rows, count }
+    let targets = Targets { rows: links, count };
+    Typedefs { rows, targets }
 }
 
 // Where a chain of names ends.
@@ -191,41 +221,76 @@ pub enum Followed {
     Loop,
 }
 
-// The end of the chain from typedef i on. left: how many more typedefs may be met.
-pub fn follow(targets: &[usize], i: usize, left: usize) -> Followed
-    ensures { λ r. ⌜ r ≡ followOf left (now (targets .entry)) i ⌝ }
+// The end of the chain from typedef i on. left: how many typedefs may be met, this one among them.
+pub fn follow(targets: Targets, i: usize, left: usize) -> Followed
+    requires { ⌜ Bounded targets ⌝ }
+    ensures { λ r. ⌜ r ≡ followOf left (targetsIn targets) i ⌝ }
 {
-    if targets.len() <= i {
-        return Followed::Missing;
-    }
-    let t = targets[i];
-    if t == Targets::KIND {
-        return Followed::End(i);
-    }
     if left == 0 {
         return Followed::Loop;
     }
-    follow(targets, t, left - 1)
+    if targets.count <= i {
+        return Followed::Missing;
+    }
+    let row = targets.rows[i];
+    let to = row.to;
+    match to {
+        Target::Kind => Followed::End(i),
+        Target::Alias(j) => follow(targets, j as usize, left - 1),
+        Target::Missing => Followed::Missing,
+    }
 }
 
-// Does every chain end in a kind?
-pub fn all_end(targets: &[usize]) -> bool
-    ensures { λ r. ⌜ r ≡ all (endsIn (now (targets .entry))) (upFrom (length (now (targets .entry))) 0) ⌝ }
+// The typedef in which the type of t ends, which is t itself where that is no alias.
+pub fn end_of(defs: Typedefs, t: Typedef) -> Typedef
+    requires { ⌜ Bounded (defs .targets) × (length (defs .rows) ≡ typedefs) ⌝ }
+    ensures { λ r. ⌜ r ≡ endRow defs t ⌝ }
 {
-    let mut i = 0;
-    while i < targets.len() {
-        let f = follow(targets, i, targets.len());
-        match f {
-            Followed::End(_) => {
-                i += 1;
-            }
-            Followed::Missing => {
-                return false;
-            }
-            Followed::Loop => {
-                return false;
+    let to = t.target;
+    let Target::Alias(j) = to else {
+        return t;
+    };
+    let targets = defs.targets;
+    let f = follow(targets, j as usize, targets.count);
+    let Followed::End(number) = f else {
+        return t;
+    };
+    defs.rows[number]
+}
+
+// Does a target end in a kind?
+fn target_ends(targets: Targets, t: Target) -> bool
+    requires { ⌜ Bounded targets ⌝ }
+    ensures { λ r. ⌜ r ≡ leads (targetsIn targets) t ⌝ }
+{
+    match t {
+        Target::Kind => true,
+        Target::Alias(j) => {
+            let f = follow(targets, j as usize, targets.count);
+            match f {
+                Followed::End(_) => true,
+                Followed::Missing => false,
+                Followed::Loop => false,
             }
         }
+        Target::Missing => false,
+    }
+}
+
+// Do all of them?
+fn all_end(targets: Targets) -> bool
+    requires { ⌜ Bounded targets ⌝ }
+    ensures { λ r. ⌜ r ≡ all (leads (targetsIn targets)) (targetsIn targets) ⌝ }
+{
+    let count = targets.count;
+    let mut i = 0;
+    while i < count {
+        let row = targets.rows[i];
+        let to = row.to;
+        if !target_ends(targets, to) {
+            return false;
+        }
+        i += 1;
     }
     true
 }
@@ -279,8 +344,8 @@ fn names_good(d: &[u8], scratch: &mut [u8]) -> bool
     }
 }
 
-// The number of the first typedef from one on whose name is the first word of a text, or that there is none.
-fn first_index(d: &[u8], names: Names, from: usize, s: &[u8]) -> usize
+// The first typedef from one on whose name is the first word of a text.
+fn first_index(d: &[u8], names: Names, from: usize, s: &[u8]) -> Target
     requires { ⌜ AreNames (now d) names × (from ≤ names .count) ⌝ }
     ensures { λ r. ⌜ r ≡ indexFrom from (firstWord (now (s .entry))) (drop from (namesFrom (now (d .entry)) 0)) ⌝ }
 {
@@ -298,7 +363,11 @@ fn name_alone(d: &[u8], names: Names, k: usize, scratch: &mut [u8]) -> bool
     let places = names.places;
     let value = places[k];
     let n = lines::copy_value(&d[value..], &mut *scratch);
-    first_index(d, names, k + 1, &scratch[..n]) == Targets::MISSING
+    let t = first_index(d, names, k + 1, &scratch[..n]);
+    match t {
+        Target::Missing => true,
+        _ => false,
+    }
 }
 
 // Are the names of all typedefs distinct?
@@ -346,44 +415,26 @@ fn names_well(s: &[u8]) -> bool
     parts_named(&s[start..end])
 }
 
-// Does what a type's text leads to end in a kind?
-fn target_ends(targets: &[usize], t: usize) -> bool
-    ensures { λ r. ⌜ r ≡ leads (now (targets .entry)) t ⌝ }
-{
-    if t == Targets::KIND {
-        return true;
-    }
-    let count = targets.len();
-    if count <= t {
-        return false;
-    }
-    let f = follow(targets, t, count - 1);
-    match f {
-        Followed::End(_) => true,
-        Followed::Missing => false,
-        Followed::Loop => false,
-    }
-}
-
 // Is the `%type` field whose value stands at a place well formed?
-fn type_well(d: &[u8], names: Names, targets: &[usize], value: usize, scratch: &mut [u8]) -> bool
-    requires { ⌜ AreNames (now d) names ⌝ }
+fn type_well(d: &[u8], names: Names, targets: Targets, value: usize, scratch: &mut [u8]) -> bool
+    requires { ⌜ AreNames (now d) names × Bounded targets ⌝ }
     requires { ⌜ (value ≤ length (now d)) × (length (valueFrom (drop value (now d))) ≤ length (now scratch)) ⌝ }
-    ensures { λ r. ⌜ r ≡ wellBy (namesFrom (now (d .entry)) 0) (now (targets .entry)) (valueFrom (drop value (now (d .entry)))) ⌝ }
+    ensures { λ r. ⌜ r ≡ wellBy (namesFrom (now (d .entry)) 0) (targetsIn targets) (valueFrom (drop value (now (d .entry)))) ⌝ }
 {
     let n = lines::copy_value(&d[value..], &mut *scratch);
     if !names_well(&scratch[..n]) {
         return false;
     }
-    let t = target_of(d, names, value, &mut *scratch);
-    target_ends(targets, t)
+    let t = read_typedef(d, names, value, &mut *scratch);
+    let to = t.target;
+    target_ends(targets, to)
 }
 
 // Are all of them?
-fn all_well(d: &[u8], names: Names, targets: &[usize], scratch: &mut [u8]) -> bool
-    requires { ⌜ (isReadable (now d) ≡ true) × AreNames (now d) names ⌝ }
+fn all_well(d: &[u8], names: Names, targets: Targets, scratch: &mut [u8]) -> bool
+    requires { ⌜ (isReadable (now d) ≡ true) × AreNames (now d) names × Bounded targets ⌝ }
     requires { ⌜ fitFrom (length (now scratch)) (now d) (text "%type") 0 ≡ true ⌝ }
-    ensures { λ r. ⌜ r ≡ all (wellBy (namesFrom (now (d .entry)) 0) (now (targets .entry))) (valuesFrom (now (d .entry)) (text "%type") 0) ⌝ }
+    ensures { λ r. ⌜ r ≡ all (wellBy (namesFrom (now (d .entry)) 0) (targetsIn targets)) (valuesFrom (now (d .entry)) (text "%type") 0) ⌝ }
 {
     let mut i = 0;
     loop {
@@ -417,10 +468,8 @@ pub fn types_well(d: &[u8], scratch: &mut [u8]) -> bool
     if !names_apart(d, names, &mut *scratch) {
         return false;
     }
-    let t = read_targets(d, names, &mut *scratch);
-    let rows = t.rows;
-    let count = t.count;
-    let targets = &rows[..count];
+    let t = read_typedefs(d, names, &mut *scratch);
+    let targets = t.targets;
     if !all_end(targets) {
         return false;
     }

@@ -23,6 +23,9 @@ loop-holds c = (omega arith, omega arith, refl)
 has-requires : tie.Need-has-requires Inv-loop μ-loop
 has-requires c κs = search needs
 
+cast-t8 : tie.Need-cast-t8 Inv-loop μ-loop
+cast-t8 c = search needs
+
 returns : tie.Need-returns Inv-loop μ-loop
 returns c =
     let at-loop = c .before .before .before .loop in
@@ -57,4 +60,4 @@ returns-2 c =
 pub first-tag-spec : {M : Type 1} → statement M
 first-tag-spec =
     tie.close
-    (tie.spec Inv-loop μ-loop loop-holds has-requires returns add-k loop-less loop-again returns-2)
+    (tie.spec Inv-loop μ-loop loop-holds has-requires cast-t8 returns add-k loop-less loop-again returns-2)
