@@ -2,16 +2,14 @@
 use Prim.Native.Nat.{ℕ}
 use mathlib.Core.Path.{_≡_, _∙_}
 use mathlib.Core.List.{List, _∷_}
-use native.Mathlib.Nat.{add-sub-cancel-left}
 use lib.Dec.{eqb}
 use lib.ListN.{take, drop}
-use lib.Seq.{drop-drop}
 use Rattle.format.specs.Bytes.{Bytes}
 use Rattle.format.specs.Words.{split}
 use Rattle.format.proofs.Parts.{partsBehind, split-cut}
 use Rattle.lines.specs.Line.{run}
 use Rattle.words.proofs.Finding.{front-run, behind-run}
-use Rattle.words.specs.Spans.{span, runEnd, notByte}
+use Rattle.words.specs.Spans.{notByte}
 
 -- the parts behind the first d, none where there is no d
 abbrev pub splitBehind : ℕ → Bytes → List Bytes
@@ -19,7 +17,3 @@ splitBehind d s = partsBehind (λ (c : ℕ). eqb c d) s
 
 pub split-run : (d : ℕ) (s : Bytes) → split d s ≡ take (run (notByte d) s) s ∷ splitBehind d (drop (run (notByte d) s) s)
 split-run d s = split-cut (λ (c : ℕ). eqb c d) s ∙ (λ i. front-run (notByte d) s i ∷ splitBehind d (behind-run (notByte d) s i))
-
--- the same from an index on
-pub split-at : (d : ℕ) (s : Bytes) (i : ℕ) → split d (drop i s) ≡ span i (runEnd (notByte d) s i) s ∷ splitBehind d (drop (runEnd (notByte d) s i) s)
-split-at d s i = split-run d (drop i s) ∙ rw (drop-drop, add-sub-cancel-left)

@@ -1,7 +1,7 @@
 -- Trimming at the end, byte by byte: a gap at the end goes, any other byte stays and all before it with it.
 use Prim.Native.Nat.{ℕ, suc, _-_, _≤_, _<_}
 use native.Mathlib.Omega.{arith}
-use mathlib.Core.Path.{_≡_, ap, _∙_}
+use mathlib.Core.Path.{_≡_, sym, ap, _∙_}
 use mathlib.Core.Bool.{true, false}
 use mathlib.Core.List.{_∷_, reverse, reverse-append, reverse-reverse}
 use lib.ListN.{length, take, drop, getD, length-drop}
@@ -9,8 +9,9 @@ use lib.Seq.{take-suc, getD-drop}
 use Rattle.format.specs.Lists.{behind}
 use Rattle.format.specs.Bytes.{Bytes}
 use Rattle.format.specs.Words.{isGap, trim}
-use Rattle.words.specs.Spans.{span, runEnd}
-use Rattle.words.proofs.Finding.{behind-at}
+use Rattle.lines.specs.Line.{run}
+use Rattle.words.specs.Spans.{span}
+use Rattle.words.proofs.Finding.{behind-run}
 use Rattle.lines.proofs.Cuts.{rest}
 
 -- a text without the gaps at its end
@@ -47,8 +48,8 @@ module _ (s : Bytes) (a e : ℕ) (lo : a < e) (hi : e ≤ length s) where
   pub trim-stop : isGap (getD s (e - 1) 0) ≡ false → strip (span a e s) ≡ span a e s
   trim-stop q = rw whole (strip-stop (drop a s) last inside (rw here q))
 
-pub trim-from : (s : Bytes) → trim s ≡ strip (span (runEnd isGap s 0) (length s) s)
-trim-from s = rw (behind-at isGap s 0, rest)
+pub trim-from : (s : Bytes) → trim s ≡ strip (span (run isGap s) (length s) s)
+trim-from s = ap strip (behind-run isGap s ∙ sym (rest s (run isGap s)))
 
 pub strip-empty : (s : Bytes) (a e : ℕ) → e ≤ a → strip (span a e s) ≡ span a e s
 strip-empty s a e h =

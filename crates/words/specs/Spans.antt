@@ -21,8 +21,8 @@ abbrev pub notByte : ℕ → ℕ → Bool
 notByte d c = not (eqb c d)
 
 abbrev pub wordFrom : Bytes → ℕ → Word
-wordFrom s a = pick (ltb a (length s)) (Word.At a (runEnd notGap s a)) Word.Nothing
+wordFrom s a = pick (ltb a (length s)) (Word.At a (a + run notGap (drop a s))) Word.Nothing
 
--- the first word from i on
-unfoldable pub wordAt : Bytes → ℕ → Word
-wordAt s i = wordFrom s (runEnd isGap s i)
+-- where the first word of a text stands
+unfoldable pub nextWord : Bytes → Word
+nextWord s = wordFrom s (run isGap s)

@@ -9,18 +9,18 @@ use super::next_word;
 pub fn word_place(w: &[u8], list: &[u8]) -> usize
     ensures { λ r. ⌜ r ≡ placeIn (now (w .entry)) (words (now (list .entry))) ⌝ }
 {
-    let mut i = 0;
+    let mut rest = list;
     let mut n = 0;
     loop {
-        let x = next_word(list, i);
+        let x = next_word(rest);
         let Word::At { start, end } = x else {
             return n;
         };
-        if lines::same_bytes(w, &list[start..end]) {
+        if lines::same_bytes(w, &rest[start..end]) {
             return n;
         }
         n += 1;
-        i = end;
+        rest = &rest[end..];
     }
 }
 

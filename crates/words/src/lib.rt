@@ -1,12 +1,13 @@
 // Words, names and trimming, over decoded text.
 ghost use mathlib.Core.Path.{_≡_};
 ghost use mathlib.Core.Bool.{true, false};
-ghost use Prim.Native.Nat.{_<_, _≤_};
-ghost use lib.ListN.{length, drop};
+ghost use Prim.Native.Nat.{_≤_};
+ghost use lib.ListN.{length};
 ghost use Rattle.format.specs.Bytes.{classTable, all};
 ghost use Rattle.format.specs.Lines.{isLater, isName};
 ghost use Rattle.format.specs.Words.{isGap, notGap, trim, isTypeName};
-ghost use Rattle.words.specs.Spans.{span, runEnd, notByte, wordAt};
+ghost use Rattle.lines.specs.Line.{run};
+ghost use Rattle.words.specs.Spans.{span, notByte, nextWord};
 use format::Class;
 
 mod fieldnames;
@@ -25,12 +26,11 @@ pub fn is_gap(b: u8) -> bool
     b == b'\t' || b == b'\n'
 }
 
-// The end of the blanks and newlines from i on.
-pub fn gap_end(s: &[u8], i: usize) -> usize
-    requires { ⌜ i ≤ length (now s) ⌝ }
-    ensures { λ r. ⌜ r ≡ runEnd isGap (now (s .entry)) i ⌝ }
+// The end of the blanks and newlines that a text begins with.
+pub fn gap_end(s: &[u8]) -> usize
+    ensures { λ r. ⌜ r ≡ run isGap (now (s .entry)) ⌝ }
 {
-    let mut e = i;
+    let mut e = 0;
     while e < s.len() {
         if is_gap(s[e]) {
             e += 1;
@@ -41,12 +41,11 @@ pub fn gap_end(s: &[u8], i: usize) -> usize
     e
 }
 
-// The end of the word from i on.
-pub fn word_end(s: &[u8], i: usize) -> usize
-    requires { ⌜ i ≤ length (now s) ⌝ }
-    ensures { λ r. ⌜ r ≡ runEnd notGap (now (s .entry)) i ⌝ }
+// The end of the word that a text begins with.
+pub fn word_end(s: &[u8]) -> usize
+    ensures { λ r. ⌜ r ≡ run notGap (now (s .entry)) ⌝ }
 {
-    let mut e = i;
+    let mut e = 0;
     while e < s.len() {
         if is_gap(s[e]) {
             return e;
@@ -61,26 +60,24 @@ pub enum Word {
     Nothing,
 }
 
-// The first word from i on.
-pub fn next_word(s: &[u8], i: usize) -> Word
-    requires { ⌜ i ≤ length (now s) ⌝ }
-    ensures { λ r. ⌜ r ≡ wordAt (now (s .entry)) i ⌝ }
+// The first word of a text.
+pub fn next_word(s: &[u8]) -> Word
+    ensures { λ r. ⌜ r ≡ nextWord (now (s .entry)) ⌝ }
 {
-    let start = gap_end(s, i);
+    let start = gap_end(s);
     if start < s.len() {
-        let end = word_end(s, start);
+        let end = start + word_end(&s[start..]);
         Word::At { start, end }
     } else {
         Word::Nothing
     }
 }
 
-// The end of the part from i on that ends before the next byte d.
-pub fn part_end(s: &[u8], i: usize, d: u8) -> usize
-    requires { ⌜ i ≤ length (now s) ⌝ }
-    ensures { λ r. ⌜ r ≡ runEnd (notByte d) (now (s .entry)) i ⌝ }
+// The end of the part of a text before its first byte d.
+pub fn part_end(s: &[u8], d: u8) -> usize
+    ensures { λ r. ⌜ r ≡ run (notByte d) (now (s .entry)) ⌝ }
 {
-    let mut e = i;
+    let mut e = 0;
     while e < s.len() {
         if s[e] == d {
             return e;
@@ -100,7 +97,7 @@ pub struct Span {
 pub fn trimmed(s: &[u8]) -> Span
     ensures { λ r. ⌜ (r .start ≤ r .end) × (r .end ≤ length (now (s .entry))) × (span (r .start) (r .end) (now (s .entry)) ≡ trim (now (s .entry))) ⌝ }
 {
-    let start = gap_end(s, 0);
+    let start = gap_end(s);
     let mut end = s.len();
     while start < end {
         if is_gap(s[end - 1]) {
@@ -112,13 +109,12 @@ pub fn trimmed(s: &[u8]) -> Span
     Span { start, end }
 }
 
-// Do all bytes from i on go on a name?
-fn later_bytes(table: &[u8; 256], s: &[u8], from: usize) -> bool
+// Do all bytes of a text go on a name?
+fn later_bytes(table: &[u8; 256], s: &[u8]) -> bool
     requires { ⌜ now table ≡ classTable ⌝ }
-    requires { ⌜ from ≤ length (now s) ⌝ }
-    ensures { λ r. ⌜ r ≡ all isLater (drop from (now (s .entry))) ⌝ }
+    ensures { λ r. ⌜ r ≡ all isLater (now (s .entry)) ⌝ }
 {
-    let mut i = from;
+    let mut i = 0;
     while i < s.len() {
         if format::is_later(table, s[i]) {
             i += 1;
@@ -138,7 +134,7 @@ pub fn is_name(s: &[u8]) -> bool
         return false;
     }
     if format::is_first(&table, s[0]) {
-        later_bytes(&table, s, 1)
+        later_bytes(&table, &s[1..])
     } else {
         false
     }
@@ -153,7 +149,7 @@ pub fn is_type_name(s: &[u8]) -> bool
         return false;
     }
     if format::class_of(&table, s[0]) == Class::LETTER {
-        later_bytes(&table, s, 1)
+        later_bytes(&table, &s[1..])
     } else {
         false
     }

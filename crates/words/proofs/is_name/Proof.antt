@@ -1,6 +1,7 @@
 -- `words::is_name` meets its contract.
 use mathlib.Core.Path.{sym}
 use native.Mathlib.Omega.{arith}
+use Rattle.lines.proofs.Cuts.{rest}
 use Rattle.words.proofs.IsName.{name-by, name-not-empty}
 use borrow.Author.Needs.{needs}
 use Rattle.words.proofs.is_name.Statement.{statement}
@@ -26,16 +27,25 @@ shared-slice-read-is-first c = search needs
 is-first-requires : tie.Need-is-first-requires
 is-first-requires c κs = search needs
 
+sub-later-bytes : tie.Need-sub-later-bytes
+sub-later-bytes c = search needs
+
+part-later-bytes-start : tie.Need-part-later-bytes-start
+part-later-bytes-start c = search needs
+
+part-later-bytes-end : tie.Need-part-later-bytes-end
+part-later-bytes-end c = search needs
+
 later-bytes-requires : tie.Need-later-bytes-requires
 later-bytes-requires c κs = search needs
 
 returns-2 : tie.Need-returns-2
 returns-2 c =
-    let at-args = c .before .before .before .before .before .before .before .before .before .args in
-    let at-is-first = c .before .before .before .is-first in
-    let at-if2 = c .before .before .if2 in
+    let at-args = c .before .before .before .before .before .before .before .before .before .before .args in
+    let at-is-first = c .before .before .before .before .is-first in
+    let at-if2 = c .before .before .before .if2 in
     let at-later-bytes = c .later-bytes in
-    rw (name-by (at-args .s .now) (omega arith), ← at-is-first .ensures, at-if2 .taken, ← at-later-bytes .ensures)
+    rw (name-by (at-args .s .now) (omega arith), ← at-is-first .ensures, at-if2 .taken, ← rest (at-args .s .now) 1, ← at-later-bytes .ensures)
 
 returns-3 : tie.Need-returns-3
 returns-3 c =
@@ -52,6 +62,9 @@ is-name-spec =
     returns
     shared-slice-read-is-first
     is-first-requires
+    sub-later-bytes
+    part-later-bytes-start
+    part-later-bytes-end
     later-bytes-requires
     returns-2
     returns-3)

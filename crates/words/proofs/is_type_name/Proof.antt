@@ -4,6 +4,7 @@ use native.Mathlib.Omega.{arith}
 use borrow.Author.Tests.{eq-eqb, ne-eqb}
 use lib.ListN.{getD}
 use Rattle.format.proofs.Table.{letter-class}
+use Rattle.lines.proofs.Cuts.{rest}
 use Rattle.words.proofs.IsName.{type-name-by, type-name-not-empty}
 use borrow.Author.Needs.{needs}
 use Rattle.words.proofs.is_type_name.Statement.{statement}
@@ -29,18 +30,27 @@ shared-slice-read-class-of c = search needs
 class-of-requires : tie.Need-class-of-requires
 class-of-requires c κs = search needs
 
+sub-later-bytes : tie.Need-sub-later-bytes
+sub-later-bytes c = search needs
+
+part-later-bytes-start : tie.Need-part-later-bytes-start
+part-later-bytes-start c = search needs
+
+part-later-bytes-end : tie.Need-part-later-bytes-end
+part-later-bytes-end c = search needs
+
 later-bytes-requires : tie.Need-later-bytes-requires
 later-bytes-requires c κs = search needs
 
 returns-2 : tie.Need-returns-2
 returns-2 c =
-    let at-args = c .before .before .before .before .before .before .before .before .before .args in
-    let at-shared-slice-known2 = c .before .before .before .before .shared-slice-known2 in
-    let at-class-of = c .before .before .before .class-of in
-    let at-if2 = c .before .before .if2 in
+    let at-args = c .before .before .before .before .before .before .before .before .before .before .args in
+    let at-shared-slice-known2 = c .before .before .before .before .before .shared-slice-known2 in
+    let at-class-of = c .before .before .before .before .class-of in
+    let at-if2 = c .before .before .before .if2 in
     let at-later-bytes = c .later-bytes in
     let s = at-args .s .now in
-    rw (type-name-by s (omega arith), letter-class (getD s 0 0) (omega (arith, at-shared-slice-known2 .given 0)), ← at-class-of .ensures, eq-eqb _ _ (at-if2 .taken), ← at-later-bytes .ensures)
+    rw (type-name-by s (omega arith), letter-class (getD s 0 0) (omega (arith, at-shared-slice-known2 .given 0)), ← at-class-of .ensures, eq-eqb _ _ (at-if2 .taken), ← rest s 1, ← at-later-bytes .ensures)
 
 returns-3 : tie.Need-returns-3
 returns-3 c =
@@ -59,6 +69,9 @@ is-type-name-spec =
     returns
     shared-slice-read-class-of
     class-of-requires
+    sub-later-bytes
+    part-later-bytes-start
+    part-later-bytes-end
     later-bytes-requires
     returns-2
     returns-3)

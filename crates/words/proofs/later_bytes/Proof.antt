@@ -1,4 +1,4 @@
--- `words::later_bytes` meets its contract. The invariant: all bytes from the start on go on a name if all from i on do.
+-- `words::later_bytes` meets its contract. The invariant: all bytes go on a name if all from i on do.
 use borrow.Author.Needs.{needs}
 use mathlib.Core.Path.{_≡_, refl}
 use Prim.Native.Nat.{_≤_, _-_}
@@ -14,10 +14,10 @@ use Rattle.words.proofs.later_bytes.Lts as lts
 use Rattle.format.proofs.is_later.Reads as is-later-reads
 
 abbrev Inv-loop : tie.InvT-loop
-Inv-loop table s from i₀ i = (i ≤ length s) × (all isLater (drop from s) ≡ all isLater (drop i s))
+Inv-loop table s i₀ i = (i ≤ length s) × (all isLater s ≡ all isLater (drop i s))
 
 abbrev μ-loop : tie.MeasureT-loop
-μ-loop table s from i₀ i = length s - i
+μ-loop table s i₀ i = length s - i
 
 loop-holds : tie.Need-loop-holds Inv-loop μ-loop
 loop-holds c = (omega arith, refl)

@@ -1,26 +1,27 @@
--- `words::part_end` meets its contract. The invariant: the run ends where the run of the rest from e on does.
+-- `words::part_end` meets its contract. The invariant: e bytes of the run are passed, the others are the run of the rest.
 use borrow.Author.Needs.{needs}
-use mathlib.Core.Path.{_≡_, refl, ap}
+use mathlib.Core.Path.{_≡_, ap}
 use mathlib.Core.Bool.{not}
 use borrow.Author.Tests.{eq-eqb, ne-eqb}
-use Prim.Native.Nat.{_≤_, _-_}
+use Prim.Native.Nat.{_+_, _≤_, _-_}
 use native.Mathlib.Omega.{arith}
-use lib.ListN.{length}
+use lib.ListN.{length, drop}
 use Rattle.lines.proofs.Heads.{run-more, run-stop, run-end}
-use Rattle.words.specs.Spans.{runEnd, notByte}
+use Rattle.lines.specs.Line.{run}
+use Rattle.words.specs.Spans.{notByte}
 use Rattle.words.proofs.part_end.Statement.{statement}
 use Rattle.words.proofs.part_end.Tie as tie
 use Rattle.words.proofs.part_end.Reads as reads
 use Rattle.words.proofs.part_end.Lts as lts
 
 abbrev Inv-loop : tie.InvT-loop
-Inv-loop s i d e₀ e = (e ≤ length s) × (runEnd (notByte d) s i ≡ runEnd (notByte d) s e)
+Inv-loop s d e₀ e = (e ≤ length s) × (run (notByte d) s ≡ e + run (notByte d) (drop e s))
 
 abbrev μ-loop : tie.MeasureT-loop
-μ-loop s i d e₀ e = length s - e
+μ-loop s d e₀ e = length s - e
 
 loop-holds : tie.Need-loop-holds Inv-loop μ-loop
-loop-holds c = (omega arith, refl)
+loop-holds c = (omega arith, omega arith)
 
 shared-slice-read-if1 : tie.Need-shared-slice-read-if1 Inv-loop μ-loop
 shared-slice-read-if1 c = search needs

@@ -6,7 +6,7 @@ use native.Mathlib.Omega.{arith}
 use lib.ListN.{length}
 use Rattle.format.specs.Words.{isGap, trim}
 use Rattle.words.specs.Spans.{span}
-use Rattle.words.proofs.Finding.{run-end-le}
+use Rattle.words.proofs.Finding.{run-le}
 use Rattle.words.proofs.Trimming.{strip, trim-from, trim-more, trim-stop, strip-empty}
 use Rattle.words.proofs.trimmed.Statement.{statement}
 use Rattle.words.proofs.trimmed.Tie as tie
@@ -29,7 +29,7 @@ loop-holds c =
     let at-args = c .before .before .args in
     let at-gap-end = c .gap-end in
     let s = at-args .s .now in
-    (omega (arith, run-end-le isGap s 0 (omega arith), at-gap-end .ensures), omega arith, rw (at-gap-end .ensures) (trim-from s))
+    (omega (arith, run-le isGap s, at-gap-end .ensures), omega arith, rw (at-gap-end .ensures) (trim-from s))
 
 sub-is-gap : tie.Need-sub-is-gap Inv-loop μ-loop
 sub-is-gap c = search needs
