@@ -4,13 +4,13 @@ use mathlib.Core.Path.{_≡_, refl, sym, ap, _∙_}
 use mathlib.Core.Bool.{Bool, true, false, _&&_}
 use mathlib.Core.List.{[], _∷_}
 use borrow.Author.Tests.{eq-eqb, ne-eqb}
-use lib.ListN.{length, drop, getD, drop-of-length-le}
+use lib.ListN.{length, take, drop, getD, drop-of-length-le}
 use Rattle.format.specs.Bytes.{Bytes, isSome}
 use Rattle.format.specs.Lists.{onlyIf, behind, front}
 use Rattle.format.specs.Numbers.{areDigits, Decimal, notDot, decimalBy, decimalIn, isReal}
+use Rattle.lines.specs.Line.{run}
 use Rattle.lines.proofs.Cuts.{at-cons}
-use Rattle.words.specs.Spans.{span, runEnd}
-use Rattle.words.proofs.Finding.{front-at, behind-at}
+use Rattle.words.proofs.Finding.{front-run, behind-run}
 
 some-if : (t : Bool) (d : Decimal) → isSome (onlyIf t d) ≡ t
 some-if true d = refl
@@ -37,19 +37,19 @@ no-digits a (c ∷ d) h = decimal-some false a d c ∙ ap (λ (t : Bool). t && a
 -- by where the first dot is
 module _ (s : Bytes) where
   abbrev dot : ℕ
-  dot = runEnd notDot s 0
+  dot = run notDot s
 
-  by-dot : isSome (decimalIn false s) ≡ decimal false (span 0 dot s) (drop dot s)
-  by-dot = (λ i. decimal false (front-at notDot s 0 i) (behind-at notDot s 0 i))
+  by-dot : isSome (decimalIn false s) ≡ decimal false (take dot s) (drop dot s)
+  by-dot = (λ i. decimal false (front-run notDot s i) (behind-run notDot s i))
 
-  pub decimal-dotted : dot < length s → isSome (decimalIn false s) ≡ areDigits 10 (span 0 dot s) && areDigits 10 (drop (dot + 1) s)
-  decimal-dotted h = by-dot ∙ ap (decimal false (span 0 dot s)) (at-cons s dot h) ∙ decimal-some false (span 0 dot s) (drop (dot + 1) s) (getD s dot 0)
+  pub decimal-dotted : dot < length s → isSome (decimalIn false s) ≡ areDigits 10 (take dot s) && areDigits 10 (drop (dot + 1) s)
+  decimal-dotted h = by-dot ∙ ap (decimal false (take dot s)) (at-cons s dot h) ∙ decimal-some false (take dot s) (drop (dot + 1) s) (getD s dot 0)
 
-  pub decimal-plain : length s ≤ dot → isSome (decimalIn false s) ≡ areDigits 10 (span 0 dot s)
-  decimal-plain h = by-dot ∙ ap (decimal false (span 0 dot s)) (drop-of-length-le s h) ∙ decimal-none false (span 0 dot s)
+  pub decimal-plain : length s ≤ dot → isSome (decimalIn false s) ≡ areDigits 10 (take dot s)
+  decimal-plain h = by-dot ∙ ap (decimal false (take dot s)) (drop-of-length-le s h) ∙ decimal-none false (take dot s)
 
-  pub decimal-not : areDigits 10 (span 0 dot s) ≡ false → isSome (decimalIn false s) ≡ false
-  decimal-not h = by-dot ∙ no-digits (span 0 dot s) (drop dot s) h
+  pub decimal-not : areDigits 10 (take dot s) ≡ false → isSome (decimalIn false s) ≡ false
+  decimal-not h = by-dot ∙ no-digits (take dot s) (drop dot s) h
 
 -- a real with its sign
 pub real-minus : (s : Bytes) → getD s 0 0 ≡ 45 → isReal s ≡ isSome (decimalIn false (drop 1 s))

@@ -184,8 +184,8 @@ pub fn at_most(a: Whole, b: Whole) -> bool
 fn is_decimal(s: &[u8]) -> bool
     ensures { λ r. ⌜ r ≡ isSome (decimalIn false (now (s .entry))) ⌝ }
 {
-    let e = words::part_end(s, 0, b'.');
-    if are_digits(&s[0..e], 10) {
+    let e = words::part_end(s, b'.');
+    if are_digits(&s[..e], 10) {
         if e < s.len() {
             are_digits(&s[e + 1..], 10)
         } else {

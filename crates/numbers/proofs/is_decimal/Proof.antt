@@ -2,9 +2,10 @@
 use mathlib.Core.Path.{sym, _∙_}
 use Prim.Native.Nat.{_+_}
 use native.Mathlib.Omega.{arith}
+use lib.Seq.{length-take-le}
 use Rattle.lines.proofs.Cuts.{rest}
 use Rattle.words.specs.Spans.{notByte}
-use Rattle.words.proofs.Finding.{run-end-le}
+use Rattle.words.proofs.Finding.{run-le}
 use Rattle.numbers.proofs.Decimals.{decimal-dotted, decimal-plain, decimal-not}
 use borrow.Author.Needs.{needs}
 use Rattle.numbers.proofs.is_decimal.Statement.{statement}
@@ -17,23 +18,11 @@ use Rattle.words.proofs.part_end.Reads as part-end-reads
 part-end-requires : tie.Need-part-end-requires
 part-end-requires c κs = search needs
 
-sub-are-digits : tie.Need-sub-are-digits
-sub-are-digits c =
-    let at-part-end = c .part-end in
-    let at-args = c .before .before .args in
-    omega (arith, at-part-end .ensures, run-end-le (notByte 46) (at-args .s .now) 0 (omega arith))
-
-part-are-digits-start : tie.Need-part-are-digits-start
-part-are-digits-start c =
-    let at-part-end = c .part-end in
-    let at-args = c .before .before .args in
-    omega (arith, at-part-end .ensures, run-end-le (notByte 46) (at-args .s .now) 0 (omega arith))
-
-part-are-digits-end : tie.Need-part-are-digits-end
-part-are-digits-end c =
-    let at-part-end = c .part-end in
-    let at-args = c .before .before .args in
-    omega (arith, at-part-end .ensures, run-end-le (notByte 46) (at-args .s .now) 0 (omega arith))
+slice-aggregate-are-digits : tie.Need-slice-aggregate-are-digits
+slice-aggregate-are-digits c =
+    let at-part-end = c .before .part-end in
+    let at-args = c .before .before .before .args in
+    sym (length-take-le (at-part-end .result) (at-args .s .now) (omega (arith, at-part-end .ensures, run-le (notByte 46) (at-args .s .now))))
 
 are-digits-requires : tie.Need-are-digits-requires
 are-digits-requires c κs = search needs
@@ -41,14 +30,14 @@ are-digits-requires c κs = search needs
 add-are-digits : tie.Need-add-are-digits
 add-are-digits c = search needs
 
-sub-are-digits-2 : tie.Need-sub-are-digits-2
-sub-are-digits-2 c = search needs
+sub-are-digits : tie.Need-sub-are-digits
+sub-are-digits c = search needs
 
-part-are-digits-start-2 : tie.Need-part-are-digits-start-2
-part-are-digits-start-2 c = search needs
+part-are-digits-start : tie.Need-part-are-digits-start
+part-are-digits-start c = search needs
 
-part-are-digits-end-2 : tie.Need-part-are-digits-end-2
-part-are-digits-end-2 c = search needs
+part-are-digits-end : tie.Need-part-are-digits-end
+part-are-digits-end c = search needs
 
 are-digits-requires-2 : tie.Need-are-digits-requires-2
 are-digits-requires-2 c κs = search needs
@@ -90,14 +79,12 @@ is-decimal-spec =
     tie.close
     (tie.spec
     part-end-requires
+    slice-aggregate-are-digits
+    are-digits-requires
+    add-are-digits
     sub-are-digits
     part-are-digits-start
     part-are-digits-end
-    are-digits-requires
-    add-are-digits
-    sub-are-digits-2
-    part-are-digits-start-2
-    part-are-digits-end-2
     are-digits-requires-2
     returns
     returns-2
