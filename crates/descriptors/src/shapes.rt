@@ -36,11 +36,11 @@ use words::Word;
 fn one_word(s: &[u8]) -> Word
     ensures { λ r. ⌜ OnlyWord (now (s .entry)) r ⌝ }
 {
-    let w = words::next_word(s, 0);
+    let w = words::next_word(s);
     let Word::At { start, end } = w else {
         return Word::Nothing;
     };
-    let v = words::next_word(s, end);
+    let v = words::next_word(&s[end..]);
     match v {
         Word::At { start: _, end: _ } => Word::Nothing,
         Word::Nothing => Word::At { start, end },
@@ -73,16 +73,16 @@ fn one_type_name(s: &[u8]) -> bool
 fn each_name(s: &[u8]) -> bool
     ensures { λ r. ⌜ r ≡ all isName (words (now (s .entry))) ⌝ }
 {
-    let mut i = 0;
+    let mut rest = s;
     loop {
-        let w = words::next_word(s, i);
+        let w = words::next_word(rest);
         let Word::At { start, end } = w else {
             return true;
         };
-        if !words::is_name(&s[start..end]) {
+        if !words::is_name(&rest[start..end]) {
             return false;
         }
-        i = end;
+        rest = &rest[end..];
     }
 }
 
@@ -90,7 +90,7 @@ fn each_name(s: &[u8]) -> bool
 fn all_names(s: &[u8]) -> bool
     ensures { λ r. ⌜ r ≡ several isName (words (now (s .entry))) ⌝ }
 {
-    let w = words::next_word(s, 0);
+    let w = words::next_word(s);
     let Word::At { start: _, end: _ } = w else {
         return false;
     };
@@ -259,9 +259,9 @@ fn is_taken(s: &[u8], starts: &[usize], ends: &[usize], t: &[u8]) -> bool
     requires { ⌜ Inside (now s) (now starts) (now ends) ⌝ }
     ensures { λ r. ⌜ r ≡ among (firstWord (now (t .entry))) (namesAt (now (s .entry)) (now (starts .entry)) (now (ends .entry))) ⌝ }
 {
-    let a = words::gap_end(t, 0);
-    let e = words::word_end(t, a);
-    is_named(s, starts, ends, &t[a..e])
+    let w = &t[words::gap_end(t)..];
+    let e = words::word_end(w);
+    is_named(s, starts, ends, &w[..e])
 }
 
 // A descriptor, from a to e: where its name stands, or that it is not well formed or is called like one before it.

@@ -71,18 +71,19 @@ fn size_signed(sign: &[u8], w: &[u8]) -> SizeRule
 pub fn size_rule(s: &[u8]) -> SizeRule
     ensures { λ r. ⌜ sizeAnswer r ≡ sizeRule intBounds (words (now (s .entry))) ⌝ }
 {
-    let w = words::next_word(s, 0);
+    let w = words::next_word(s);
     let Word::At { start, end } = w else {
         return SizeRule::None;
     };
-    let x = words::next_word(s, end);
+    let t = &s[end..];
+    let x = words::next_word(t);
     let Word::At { start: a, end: e } = x else {
         return size_exactly(&s[start..end]);
     };
-    let y = words::next_word(s, e);
+    let y = words::next_word(&t[e..]);
     match y {
         Word::At { start: _, end: _ } => SizeRule::None,
-        Word::Nothing => size_signed(&s[start..end], &s[a..e]),
+        Word::Nothing => size_signed(&s[start..end], &t[a..e]),
     }
 }
 

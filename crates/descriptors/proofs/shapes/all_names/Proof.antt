@@ -1,7 +1,6 @@
 -- `descriptors::shapes::all_names` meets its contract: there is a word, and all are names.
-use native.Mathlib.Omega.{arith}
 use mathlib.Core.Path.{sym, ap, _∙_}
-use lib.ListN.{drop}
+use lib.ListN.{length}
 use Rattle.format.specs.Lines.{isName}
 use Rattle.format.specs.Rules.{several}
 use Rattle.format.specs.Words.{words}
@@ -30,7 +29,7 @@ returns c =
     let at-args = c .before .before .before .before .args in
     let at-next-word = c .before .before .next-word in
     let at-enum-told2 = c .enum-told2 in
-    sym (ap (several isName) (not-found (at-args .s .now) 0 (at-next-word .ensures) (at-enum-told2 .given .1)))
+    sym (ap (several isName) (not-found (at-args .s .now) (at-next-word .ensures) (at-enum-told2 .given .1)))
 
 each-name-requires : tie.Need-each-name-requires
 each-name-requires c κs = search needs
@@ -43,8 +42,8 @@ returns-2 c =
     let at-each-name = c .each-name in
     let s = at-args .s .now in
     let g = at-enum-told .given in
-    let f = found s 0 (at-next-word .ensures) (g .1) (omega arith) in
-    at-each-name .ensures ∙ sym (several-some (words s) (span (g .0 .0) (g .0 .1 .0) s) (words (drop (g .0 .1 .0) s)) (f .3) isName)
+    let f = found s (at-next-word .ensures) (g .1) in
+    at-each-name .ensures ∙ sym (several-some (words s) (span (g .0 .0) (g .0 .1 .0) s) (words (span (g .0 .1 .0) (length s) s)) (f .2) isName)
 
 pub all-names-spec : {M : Type 1} → statement M
 all-names-spec =
