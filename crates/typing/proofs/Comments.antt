@@ -8,21 +8,38 @@ use mathlib.Core.List.{List, [], _∷_, _++_}
 use mathlib.Core.Option.{Option, none, some}
 use borrow.Author.Tests.{eqb-true, eq-eqb, ne-eqb, not-true}
 use lib.Dec.{eqb}
-use lib.ListN.{length, take, drop, getD, drop-of-length-le}
-use lib.Seq.{drop-drop, length-take-le}
+use lib.ListN.{length, take, drop, getD, drop-of-length-le, length-drop}
+use lib.Seq.{drop-drop, length-take-le, getD-drop}
 use Rattle.format.specs.Lists.{onlyIf, onward, isFilled, front, behind}
 use Rattle.format.specs.Bytes.{Bytes, pick, all, same, among}
 use Rattle.format.specs.Words.{isGap, notGap, words}
 use Rattle.format.specs.Types.{Kind, Typed, consTo, uncomment, isSymbol, enumIn}
 use Rattle.format.proofs.Parts.{words-cut}
 use Rattle.lines.specs.Line.{run}
-use Rattle.lines.proofs.Cuts.{at-cons}
+use Rattle.lines.proofs.Cuts.{at-cons, rest}
 use Rattle.lines.proofs.Heads.{run-more}
-use Rattle.words.specs.Spans.{span, runEnd}
-use Rattle.words.proofs.Finding.{run-le, run-end-le, run-passes, run-ends, byte-inside}
+use Rattle.words.specs.Spans.{span}
+use Rattle.words.proofs.Finding.{run-le, run-passes, run-ends, byte-inside}
 use Rattle.typing.specs.Meaning.{isRead, symbolsIn}
-use Rattle.typing.specs.Symbols.{notParen, isPlain, wordsIn, symbolsAt, withWord, NextSymbol, areSymbols, isEnum}
+use Rattle.typing.specs.Symbols.{notParen, isPlain, wordsIn, symbolsOf, withWord, NextSymbol, areSymbols, isEnum}
 use Rattle.typing.specs.declared.symbols.Symbol.{Symbol}
+
+-- the words from an index on, and the end of the run of bytes that pass a test from there on
+abbrev pub symbolsAt : Bytes → ℕ → Option (List Bytes)
+symbolsAt s i = symbolsOf (drop i s)
+
+abbrev runEnd : (ℕ → Bool) → Bytes → ℕ → ℕ
+runEnd p s i = i + run p (drop i s)
+
+pub end-at : (p : ℕ → Bool) (s : Bytes) (i n : ℕ) → n ≡ run p (span i (length s) s) → i + n ≡ runEnd p s i
+end-at p s i n e = ap (λ (k : ℕ). i + k) (e ∙ ap (run p) (rest s i))
+
+pub end-le : (p : ℕ → Bool) (s : Bytes) (i : ℕ) → i ≤ length s → runEnd p s i ≤ length s
+end-le p s i h = omega (arith, run-le p (drop i s), length-drop i s)
+
+ends-at : (p : ℕ → Bool) (s : Bytes) (i : ℕ) → runEnd p s i < length s → p (getD s (runEnd p s i) 0) ≡ false
+ends-at p s i h =
+    ap p (sym (getD-drop i s (run p (drop i s)) 0)) ∙ run-ends p (drop i s) (omega (arith, length-drop i s))
 
 -- what a byte that is a gap, or plain, or neither, is not
 pub gap-open : (c : ℕ) → isGap c ≡ true → eqb c 40 ≡ false
@@ -117,7 +134,7 @@ unclosed (c ∷ s) zero e n = rw (paren-open c (e (omega arith)) n)
 unclosed (c ∷ s) (suc j) e n = unclosed s j (λ l. e (omega arith)) n
 
 comment-unclosed : (s : Bytes) (i : ℕ) → i < length s → getD s i 0 ≡ 40 → (getD s (runEnd notParen s (i + 1)) 0 ≡ 41 → ⊥) → symbolsAt s i ≡ none
-comment-unclosed s i h q n = opened s i h q ∙ ap wordsIn (unclosed s (runEnd notParen s (i + 1)) (λ l. run-ends notParen s (i + 1) l) n)
+comment-unclosed s i h q n = opened s i h q ∙ ap wordsIn (unclosed s (runEnd notParen s (i + 1)) (λ l. ends-at notParen s (i + 1) l) n)
 
 -- a word: its bytes stay, and what is behind it begins with a gap
 abbrev onto : Bytes → Option Bytes → Option Bytes
@@ -205,7 +222,7 @@ symbols-word s i h =
     let p : 0 < length w = rw (length-take-le n (drop i s) (run-le isPlain (drop i s))) (omega arith) in
     let d : drop n (drop i s) ≡ drop e s = drop-drop n i s in
     let o : uncomment false (drop i s) ≡ onto w (uncomment false (drop e s)) = plain-on (drop i s) ∙ rw d in
-    ap wordsIn o ∙ (words-onto w (uncomment false (drop e s)) p (run-passes isPlain (drop i s)) (led-at s e (λ l. run-ends isPlain s i l)) ∙ rw add-sub-cancel-left)
+    ap wordsIn o ∙ (words-onto w (uncomment false (drop e s)) p (run-passes isPlain (drop i s)) (led-at s e (λ l. ends-at isPlain s i l)) ∙ rw add-sub-cancel-left)
 
 -- the byte that a word begins with
 plain-byte : (c : ℕ) → isGap c ≡ false → (c ≡ 40 → ⊥) → (c ≡ 41 → ⊥) → isPlain c ≡ true
@@ -216,7 +233,6 @@ symbols-end s i h = rw (drop-of-length-le s)
 
 -- The place that the search for a word has reached: no word is passed over, and no gap stands there.
 pub record Reached (s : Bytes) (i at : ℕ) : Type 0 where
-  pub low : i ≤ at
   pub high : at ≤ length s
   pub passed : symbolsAt s i ≡ symbolsAt s at
   pub free : at < length s → isGap (getD s at 0) ≡ false
@@ -225,43 +241,41 @@ pub gaps-reached : (s : Bytes) (i at : ℕ) → i ≤ length s → at ≡ runEnd
 gaps-reached s i at h e =
     rw e
     (record {
-      low = omega arith;
-      high = run-end-le isGap s i h;
+      high = end-le isGap s i h;
       passed = symbols-behind s i;
-      free = λ l. run-ends isGap s i l;
+      free = λ l. ends-at isGap s i l;
     })
 
-module _ (s : Bytes) (i at : ℕ) (r : Reached s i at) (h : at < length s) where
+module _ (s : Bytes) (at : ℕ) (r : Reached s 0 at) (h : at < length s) where
   -- behind a comment
-  pub comment-reached : (close to : ℕ) → getD s at 0 ≡ 40 → close ≡ runEnd notParen s (at + 1) → getD s close 0 ≡ 41 → to ≡ runEnd isGap s (close + 1) → Reached s i to
+  pub comment-reached : (close to : ℕ) → getD s at 0 ≡ 40 → close ≡ runEnd notParen s (at + 1) → getD s close 0 ≡ 41 → to ≡ runEnd isGap s (close + 1) → Reached s 0 to
   comment-reached close to q c e b =
       let l : close < length s = byte-inside s close (omega arith) in
       let p : symbolsAt s at ≡ symbolsAt s (close + 1) = rw c (comment-closed s at h q (rw (← c) e) (rw (← c) l)) in
       let n : Reached s (close + 1) to = gaps-reached s (close + 1) to (omega arith) b in
       record {
-        low = omega (arith, r .low, n .low, c);
         high = n .high;
         passed = r .passed ∙ (p ∙ n .passed);
         free = n .free;
       }
 
-  pub comment-wrong : (close : ℕ) → getD s at 0 ≡ 40 → close ≡ runEnd notParen s (at + 1) → (getD s close 0 ≡ 41 → ⊥) → symbolsAt s i ≡ none
+  pub comment-wrong : (close : ℕ) → getD s at 0 ≡ 40 → close ≡ runEnd notParen s (at + 1) → (getD s close 0 ≡ 41 → ⊥) → symbolsOf s ≡ none
   comment-wrong close q c n = r .passed ∙ comment-unclosed s at h q (rw (← c) n)
 
-  pub close-wrong : getD s at 0 ≡ 41 → symbolsAt s i ≡ none
+  pub close-wrong : getD s at 0 ≡ 41 → symbolsOf s ≡ none
   close-wrong q = r .passed ∙ symbols-closed s at h q
 
-  pub word-reached : (e : ℕ) → (getD s at 0 ≡ 41 → ⊥) → (getD s at 0 ≡ 40 → ⊥) → e ≡ runEnd isPlain s at → NextSymbol s i (Symbol.At at e)
+  pub word-reached : (e : ℕ) → (getD s at 0 ≡ 41 → ⊥) → (getD s at 0 ≡ 40 → ⊥) → e ≡ runEnd isPlain s at → NextSymbol s (Symbol.At at e)
   word-reached e a b q =
       let l : at < runEnd isPlain s at = omega (arith, run-more isPlain s at h (plain-byte (getD s at 0) (r .free h) b a)) in
-      rw q (r .low, l, run-end-le isPlain s at (r .high), r .passed ∙ symbols-word s at l)
+      rw q (l, end-le isPlain s at (r .high), r .passed ∙ symbols-word s at l ∙ ap (λ (x : Bytes). withWord (span at (runEnd isPlain s at) s) (symbolsOf x)) (sym (rest s (runEnd isPlain s at))))
 
-pub end-reached : (s : Bytes) (i at : ℕ) → Reached s i at → length s ≤ at → symbolsAt s i ≡ some []
-end-reached s i at r h = r .passed ∙ symbols-end s at h
+pub end-reached : (s : Bytes) (at : ℕ) → Reached s 0 at → length s ≤ at → symbolsOf s ≡ some []
+end-reached s at r h = r .passed ∙ symbols-end s at h
 
 -- what is found, by its case
-pub told-by : (s : Bytes) (i : ℕ) {r t : Symbol} → NextSymbol s i r → r ≡ t → NextSymbol s i t
-told-by s i h e = subst (NextSymbol s i) e h
+pub told-by : (s : Bytes) {r t : Symbol} → NextSymbol s r → r ≡ t → NextSymbol s t
+told-by s h e = subst (NextSymbol s) e h
 
 -- what the loops over the words ask
 are-with : (w : Bytes) (o : Option (List Bytes)) → areSymbols (withWord w o) ≡ isSymbol w && areSymbols o
@@ -301,25 +315,28 @@ among-found : (v w : Bytes) (o : Option (List Bytes)) → same v w ≡ true → 
 among-found v w none e r = r
 among-found v w (some ws) e r = rw e
 
--- the same of a word from a to e that is found from i on
-module _ (s : Bytes) (i a e : ℕ) (t : NextSymbol s i (Symbol.At a e)) where
-  pub are-more : isSymbol (span a e s) ≡ true → areSymbols (symbolsAt s i) ≡ areSymbols (symbolsAt s e)
-  are-more h = ap areSymbols (t .3) ∙ (are-with (span a e s) (symbolsAt s e) ∙ rw h)
+-- the same of a word from a to e that is found first
+module _ (s : Bytes) (a e : ℕ) (t : NextSymbol s (Symbol.At a e)) where
+  abbrev later : Option (List Bytes)
+  later = symbolsOf (span e (length s) s)
 
-  pub are-stop : isSymbol (span a e s) ≡ false → areSymbols (symbolsAt s i) ≡ false
-  are-stop h = ap areSymbols (t .3) ∙ (are-with (span a e s) (symbolsAt s e) ∙ rw h)
+  pub are-more : isSymbol (span a e s) ≡ true → areSymbols (symbolsOf s) ≡ areSymbols later
+  are-more h = ap areSymbols (t .2) ∙ (are-with (span a e s) later ∙ rw h)
 
-  pub enum-word : isEnum (symbolsAt s i) ≡ areSymbols (symbolsAt s i)
-  enum-word = ap isEnum (t .3) ∙ (enum-some (span a e s) (symbolsAt s e) ∙ ap areSymbols (sym (t .3)))
+  pub are-stop : isSymbol (span a e s) ≡ false → areSymbols (symbolsOf s) ≡ false
+  are-stop h = ap areSymbols (t .2) ∙ (are-with (span a e s) later ∙ rw h)
 
-  pub read-on : areRead (symbolsAt s i) ≡ true → areRead (symbolsAt s e) ≡ true
-  read-on h = sym (read-more (span a e s) (symbolsAt s e)) ∙ (ap areRead (sym (t .3)) ∙ h)
+  pub enum-word : isEnum (symbolsOf s) ≡ areSymbols (symbolsOf s)
+  enum-word = ap isEnum (t .2) ∙ (enum-some (span a e s) later ∙ ap areSymbols (sym (t .2)))
 
-  pub among-on : (v : Bytes) → same v (span a e s) ≡ false → amongIn v (symbolsAt s i) ≡ amongIn v (symbolsAt s e)
-  among-on v h = ap (amongIn v) (t .3) ∙ among-more v (span a e s) (symbolsAt s e) h
+  pub read-on : areRead (symbolsOf s) ≡ true → areRead later ≡ true
+  read-on h = sym (read-more (span a e s) later) ∙ (ap areRead (sym (t .2)) ∙ h)
 
-  pub among-here : (v : Bytes) → same v (span a e s) ≡ true → areRead (symbolsAt s i) ≡ true → amongIn v (symbolsAt s i) ≡ true
-  among-here v h r = ap (amongIn v) (t .3) ∙ among-found v (span a e s) (symbolsAt s e) h (ap areRead (sym (t .3)) ∙ r)
+  pub among-on : (v : Bytes) → same v (span a e s) ≡ false → amongIn v (symbolsOf s) ≡ amongIn v later
+  among-on v h = ap (amongIn v) (t .2) ∙ among-more v (span a e s) later h
+
+  pub among-here : (v : Bytes) → same v (span a e s) ≡ true → areRead (symbolsOf s) ≡ true → amongIn v (symbolsOf s) ≡ true
+  among-here v h r = ap (amongIn v) (t .2) ∙ among-found v (span a e s) later h (ap areRead (sym (t .2)) ∙ r)
 
 -- an enum's symbols
 pub enum-by : (o : Option Bytes) → onward enumIn o ≡ onlyIf (isEnum (wordsIn o)) (Typed.kind (Kind.enum (symbolsIn o)))

@@ -1,23 +1,26 @@
 -- A type by its first word, and what a reader tells by each case.
-use Prim.Native.Nat.{ℕ, _≤_}
+use Prim.Native.Nat.{ℕ, _+_, _≤_}
 use mathlib.Core.Path.{_≡_, refl, sym, ap, _∙_, subst}
 use mathlib.Core.Bool.{Bool, true, false}
 use mathlib.Core.List.{List, [], _∷_}
 use mathlib.Core.Option.{Option, none, some}
+use native.Mathlib.Nat.{add-sub-cancel-left}
 use native.Mathlib.Omega.{arith}
-use lib.ListN.{length, drop}
+use lib.ListN.{length, drop, length-drop}
+use lib.Seq.{drop-drop}
 use Rattle.format.specs.Lists.{onward, front, behind}
 use Rattle.format.specs.Bytes.{Bytes, text, pick, same}
 use Rattle.format.specs.Words.{isGap, words}
 use Rattle.format.specs.Numbers.{intBounds}
 use Rattle.format.specs.Types.{Kind, Typed, bare, ranged, rangeOf, sizeOf, aliasOf, plainKind, uncomment, beforeComment, enumIn, typeOf}
 use Rattle.lines.proofs.Cuts.{rest}
-use Rattle.words.specs.Spans.{span, runEnd}
-use Rattle.words.proofs.Finding.{front-at, behind-at}
+use Rattle.lines.specs.Line.{run}
+use Rattle.words.specs.Spans.{span}
+use Rattle.words.proofs.Finding.{run-le, front-run, behind-run}
 use Rattle.numbers.specs.Meaning.{intAnswer}
 use Rattle.numbers.specs.declared.IntOf.{IntOf}
 use Rattle.typing.specs.Meaning.{typedIn, typeAnswer, Sound, SoundType, Told, headOf, rangeIn}
-use Rattle.typing.specs.Symbols.{symbolsAt, isEnum}
+use Rattle.typing.specs.Symbols.{symbolsOf, isEnum}
 use Rattle.typing.specs.declared.Shape.{Shape}
 use Rattle.typing.specs.declared.TypeOf.{TypeOf}
 use Rattle.typing.specs.declared.kinds.Head.{Head}
@@ -103,13 +106,13 @@ told-range s x y e q = rw e (record { answers = range-answers s x y ∙ sym q; s
 
 -- an enum, whose text stands behind `at`
 module _ (s : Bytes) (at : ℕ) (h : at ≤ length s) where
-  pub told-enum : isEnum (symbolsAt (span at (length s) s) 0) ≡ true → Told s (onward enumIn (uncomment false (drop at s))) (TypeOf.Is (Shape.Enum at (length s)))
+  pub told-enum : isEnum (symbolsOf (span at (length s) s)) ≡ true → Told s (onward enumIn (uncomment false (drop at s))) (TypeOf.Is (Shape.Enum at (length s)))
   told-enum e =
       let u = uncomment false (span at (length s) s) in
       told-same s (ap (λ (t : Bytes). onward enumIn (uncomment false t)) (sym (rest s at)))
       (record { answers = sym (enum-by u ∙ rw e); sound = (h, omega arith, enum-read u e) })
 
-  pub told-no-enum : isEnum (symbolsAt (span at (length s) s) 0) ≡ false → Told s (onward enumIn (uncomment false (drop at s))) TypeOf.Fault
+  pub told-no-enum : isEnum (symbolsOf (span at (length s) s)) ≡ false → Told s (onward enumIn (uncomment false (drop at s))) TypeOf.Fault
   told-no-enum e = told-fault s (ap (λ (t : Bytes). onward enumIn (uncomment false t)) (sym (rest s at)) ∙ (enum-by (uncomment false (span at (length s) s)) ∙ rw e))
 
 -- a shape that stands alone
@@ -124,17 +127,21 @@ told-not-bare s w v ws vs {k = k} h e = told-fault s (plain-by-head s w ws ∙ (
 pub told-by-head : (s w : Bytes) (ws : List Bytes) {h : Head} {r : TypeOf} → headOf w ≡ h → Told s (byHead s w ws h) r → Told s (plainKind intBounds (w ∷ ws)) r
 told-by-head s w ws e t = told-same s (plain-by-head s w ws ∙ ap (byHead s w ws) e) t
 
--- the head of a type, from a to e: the word `enum`, or the first word of another type
-module _ (s : Bytes) (a e : ℕ) (p : a ≡ runEnd isGap s 0) (q : e ≡ runEnd beforeComment s a) where
-  type-by : typeOf intBounds s ≡ pick (same (span a e s) (text "enum")) (onward enumIn (uncomment false (drop e s))) (plainKind intBounds (words s))
+-- the head of a type, n bytes from a on: the word `enum`, or the first word of another type
+module _ (s : Bytes) (a n : ℕ) (p : a ≡ run isGap s) (q : n ≡ run beforeComment (span a (length s) s)) where
+  pub head-le : a + n ≤ length s
+  head-le = omega (arith, p, q ∙ ap (run beforeComment) (rest s a), run-le isGap s, run-le beforeComment (drop a s), length-drop a s)
+
+  type-by : typeOf intBounds s ≡ pick (same (span a (a + n) s) (text "enum")) (onward enumIn (uncomment false (drop (a + n) s))) (plainKind intBounds (words s))
   type-by =
-      let u : behind isGap s ≡ drop a s = behind-at isGap s 0 ∙ rw p in
-      let v : front beforeComment (drop a s) ≡ span a e s = front-at beforeComment s a ∙ rw q in
-      let w : behind beforeComment (drop a s) ≡ drop e s = behind-at beforeComment s a ∙ rw q in
+      let l : n ≡ run beforeComment (drop a s) = q ∙ ap (run beforeComment) (rest s a) in
+      let u : behind isGap s ≡ drop a s = behind-run isGap s ∙ rw p in
+      let v : front beforeComment (drop a s) ≡ span a (a + n) s = front-run beforeComment (drop a s) ∙ rw (← l, add-sub-cancel-left) in
+      let w : behind beforeComment (drop a s) ≡ drop (a + n) s = behind-run beforeComment (drop a s) ∙ rw (← l, drop-drop) in
       rw (u, v, w)
 
-  pub told-enum-type : {r : TypeOf} → same (span a e s) (text "enum") ≡ true → Told s (onward enumIn (uncomment false (drop e s))) r → Told s (typeOf intBounds s) r
+  pub told-enum-type : {r : TypeOf} → same (span a (a + n) s) (text "enum") ≡ true → Told s (onward enumIn (uncomment false (drop (a + n) s))) r → Told s (typeOf intBounds s) r
   told-enum-type h t = told-same s (type-by ∙ rw h) t
 
-  pub told-plain-type : {r : TypeOf} → same (span a e s) (text "enum") ≡ false → Told s (plainKind intBounds (words s)) r → Told s (typeOf intBounds s) r
+  pub told-plain-type : {r : TypeOf} → same (span a (a + n) s) (text "enum") ≡ false → Told s (plainKind intBounds (words s)) r → Told s (typeOf intBounds s) r
   told-plain-type h t = told-same s (type-by ∙ rw h) t

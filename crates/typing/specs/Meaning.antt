@@ -65,6 +65,10 @@ pub record Told (s : Bytes) (answer : Option Typed) (r : TypeOf) : Type 0 where
   pub answers : typeAnswer s r ≡ answer
   pub sound : SoundType s r
 
+-- the same of a type that holds no place: whatever the text is
+abbrev pub Placeless : Option Typed → TypeOf → Type 0
+Placeless answer r = (s : Bytes) → Told s answer r
+
 -- what the first word says, if it is not `enum`
 unfoldable pub headOf : Bytes → Head
 headOf w =

@@ -5,7 +5,7 @@ use mathlib.Core.Bool.{Bool, false, _&&_, _||_, not}
 use mathlib.Core.List.{List, [], _∷_}
 use mathlib.Core.Option.{Option, none, some}
 use lib.Dec.{eqb}
-use lib.ListN.{length, drop}
+use lib.ListN.{length}
 use Rattle.format.specs.Bytes.{Bytes, all}
 use Rattle.format.specs.Words.{notGap, words}
 use Rattle.format.specs.Types.{uncomment, isSymbol}
@@ -23,18 +23,18 @@ abbrev pub wordsIn : Option Bytes → Option (List Bytes)
 wordsIn none = none
 wordsIn (some s) = some (words s)
 
-abbrev pub symbolsAt : Bytes → ℕ → Option (List Bytes)
-symbolsAt s i = wordsIn (uncomment false (drop i s))
+abbrev pub symbolsOf : Bytes → Option (List Bytes)
+symbolsOf s = wordsIn (uncomment false s)
 
 abbrev pub withWord : Bytes → Option (List Bytes) → Option (List Bytes)
 withWord w none = none
 withWord w (some ws) = some (w ∷ ws)
 
--- what is told of the words from i on by what is found there
-abbrev pub NextSymbol : Bytes → ℕ → Symbol → Type 0
-NextSymbol s i (Symbol.At a e) = (i ≤ a) × (a < e) × (e ≤ length s) × (symbolsAt s i ≡ withWord (span a e s) (symbolsAt s e))
-NextSymbol s i Symbol.End = symbolsAt s i ≡ some []
-NextSymbol s i Symbol.Fault = symbolsAt s i ≡ none
+-- what is told of the words by what is found first
+abbrev pub NextSymbol : Bytes → Symbol → Type 0
+NextSymbol s (Symbol.At a e) = (a < e) × (e ≤ length s) × (symbolsOf s ≡ withWord (span a e s) (symbolsOf (span e (length s) s)))
+NextSymbol s Symbol.End = symbolsOf s ≡ some []
+NextSymbol s Symbol.Fault = symbolsOf s ≡ none
 
 abbrev pub areSymbols : Option (List Bytes) → Bool
 areSymbols none = false

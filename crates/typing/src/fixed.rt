@@ -8,15 +8,15 @@ use words::Word;
 pub fn is_among(w: &[u8], list: &[u8]) -> bool
     ensures { λ r. ⌜ r ≡ among (now (w .entry)) (words (now (list .entry))) ⌝ }
 {
-    let mut i = 0;
+    let mut rest = list;
     loop {
-        let x = words::next_word(list, i);
+        let x = words::next_word(rest);
         let Word::At { start, end } = x else {
             return false;
         };
-        if lines::same_bytes(w, &list[start..end]) {
+        if lines::same_bytes(w, &rest[start..end]) {
             return true;
         }
-        i = end;
+        rest = &rest[end..];
     }
 }

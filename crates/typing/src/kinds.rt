@@ -7,9 +7,10 @@ ghost use Rattle.format.specs.Words.{words};
 ghost use Rattle.format.specs.Numbers.{intBounds};
 ghost use Rattle.format.specs.Lists.{onward};
 ghost use Rattle.format.specs.Types.{uncomment, beforeComment, enumIn, endOf, rangeOf, sizeOf, aliasOf, plainKind, typeOf};
-ghost use Rattle.words.specs.Spans.{span, runEnd};
+ghost use Rattle.lines.specs.Line.{run};
+ghost use Rattle.words.specs.Spans.{span};
 ghost use Rattle.numbers.specs.Meaning.{intAnswer};
-ghost use Rattle.typing.specs.Meaning.{headOf, rangeIn, Told};
+ghost use Rattle.typing.specs.Meaning.{headOf, rangeIn, Told, Placeless};
 use super::Shape;
 use super::TypeOf;
 use super::symbols::is_enum;
@@ -44,12 +45,11 @@ fn head_of(w: &[u8]) -> Head
     }
 }
 
-// The end of the bytes from i on that no gap and no comment ends.
-fn head_end(s: &[u8], i: usize) -> usize
-    requires { ⌜ i ≤ length (now s) ⌝ }
-    ensures { λ r. ⌜ r ≡ runEnd beforeComment (now (s .entry)) i ⌝ }
+// The end of the bytes that a text begins with and that no gap and no comment ends.
+fn head_end(s: &[u8]) -> usize
+    ensures { λ r. ⌜ r ≡ run beforeComment (now (s .entry)) ⌝ }
 {
-    let mut e = i;
+    let mut e = 0;
     while e < s.len() {
         if words::is_gap(s[e]) {
             return e;
@@ -103,38 +103,37 @@ fn ranged(low: IntOf, high: IntOf) -> TypeOf
     TypeOf::Is(Shape::Range(a, b))
 }
 
-// A range: one or two words from `at` on.
-fn range_of(s: &[u8], at: usize) -> TypeOf
-    requires { ⌜ at ≤ length (now s) ⌝ }
-    ensures { λ r. ⌜ Told (now (s .entry)) (rangeOf intBounds (words (drop at (now (s .entry))))) r ⌝ }
+// A range: one or two words.
+fn range_of(s: &[u8]) -> TypeOf
+    ensures { λ r. ⌜ Placeless (rangeOf intBounds (words (now (s .entry)))) r ⌝ }
 {
-    let w = words::next_word(s, at);
+    let w = words::next_word(s);
     let Word::At { start: a, end: b } = w else {
         return TypeOf::Fault;
     };
     let x = end_of(&s[a..b]);
-    let v = words::next_word(s, b);
+    let t = &s[b..];
+    let v = words::next_word(t);
     let Word::At { start: c, end: d } = v else {
         return ranged(IntOf::Value(Whole::Plus(0)), x);
     };
-    let u = words::next_word(s, d);
+    let u = words::next_word(&t[d..]);
     let Word::Nothing = u else {
         return TypeOf::Fault;
     };
-    let y = end_of(&s[c..d]);
+    let y = end_of(&t[c..d]);
     ranged(x, y)
 }
 
-// A size: one word from `at` on.
-fn size_of(s: &[u8], at: usize) -> TypeOf
-    requires { ⌜ at ≤ length (now s) ⌝ }
-    ensures { λ r. ⌜ Told (now (s .entry)) (sizeOf intBounds (words (drop at (now (s .entry))))) r ⌝ }
+// A size: one word.
+fn size_of(s: &[u8]) -> TypeOf
+    ensures { λ r. ⌜ Placeless (sizeOf intBounds (words (now (s .entry)))) r ⌝ }
 {
-    let w = words::next_word(s, at);
+    let w = words::next_word(s);
     let Word::At { start, end } = w else {
         return TypeOf::Fault;
     };
-    let v = words::next_word(s, end);
+    let v = words::next_word(&s[end..]);
     let Word::Nothing = v else {
         return TypeOf::Fault;
     };
@@ -148,9 +147,9 @@ fn size_of(s: &[u8], at: usize) -> TypeOf
 // A typedef's name from start to end, with nothing after it.
 fn alias_of(s: &[u8], start: usize, end: usize) -> TypeOf
     requires { ⌜ (start ≤ end) × (end ≤ length (now s)) ⌝ }
-    ensures { λ r. ⌜ Told (now (s .entry)) (aliasOf (span start end (now (s .entry))) (words (drop end (now (s .entry))))) r ⌝ }
+    ensures { λ r. ⌜ Told (now (s .entry)) (aliasOf (span start end (now (s .entry))) (words (span end (length (now (s .entry))) (now (s .entry))))) r ⌝ }
 {
-    let v = words::next_word(s, end);
+    let v = words::next_word(&s[end..]);
     let Word::Nothing = v else {
         return TypeOf::Fault;
     };
@@ -165,21 +164,21 @@ fn alias_of(s: &[u8], start: usize, end: usize) -> TypeOf
 fn plain_type(s: &[u8]) -> TypeOf
     ensures { λ r. ⌜ Told (now (s .entry)) (plainKind intBounds (words (now (s .entry)))) r ⌝ }
 {
-    let w = words::next_word(s, 0);
+    let w = words::next_word(s);
     let Word::At { start, end } = w else {
         return TypeOf::Fault;
     };
     let h = head_of(&s[start..end]);
     match h {
         Head::Bare(k) => {
-            let v = words::next_word(s, end);
+            let v = words::next_word(&s[end..]);
             let Word::Nothing = v else {
                 return TypeOf::Fault;
             };
             TypeOf::Is(k)
         }
-        Head::Range => range_of(s, end),
-        Head::Size => size_of(s, end),
+        Head::Range => range_of(&s[end..]),
+        Head::Size => size_of(&s[end..]),
         Head::Name => alias_of(s, start, end),
     }
 }
@@ -188,8 +187,8 @@ fn plain_type(s: &[u8]) -> TypeOf
 pub fn type_of(s: &[u8]) -> TypeOf
     ensures { λ r. ⌜ Told (now (s .entry)) (typeOf intBounds (now (s .entry))) r ⌝ }
 {
-    let start = words::gap_end(s, 0);
-    let end = head_end(s, start);
+    let start = words::gap_end(s);
+    let end = start + head_end(&s[start..]);
     if lines::same_bytes(&s[start..end], b"enum") {
         enum_type(s, end)
     } else {

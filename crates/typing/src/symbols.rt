@@ -5,9 +5,9 @@ ghost use Prim.Native.Nat.{_≤_};
 ghost use lib.ListN.{length, drop};
 ghost use Rattle.format.specs.Bytes.{classTable, all, among};
 ghost use Rattle.format.specs.Types.{uncomment, isSymbolByte, isSymbol};
-ghost use Rattle.words.specs.Spans.{runEnd};
+ghost use Rattle.lines.specs.Line.{run};
 ghost use Rattle.typing.specs.Meaning.{isRead, symbolsIn};
-ghost use Rattle.typing.specs.Symbols.{notParen, isPlain, symbolsAt, NextSymbol, areSymbols, isEnum};
+ghost use Rattle.typing.specs.Symbols.{notParen, isPlain, symbolsOf, NextSymbol, areSymbols, isEnum};
 use format::Class;
 
 // May a symbol go on with this byte?
@@ -68,12 +68,11 @@ fn is_plain(b: u8) -> bool
     if b == b'(' { false } else { b != b')' }
 }
 
-// The end of the bytes from i on that are neither gaps nor parentheses.
-fn plain_end(s: &[u8], i: usize) -> usize
-    requires { ⌜ i ≤ length (now s) ⌝ }
-    ensures { λ r. ⌜ r ≡ runEnd isPlain (now (s .entry)) i ⌝ }
+// The end of the bytes that a text begins with and that are neither gaps nor parentheses.
+fn plain_end(s: &[u8]) -> usize
+    ensures { λ r. ⌜ r ≡ run isPlain (now (s .entry)) ⌝ }
 {
-    let mut e = i;
+    let mut e = 0;
     while e < s.len() {
         if is_plain(s[e]) {
             e += 1;
@@ -84,12 +83,11 @@ fn plain_end(s: &[u8], i: usize) -> usize
     e
 }
 
-// The first parenthesis from i on.
-fn paren_at(s: &[u8], i: usize) -> usize
-    requires { ⌜ i ≤ length (now s) ⌝ }
-    ensures { λ r. ⌜ r ≡ runEnd notParen (now (s .entry)) i ⌝ }
+// The first parenthesis of a text.
+fn paren_at(s: &[u8]) -> usize
+    ensures { λ r. ⌜ r ≡ run notParen (now (s .entry)) ⌝ }
 {
-    let mut e = i;
+    let mut e = 0;
     while e < s.len() {
         if s[e] == b'(' {
             return e;
@@ -109,24 +107,25 @@ enum Symbol {
     Fault,
 }
 
-fn next_symbol(s: &[u8], i: usize) -> Symbol
-    requires { ⌜ i ≤ length (now s) ⌝ }
-    ensures { λ r. ⌜ NextSymbol (now (s .entry)) i r ⌝ }
+fn next_symbol(s: &[u8]) -> Symbol
+    ensures { λ r. ⌜ NextSymbol (now (s .entry)) r ⌝ }
 {
-    let mut at = words::gap_end(s, i);
+    let mut at = words::gap_end(s);
     while at < s.len() {
         if s[at] == b')' {
             return Symbol::Fault;
         }
         if s[at] != b'(' {
-            let end = plain_end(s, at);
+            let end = at + plain_end(&s[at..]);
             return Symbol::At { start: at, end };
         }
-        let close = paren_at(s, at + 1);
+        let inner = at + 1;
+        let close = inner + paren_at(&s[inner..]);
         if lines::byte(s, close) != b')' {
             return Symbol::Fault;
         }
-        at = words::gap_end(s, close + 1);
+        let behind = close + 1;
+        at = behind + words::gap_end(&s[behind..]);
     }
     Symbol::End
 }
@@ -134,15 +133,15 @@ fn next_symbol(s: &[u8], i: usize) -> Symbol
 // Are all words of the text symbols?
 fn all_symbols(table: &[u8; 256], s: &[u8]) -> bool
     requires { ⌜ now table ≡ classTable ⌝ }
-    ensures { λ r. ⌜ r ≡ areSymbols (symbolsAt (now (s .entry)) 0) ⌝ }
+    ensures { λ r. ⌜ r ≡ areSymbols (symbolsOf (now (s .entry))) ⌝ }
 {
-    let mut i = 0;
+    let mut rest = s;
     loop {
-        let w = next_symbol(s, i);
+        let w = next_symbol(rest);
         match w {
             Symbol::At { start, end } => {
-                if is_symbol(table, &s[start..end]) {
-                    i = end;
+                if is_symbol(table, &rest[start..end]) {
+                    rest = &rest[end..];
                 } else {
                     return false;
                 }
@@ -159,10 +158,10 @@ fn all_symbols(table: &[u8; 256], s: &[u8]) -> bool
 
 // One symbol or more?
 pub(crate) fn is_enum(s: &[u8]) -> bool
-    ensures { λ r. ⌜ r ≡ isEnum (symbolsAt (now (s .entry)) 0) ⌝ }
+    ensures { λ r. ⌜ r ≡ isEnum (symbolsOf (now (s .entry))) ⌝ }
 {
     let table = format::classes();
-    let w = next_symbol(s, 0);
+    let w = next_symbol(s);
     match w {
         Symbol::At { start: _, end: _ } => all_symbols(&table, s),
         Symbol::End => false,
@@ -175,15 +174,15 @@ pub(crate) fn has_symbol(s: &[u8], v: &[u8]) -> bool
     requires { ⌜ isRead (uncomment false (now s)) ≡ true ⌝ }
     ensures { λ r. ⌜ r ≡ among (now (v .entry)) (symbolsIn (uncomment false (now (s .entry)))) ⌝ }
 {
-    let mut i = 0;
+    let mut rest = s;
     loop {
-        let w = next_symbol(s, i);
+        let w = next_symbol(rest);
         match w {
             Symbol::At { start, end } => {
-                if lines::same_bytes(v, &s[start..end]) {
+                if lines::same_bytes(v, &rest[start..end]) {
                     return true;
                 }
-                i = end;
+                rest = &rest[end..];
             }
             Symbol::End => {
                 return false;

@@ -1,13 +1,13 @@
--- `typing::kinds::head_end` meets its contract. The invariant: the run ends where the run of the rest from e on does.
+-- `typing::kinds::head_end` meets its contract. The invariant: e bytes of the run are passed, the others are the run of the rest.
 use borrow.Author.Needs.{needs}
-use mathlib.Core.Path.{_≡_, refl}
-use Prim.Native.Nat.{_≤_, _-_}
+use mathlib.Core.Path.{_≡_}
+use Prim.Native.Nat.{_+_, _≤_, _-_}
 use native.Mathlib.Omega.{arith}
-use lib.ListN.{length}
+use lib.ListN.{length, drop}
 use Rattle.format.specs.Types.{beforeComment}
 use borrow.Author.Tests.{eq-eqb, ne-eqb}
 use Rattle.lines.proofs.Heads.{run-more, run-stop, run-end}
-use Rattle.words.specs.Spans.{runEnd}
+use Rattle.lines.specs.Line.{run}
 use Rattle.typing.proofs.kinds.head_end.Statement.{statement}
 use Rattle.typing.proofs.kinds.head_end.Tie as tie
 use Rattle.typing.proofs.kinds.head_end.Reads as reads
@@ -15,13 +15,13 @@ use Rattle.typing.proofs.kinds.head_end.Lts as lts
 use Rattle.words.proofs.is_gap.Reads as is-gap-reads
 
 abbrev Inv-loop : tie.InvT-loop
-Inv-loop s i e₀ e = (e ≤ length s) × (runEnd beforeComment s i ≡ runEnd beforeComment s e)
+Inv-loop s e₀ e = (e ≤ length s) × (run beforeComment s ≡ e + run beforeComment (drop e s))
 
 abbrev μ-loop : tie.MeasureT-loop
-μ-loop s i e₀ e = length s - e
+μ-loop s e₀ e = length s - e
 
 loop-holds : tie.Need-loop-holds Inv-loop μ-loop
-loop-holds c = (omega arith, refl)
+loop-holds c = (omega arith, omega arith)
 
 shared-slice-read-is-gap : tie.Need-shared-slice-read-is-gap Inv-loop μ-loop
 shared-slice-read-is-gap c = search needs

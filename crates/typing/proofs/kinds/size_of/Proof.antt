@@ -5,6 +5,7 @@ use Prim.Native.Nat.{ℕ}
 use mathlib.Core.Option.{Option·map}
 use mathlib.Core.List.{List, _∷_}
 use Rattle.format.specs.Bytes.{Bytes}
+use lib.ListN.{length}
 use Rattle.words.specs.Spans.{span}
 use Rattle.words.proofs.Finding.{found, not-found}
 use Rattle.format.specs.Numbers.{intBounds}
@@ -33,16 +34,29 @@ returns c =
     let at-args = c .before .before .before .before .args in
     let at-next-word = c .before .before .next-word in
     let at-enum-told = c .enum-told in
-    told-fault (at-args .s .now) (ap (sizeOf intBounds) (not-found (at-args .s .now) (at-args .at) (at-next-word .ensures) (at-enum-told .given .1)))
+    λ x. told-fault x (ap (sizeOf intBounds) (not-found (at-args .s .now) (at-next-word .ensures) (at-enum-told .given .1)))
 
-next-word-requires-2 : tie.Need-next-word-requires-2
-next-word-requires-2 c κs =
+sub-next-word : tie.Need-sub-next-word
+sub-next-word c =
     let at-args = c .before .before .before .before .before .args in
     let at-next-word = c .before .before .before .next-word in
     let at-w = c .before .w in
-    let at-pre = c .before .before .before .before .before .pre in
-    let f = found (at-args .s .now) (at-args .at) (at-next-word .ensures) (at-w .given .1) at-pre in
-    omega arith
+    let f = found (at-args .s .now) (at-next-word .ensures) (at-w .given .1) in
+    omega (arith, f .0)
+
+part-next-word-start : tie.Need-part-next-word-start
+part-next-word-start c =
+    let at-args = c .before .before .before .before .before .args in
+    let at-next-word = c .before .before .before .next-word in
+    let at-w = c .before .w in
+    let f = found (at-args .s .now) (at-next-word .ensures) (at-w .given .1) in
+    omega (arith, f .0)
+
+part-next-word-end : tie.Need-part-next-word-end
+part-next-word-end c = search needs
+
+next-word-requires-2 : tie.Need-next-word-requires-2
+next-word-requires-2 c κs = search needs
 
 enum-told-2 : tie.Need-enum-told-2
 enum-told-2 c = search needs
@@ -52,42 +66,38 @@ enum-told-3 c = search needs
 
 returns-2 : tie.Need-returns-2
 returns-2 c =
-    let at-args = c .before .before .before .before .before .before .before .before .args in
-    let at-next-word = c .before .before .before .before .before .before .next-word in
-    let at-w = c .before .before .before .before .w in
-    let at-pre = c .before .before .before .before .before .before .before .before .pre in
+    let at-args = c .before .before .before .before .before .before .before .before .before .args in
+    let at-next-word = c .before .before .before .before .before .before .before .next-word in
+    let at-w = c .before .before .before .before .before .w in
     let at-next-word2 = c .before .before .next-word2 in
     let at-enum-told3 = c .enum-told3 in
-    let f = found (at-args .s .now) (at-args .at) (at-next-word .ensures) (at-w .given .1) at-pre in
-    let k = found (at-args .s .now) (at-w .given .0 .1 .0) (at-next-word2 .ensures) (at-enum-told3 .given .1) (f .2) in
-    told-fault (at-args .s .now) (ap (sizeOf intBounds) (f .3 ∙ ap (λ (l : List Bytes). span (at-w .given .0 .0) (at-w .given .0 .1 .0) (at-args .s .now) ∷ l) (k .3)))
+    let f = found (at-args .s .now) (at-next-word .ensures) (at-w .given .1) in
+    let k = found (span (at-w .given .0 .1 .0) (length (at-args .s .now)) (at-args .s .now)) (at-next-word2 .ensures) (at-enum-told3 .given .1) in
+    λ x. told-fault x (ap (sizeOf intBounds) (f .2 ∙ ap (λ (l : List Bytes). span (at-w .given .0 .0) (at-w .given .0 .1 .0) (at-args .s .now) ∷ l) (k .2)))
 
 sub-number-of : tie.Need-sub-number-of
 sub-number-of c =
-    let at-args = c .before .before .before .before .before .before .before .before .args in
-    let at-next-word = c .before .before .before .before .before .before .next-word in
-    let at-w = c .before .before .before .before .w in
-    let at-pre = c .before .before .before .before .before .before .before .before .pre in
-    let f = found (at-args .s .now) (at-args .at) (at-next-word .ensures) (at-w .given .1) at-pre in
-    omega arith
+    let at-args = c .before .before .before .before .before .before .before .before .before .args in
+    let at-next-word = c .before .before .before .before .before .before .before .next-word in
+    let at-w = c .before .before .before .before .before .w in
+    let f = found (at-args .s .now) (at-next-word .ensures) (at-w .given .1) in
+    omega (arith, f .0, f .1)
 
 part-number-of-start : tie.Need-part-number-of-start
 part-number-of-start c =
-    let at-args = c .before .before .before .before .before .before .before .before .args in
-    let at-next-word = c .before .before .before .before .before .before .next-word in
-    let at-w = c .before .before .before .before .w in
-    let at-pre = c .before .before .before .before .before .before .before .before .pre in
-    let f = found (at-args .s .now) (at-args .at) (at-next-word .ensures) (at-w .given .1) at-pre in
-    omega arith
+    let at-args = c .before .before .before .before .before .before .before .before .before .args in
+    let at-next-word = c .before .before .before .before .before .before .before .next-word in
+    let at-w = c .before .before .before .before .before .w in
+    let f = found (at-args .s .now) (at-next-word .ensures) (at-w .given .1) in
+    omega (arith, f .0, f .1)
 
 part-number-of-end : tie.Need-part-number-of-end
 part-number-of-end c =
-    let at-args = c .before .before .before .before .before .before .before .before .args in
-    let at-next-word = c .before .before .before .before .before .before .next-word in
-    let at-w = c .before .before .before .before .w in
-    let at-pre = c .before .before .before .before .before .before .before .before .pre in
-    let f = found (at-args .s .now) (at-args .at) (at-next-word .ensures) (at-w .given .1) at-pre in
-    omega arith
+    let at-args = c .before .before .before .before .before .before .before .before .before .args in
+    let at-next-word = c .before .before .before .before .before .before .before .next-word in
+    let at-w = c .before .before .before .before .before .w in
+    let f = found (at-args .s .now) (at-next-word .ensures) (at-w .given .1) in
+    omega (arith, f .0, f .1)
 
 number-of-requires : tie.Need-number-of-requires
 number-of-requires c κs = search needs
@@ -100,31 +110,29 @@ enum-told-4 c = search needs
 
 returns-3 : tie.Need-returns-3
 returns-3 c =
-    let at-args = c .before .before .before .before .before .before .before .before .before .before .before .before .before .args in
-    let at-next-word = c .before .before .before .before .before .before .before .before .before .before .before .next-word in
-    let at-w = c .before .before .before .before .before .before .before .before .before .w in
-    let at-pre = c .before .before .before .before .before .before .before .before .before .before .before .before .before .pre in
+    let at-args = c .before .before .before .before .before .before .before .before .before .before .before .before .before .before .args in
+    let at-next-word = c .before .before .before .before .before .before .before .before .before .before .before .before .next-word in
+    let at-w = c .before .before .before .before .before .before .before .before .before .before .w in
     let at-next-word2 = c .before .before .before .before .before .before .before .next-word2 in
     let at-enum-told2 = c .before .before .before .before .before .enum-told2 in
     let at-number-of = c .before .before .before .number-of in
     let at-x = c .before .x in
-    let f = found (at-args .s .now) (at-args .at) (at-next-word .ensures) (at-w .given .1) at-pre in
-    let n = not-found (at-args .s .now) (at-w .given .0 .1 .0) (at-next-word2 .ensures) (at-enum-told2 .given .1) in
-    record { answers = sym (ap (sizeOf intBounds) (f .3 ∙ ap (λ (l : List Bytes). span (at-w .given .0 .0) (at-w .given .0 .1 .0) (at-args .s .now) ∷ l) n) ∙ ap (Option·map (λ (n : ℕ). Typed.kind (Kind.size n))) (sym (at-number-of .ensures) ∙ ap naturalAnswer (at-x .given .1))); sound = tt }
+    let f = found (at-args .s .now) (at-next-word .ensures) (at-w .given .1) in
+    let n = not-found (span (at-w .given .0 .1 .0) (length (at-args .s .now)) (at-args .s .now)) (at-next-word2 .ensures) (at-enum-told2 .given .1) in
+    λ x. record { answers = sym (ap (sizeOf intBounds) (f .2 ∙ ap (λ (l : List Bytes). span (at-w .given .0 .0) (at-w .given .0 .1 .0) (at-args .s .now) ∷ l) n) ∙ ap (Option·map (λ (n : ℕ). Typed.kind (Kind.size n))) (sym (at-number-of .ensures) ∙ ap naturalAnswer (at-x .given .1))); sound = tt }
 
 returns-4 : tie.Need-returns-4
 returns-4 c =
-    let at-args = c .before .before .before .before .before .before .before .before .before .before .before .before .args in
-    let at-next-word = c .before .before .before .before .before .before .before .before .before .before .next-word in
-    let at-w = c .before .before .before .before .before .before .before .before .w in
-    let at-pre = c .before .before .before .before .before .before .before .before .before .before .before .before .pre in
+    let at-args = c .before .before .before .before .before .before .before .before .before .before .before .before .before .args in
+    let at-next-word = c .before .before .before .before .before .before .before .before .before .before .before .next-word in
+    let at-w = c .before .before .before .before .before .before .before .before .before .w in
     let at-next-word2 = c .before .before .before .before .before .before .next-word2 in
     let at-enum-told2 = c .before .before .before .before .enum-told2 in
     let at-number-of = c .before .before .number-of in
     let at-enum-told4 = c .enum-told4 in
-    let f = found (at-args .s .now) (at-args .at) (at-next-word .ensures) (at-w .given .1) at-pre in
-    let n = not-found (at-args .s .now) (at-w .given .0 .1 .0) (at-next-word2 .ensures) (at-enum-told2 .given .1) in
-    told-fault (at-args .s .now) (ap (sizeOf intBounds) (f .3 ∙ ap (λ (l : List Bytes). span (at-w .given .0 .0) (at-w .given .0 .1 .0) (at-args .s .now) ∷ l) n) ∙ ap (Option·map (λ (n : ℕ). Typed.kind (Kind.size n))) (sym (at-number-of .ensures) ∙ ap naturalAnswer (at-enum-told4 .given .1)))
+    let f = found (at-args .s .now) (at-next-word .ensures) (at-w .given .1) in
+    let n = not-found (span (at-w .given .0 .1 .0) (length (at-args .s .now)) (at-args .s .now)) (at-next-word2 .ensures) (at-enum-told2 .given .1) in
+    λ x. told-fault x (ap (sizeOf intBounds) (f .2 ∙ ap (λ (l : List Bytes). span (at-w .given .0 .0) (at-w .given .0 .1 .0) (at-args .s .now) ∷ l) n) ∙ ap (Option·map (λ (n : ℕ). Typed.kind (Kind.size n))) (sym (at-number-of .ensures) ∙ ap naturalAnswer (at-enum-told4 .given .1)))
 
 pub size-of-spec : {M : Type 1} → statement M
 size-of-spec =
@@ -134,6 +142,9 @@ size-of-spec =
     enum-known-w
     enum-told
     returns
+    sub-next-word
+    part-next-word-start
+    part-next-word-end
     next-word-requires-2
     enum-told-2
     enum-told-3

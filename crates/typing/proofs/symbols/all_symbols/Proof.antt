@@ -1,10 +1,9 @@
--- `typing::symbols::all_symbols` meets its contract. The invariant: all words are symbols if those from i on are. The measure is what is left of the text.
+-- `typing::symbols::all_symbols` meets its contract. The invariant: all words are symbols if those of the rest are. The measure is the rest.
 use borrow.Author.Needs.{needs}
-use Prim.Native.Nat.{_≤_, _-_}
 use mathlib.Core.Path.{_≡_, refl, sym, ap, _∙_}
 use native.Mathlib.Omega.{arith}
 use lib.ListN.{length}
-use Rattle.typing.specs.Symbols.{symbolsAt, areSymbols}
+use Rattle.typing.specs.Symbols.{symbolsOf, areSymbols}
 use Rattle.typing.proofs.Comments.{told-by, are-more, are-stop}
 use Rattle.typing.proofs.symbols.all_symbols.Statement.{statement}
 use Rattle.typing.proofs.symbols.all_symbols.Tie as tie
@@ -14,13 +13,13 @@ use Rattle.typing.proofs.symbols.is_symbol.Reads as is-symbol-reads
 use Rattle.typing.proofs.symbols.next_symbol.Reads as next-symbol-reads
 
 abbrev Inv-loop : tie.InvT-loop
-Inv-loop table s i₀ i = (i ≤ length s) × (areSymbols (symbolsAt s 0) ≡ areSymbols (symbolsAt s i))
+Inv-loop table s rest₀ rest = areSymbols (symbolsOf s) ≡ areSymbols (symbolsOf rest)
 
 abbrev μ-loop : tie.MeasureT-loop
-μ-loop table s i₀ i = length s - i
+μ-loop table s rest₀ rest = length rest
 
 loop-holds : tie.Need-loop-holds Inv-loop μ-loop
-loop-holds c = (omega arith, refl)
+loop-holds c = refl
 
 next-symbol-requires : tie.Need-next-symbol-requires Inv-loop μ-loop
 next-symbol-requires c κs = search needs
@@ -30,64 +29,77 @@ enum-known-w c = search needs
 
 sub-is-symbol : tie.Need-sub-is-symbol Inv-loop μ-loop
 sub-is-symbol c =
-    let at-args = c .before .before .before .before .before .before .args in
     let at-loop = c .before .before .before .before .loop in
     let at-next-symbol = c .before .before .before .next-symbol in
     let at-w = c .before .w in
-    let t = told-by (at-args .s .now) (at-loop .i) (at-next-symbol .ensures) (at-w .given .1) in
-    omega (arith, t .0, t .1, t .2)
+    let t = told-by (at-loop .rest .now) (at-next-symbol .ensures) (at-w .given .1) in
+    omega (arith, t .0, t .1)
 
 part-is-symbol-start : tie.Need-part-is-symbol-start Inv-loop μ-loop
 part-is-symbol-start c =
-    let at-args = c .before .before .before .before .before .before .args in
     let at-loop = c .before .before .before .before .loop in
     let at-next-symbol = c .before .before .before .next-symbol in
     let at-w = c .before .w in
-    let t = told-by (at-args .s .now) (at-loop .i) (at-next-symbol .ensures) (at-w .given .1) in
-    omega (arith, t .0, t .1, t .2)
+    let t = told-by (at-loop .rest .now) (at-next-symbol .ensures) (at-w .given .1) in
+    omega (arith, t .0, t .1)
 
 part-is-symbol-end : tie.Need-part-is-symbol-end Inv-loop μ-loop
 part-is-symbol-end c =
-    let at-args = c .before .before .before .before .before .before .args in
     let at-loop = c .before .before .before .before .loop in
     let at-next-symbol = c .before .before .before .next-symbol in
     let at-w = c .before .w in
-    let t = told-by (at-args .s .now) (at-loop .i) (at-next-symbol .ensures) (at-w .given .1) in
-    omega (arith, t .0, t .1, t .2)
+    let t = told-by (at-loop .rest .now) (at-next-symbol .ensures) (at-w .given .1) in
+    omega (arith, t .0, t .1)
 
 is-symbol-requires : tie.Need-is-symbol-requires Inv-loop μ-loop
 is-symbol-requires c κs = search needs
 
-loop-less : tie.Need-loop-less Inv-loop μ-loop
-loop-less c =
-    let at-args = c .before .before .before .before .before .before .before .before .before .args in
+sub-rest : tie.Need-sub-rest Inv-loop μ-loop
+sub-rest c =
     let at-loop = c .before .before .before .before .before .before .before .loop in
     let at-next-symbol = c .before .before .before .before .before .before .next-symbol in
     let at-w = c .before .before .before .before .w in
-    let t = told-by (at-args .s .now) (at-loop .i) (at-next-symbol .ensures) (at-w .given .1) in
-    omega (arith, t .0, t .1, t .2)
+    let t = told-by (at-loop .rest .now) (at-next-symbol .ensures) (at-w .given .1) in
+    omega (arith, t .1)
+
+part-rest-start : tie.Need-part-rest-start Inv-loop μ-loop
+part-rest-start c =
+    let at-loop = c .before .before .before .before .before .before .before .loop in
+    let at-next-symbol = c .before .before .before .before .before .before .next-symbol in
+    let at-w = c .before .before .before .before .w in
+    let t = told-by (at-loop .rest .now) (at-next-symbol .ensures) (at-w .given .1) in
+    omega (arith, t .1)
+
+part-rest-end : tie.Need-part-rest-end Inv-loop μ-loop
+part-rest-end c = search needs
+
+loop-less : tie.Need-loop-less Inv-loop μ-loop
+loop-less c =
+    let at-loop = c .before .before .before .before .before .before .before .before .loop in
+    let at-next-symbol = c .before .before .before .before .before .before .before .next-symbol in
+    let at-w = c .before .before .before .before .before .w in
+    let t = told-by (at-loop .rest .now) (at-next-symbol .ensures) (at-w .given .1) in
+    omega (arith, t .0, t .1)
 
 loop-again : tie.Need-loop-again Inv-loop μ-loop
 loop-again c =
-    let at-args = c .before .before .before .before .before .before .before .before .before .args in
-    let at-loop = c .before .before .before .before .before .before .before .loop in
-    let at-next-symbol = c .before .before .before .before .before .before .next-symbol in
-    let at-w = c .before .before .before .before .w in
-    let at-is-symbol = c .before .is-symbol in
-    let at-if1 = c .if1 in
-    let t = told-by (at-args .s .now) (at-loop .i) (at-next-symbol .ensures) (at-w .given .1) in
-    (omega (arith, t .2), at-loop .inv .1 ∙ are-more (at-args .s .now) (at-loop .i) (at-w .given .0 .0) (at-w .given .0 .1 .0) t (sym (at-is-symbol .ensures) ∙ at-if1 .taken))
+    let at-loop = c .before .before .before .before .before .before .before .before .loop in
+    let at-next-symbol = c .before .before .before .before .before .before .before .next-symbol in
+    let at-w = c .before .before .before .before .before .w in
+    let at-is-symbol = c .before .before .is-symbol in
+    let at-if1 = c .before .if1 in
+    let t = told-by (at-loop .rest .now) (at-next-symbol .ensures) (at-w .given .1) in
+    at-loop .inv ∙ are-more (at-loop .rest .now) (at-w .given .0 .0) (at-w .given .0 .1 .0) t (sym (at-is-symbol .ensures) ∙ at-if1 .taken)
 
 returns : tie.Need-returns Inv-loop μ-loop
 returns c =
-    let at-args = c .before .before .before .before .before .before .before .before .before .args in
     let at-loop = c .before .before .before .before .before .before .before .loop in
     let at-next-symbol = c .before .before .before .before .before .before .next-symbol in
     let at-w = c .before .before .before .before .w in
     let at-is-symbol = c .before .is-symbol in
     let at-if1 = c .if1 in
-    let t = told-by (at-args .s .now) (at-loop .i) (at-next-symbol .ensures) (at-w .given .1) in
-    sym (at-loop .inv .1 ∙ are-stop (at-args .s .now) (at-loop .i) (at-w .given .0 .0) (at-w .given .0 .1 .0) t (sym (at-is-symbol .ensures) ∙ at-if1 .left))
+    let t = told-by (at-loop .rest .now) (at-next-symbol .ensures) (at-w .given .1) in
+    sym (at-loop .inv ∙ are-stop (at-loop .rest .now) (at-w .given .0 .0) (at-w .given .0 .1 .0) t (sym (at-is-symbol .ensures) ∙ at-if1 .left))
 
 enum-told : tie.Need-enum-told Inv-loop μ-loop
 enum-told c = search needs
@@ -95,10 +107,9 @@ enum-told c = search needs
 returns-2 : tie.Need-returns-2 Inv-loop μ-loop
 returns-2 c =
     let at-loop = c .before .before .before .loop in
-    let at-args = c .before .before .before .before .before .args in
     let at-next-symbol = c .before .before .next-symbol in
     let at-enum-told = c .enum-told in
-    sym (at-loop .inv .1 ∙ ap areSymbols (told-by (at-args .s .now) (at-loop .i) (at-next-symbol .ensures) (at-enum-told .given .1)))
+    sym (at-loop .inv ∙ ap areSymbols (told-by (at-loop .rest .now) (at-next-symbol .ensures) (at-enum-told .given .1)))
 
 enum-told-2 : tie.Need-enum-told-2 Inv-loop μ-loop
 enum-told-2 c = search needs
@@ -106,10 +117,9 @@ enum-told-2 c = search needs
 returns-3 : tie.Need-returns-3 Inv-loop μ-loop
 returns-3 c =
     let at-loop = c .before .before .before .loop in
-    let at-args = c .before .before .before .before .before .args in
     let at-next-symbol = c .before .before .next-symbol in
     let at-enum-told2 = c .enum-told2 in
-    sym (at-loop .inv .1 ∙ ap areSymbols (told-by (at-args .s .now) (at-loop .i) (at-next-symbol .ensures) (at-enum-told2 .given .1)))
+    sym (at-loop .inv ∙ ap areSymbols (told-by (at-loop .rest .now) (at-next-symbol .ensures) (at-enum-told2 .given .1)))
 
 pub all-symbols-spec : {M : Type 1} → statement M
 all-symbols-spec =
@@ -124,6 +134,9 @@ all-symbols-spec =
     part-is-symbol-start
     part-is-symbol-end
     is-symbol-requires
+    sub-rest
+    part-rest-start
+    part-rest-end
     loop-less
     loop-again
     returns

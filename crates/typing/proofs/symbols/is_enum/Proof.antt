@@ -35,22 +35,22 @@ returns c =
     let at-next-symbol = c .before .before .before .before .next-symbol in
     let at-enum-told = c .before .before .enum-told in
     let at-all-symbols = c .all-symbols in
-    let t = told-by (at-args .s .now) 0 (at-next-symbol .ensures) (at-enum-told .given .1) in
-    at-all-symbols .ensures ∙ sym (enum-word (at-args .s .now) 0 (at-enum-told .given .0 .0) (at-enum-told .given .0 .1 .0) t)
+    let t = told-by (at-args .s .now) (at-next-symbol .ensures) (at-enum-told .given .1) in
+    at-all-symbols .ensures ∙ sym (enum-word (at-args .s .now) (at-enum-told .given .0 .0) (at-enum-told .given .0 .1 .0) t)
 
 returns-2 : tie.Need-returns-2
 returns-2 c =
     let at-args = c .before .before .before .before .before .args in
     let at-next-symbol = c .before .before .next-symbol in
     let at-enum-told2 = c .enum-told2 in
-    sym (ap isEnum (told-by (at-args .s .now) 0 (at-next-symbol .ensures) (at-enum-told2 .given .1)))
+    sym (ap isEnum (told-by (at-args .s .now) (at-next-symbol .ensures) (at-enum-told2 .given .1)))
 
 returns-3 : tie.Need-returns-3
 returns-3 c =
     let at-args = c .before .before .before .before .before .args in
     let at-next-symbol = c .before .before .next-symbol in
     let at-enum-told3 = c .enum-told3 in
-    sym (ap isEnum (told-by (at-args .s .now) 0 (at-next-symbol .ensures) (at-enum-told3 .given .1)))
+    sym (ap isEnum (told-by (at-args .s .now) (at-next-symbol .ensures) (at-enum-told3 .given .1)))
 
 pub is-enum-spec : {M : Type 1} → statement M
 is-enum-spec =

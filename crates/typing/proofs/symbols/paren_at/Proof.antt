@@ -1,26 +1,26 @@
--- `typing::symbols::paren_at` meets its contract. The invariant: the run ends where the run of the rest from e on does.
+-- `typing::symbols::paren_at` meets its contract. The invariant: e bytes of the run are passed, the others are the run of the rest.
 use borrow.Author.Needs.{needs}
-use mathlib.Core.Path.{_≡_, refl}
-use Prim.Native.Nat.{_≤_, _-_}
+use mathlib.Core.Path.{_≡_}
+use Prim.Native.Nat.{_+_, _≤_, _-_}
 use native.Mathlib.Omega.{arith}
-use lib.ListN.{length}
+use lib.ListN.{length, drop}
 use Rattle.typing.specs.Symbols.{notParen}
 use borrow.Author.Tests.{eq-eqb, ne-eqb}
 use Rattle.lines.proofs.Heads.{run-more, run-stop, run-end}
-use Rattle.words.specs.Spans.{runEnd}
+use Rattle.lines.specs.Line.{run}
 use Rattle.typing.proofs.symbols.paren_at.Statement.{statement}
 use Rattle.typing.proofs.symbols.paren_at.Tie as tie
 use Rattle.typing.proofs.symbols.paren_at.Reads as reads
 use Rattle.typing.proofs.symbols.paren_at.Lts as lts
 
 abbrev Inv-loop : tie.InvT-loop
-Inv-loop s i e₀ e = (e ≤ length s) × (runEnd notParen s i ≡ runEnd notParen s e)
+Inv-loop s e₀ e = (e ≤ length s) × (run notParen s ≡ e + run notParen (drop e s))
 
 abbrev μ-loop : tie.MeasureT-loop
-μ-loop s i e₀ e = length s - e
+μ-loop s e₀ e = length s - e
 
 loop-holds : tie.Need-loop-holds Inv-loop μ-loop
-loop-holds c = (omega arith, refl)
+loop-holds c = (omega arith, omega arith)
 
 shared-slice-read-if1 : tie.Need-shared-slice-read-if1 Inv-loop μ-loop
 shared-slice-read-if1 c = search needs

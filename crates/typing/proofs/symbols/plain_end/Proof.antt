@@ -1,12 +1,12 @@
--- `typing::symbols::plain_end` meets its contract. The invariant: the run ends where the run of the rest from e on does.
+-- `typing::symbols::plain_end` meets its contract. The invariant: e bytes of the run are passed, the others are the run of the rest.
 use borrow.Author.Needs.{needs}
-use mathlib.Core.Path.{_≡_, refl, sym, _∙_}
-use Prim.Native.Nat.{_≤_, _-_}
+use mathlib.Core.Path.{_≡_, sym, _∙_}
+use Prim.Native.Nat.{_+_, _≤_, _-_}
 use native.Mathlib.Omega.{arith}
-use lib.ListN.{length}
+use lib.ListN.{length, drop}
 use Rattle.typing.specs.Symbols.{isPlain}
 use Rattle.lines.proofs.Heads.{run-more, run-stop, run-end}
-use Rattle.words.specs.Spans.{runEnd}
+use Rattle.lines.specs.Line.{run}
 use Rattle.typing.proofs.symbols.plain_end.Statement.{statement}
 use Rattle.typing.proofs.symbols.plain_end.Tie as tie
 use Rattle.typing.proofs.symbols.plain_end.Reads as reads
@@ -14,13 +14,13 @@ use Rattle.typing.proofs.symbols.plain_end.Lts as lts
 use Rattle.typing.proofs.symbols.is_plain.Reads as is-plain-reads
 
 abbrev Inv-loop : tie.InvT-loop
-Inv-loop s i e₀ e = (e ≤ length s) × (runEnd isPlain s i ≡ runEnd isPlain s e)
+Inv-loop s e₀ e = (e ≤ length s) × (run isPlain s ≡ e + run isPlain (drop e s))
 
 abbrev μ-loop : tie.MeasureT-loop
-μ-loop s i e₀ e = length s - e
+μ-loop s e₀ e = length s - e
 
 loop-holds : tie.Need-loop-holds Inv-loop μ-loop
-loop-holds c = (omega arith, refl)
+loop-holds c = (omega arith, omega arith)
 
 shared-slice-read-is-plain : tie.Need-shared-slice-read-is-plain Inv-loop μ-loop
 shared-slice-read-is-plain c = search needs
