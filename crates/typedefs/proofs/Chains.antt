@@ -15,7 +15,8 @@ use Rattle.typing.specs.Meaning.{typedIn, typeAnswer, SoundType, Sound, Told}
 use Rattle.typing.specs.declared.Shape.{Shape}
 use Rattle.typing.specs.declared.TypeOf.{TypeOf}
 use Rattle.typing.proofs.Shape.{the-type}
-use Rattle.words.specs.Spans.{wordAt}
+use Rattle.lines.proofs.Cuts.{rest}
+use Rattle.words.specs.Spans.{nextWord}
 use Rattle.words.specs.declared.Word.{Word}
 use Rattle.words.proofs.Finding.{afterBy, Within, after-at, word-within}
 use Rattle.typedefs.specs.Targets.{indexFrom, targetBy, Bounded, targetsIn, onward, followOf}
@@ -39,15 +40,15 @@ module _ (at : ℕ) (n : Bytes) (ns : List Bytes) where
   index-later m ms e q = ap (indexFrom at n) e ∙ ap (λ (t : Bool). pick t (Target.Alias at) (indexFrom (at + 1) n ms)) q
 
 -- the text behind a first word
-module _ (s : Bytes) (w : Word) (q : w ≡ wordAt s 0) where
+module _ (s : Bytes) (w : Word) (q : w ≡ nextWord s) where
   pub word-behind : (a e : ℕ) → w ≡ Word.At a e → (e ≤ length s) × (drop e s ≡ afterWord s)
   word-behind a e p =
-      let g : wordAt s 0 ≡ Word.At a e = sym q ∙ p in
-      let l : Within s 0 (Word.At a e) = subst (Within s 0) g (word-within s 0 (omega arith)) in
-      (l .2, sym (after-at s 0 ∙ ap (afterBy s) g))
+      let g : nextWord s ≡ Word.At a e = sym q ∙ p in
+      let l : Within s (Word.At a e) = subst (Within s) g (word-within s) in
+      (l .1, sym (after-at s ∙ ap (afterBy s) g ∙ rest s e))
 
   pub no-word : w ≡ Word.Nothing → afterWord s ≡ []
-  no-word p = after-at s 0 ∙ ap (afterBy s) (sym q ∙ p)
+  no-word p = after-at s ∙ ap (afterBy s) (sym q ∙ p)
 
 -- what a type's text leads to, by its shape
 pub told-none : (s : Bytes) (x : Option Typed) (r : TypeOf) → Told s x r → r ≡ TypeOf.Fault → x ≡ none

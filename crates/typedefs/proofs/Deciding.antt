@@ -4,7 +4,7 @@ use native.Mathlib.Omega.{arith}
 use mathlib.Core.Path.{_≡_, refl, sym, ap, _∙_}
 use mathlib.Core.Bool.{Bool, true, false, _&&_, not, and-eq-true-iff}
 use mathlib.Core.List.{List, [], _∷_, map}
-use lib.ListN.{length, drop, drop-of-length-le}
+use lib.ListN.{length, take, drop, drop-of-length-le}
 use Rattle.format.specs.Bytes.{Bytes, text, all, among, isSome}
 use Rattle.format.specs.Lines.{isName}
 use Rattle.format.specs.Words.{firstWord, split, isTypeName}
@@ -13,9 +13,10 @@ use Rattle.format.specs.Records.{Record}
 use Rattle.format.specs.Sets.{valuesOf}
 use Rattle.format.specs.Rules.{typedNames, endKind, reserved, isTypedefName, distinct, isTypedWell}
 use Rattle.lines.specs.Value.{valueFrom}
-use Rattle.lines.proofs.Cuts.{at-cons}
-use Rattle.words.specs.Spans.{span, runEnd, notByte}
-use Rattle.words.proofs.Splitting.{splitBehind, split-at}
+use Rattle.lines.specs.Line.{run}
+use Rattle.lines.proofs.Cuts.{at-cons, rest as rest-all}
+use Rattle.words.specs.Spans.{span, notByte}
+use Rattle.words.proofs.Splitting.{splitBehind, split-run}
 use Rattle.records.specs.Named.{valuesFrom, ValueHere}
 use Rattle.typedefs.specs.Targets.{targetIn, leads, areDefined, wellBy}
 use Rattle.typedefs.proofs.Filling.{both-true}
@@ -78,19 +79,19 @@ module _ (r : Record) where
 pub all-cut : (p : Bytes → Bool) (d name : Bytes) (i v e : ℕ) (t : Bool) → ValueHere d name i v e → t ≡ p (valueFrom (drop v d)) → all p (valuesFrom d name i) ≡ (t && all p (valuesFrom d name e))
 all-cut p d name i v e t h q = ap (all p) (h .values) ∙ ap (λ (b : Bool). b && all p (valuesFrom d name e)) (sym (q ∙ ap p (h .ends-itself)))
 
--- the parts of a word from i on
-module _ (s : Bytes) (i e : ℕ) (q : e ≡ runEnd (notByte 44) s i) where
-  parts-cut : split 44 (drop i s) ≡ span i e s ∷ splitBehind 44 (drop e s)
-  parts-cut = split-at 44 s i ∙ ap (λ (m : ℕ). span i m s ∷ splitBehind 44 (drop m s)) (sym q)
+-- the parts of a word
+module _ (s : Bytes) (e : ℕ) (q : e ≡ run (notByte 44) s) where
+  parts-cut : split 44 s ≡ take e s ∷ splitBehind 44 (drop e s)
+  parts-cut = split-run 44 s ∙ ap (λ (m : ℕ). take m s ∷ splitBehind 44 (drop m s)) (sym q)
 
-  pub part-bad : isName (span i e s) ≡ false → all isName (split 44 (drop i s)) ≡ false
+  pub part-bad : isName (take e s) ≡ false → all isName (split 44 s) ≡ false
   part-bad b = ap (all isName) parts-cut ∙ ap (λ (t : Bool). t && all isName (splitBehind 44 (drop e s))) b
 
-  part-good : isName (span i e s) ≡ true → all isName (split 44 (drop i s)) ≡ all isName (splitBehind 44 (drop e s))
+  part-good : isName (take e s) ≡ true → all isName (split 44 s) ≡ all isName (splitBehind 44 (drop e s))
   part-good b = ap (all isName) parts-cut ∙ ap (λ (t : Bool). t && all isName (splitBehind 44 (drop e s))) b
 
-  pub part-last : isName (span i e s) ≡ true → e ≡ length s → all isName (split 44 (drop i s)) ≡ true
+  pub part-last : isName (take e s) ≡ true → e ≡ length s → all isName (split 44 s) ≡ true
   part-last b h = let l : length s ≤ e = omega arith in part-good b ∙ ap (λ (x : Bytes). all isName (splitBehind 44 x)) (drop-of-length-le s l)
 
-  pub part-more : isName (span i e s) ≡ true → e < length s → all isName (split 44 (drop i s)) ≡ all isName (split 44 (drop (e + 1) s))
-  part-more b h = part-good b ∙ ap (λ (x : Bytes). all isName (splitBehind 44 x)) (at-cons s e h)
+  pub part-more : isName (take e s) ≡ true → e < length s → all isName (split 44 s) ≡ all isName (split 44 (span (e + 1) (length s) s))
+  part-more b h = part-good b ∙ ap (λ (x : Bytes). all isName (splitBehind 44 x)) (at-cons s e h) ∙ ap (λ (x : Bytes). all isName (split 44 x)) (sym (rest-all s (e + 1)))

@@ -12,7 +12,7 @@ use Rattle.format.specs.Bytes.{Bytes, text, pick, same, among, all}
 use Rattle.format.specs.Words.{firstWord}
 use Rattle.format.specs.Rules.{isTypedefName, distinct}
 use Rattle.lines.specs.Value.{valueFrom}
-use Rattle.words.specs.Spans.{span, wordAt}
+use Rattle.words.specs.Spans.{span, nextWord}
 use Rattle.words.specs.declared.Word.{Word}
 use Rattle.words.proofs.Finding.{firstBy, first-at}
 use Rattle.records.specs.Named.{ValueHere}
@@ -46,11 +46,11 @@ not-missing (Target.Alias j) h = refl
 not-missing Target.Missing h = absurd (miss (0 ∷ 1 ∷ []) 2 tt h)
 
 -- the first word that was found
-pub first-found : (s : Bytes) (w : Word) (a e : ℕ) → w ≡ wordAt s 0 → w ≡ Word.At a e → firstWord s ≡ span a e s
-first-found s w a e p q = first-at s 0 ∙ ap (firstBy s) (sym p ∙ q)
+pub first-found : (s : Bytes) (w : Word) (a e : ℕ) → w ≡ nextWord s → w ≡ Word.At a e → firstWord s ≡ span a e s
+first-found s w a e p q = first-at s ∙ ap (firstBy s) (sym p ∙ q)
 
-pub first-none : (s : Bytes) (w : Word) → w ≡ wordAt s 0 → w ≡ Word.Nothing → firstWord s ≡ []
-first-none s w p q = first-at s 0 ∙ ap (firstBy s) (sym p ∙ q)
+pub first-none : (s : Bytes) (w : Word) → w ≡ nextWord s → w ≡ Word.Nothing → firstWord s ≡ []
+first-none s w p q = first-at s ∙ ap (firstBy s) (sym p ∙ q)
 
 -- the names from byte i on, and from name k on
 pub good-cut : (d : Bytes) (i v e : ℕ) (t : Bool) → ValueHere d (text "%typedef") i v e → t ≡ isTypedefName (firstWord (valueFrom (span v e d))) → all isTypedefName (namesFrom d i) ≡ (t && all isTypedefName (namesFrom d e))

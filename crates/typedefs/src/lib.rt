@@ -32,7 +32,7 @@ use words::Word;
 pub fn behind_word(s: &[u8]) -> usize
     ensures { λ r. ⌜ (r ≤ length (now (s .entry))) × (drop r (now (s .entry)) ≡ afterWord (now (s .entry))) ⌝ }
 {
-    let w = words::next_word(s, 0);
+    let w = words::next_word(s);
     let Word::At { start: _, end } = w else {
         return s.len();
     };
@@ -309,7 +309,7 @@ fn is_reserved(s: &[u8]) -> bool
 fn name_good(s: &[u8]) -> bool
     ensures { λ r. ⌜ r ≡ isTypedefName (firstWord (now (s .entry))) ⌝ }
 {
-    let w = words::next_word(s, 0);
+    let w = words::next_word(s);
     let Word::At { start, end } = w else {
         return false;
     };
@@ -349,9 +349,9 @@ fn first_index(d: &[u8], names: Names, from: usize, s: &[u8]) -> Target
     requires { ⌜ AreNames (now d) names × (from ≤ names .count) ⌝ }
     ensures { λ r. ⌜ r ≡ indexFrom from (firstWord (now (s .entry))) (drop from (namesFrom (now (d .entry)) 0)) ⌝ }
 {
-    let a = words::gap_end(s, 0);
-    let e = words::word_end(s, a);
-    index_from(d, names, from, &s[a..e])
+    let w = &s[words::gap_end(s)..];
+    let e = words::word_end(w);
+    index_from(d, names, from, &w[..e])
 }
 
 // Has no typedef behind typedef k its name?
@@ -391,16 +391,16 @@ fn names_apart(d: &[u8], names: Names, scratch: &mut [u8]) -> bool
 fn parts_named(s: &[u8]) -> bool
     ensures { λ r. ⌜ r ≡ all isName (split 44 (now (s .entry))) ⌝ }
 {
-    let mut i = 0;
+    let mut rest = s;
     loop {
-        let e = words::part_end(s, i, b',');
-        if !words::is_name(&s[i..e]) {
+        let e = words::part_end(rest, b',');
+        if !words::is_name(&rest[..e]) {
             return false;
         }
-        if e == s.len() {
+        if e == rest.len() {
             return true;
         }
-        i = e + 1;
+        rest = &rest[e + 1..];
     }
 }
 
@@ -408,7 +408,7 @@ fn parts_named(s: &[u8]) -> bool
 fn names_well(s: &[u8]) -> bool
     ensures { λ r. ⌜ r ≡ all isName (typedNames (now (s .entry))) ⌝ }
 {
-    let w = words::next_word(s, 0);
+    let w = words::next_word(s);
     let Word::At { start, end } = w else {
         return false;
     };

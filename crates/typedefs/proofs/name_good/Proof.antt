@@ -38,21 +38,21 @@ sub-is-type-name c =
     let at-args = c .before .before .before .before .before .args in
     let at-next-word = c .before .before .before .next-word in
     let at-w = c .before .w in
-    let f = found (at-args .s .now) 0 (at-next-word .ensures) (at-w .given .1) (omega arith) in omega arith
+    let f = found (at-args .s .now) (at-next-word .ensures) (at-w .given .1) in omega arith
 
 part-is-type-name-start : tie.Need-part-is-type-name-start
 part-is-type-name-start c =
     let at-args = c .before .before .before .before .before .args in
     let at-next-word = c .before .before .before .next-word in
     let at-w = c .before .w in
-    let f = found (at-args .s .now) 0 (at-next-word .ensures) (at-w .given .1) (omega arith) in omega arith
+    let f = found (at-args .s .now) (at-next-word .ensures) (at-w .given .1) in omega arith
 
 part-is-type-name-end : tie.Need-part-is-type-name-end
 part-is-type-name-end c =
     let at-args = c .before .before .before .before .before .args in
     let at-next-word = c .before .before .before .next-word in
     let at-w = c .before .w in
-    let f = found (at-args .s .now) 0 (at-next-word .ensures) (at-w .given .1) (omega arith) in omega arith
+    let f = found (at-args .s .now) (at-next-word .ensures) (at-w .given .1) in omega arith
 
 is-type-name-requires : tie.Need-is-type-name-requires
 is-type-name-requires c κs =
@@ -75,21 +75,21 @@ sub-is-reserved c =
     let at-args = c .before .before .before .before .before .before .before .before .args in
     let at-next-word = c .before .before .before .before .before .before .next-word in
     let at-w = c .before .before .before .before .w in
-    let f = found (at-args .s .now) 0 (at-next-word .ensures) (at-w .given .1) (omega arith) in omega arith
+    let f = found (at-args .s .now) (at-next-word .ensures) (at-w .given .1) in omega arith
 
 part-is-reserved-start : tie.Need-part-is-reserved-start
 part-is-reserved-start c =
     let at-args = c .before .before .before .before .before .before .before .before .args in
     let at-next-word = c .before .before .before .before .before .before .next-word in
     let at-w = c .before .before .before .before .w in
-    let f = found (at-args .s .now) 0 (at-next-word .ensures) (at-w .given .1) (omega arith) in omega arith
+    let f = found (at-args .s .now) (at-next-word .ensures) (at-w .given .1) in omega arith
 
 part-is-reserved-end : tie.Need-part-is-reserved-end
 part-is-reserved-end c =
     let at-args = c .before .before .before .before .before .before .before .before .args in
     let at-next-word = c .before .before .before .before .before .before .next-word in
     let at-w = c .before .before .before .before .w in
-    let f = found (at-args .s .now) 0 (at-next-word .ensures) (at-w .given .1) (omega arith) in omega arith
+    let f = found (at-args .s .now) (at-next-word .ensures) (at-w .given .1) in omega arith
 
 is-reserved-requires : tie.Need-is-reserved-requires
 is-reserved-requires c κs = search needs

@@ -35,7 +35,7 @@ sub-parts-named c =
     let at-args = c .before .before .before .before .before .args in
     let at-next-word = c .before .before .before .next-word in
     let at-w = c .before .w in
-    let f = found (at-args .s .now) 0 (at-next-word .ensures) (at-w .given .1) (omega arith) in
+    let f = found (at-args .s .now) (at-next-word .ensures) (at-w .given .1) in
     omega arith
 
 part-parts-named-start : tie.Need-part-parts-named-start
@@ -43,7 +43,7 @@ part-parts-named-start c =
     let at-args = c .before .before .before .before .before .args in
     let at-next-word = c .before .before .before .next-word in
     let at-w = c .before .w in
-    let f = found (at-args .s .now) 0 (at-next-word .ensures) (at-w .given .1) (omega arith) in
+    let f = found (at-args .s .now) (at-next-word .ensures) (at-w .given .1) in
     omega arith
 
 part-parts-named-end : tie.Need-part-parts-named-end
@@ -51,7 +51,7 @@ part-parts-named-end c =
     let at-args = c .before .before .before .before .before .args in
     let at-next-word = c .before .before .before .next-word in
     let at-w = c .before .w in
-    let f = found (at-args .s .now) 0 (at-next-word .ensures) (at-w .given .1) (omega arith) in
+    let f = found (at-args .s .now) (at-next-word .ensures) (at-w .given .1) in
     omega arith
 
 parts-named-requires : tie.Need-parts-named-requires
