@@ -214,15 +214,11 @@ words-onto [] o h e l = absurd (omega arith)
 words-onto (c ∷ w) none h e l = refl
 words-onto (c ∷ w) (some s) h e l = ap some (words-led w s c e l)
 
-pub symbols-word : (s : Bytes) (i : ℕ) → i < runEnd isPlain s i → symbolsAt s i ≡ withWord (span i (runEnd isPlain s i) s) (symbolsAt s (runEnd isPlain s i))
-symbols-word s i h =
-    let e = runEnd isPlain s i in
-    let n = run isPlain (drop i s) in
-    let w = take n (drop i s) in
-    let p : 0 < length w = rw (length-take-le n (drop i s) (run-le isPlain (drop i s))) (omega arith) in
-    let d : drop n (drop i s) ≡ drop e s = drop-drop n i s in
-    let o : uncomment false (drop i s) ≡ onto w (uncomment false (drop e s)) = plain-on (drop i s) ∙ rw d in
-    ap wordsIn o ∙ (words-onto w (uncomment false (drop e s)) p (run-passes isPlain (drop i s)) (led-at s e (λ l. ends-at isPlain s i l)) ∙ rw add-sub-cancel-left)
+pub symbols-word : (s : Bytes) → 0 < run isPlain s → symbolsOf s ≡ withWord (take (run isPlain s) s) (symbolsOf (drop (run isPlain s) s))
+symbols-word s h =
+    let n = run isPlain s in
+    let p : 0 < length (take n s) = rw (length-take-le n s (run-le isPlain s)) h in
+    ap wordsIn (plain-on s) ∙ words-onto (take n s) (uncomment false (drop n s)) p (run-passes isPlain s) (led-at s n (λ l. run-ends isPlain s l))
 
 -- the byte that a word begins with
 plain-byte : (c : ℕ) → isGap c ≡ false → (c ≡ 40 → ⊥) → (c ≡ 41 → ⊥) → isPlain c ≡ true
@@ -267,8 +263,8 @@ module _ (s : Bytes) (at : ℕ) (r : Reached s 0 at) (h : at < length s) where
 
   pub word-reached : (e : ℕ) → (getD s at 0 ≡ 41 → ⊥) → (getD s at 0 ≡ 40 → ⊥) → e ≡ runEnd isPlain s at → NextSymbol s (Symbol.At at e)
   word-reached e a b q =
-      let l : at < runEnd isPlain s at = omega (arith, run-more isPlain s at h (plain-byte (getD s at 0) (r .free h) b a)) in
-      rw q (l, end-le isPlain s at (r .high), r .passed ∙ symbols-word s at l ∙ ap (λ (x : Bytes). withWord (span at (runEnd isPlain s at) s) (symbolsOf x)) (sym (rest s (runEnd isPlain s at))))
+      let l : 0 < run isPlain (drop at s) = omega (arith, run-more isPlain s at h (plain-byte (getD s at 0) (r .free h) b a)) in
+      rw q (omega (arith, l), end-le isPlain s at (r .high), r .passed ∙ symbols-word (drop at s) l ∙ rw (drop-drop, add-sub-cancel-left, rest))
 
 pub end-reached : (s : Bytes) (at : ℕ) → Reached s 0 at → length s ≤ at → symbolsOf s ≡ some []
 end-reached s at r h = r .passed ∙ symbols-end s at h

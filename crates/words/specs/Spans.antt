@@ -12,10 +12,6 @@ use Rattle.words.specs.declared.Word.{Word}
 abbrev pub span : ℕ → ℕ → Bytes → Bytes
 span a e s = take (e - a) (drop a s)
 
--- the end of the run of bytes that pass a test, from i on
-abbrev pub runEnd : (ℕ → Bool) → Bytes → ℕ → ℕ
-runEnd p s i = i + run p (drop i s)
-
 -- is a byte another than d
 abbrev pub notByte : ℕ → ℕ → Bool
 notByte d c = not (eqb c d)
