@@ -14,8 +14,7 @@ use Rattle.format.specs.Words.{isGap, afterWord}
 use Rattle.format.specs.Types.{uncomment, isSymbolByte, isSymbol}
 use Rattle.lines.specs.Value.{valueFrom}
 use Rattle.lines.specs.Line.{run}
-use Rattle.words.specs.Spans.{runEnd}
-use Rattle.words.proofs.Finding.{behind-run, front-at, behind-at}
+use Rattle.words.proofs.Finding.{front-run, behind-run}
 use Rattle.typing.specs.Symbols.{notParen, isPlain, wordsIn, withWord}
 use Rattle.typing.proofs.Comments.{gap-open, gap-close, words-gap, comment-on, symbols-word}
 use Rattle.sorting.specs.Texts.{isWordByte, textAt}
@@ -47,8 +46,8 @@ plain-front : (c : ℕ) (t : Bytes) → isPlain c ≡ true → S (c ∷ t) ≡ w
 unfolding run
 plain-front c t g =
     let s : Bytes = c ∷ t in
-    let h : 0 < runEnd isPlain s 0 = rw g (omega arith) in
-    symbols-word s 0 h ∙ (λ j. withWord (sym (front-at isPlain s 0) j) (S (sym (behind-at isPlain s 0) j)))
+    let h : 0 < run isPlain s = rw g (omega arith) in
+    symbols-word s h ∙ (λ j. withWord (sym (front-run isPlain s) j) (S (sym (behind-run isPlain s) j)))
 
 -- a comment, as far as its end
 abbrev T : Bytes → Option (List Bytes)
