@@ -165,7 +165,7 @@ fn keys_apart(d: &[u8], part: &[u8], scratch: &mut [u8], entries: &mut [u32]) ->
         return true;
     };
     let n = lines::copy_value(&d[value..end], &mut *scratch);
-    let w = words::next_word(&scratch[..n], 0);
+    let w = words::next_word(&scratch[..n]);
     let Word::At { start, end: e } = w else {
         return true;
     };

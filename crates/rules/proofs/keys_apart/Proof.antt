@@ -97,7 +97,7 @@ slice-aggregate-next-word c =
     let g = at-v .given .0 in decoded-length (valueFrom (span (g .1 .0) (g .1 .1 .0) (at-args .d .now))) (at-args .scratch .now) _ (at-copy-value .result) (at-copy-value .ensures .0) (at-copy-value .ensures .1)
 
 next-word-requires : tie.Need-next-word-requires
-next-word-requires c κs = omega arith
+next-word-requires c κs = search needs
 
 enum-known-w : tie.Need-enum-known-w
 enum-known-w c = search needs
@@ -120,19 +120,19 @@ returns-2 c =
     let h = value-told (at-args .d .now) (text "%key") 0 (at-next-named .result) (at-next-named .ensures) (at-v .given .1) in
     let g = at-v .given .0 in
     let q = decoded-all (valueFrom (span (g .1 .0) (g .1 .1 .0) (at-args .d .now))) (at-args .scratch .now) _ (at-copy-value .result) (at-copy-value .ensures .0) (at-copy-value .ensures .1) in
-    no-word (at-args .d .now) (at-args .part .now) (g .1 .0) (g .1 .1 .0) h _ q (key-once-named (at-args .d .now) (at-pre .0 .0)) (not-found _ 0 (at-next-word .ensures) (at-enum-told2 .given .1))
+    no-word (at-args .d .now) (at-args .part .now) (g .1 .0) (g .1 .1 .0) h _ q (key-once-named (at-args .d .now) (at-pre .0 .0)) (not-found _ (at-next-word .ensures) (at-enum-told2 .given .1))
 
 sub-keys-distinct : tie.Need-sub-keys-distinct
 sub-keys-distinct c =
     let at-next-word = c .before .before .before .next-word in
     let at-w = c .before .w in
-    let q = found _ 0 (at-next-word .ensures) (at-w .given .1) (omega arith) in omega (arith, q .1)
+    let q = found _ (at-next-word .ensures) (at-w .given .1) in omega (arith, q .0)
 
 part-keys-distinct-start : tie.Need-part-keys-distinct-start
 part-keys-distinct-start c =
     let at-next-word = c .before .before .before .before .next-word in
     let at-w = c .before .before .w in
-    let q = found _ 0 (at-next-word .ensures) (at-w .given .1) (omega arith) in omega (arith, q .1)
+    let q = found _ (at-next-word .ensures) (at-w .given .1) in omega (arith, q .0)
 
 part-keys-distinct-end : tie.Need-part-keys-distinct-end
 part-keys-distinct-end c =
@@ -149,8 +149,8 @@ part-keys-distinct-end c =
     let fit : length (valueFrom (span (g .1 .0) (g .1 .1 .0) (at-args .d .now))) ≤ length (at-args .scratch .now) = omega (arith, f, ap (λ (vs : List Bytes). length (getD vs 0 [])) (h .values), at-pre .1 .1 .0) in
     let inside = decoded-inside (valueFrom (span (g .1 .0) (g .1 .1 .0) (at-args .d .now))) (at-args .scratch .now) _ (at-copy-value .result) (at-copy-value .ensures .0) (at-copy-value .ensures .1) fit in
     let long = decoded-length (valueFrom (span (g .1 .0) (g .1 .1 .0) (at-args .d .now))) (at-args .scratch .now) _ (at-copy-value .result) (at-copy-value .ensures .0) (at-copy-value .ensures .1) in
-    let q = found _ 0 (at-next-word .ensures) (at-w .given .1) (omega arith) in
-    omega (arith, q .2, inside, long)
+    let q = found _ (at-next-word .ensures) (at-w .given .1) in
+    omega (arith, q .1, inside, long)
 
 keys-distinct-requires : tie.Need-keys-distinct-requires
 keys-distinct-requires c κs =
@@ -166,8 +166,8 @@ keys-distinct-requires c κs =
     let x = at-w .given .0 in
     let u = decoded-all (valueFrom (span (g .1 .0) (g .1 .1 .0) (at-args .d .now))) (at-args .scratch .now) _ (at-copy-value .result) (at-copy-value .ensures .0) (at-copy-value .ensures .1) in
     let long = decoded-length (valueFrom (span (g .1 .0) (g .1 .1 .0) (at-args .d .now))) (at-args .scratch .now) _ (at-copy-value .result) (at-copy-value .ensures .0) (at-copy-value .ensures .1) in
-    let q = found _ 0 (at-next-word .ensures) (at-w .given .1) (omega arith) in
-    let here = word-span _ (at-copy-value .result) (x .0) (x .1 .0) (omega (arith, q .2, long)) (q .3) in
+    let q = found _ (at-next-word .ensures) (at-w .given .1) in
+    let here = word-span _ (at-copy-value .result) (x .0) (x .1 .0) (omega (arith, q .1, long)) (q .2) in
     let room = key-room (at-args .d .now) (at-args .part .now) (g .1 .0) (g .1 .1 .0) h _ u _ _ here (key-few (at-args .d .now) (described-by (at-args .d .now) (at-pre .0 .0) (at-pre .0 .1))) (at-pre .1 .0 .0) (at-pre .1 .0 .1) (at-pre .1 .0 .2) in
     (((at-pre .1 .0 .0, at-pre .1 .0 .1), omega (arith, room, at-pre .1 .1 .1)))
 
@@ -192,8 +192,8 @@ returns-3 c =
     let x = at-w .given .0 in
     let u = decoded-all (valueFrom (span (g .1 .0) (g .1 .1 .0) (at-args .d .now))) (at-args .scratch .now) _ (at-copy-value .result) (at-copy-value .ensures .0) (at-copy-value .ensures .1) in
     let long = decoded-length (valueFrom (span (g .1 .0) (g .1 .1 .0) (at-args .d .now))) (at-args .scratch .now) _ (at-copy-value .result) (at-copy-value .ensures .0) (at-copy-value .ensures .1) in
-    let q = found _ 0 (at-next-word .ensures) (at-w .given .1) (omega arith) in
-    let here = word-span _ (at-copy-value .result) (x .0) (x .1 .0) (omega (arith, q .2, long)) (q .3) in
+    let q = found _ (at-next-word .ensures) (at-w .given .1) in
+    let here = word-span _ (at-copy-value .result) (x .0) (x .1 .0) (omega (arith, q .1, long)) (q .2) in
     key-values (at-args .d .now) (at-args .part .now) (g .1 .0) (g .1 .1 .0) h _ u _ _ here (key-few (at-args .d .now) (described-by (at-args .d .now) (at-pre .0 .0) (at-pre .0 .1))) (at-keys-distinct .result) (at-keys-distinct .ensures)
 
 pub keys-apart-spec : {M : Type 1} → statement M
