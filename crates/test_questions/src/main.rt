@@ -3,7 +3,7 @@
 fn main() {
     let mut left: usize = 4096;
     while 0 < left {
-        if next_case() {} else {
+        if !next_case() {
             return;
         }
         left -= 1;

@@ -27,7 +27,7 @@ fn main() {
     let mut left: usize = 65536;
     while 0 < left {
         s = turn(buf, s);
-        if s.more {} else {
+        if !s.more {
             return;
         }
         left -= 1;
