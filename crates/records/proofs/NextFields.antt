@@ -5,7 +5,7 @@ use mathlib.Core.Path.{_≡_, refl, sym, ap, _∙_, subst}
 use mathlib.Core.Bool.{Bool, true, false}
 use mathlib.Core.List.{List, [], _∷_, _++_, append-nil, append-assoc}
 use lib.Dec.{eqb}
-use lib.ListN.{length, take, drop, length-append}
+use lib.ListN.{length, take, drop, length-append, length-drop}
 use lib.Seq.{drop-drop}
 use borrow.Author.Tests.{eqb-false}
 use Rattle.format.specs.Bytes.{Bytes, pick}
@@ -17,8 +17,11 @@ use Rattle.format.proofs.Whole.{Sound}
 use Rattle.format.proofs.Renaming.{sound-starts}
 use Rattle.lines.specs.Piece.{valueAt}
 use Rattle.lines.specs.Value.{valueFrom}
+use Rattle.lines.proofs.Cuts.{rest}
 use Rattle.lines.proofs.Values.{field-value-among}
+use Rattle.words.specs.Spans.{span}
 use Rattle.records.specs.Places.{isReadable, headLine}
+use Rattle.records.specs.Walk.{recordIn}
 use Rattle.records.specs.Fields.{fieldsFrom, Fieldless, PieceHere, FieldHere, FieldNext}
 use Rattle.records.specs.declared.NextField.{NextField}
 use Rattle.records.proofs.Walks.{size-append, size-piece, size-none, Loose}
@@ -87,13 +90,13 @@ piece-here s i n v k f =
       ends = ap (λ (j : ℕ). i + j) (f .passed .size);
     }
 
--- a field at byte i is the next one from byte j on, where none stands between
-pub field-here : (s : Bytes) (j i n v k : ℕ) → FieldAt s i n v k → isReadable (drop i s) ≡ true → j ≤ i → Fieldless s j i → FieldHere s j i (i + n) (i + v) (i + k)
-field-here s j i n v k f r h l =
+-- a field at byte i is the first one, where none stands before
+pub field-here : (s : Bytes) (i n v k : ℕ) → FieldAt s i n v k → isReadable (drop i s) ≡ true → Fieldless s 0 i → FieldHere s 0 i (i + n) (i + v) (i + k)
+field-here s i n v k f r l =
     let p = f .passed in
     let size : k ≡ (i + k) - i = omega arith in
     record {
-      begins = h;
+      begins = omega arith;
       named = omega arith;
       name-inside = omega (arith, f .name-inside);
       value-behind = omega arith;
@@ -104,12 +107,61 @@ field-here s j i n v k f r h l =
       value-there = value-there s i n v k f r;
       ends-itself = ends-itself s i n v k f r;
       fields =
-          fieldless-fields s j i l ∙ record-field s i n v k f
+          fieldless-fields s 0 i l ∙ record-field s i n v k f
           ∙ ap {B = Record} (λ (m : ℕ). record { name = take ((i + n) - i) (drop i s); value = valueFrom (take ((i + k) - (i + v)) (drop (i + v) s)); count = m } ∷ fieldsFrom s (i + k)) size;
       loose = l;
       piece = piece-here s i n v k f;
     }
 
--- what an answer says, once its form is known
-pub next-told : (s : Bytes) (i : ℕ) (x : NextField) {y : NextField} → FieldNext s i x → x ≡ y → FieldNext s i y
-next-told s i x h e = subst (FieldNext s i) e h
+-- The same of the part from byte i on and of the whole text: each place is i bytes further.
+abbrev pub moved : ℕ → NextField → NextField
+moved i NextField.Nothing = NextField.Nothing
+moved i (NextField.At a n v e) = NextField.At (i + a) (i + n) (i + v) (i + e)
+
+pub span-moved : (s : Bytes) (i a e : ℕ) → span a e (drop i s) ≡ span (i + a) (i + e) s
+span-moved s i a e =
+    let m : e - a ≡ (i + e) - (i + a) = omega arith in
+    ap (λ (j : ℕ). take j (drop a (drop i s))) m ∙ ap (take ((i + e) - (i + a))) (drop-drop a i s)
+
+module _ (s : Bytes) (i : ℕ) where
+  fieldless-moved : (a : ℕ) → Fieldless (drop i s) 0 a → Fieldless s i (i + a)
+  fieldless-moved a f =
+      record { before = f .before; none = f .none; size = omega (arith, f .size); reads = f .reads ∙ ap (λ (x : Bytes). f .before ++ readOf x) (drop-drop a i s) }
+
+  piece-moved : (a n v e : ℕ) → PieceHere (drop i s) a n v e → PieceHere s (i + a) (i + n) (i + v) (i + e)
+  piece-moved a n v e p =
+      record {
+        own = p .own;
+        reads =
+            ap (λ (x : Bytes). readOf x) (sym (drop-drop a i s)) ∙ p .reads
+            ∙ (λ d. Piece.field (span-moved s i a n d) (valueFrom (span-moved s i v e d)) (p .own) ∷ readOf (drop-drop e i s d));
+        begins = omega (arith, p .begins, ap (λ (x : Bytes). valueAt (length x) (headLine (p .own))) (span-moved s i a n));
+        ends = omega (arith, p .ends);
+      }
+
+  field-moved : (a n v e : ℕ) → FieldHere (drop i s) 0 a n v e → FieldHere s i (i + a) (i + n) (i + v) (i + e)
+  field-moved a n v e f =
+      let size : e - a ≡ (i + e) - (i + a) = omega arith in
+      record {
+        begins = omega arith;
+        named = omega (arith, f .named);
+        name-inside = omega (arith, f .name-inside);
+        value-behind = omega (arith, f .value-behind);
+        value-inside = omega (arith, f .value-inside);
+        moves = omega (arith, f .moves);
+        inside = omega (arith, f .moves, f .inside, length-drop i s);
+        readable = ap (λ (x : Bytes). isReadable x) (sym (drop-drop e i s)) ∙ f .readable;
+        value-there = omega (arith, f .value-there, length-drop i s);
+        ends-itself = ap valueFrom (sym (drop-drop v i s)) ∙ f .ends-itself ∙ ap valueFrom (span-moved s i v e);
+        fields = f .fields ∙ (λ d. record { name = span-moved s i a n d; value = valueFrom (span-moved s i v e d); count = size d } ∷ recordIn (drop-drop e i s d));
+        loose = fieldless-moved a (f .loose);
+        piece = piece-moved a n v e (f .piece);
+      }
+
+  next-moved : (x : NextField) → FieldNext (drop i s) 0 x → FieldNext s i (moved i x)
+  next-moved NextField.Nothing h = h
+  next-moved (NextField.At a n v e) h = field-moved a n v e h
+
+-- what an answer about the part `&s[i..]` says, once its form is known
+pub next-told : (s : Bytes) (i : ℕ) (x : NextField) {y : NextField} → FieldNext (take (length s - i) (drop i s)) 0 x → x ≡ y → FieldNext s i (moved i y)
+next-told s i x {y} h e = next-moved s i y (subst (λ (t : Bytes). FieldNext t 0 y) (rest s i) (subst (FieldNext (take (length s - i) (drop i s)) 0) e h))

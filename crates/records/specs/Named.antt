@@ -44,6 +44,12 @@ abbrev pub OccurrenceNext : Bytes → Bytes → ℕ → FoundField → Type 0
 OccurrenceNext s name i FoundField.Missing = (o : ℕ) → occurrence s name i o ≡ FoundField.Missing
 OccurrenceNext s name i (FoundField.At a v e) = (o : ℕ) → occurrence s name i o ≡ firstOr (FoundField.At a v e) (occurrence s name e) o
 
+-- its value does not stand before it
+abbrev pub ValueBehind : FoundField → Type 0
+ValueBehind FoundField.Missing = Unit {0}
+ValueBehind (FoundField.At a v e) = a ≤ v
+
 pub record NamedNext (s name : Bytes) (i : ℕ) (x : FoundField) : Type 0 where
+  pub behind : ValueBehind x
   pub value : ValueNext s name i x
   pub found : OccurrenceNext s name i x

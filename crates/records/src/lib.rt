@@ -284,27 +284,27 @@ pub enum NextField {
     Nothing,
 }
 
-// The first field from byte i on.
-pub fn next_field(s: &[u8], i: usize) -> NextField
-    requires { ⌜ (i ≤ length (now s)) × (isReadable (drop i (now s)) ≡ true) ⌝ }
-    ensures { λ r. ⌜ FieldNext (now (s .entry)) i r ⌝ }
+// The first field of a part.
+pub fn next_field(s: &[u8]) -> NextField
+    requires { ⌜ isReadable (now s) ≡ true ⌝ }
+    ensures { λ r. ⌜ FieldNext (now (s .entry)) 0 r ⌝ }
 {
-    let mut at = i;
+    let mut i = 0;
     loop {
-        let n = lines::read_piece(&s[at..]);
+        let n = lines::read_piece(&s[i..]);
         match n {
             Next::Blank { size } => {
-                at += size;
+                i += size;
             }
             Next::Comment { size } => {
-                at += size;
+                i += size;
             }
             Next::Field { name, value, size } => {
                 return NextField::At {
-                    start: at,
-                    named: at + name,
-                    value: at + value,
-                    end: at + size,
+                    start: i,
+                    named: i + name,
+                    value: i + value,
+                    end: i + size,
                 };
             }
             Next::End => {
@@ -317,7 +317,7 @@ pub fn next_field(s: &[u8], i: usize) -> NextField
     }
 }
 
-// Where a field stands: its first byte, its value's first byte, the byte behind it.
+// Where a field stands in a part: its first byte, its value's first byte, the byte behind it.
 pub enum FoundField {
     At {
         start: usize,
@@ -327,14 +327,14 @@ pub enum FoundField {
     Missing,
 }
 
-// The first field of a name from byte i on.
-pub fn next_named(s: &[u8], name: &[u8], i: usize) -> FoundField
-    requires { ⌜ (i ≤ length (now s)) × (isReadable (drop i (now s)) ≡ true) ⌝ }
-    ensures { λ r. ⌜ NamedNext (now (s .entry)) (now (name .entry)) i r ⌝ }
+// The first field of a name in a part.
+pub fn next_named(s: &[u8], name: &[u8]) -> FoundField
+    requires { ⌜ isReadable (now s) ≡ true ⌝ }
+    ensures { λ r. ⌜ NamedNext (now (s .entry)) (now (name .entry)) 0 r ⌝ }
 {
-    let mut at = i;
+    let mut i = 0;
     loop {
-        let f = next_field(s, at);
+        let f = next_field(&s[i..]);
         let NextField::At {
             start,
             named,
@@ -344,10 +344,14 @@ pub fn next_named(s: &[u8], name: &[u8], i: usize) -> FoundField
         else {
             return FoundField::Missing;
         };
-        if lines::same_bytes(name, &s[start..named]) {
-            return FoundField::At { start, value, end };
+        if lines::same_bytes(name, &s[i + start..i + named]) {
+            return FoundField::At {
+                start: i + start,
+                value: i + value,
+                end: i + end,
+            };
         }
-        at = end;
+        i += end;
     }
 }
 
@@ -359,15 +363,19 @@ pub fn find_field(s: &[u8], name: &[u8], o: usize) -> FoundField
     let mut i = 0;
     let mut left = o;
     loop {
-        let f = next_named(s, name, i);
+        let f = next_named(&s[i..], name);
         let FoundField::At { start, value, end } = f else {
             return FoundField::Missing;
         };
         if left == 0 {
-            return FoundField::At { start, value, end };
+            return FoundField::At {
+                start: i + start,
+                value: i + value,
+                end: i + end,
+            };
         }
         left -= 1;
-        i = end;
+        i += end;
     }
 }
 
