@@ -70,9 +70,9 @@ module _ {s now : Bytes} {n i : ℕ} (c : Keeping s now n i) where
     )
 
   -- what stands before the next field stays, and the field goes
-  pub keeping-field : (a m v e : ℕ) → FieldHere now i a m v e → (now′ : Bytes) → now′ ≡ paste now n (drop i now) (a - i) → Keeping s now′ (n + (a - i)) e
-  keeping-field a m v e f now′ q =
-      let k : ℕ = a - i in
+  pub keeping-field : (k m v e : ℕ) → FieldHere now i (i + k) m v e → (now′ : Bytes) → now′ ≡ paste now n (drop i now) k → Keeping s now′ (n + k) e
+  keeping-field k m v e f now′ q =
+      let z : k ≡ (i + k) - i = omega arith in
       let fits : i + k ≤ length s = omega (arith, f .begins, f .moves, f .inside, c .same) in
       let beyond : i + k ≤ e = omega (arith, f .begins, f .moves) in
       let y : e ≡ i + (e - i) = omega (arith, f .begins, f .moves) in
@@ -87,7 +87,8 @@ module _ {s now : Bytes} {n i : ℕ} (c : Keeping s now n i) where
             ap (λ (x : Bytes). x ++ leftOf (drop e s)) (moved-front k fits now′ q)
             ∙ append-assoc (take n now) (take k (drop i now)) (leftOf (drop e s))
             ∙ ap (λ (x : Bytes). take n now ++ (take k (drop i now) ++ leftOf x)) (sym here)
-            ∙ ap (λ (x : Bytes). take n now ++ x) (sym (left-field now i keeping-readable a m v e f) ∙ ap leftOf (c .rest))
+            ∙ ap (λ (j : ℕ). take n now ++ (take j (drop i now) ++ leftOf (drop e now))) z
+            ∙ ap (λ (x : Bytes). take n now ++ x) (sym (left-field now i keeping-readable (i + k) m v e f) ∙ ap leftOf (c .rest))
             ∙ c .kept;
       }
 

@@ -19,7 +19,7 @@ fn keep_loose(part: &mut [u8]) -> usize
     let mut n = 0;
     let mut i = 0;
     loop {
-        let f = records::next_field(part, i);
+        let f = records::next_field(&part[i..]);
         let NextField::At {
             start,
             named: _,
@@ -31,10 +31,9 @@ fn keep_loose(part: &mut [u8]) -> usize
             writing::move_down(part, i, n, last);
             return n + last;
         };
-        let size = start - i;
-        writing::move_down(part, i, n, size);
-        n += size;
-        i = end;
+        writing::move_down(part, i, n, start);
+        n += start;
+        i += end;
     }
 }
 
