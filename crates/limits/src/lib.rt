@@ -192,7 +192,7 @@ fn rules_fit(d: &[u8]) -> bool
     let mut i = 0;
     let mut c = Descriptor::new();
     loop {
-        let n = records::next_field(d, i);
+        let n = records::next_field(&d[i..]);
         let NextField::At {
             start,
             named,
@@ -202,8 +202,8 @@ fn rules_fit(d: &[u8]) -> bool
         else {
             return c.fits();
         };
-        c = counted(c, &d[start..named], &d[value..end]);
-        i = end;
+        c = counted(c, &d[i + start..i + named], &d[i + value..i + end]);
+        i += end;
     }
 }
 

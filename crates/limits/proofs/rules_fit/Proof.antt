@@ -1,7 +1,7 @@
 -- `limits::rules_fit` meets its contract. The invariant: c counts the fields before i, and goes on over those from i on; its numbers are small.
 -- The measure is what is left of the part.
 use borrow.Author.Needs.{needs}
-use Prim.Native.Nat.{_*_, _-_, _≤_}
+use Prim.Native.Nat.{_+_, _*_, _-_, _≤_}
 use native.Mathlib.Omega.{arith}
 use mathlib.Core.Path.{_≡_, sym, ap, _∙_}
 use mathlib.Core.Bool.{true}
@@ -12,6 +12,7 @@ use Rattle.format.specs.declared.Descriptor.{Descriptor}
 use Rattle.records.specs.Places.{isReadable}
 use Rattle.records.specs.Fields.{fieldsFrom, fieldBetween}
 use Rattle.limits.specs.Counts.{total}
+use Rattle.records.proofs.Readings.{part-readable}
 use Rattle.records.proofs.NextFields.{next-told}
 use Rattle.words.proofs.Spans.{span-length}
 use Rattle.limits.proofs.Tallies.{counts-path, countFrom, fitsCounts, noCounts, rules-counts, count-end, count-on}
@@ -41,10 +42,20 @@ loop-holds c =
     let e = at-new .ensures in
     (omega arith, at-pre .0, omega (arith, e .0, e .1, e .2, e .3, e .4, e .5), ap (λ (x : Descriptor). countFrom x (fieldsOf (readOf (at-args .d .now)))) (counts-path noCounts (at-new .result) (sym (e .0)) (sym (e .1)) (sym (e .2)) (sym (e .3)) (sym (e .4)) (sym (e .5))))
 
+sub-next-field : tie.Need-sub-next-field Inv-loop μ-loop
+sub-next-field c = search needs
+
+part-next-field-start : tie.Need-part-next-field-start Inv-loop μ-loop
+part-next-field-start c = search needs
+
+part-next-field-end : tie.Need-part-next-field-end Inv-loop μ-loop
+part-next-field-end c = search needs
+
 next-field-requires : tie.Need-next-field-requires Inv-loop μ-loop
 next-field-requires c κs =
-    let at-loop = c .loop in
-    ((at-loop .inv .0, at-loop .inv .1))
+    let at-args = c .before .before .before .before .args in
+    let at-loop = c .before .loop in
+    (part-readable (at-args .d .now) (at-loop .i) (at-loop .inv .1))
 
 enum-known-n : tie.Need-enum-known-n Inv-loop μ-loop
 enum-known-n c = search needs
@@ -58,16 +69,34 @@ fits-requires c κs = search needs
 returns : tie.Need-returns Inv-loop μ-loop
 returns c =
     let at-fits2 = c .fits2 in
-    let at-args = c .before .before .before .before .before .before .before .args in
-    let at-loop = c .before .before .before .before .loop in
+    let at-args = c .before .before .before .before .before .before .before .before .args in
+    let at-loop = c .before .before .before .before .before .loop in
     let at-next-field = c .before .before .before .next-field in
     let at-enum-told = c .before .enum-told in
     at-fits2 .ensures ∙ sym (rules-counts (fieldsOf (readOf (at-args .d .now))) ∙ ap fitsCounts (at-loop .inv .3 ∙ ap (countFrom (at-loop .c)) (next-told (at-args .d .now) (at-loop .i) (at-next-field .result) (at-next-field .ensures) (at-enum-told .given .1)) ∙ count-end (at-loop .c)))
 
+add-counted : tie.Need-add-counted Inv-loop μ-loop
+add-counted c =
+    let at-args = c .before .before .before .before .before .before .before .before .args in
+    let at-loop = c .before .before .before .before .before .loop in
+    let at-next-field = c .before .before .before .next-field in
+    let at-n = c .before .n in
+    let f = next-told (at-args .d .now) (at-loop .i) (at-next-field .result) (at-next-field .ensures) (at-n .given .1) in
+    omega (arith, f .named, f .name-inside, f .inside)
+
+add-counted-2 : tie.Need-add-counted-2 Inv-loop μ-loop
+add-counted-2 c =
+    let at-args = c .before .before .before .before .before .before .before .before .args in
+    let at-loop = c .before .before .before .before .before .loop in
+    let at-next-field = c .before .before .before .next-field in
+    let at-n = c .before .n in
+    let f = next-told (at-args .d .now) (at-loop .i) (at-next-field .result) (at-next-field .ensures) (at-n .given .1) in
+    omega (arith, f .name-inside, f .inside)
+
 sub-counted : tie.Need-sub-counted Inv-loop μ-loop
 sub-counted c =
-    let at-args = c .before .before .before .before .before .before .before .args in
-    let at-loop = c .before .before .before .before .loop in
+    let at-args = c .before .before .before .before .before .before .before .before .args in
+    let at-loop = c .before .before .before .before .before .loop in
     let at-next-field = c .before .before .before .next-field in
     let at-n = c .before .n in
     let f = next-told (at-args .d .now) (at-loop .i) (at-next-field .result) (at-next-field .ensures) (at-n .given .1) in
@@ -75,8 +104,8 @@ sub-counted c =
 
 part-counted-start : tie.Need-part-counted-start Inv-loop μ-loop
 part-counted-start c =
-    let at-args = c .before .before .before .before .before .before .before .args in
-    let at-loop = c .before .before .before .before .loop in
+    let at-args = c .before .before .before .before .before .before .before .before .args in
+    let at-loop = c .before .before .before .before .before .loop in
     let at-next-field = c .before .before .before .next-field in
     let at-n = c .before .n in
     let f = next-told (at-args .d .now) (at-loop .i) (at-next-field .result) (at-next-field .ensures) (at-n .given .1) in
@@ -84,17 +113,35 @@ part-counted-start c =
 
 part-counted-end : tie.Need-part-counted-end Inv-loop μ-loop
 part-counted-end c =
-    let at-args = c .before .before .before .before .before .before .before .args in
-    let at-loop = c .before .before .before .before .loop in
+    let at-args = c .before .before .before .before .before .before .before .before .args in
+    let at-loop = c .before .before .before .before .before .loop in
     let at-next-field = c .before .before .before .next-field in
     let at-n = c .before .n in
     let f = next-told (at-args .d .now) (at-loop .i) (at-next-field .result) (at-next-field .ensures) (at-n .given .1) in
     omega (arith, f .name-inside, f .inside)
 
+add-counted-3 : tie.Need-add-counted-3 Inv-loop μ-loop
+add-counted-3 c =
+    let at-args = c .before .before .before .before .before .before .before .before .before .args in
+    let at-loop = c .before .before .before .before .before .before .loop in
+    let at-next-field = c .before .before .before .before .next-field in
+    let at-n = c .before .before .n in
+    let f = next-told (at-args .d .now) (at-loop .i) (at-next-field .result) (at-next-field .ensures) (at-n .given .1) in
+    omega (arith, f .value-inside, f .inside)
+
+add-counted-4 : tie.Need-add-counted-4 Inv-loop μ-loop
+add-counted-4 c =
+    let at-args = c .before .before .before .before .before .before .before .before .before .args in
+    let at-loop = c .before .before .before .before .before .before .loop in
+    let at-next-field = c .before .before .before .before .next-field in
+    let at-n = c .before .before .n in
+    let f = next-told (at-args .d .now) (at-loop .i) (at-next-field .result) (at-next-field .ensures) (at-n .given .1) in
+    omega (arith, f .inside)
+
 sub-counted-2 : tie.Need-sub-counted-2 Inv-loop μ-loop
 sub-counted-2 c =
-    let at-args = c .before .before .before .before .before .before .before .before .args in
-    let at-loop = c .before .before .before .before .before .loop in
+    let at-args = c .before .before .before .before .before .before .before .before .before .args in
+    let at-loop = c .before .before .before .before .before .before .loop in
     let at-next-field = c .before .before .before .before .next-field in
     let at-n = c .before .before .n in
     let f = next-told (at-args .d .now) (at-loop .i) (at-next-field .result) (at-next-field .ensures) (at-n .given .1) in
@@ -102,8 +149,8 @@ sub-counted-2 c =
 
 part-counted-start-2 : tie.Need-part-counted-start-2 Inv-loop μ-loop
 part-counted-start-2 c =
-    let at-args = c .before .before .before .before .before .before .before .before .args in
-    let at-loop = c .before .before .before .before .before .loop in
+    let at-args = c .before .before .before .before .before .before .before .before .before .args in
+    let at-loop = c .before .before .before .before .before .before .loop in
     let at-next-field = c .before .before .before .before .next-field in
     let at-n = c .before .before .n in
     let f = next-told (at-args .d .now) (at-loop .i) (at-next-field .result) (at-next-field .ensures) (at-n .given .1) in
@@ -111,8 +158,8 @@ part-counted-start-2 c =
 
 part-counted-end-2 : tie.Need-part-counted-end-2 Inv-loop μ-loop
 part-counted-end-2 c =
-    let at-args = c .before .before .before .before .before .before .before .before .args in
-    let at-loop = c .before .before .before .before .before .loop in
+    let at-args = c .before .before .before .before .before .before .before .before .before .args in
+    let at-loop = c .before .before .before .before .before .before .loop in
     let at-next-field = c .before .before .before .before .next-field in
     let at-n = c .before .before .n in
     let f = next-told (at-args .d .now) (at-loop .i) (at-next-field .result) (at-next-field .ensures) (at-n .given .1) in
@@ -121,18 +168,26 @@ part-counted-end-2 c =
 counted-requires : tie.Need-counted-requires Inv-loop μ-loop
 counted-requires c κs =
     let at-n = c .before .before .before .n in
-    let at-args = c .before .before .before .before .before .before .before .before .before .args in
-    let at-loop = c .before .before .before .before .before .before .loop in
+    let at-args = c .before .before .before .before .before .before .before .before .before .before .args in
+    let at-loop = c .before .before .before .before .before .before .before .loop in
     let at-next-field = c .before .before .before .before .before .next-field in
-    let at-pre = c .before .before .before .before .before .before .before .before .before .pre in
-    let g = at-n .given in
+    let at-pre = c .before .before .before .before .before .before .before .before .before .before .pre in
     let f = next-told (at-args .d .now) (at-loop .i) (at-next-field .result) (at-next-field .ensures) (at-n .given .1) in
-    (omega (arith, at-loop .inv .0, at-loop .inv .2, at-pre .1), omega (arith, span-length (at-args .d .now) (g .0 .1 .1 .0) (g .0 .1 .1 .1 .0) (f .value-inside) (f .inside), f .inside, at-pre .1))
+    (omega (arith, at-loop .inv .0, at-loop .inv .2, at-pre .1), omega (arith, span-length (at-args .d .now) _ _ (f .value-inside) (f .inside), f .inside, at-pre .1))
+
+add-i : tie.Need-add-i Inv-loop μ-loop
+add-i c =
+    let at-args = c .before .before .before .before .before .before .before .before .before .before .before .args in
+    let at-loop = c .before .before .before .before .before .before .before .before .loop in
+    let at-next-field = c .before .before .before .before .before .before .next-field in
+    let at-n = c .before .before .before .before .n in
+    let f = next-told (at-args .d .now) (at-loop .i) (at-next-field .result) (at-next-field .ensures) (at-n .given .1) in
+    omega (arith, f .inside)
 
 loop-less : tie.Need-loop-less Inv-loop μ-loop
 loop-less c =
-    let at-args = c .before .before .before .before .before .before .before .before .before .before .args in
-    let at-loop = c .before .before .before .before .before .before .before .loop in
+    let at-args = c .before .before .before .before .before .before .before .before .before .before .before .args in
+    let at-loop = c .before .before .before .before .before .before .before .before .loop in
     let at-next-field = c .before .before .before .before .before .before .next-field in
     let at-n = c .before .before .before .before .n in
     let f = next-told (at-args .d .now) (at-loop .i) (at-next-field .result) (at-next-field .ensures) (at-n .given .1) in
@@ -141,14 +196,15 @@ loop-less c =
 loop-again : tie.Need-loop-again Inv-loop μ-loop
 loop-again c =
     let at-n = c .before .before .before .before .n in
-    let at-args = c .before .before .before .before .before .before .before .before .before .before .args in
-    let at-loop = c .before .before .before .before .before .before .before .loop in
+    let at-args = c .before .before .before .before .before .before .before .before .before .before .before .args in
+    let at-loop = c .before .before .before .before .before .before .before .before .loop in
     let at-next-field = c .before .before .before .before .before .before .next-field in
     let at-counted = c .counted in
     let g = at-n .given in
     let f = next-told (at-args .d .now) (at-loop .i) (at-next-field .result) (at-next-field .ensures) (at-n .given .1) in
-    let rest = fieldsFrom (at-args .d .now) (g .0 .1 .1 .1 .0) in
-    (f .inside, f .readable, omega (arith, at-loop .inv .2, at-counted .ensures .1, span-length (at-args .d .now) (g .0 .1 .1 .0) (g .0 .1 .1 .1 .0) (f .value-inside) (f .inside), f .begins, f .moves, f .value-behind), at-loop .inv .3 ∙ ap (countFrom (at-loop .c)) (f .fields) ∙ count-on (at-loop .c) (fieldBetween (at-args .d .now) (g .0 .0) (g .0 .1 .0) (g .0 .1 .1 .0) (g .0 .1 .1 .1 .0)) rest ∙ ap (λ (x : Descriptor). countFrom x rest) (sym (at-counted .ensures .0)))
+    let i = at-loop .i in
+    let rest = fieldsFrom (at-args .d .now) (i + g .0 .1 .1 .1 .0) in
+    (f .inside, f .readable, omega (arith, at-loop .inv .2, at-counted .ensures .1, span-length (at-args .d .now) _ _ (f .value-inside) (f .inside), f .begins, f .moves, f .value-behind), at-loop .inv .3 ∙ ap (countFrom (at-loop .c)) (f .fields) ∙ count-on (at-loop .c) (fieldBetween (at-args .d .now) (i + g .0 .0) (i + g .0 .1 .0) (i + g .0 .1 .1 .0) (i + g .0 .1 .1 .1 .0)) rest ∙ ap (λ (x : Descriptor). countFrom x rest) (sym (at-counted .ensures .0)))
 
 pub rules-fit-spec : {M : Type 1} → statement M
 rules-fit-spec =
@@ -158,17 +214,25 @@ rules-fit-spec =
     μ-loop
     new-requires
     loop-holds
+    sub-next-field
+    part-next-field-start
+    part-next-field-end
     next-field-requires
     enum-known-n
     enum-told
     fits-requires
     returns
+    add-counted
+    add-counted-2
     sub-counted
     part-counted-start
     part-counted-end
+    add-counted-3
+    add-counted-4
     sub-counted-2
     part-counted-start-2
     part-counted-end-2
     counted-requires
+    add-i
     loop-less
     loop-again)
