@@ -172,7 +172,7 @@ fn all_shaped(d: &[u8], scratch: &mut [u8]) -> bool
 {
     let mut i = 0;
     loop {
-        let n = records::next_field(d, i);
+        let n = records::next_field(&d[i..]);
         let NextField::At {
             start,
             named,
@@ -182,10 +182,10 @@ fn all_shaped(d: &[u8], scratch: &mut [u8]) -> bool
         else {
             return true;
         };
-        if !field_shaped(&d[start..named], &d[value..end], scratch) {
+        if !field_shaped(&d[i + start..i + named], &d[i + value..i + end], scratch) {
             return false;
         }
-        i = end;
+        i += end;
     }
 }
 

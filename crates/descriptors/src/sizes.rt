@@ -134,7 +134,7 @@ pub fn size_met(d: &[u8], count: usize, scratch: &mut [u8]) -> bool
 {
     let mut i = 0;
     loop {
-        let f = records::next_named(d, b"%size", i);
+        let f = records::next_named(&d[i..], b"%size");
         let FoundField::At {
             start: _,
             value,
@@ -143,9 +143,9 @@ pub fn size_met(d: &[u8], count: usize, scratch: &mut [u8]) -> bool
         else {
             return true;
         };
-        if !value_met(&d[value..end], count as u64, scratch) {
+        if !value_met(&d[i + value..i + end], count as u64, scratch) {
             return false;
         }
-        i = end;
+        i += end;
     }
 }

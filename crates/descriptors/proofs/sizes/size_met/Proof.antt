@@ -2,7 +2,7 @@
 -- if those from i on are, and only then. The measure is what is left of the length.
 use borrow.Author.Needs.{needs}
 use borrow.Author.Tests.{leb-true, not-true, not-false}
-use Prim.Native.Nat.{ℕ, _-_, _≤_}
+use Prim.Native.Nat.{ℕ, _+_, _-_, _≤_}
 use native.Mathlib.Omega.{arith}
 use mathlib.Core.Path.{_≡_, refl, sym, ap, _∙_}
 use mathlib.Core.Bool.{Bool, true}
@@ -17,6 +17,7 @@ use Rattle.words.specs.Spans.{span}
 use Rattle.records.specs.Places.{isReadable}
 use Rattle.records.specs.Walk.{recordIn}
 use Rattle.records.specs.Named.{valuesFrom}
+use Rattle.records.proofs.Readings.{part-readable}
 use Rattle.records.proofs.Named.{value-told}
 use Rattle.descriptors.proofs.Folds.{all-more, all-stop, all-both}
 use Rattle.descriptors.proofs.Limits.{fits-fields, isShort, values-short}
@@ -42,13 +43,23 @@ loop-holds c =
     let at-args = c .before .before .args in
     (omega arith, at-pre .0, values-short (text "%size") (recordIn (at-args .d .now)) (fits-fields (recordIn (at-args .d .now)) (at-pre .1 .0)), refl, refl)
 
+sub-next-named : tie.Need-sub-next-named Inv-loop μ-loop
+sub-next-named c = search needs
+
+part-next-named-start : tie.Need-part-next-named-start Inv-loop μ-loop
+part-next-named-start c = search needs
+
+part-next-named-end : tie.Need-part-next-named-end Inv-loop μ-loop
+part-next-named-end c = search needs
+
 slice-aggregate-next-named : tie.Need-slice-aggregate-next-named Inv-loop μ-loop
 slice-aggregate-next-named c = search needs
 
 next-named-requires : tie.Need-next-named-requires Inv-loop μ-loop
 next-named-requires c κs =
-    let at-loop = c .before .loop in
-    (at-loop .inv .0, at-loop .inv .1)
+    let at-args = c .before .before .before .before .before .args in
+    let at-loop = c .before .before .loop in
+    (part-readable (at-args .d .now) (at-loop .i) (at-loop .inv .1))
 
 enum-known-f : tie.Need-enum-known-f Inv-loop μ-loop
 enum-known-f c = search needs
@@ -58,22 +69,40 @@ enum-told c = search needs
 
 same-length : tie.Need-same-length Inv-loop μ-loop
 same-length c =
-    let at-loop = c .before .before .before .before .loop in
+    let at-loop = c .before .before .before .before .before .loop in
     at-loop .inv .3
 
 returns : tie.Need-returns Inv-loop μ-loop
 returns c =
-    let at-args = c .before .before .before .before .before .before .before .args in
-    let at-loop = c .before .before .before .before .loop in
+    let at-args = c .before .before .before .before .before .before .before .before .args in
+    let at-loop = c .before .before .before .before .before .loop in
     let at-next-named = c .before .before .next-named in
     let at-enum-told = c .enum-told in
     let none = value-told (at-args .d .now) (text "%size") (at-loop .i) (at-next-named .result) (at-next-named .ensures) (at-enum-told .given .1) in
     (sym (at-loop .inv .4 ∙ ap (all (isMet (at-args .count))) none), at-loop .inv .3)
 
+add-value-met : tie.Need-add-value-met Inv-loop μ-loop
+add-value-met c =
+    let at-args = c .before .before .before .before .before .before .before .before .before .args in
+    let at-loop = c .before .before .before .before .before .before .loop in
+    let at-next-named = c .before .before .before .next-named in
+    let at-f = c .before .f in
+    let v = value-told (at-args .d .now) (text "%size") (at-loop .i) (at-next-named .result) (at-next-named .ensures) (at-f .given .1) in
+    omega (arith, v .within, v .inside)
+
+add-value-met-2 : tie.Need-add-value-met-2 Inv-loop μ-loop
+add-value-met-2 c =
+    let at-args = c .before .before .before .before .before .before .before .before .before .args in
+    let at-loop = c .before .before .before .before .before .before .loop in
+    let at-next-named = c .before .before .before .next-named in
+    let at-f = c .before .f in
+    let v = value-told (at-args .d .now) (text "%size") (at-loop .i) (at-next-named .result) (at-next-named .ensures) (at-f .given .1) in
+    omega (arith, v .inside)
+
 sub-value-met : tie.Need-sub-value-met Inv-loop μ-loop
 sub-value-met c =
-    let at-args = c .before .before .before .before .before .before .before .before .args in
-    let at-loop = c .before .before .before .before .before .loop in
+    let at-args = c .before .before .before .before .before .before .before .before .before .args in
+    let at-loop = c .before .before .before .before .before .before .loop in
     let at-next-named = c .before .before .before .next-named in
     let at-f = c .before .f in
     let v = value-told (at-args .d .now) (text "%size") (at-loop .i) (at-next-named .result) (at-next-named .ensures) (at-f .given .1) in
@@ -81,8 +110,8 @@ sub-value-met c =
 
 part-value-met-start : tie.Need-part-value-met-start Inv-loop μ-loop
 part-value-met-start c =
-    let at-args = c .before .before .before .before .before .before .before .before .args in
-    let at-loop = c .before .before .before .before .before .loop in
+    let at-args = c .before .before .before .before .before .before .before .before .before .args in
+    let at-loop = c .before .before .before .before .before .before .loop in
     let at-next-named = c .before .before .before .next-named in
     let at-f = c .before .f in
     let v = value-told (at-args .d .now) (text "%size") (at-loop .i) (at-next-named .result) (at-next-named .ensures) (at-f .given .1) in
@@ -90,8 +119,8 @@ part-value-met-start c =
 
 part-value-met-end : tie.Need-part-value-met-end Inv-loop μ-loop
 part-value-met-end c =
-    let at-args = c .before .before .before .before .before .before .before .before .args in
-    let at-loop = c .before .before .before .before .before .loop in
+    let at-args = c .before .before .before .before .before .before .before .before .before .args in
+    let at-loop = c .before .before .before .before .before .before .loop in
     let at-next-named = c .before .before .before .next-named in
     let at-f = c .before .f in
     let v = value-told (at-args .d .now) (text "%size") (at-loop .i) (at-next-named .result) (at-next-named .ensures) (at-f .given .1) in
@@ -99,26 +128,26 @@ part-value-met-end c =
 
 value-met-requires : tie.Need-value-met-requires Inv-loop μ-loop
 value-met-requires c κs =
-    let at-args = c .before .before .before .before .before .before .before .before .before .before .args in
-    let at-loop = c .before .before .before .before .before .before .before .loop in
+    let at-args = c .before .before .before .before .before .before .before .before .before .before .before .args in
+    let at-loop = c .before .before .before .before .before .before .before .before .loop in
     let at-next-named = c .before .before .before .before .before .next-named in
     let at-f = c .before .before .before .f in
-    let at-pre = c .before .before .before .before .before .before .before .before .before .before .pre in
+    let at-pre = c .before .before .before .before .before .before .before .before .before .before .before .pre in
     let v = value-told (at-args .d .now) (text "%size") (at-loop .i) (at-next-named .result) (at-next-named .ensures) (at-f .given .1) in
     let h = all-both isShort (valuesFrom (at-args .d .now) (text "%size") (at-loop .i)) _ _ (v .values) (at-loop .inv .2) in
     let g = at-f .given .0 in
-    omega (arith, leb-true (length (valueFrom (span (g .1 .0) (g .1 .1 .0) (at-args .d .now)))) valueBytes (h .0), at-pre .1 .1, at-loop .inv .3)
+    omega (arith, leb-true (length (valueFrom (span (at-loop .i + g .1 .0) (at-loop .i + g .1 .1 .0) (at-args .d .now)))) valueBytes (h .0), at-pre .1 .1, at-loop .inv .3)
 
 same-length-2 : tie.Need-same-length-2 Inv-loop μ-loop
 same-length-2 c =
     let at-value-met = c .before .before .before .value-met in
-    let at-loop = c .before .before .before .before .before .before .before .before .before .before .before .loop in
+    let at-loop = c .before .before .before .before .before .before .before .before .before .before .before .before .loop in
     at-value-met .ensures .1 ∙ at-loop .inv .3
 
 returns-2 : tie.Need-returns-2 Inv-loop μ-loop
 returns-2 c =
-    let at-args = c .before .before .before .before .before .before .before .before .before .before .before .before .before .before .args in
-    let at-loop = c .before .before .before .before .before .before .before .before .before .before .before .loop in
+    let at-args = c .before .before .before .before .before .before .before .before .before .before .before .before .before .before .before .args in
+    let at-loop = c .before .before .before .before .before .before .before .before .before .before .before .before .loop in
     let at-next-named = c .before .before .before .before .before .before .before .before .before .next-named in
     let at-f = c .before .before .before .before .before .before .before .f in
     let at-value-met = c .before .before .before .value-met in
@@ -126,10 +155,19 @@ returns-2 c =
     let v = value-told (at-args .d .now) (text "%size") (at-loop .i) (at-next-named .result) (at-next-named .ensures) (at-f .given .1) in
     (sym (at-loop .inv .4 ∙ all-stop (isMet (at-args .count)) (valuesFrom (at-args .d .now) (text "%size") (at-loop .i)) _ _ (v .values) (sym (at-value-met .ensures .0) ∙ not-true (at-value-met .result) (at-if1 .taken))), at-value-met .ensures .1 ∙ at-loop .inv .3)
 
+add-i : tie.Need-add-i Inv-loop μ-loop
+add-i c =
+    let at-args = c .before .before .before .before .before .before .before .before .before .before .before .before .before .before .before .args in
+    let at-loop = c .before .before .before .before .before .before .before .before .before .before .before .before .loop in
+    let at-next-named = c .before .before .before .before .before .before .before .before .before .next-named in
+    let at-f = c .before .before .before .before .before .before .before .f in
+    let v = value-told (at-args .d .now) (text "%size") (at-loop .i) (at-next-named .result) (at-next-named .ensures) (at-f .given .1) in
+    omega (arith, v .inside)
+
 loop-less : tie.Need-loop-less Inv-loop μ-loop
 loop-less c =
-    let at-args = c .before .before .before .before .before .before .before .before .before .before .before .before .before .before .args in
-    let at-loop = c .before .before .before .before .before .before .before .before .before .before .before .loop in
+    let at-args = c .before .before .before .before .before .before .before .before .before .before .before .before .before .before .before .args in
+    let at-loop = c .before .before .before .before .before .before .before .before .before .before .before .before .loop in
     let at-next-named = c .before .before .before .before .before .before .before .before .before .next-named in
     let at-f = c .before .before .before .before .before .before .before .f in
     let v = value-told (at-args .d .now) (text "%size") (at-loop .i) (at-next-named .result) (at-next-named .ensures) (at-f .given .1) in
@@ -137,8 +175,8 @@ loop-less c =
 
 loop-again : tie.Need-loop-again Inv-loop μ-loop
 loop-again c =
-    let at-args = c .before .before .before .before .before .before .before .before .before .before .before .before .before .before .args in
-    let at-loop = c .before .before .before .before .before .before .before .before .before .before .before .loop in
+    let at-args = c .before .before .before .before .before .before .before .before .before .before .before .before .before .before .before .args in
+    let at-loop = c .before .before .before .before .before .before .before .before .before .before .before .before .loop in
     let at-next-named = c .before .before .before .before .before .before .before .before .before .next-named in
     let at-f = c .before .before .before .before .before .before .before .f in
     let at-value-met = c .before .before .before .value-met in
@@ -155,17 +193,23 @@ size-met-spec =
     Inv-loop
     μ-loop
     loop-holds
+    sub-next-named
+    part-next-named-start
+    part-next-named-end
     slice-aggregate-next-named
     next-named-requires
     enum-known-f
     enum-told
     same-length
     returns
+    add-value-met
+    add-value-met-2
     sub-value-met
     part-value-met-start
     part-value-met-end
     value-met-requires
     same-length-2
     returns-2
+    add-i
     loop-less
     loop-again)
