@@ -138,7 +138,7 @@ fn gather(name: &[u8], s: &[u8], entries: &mut [u32]) -> usize
     let mut i = 0;
     let mut n = 0;
     loop {
-        let f = records::next_named(s, name, i);
+        let f = records::next_named(&s[i..], name);
         let FoundField::At {
             start: _,
             value,
@@ -147,9 +147,9 @@ fn gather(name: &[u8], s: &[u8], entries: &mut [u32]) -> usize
         else {
             return n;
         };
-        entries[n] = entry(s, value);
+        entries[n] = entry(s, i + value);
         n += 1;
-        i = end;
+        i += end;
     }
 }
 
