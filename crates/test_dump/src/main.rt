@@ -41,7 +41,7 @@ fn dump_record(s: &[u8])
 {
     let mut i = 0;
     loop {
-        let f = records::next_field(s, i);
+        let f = records::next_field(&s[i..]);
         let NextField::At {
             start,
             named,
@@ -52,11 +52,11 @@ fn dump_record(s: &[u8])
             io::write_all(1, b"\n");
             return;
         };
-        io::write_all(1, &s[start..named]);
+        io::write_all(1, &s[i + start..i + named]);
         io::write_all(1, b":");
-        dump_value(&s[value..end]);
+        dump_value(&s[i + value..i + end]);
         io::write_all(1, b"\n");
-        i = end;
+        i += end;
     }
 }
 
