@@ -28,7 +28,7 @@ fn count_fields(s: &[u8]) -> usize
     let mut i = 0;
     let mut n = 0;
     loop {
-        let f = records::next_field(s, i);
+        let f = records::next_field(&s[i..]);
         let NextField::At {
             start: _,
             named: _,
@@ -39,7 +39,7 @@ fn count_fields(s: &[u8]) -> usize
             return n;
         };
         n += 1;
-        i = end;
+        i += end;
     }
 }
 
