@@ -113,7 +113,7 @@ fn add_lists(d: &[u8], entries: &mut [u32]) -> usize
     let mut n = 0;
     let mut i = 0;
     loop {
-        let f = records::next_field(d, i);
+        let f = records::next_field(&d[i..]);
         let NextField::At {
             start,
             named,
@@ -123,13 +123,11 @@ fn add_lists(d: &[u8], entries: &mut [u32]) -> usize
         else {
             return n;
         };
-        let tag = list_tag(&d[start..named]);
+        let tag = list_tag(&d[i + start..i + named]);
         if tag < Tag::NONE {
-            n = add_words(d, value, tag, &mut *entries, n);
-            i = end;
-        } else {
-            i = end;
+            n = add_words(d, i + value, tag, &mut *entries, n);
         }
+        i += end;
     }
 }
 
@@ -142,7 +140,7 @@ fn pass_types(d: &[u8], count: usize) -> usize
     let mut i = 0;
     let mut row = 0;
     while row < count {
-        let v = records::next_named(d, b"%type", i);
+        let v = records::next_named(&d[i..], b"%type");
         let FoundField::At {
             start: _,
             value: _,
@@ -152,7 +150,7 @@ fn pass_types(d: &[u8], count: usize) -> usize
             return i;
         };
         row += 1;
-        i = end;
+        i += end;
     }
     i
 }
@@ -173,7 +171,7 @@ fn add_types(d: &[u8], from: usize, entries: &mut [u32], n: usize) -> Added
     let mut row = from;
     let mut i = pass_types(d, from);
     loop {
-        let v = records::next_named(d, b"%type", i);
+        let v = records::next_named(&d[i..], b"%type");
         let FoundField::At {
             start: _,
             value,
@@ -191,9 +189,9 @@ fn add_types(d: &[u8], from: usize, entries: &mut [u32], n: usize) -> Added
                 next: row,
             };
         }
-        k = add_names(d, value, row as u32, &mut *entries, k);
+        k = add_names(d, i + value, row as u32, &mut *entries, k);
         row += 1;
-        i = end;
+        i += end;
     }
 }
 

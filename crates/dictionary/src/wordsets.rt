@@ -49,7 +49,7 @@ fn add_list(d: &[u8], name: &[u8], entries: &mut [u32]) -> usize
     let mut n = 0;
     let mut i = 0;
     loop {
-        let v = records::next_named(d, name, i);
+        let v = records::next_named(&d[i..], name);
         let FoundField::At {
             start: _,
             value,
@@ -58,8 +58,8 @@ fn add_list(d: &[u8], name: &[u8], entries: &mut [u32]) -> usize
         else {
             return n;
         };
-        n = add_value(d, value, &mut *entries, n);
-        i = end;
+        n = add_value(d, i + value, &mut *entries, n);
+        i += end;
     }
 }
 

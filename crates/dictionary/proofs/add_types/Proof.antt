@@ -1,6 +1,6 @@
 -- `dictionary::add_types` meets its contract. The invariant: what is left are the names of the fields from a row on. The measure is what is left of the text.
 use borrow.Author.Needs.{needs}
-use Prim.Native.Nat.{_-_, _≤_}
+use Prim.Native.Nat.{_+_, _-_, _≤_}
 use native.Mathlib.Omega.{arith}
 use mathlib.Core.Path.{_≡_, refl, _∙_}
 use lib.ListN.{length, drop, length-map}
@@ -9,6 +9,7 @@ use Rattle.lines.specs.Value.{valueFrom}
 use Rattle.terms.specs.Sets.{termOf}
 use Rattle.format.specs.Bytes.{text}
 use Rattle.records.specs.Named.{valuesFrom}
+use Rattle.records.proofs.Readings.{part-readable}
 use Rattle.records.proofs.Named.{value-told}
 use Rattle.sorting.proofs.Tests.{dec-lt}
 use Rattle.terms.specs.Adding.{Adding}
@@ -42,13 +43,23 @@ loop-holds c =
     let at-args = c .before .before .before .args in
     (omega arith, at-pre .1 .0, record { inside = at-pass-types .ensures .0; readable = at-pass-types .ensures .1; values = at-pass-types .ensures .2 }, at-pre .1 .1, refl, λ e. refl, adding-start (at-args .d .now) (at-args .entries .now) (at-args .n) (rowTerms (at-args .from) (drop (at-args .from) (valuesFrom (at-args .d .now) (text "%type") 0))))
 
+sub-next-named : tie.Need-sub-next-named Inv-loop μ-loop
+sub-next-named c = search needs
+
+part-next-named-start : tie.Need-part-next-named-start Inv-loop μ-loop
+part-next-named-start c = search needs
+
+part-next-named-end : tie.Need-part-next-named-end Inv-loop μ-loop
+part-next-named-end c = search needs
+
 slice-aggregate-next-named : tie.Need-slice-aggregate-next-named Inv-loop μ-loop
 slice-aggregate-next-named c = search needs
 
 next-named-requires : tie.Need-next-named-requires Inv-loop μ-loop
 next-named-requires c κs =
-    let at-loop = c .before .loop in
-    ((at-loop .inv .2 .inside, at-loop .inv .2 .readable))
+    let at-args = c .before .before .before .before .before .before .args in
+    let at-loop = c .before .before .loop in
+    (part-readable (at-args .d .now) (at-loop .i) (at-loop .inv .2 .readable))
 
 enum-known-v : tie.Need-enum-known-v Inv-loop μ-loop
 enum-known-v c = search needs
@@ -58,13 +69,13 @@ enum-told c = search needs
 
 same-length : tie.Need-same-length Inv-loop μ-loop
 same-length c =
-    let at-loop = c .before .before .before .before .loop in
+    let at-loop = c .before .before .before .before .before .loop in
     at-loop .inv .4
 
 returns : tie.Need-returns Inv-loop μ-loop
 returns c =
-    let at-args = c .before .before .before .before .before .before .before .before .args in
-    let at-loop = c .before .before .before .before .loop in
+    let at-args = c .before .before .before .before .before .before .before .before .before .args in
+    let at-loop = c .before .before .before .before .before .loop in
     let at-next-named = c .before .before .next-named in
     let at-enum-told = c .enum-told in
     let e = value-told (at-args .d .now) (text "%type") (at-loop .i) (at-next-named .result) (at-next-named .ensures) (at-enum-told .given .1) in
@@ -73,38 +84,47 @@ returns c =
 
 sub-if1 : tie.Need-sub-if1 Inv-loop μ-loop
 sub-if1 c =
-    let at-loop = c .before .before .before .before .before .loop in
+    let at-loop = c .before .before .before .before .before .before .loop in
     at-loop .inv .3
 
 same-length-2 : tie.Need-same-length-2 Inv-loop μ-loop
 same-length-2 c =
-    let at-loop = c .before .before .before .before .before .before .loop in
+    let at-loop = c .before .before .before .before .before .before .before .loop in
     at-loop .inv .4
 
 returns-2 : tie.Need-returns-2 Inv-loop μ-loop
 returns-2 c =
-    let at-loop = c .before .before .before .before .before .before .loop in
-    let at-args = c .before .before .before .before .before .before .before .before .before .before .args in
+    let at-loop = c .before .before .before .before .before .before .before .loop in
+    let at-args = c .before .before .before .before .before .before .before .before .before .before .before .args in
     let at-if1 = c .if1 in
     record { begins = at-loop .inv .0; within = at-loop .inv .1; room = at-loop .inv .3; some = λ a b. dec-lt (at-args .from) (at-loop .row) (λ h. h) (λ h. absurd (omega (arith, at-loop .inv .5 (omega (arith, at-loop .inv .0)), at-if1 .taken, at-loop .inv .4))); adding = at-loop .inv .6 }
 
-cast-add-names : tie.Need-cast-add-names Inv-loop μ-loop
-cast-add-names c =
-    let at-args = c .before .before .before .before .before .before .before .before .before .before .args in
-    let at-loop = c .before .before .before .before .before .before .loop in
+add-add-names : tie.Need-add-add-names Inv-loop μ-loop
+add-add-names c =
+    let at-args = c .before .before .before .before .before .before .before .before .before .before .before .args in
+    let at-loop = c .before .before .before .before .before .before .before .loop in
     let at-next-named = c .before .before .before .before .next-named in
     let at-v = c .before .before .v in
-    let at-pre = c .before .before .before .before .before .before .before .before .before .before .pre in
+    let h = value-told (at-args .d .now) (text "%type") (at-loop .i) (at-next-named .result) (at-next-named .ensures) (at-v .given .1) in
+    omega (arith, h .value-there)
+
+cast-add-names : tie.Need-cast-add-names Inv-loop μ-loop
+cast-add-names c =
+    let at-args = c .before .before .before .before .before .before .before .before .before .before .before .args in
+    let at-loop = c .before .before .before .before .before .before .before .loop in
+    let at-next-named = c .before .before .before .before .next-named in
+    let at-v = c .before .before .v in
+    let at-pre = c .before .before .before .before .before .before .before .before .before .before .before .pre in
     let h = value-told (at-args .d .now) (text "%type") (at-loop .i) (at-next-named .result) (at-next-named .ensures) (at-v .given .1) in
     omega (arith, passed-inside (at-args .d .now) (text "%type") (at-loop .row) (at-loop .i) (at-loop .inv .2) _ _ h, rows-few (at-args .d .now) (at-pre .0))
 
 add-names-requires : tie.Need-add-names-requires Inv-loop μ-loop
 add-names-requires c κs =
-    let at-args = c .before .before .before .before .before .before .before .before .before .before .before .args in
-    let at-loop = c .before .before .before .before .before .before .before .loop in
+    let at-args = c .before .before .before .before .before .before .before .before .before .before .before .before .args in
+    let at-loop = c .before .before .before .before .before .before .before .before .loop in
     let at-next-named = c .before .before .before .before .before .next-named in
     let at-v = c .before .before .before .v in
-    let at-pre = c .before .before .before .before .before .before .before .before .before .before .before .pre in
+    let at-pre = c .before .before .before .before .before .before .before .before .before .before .before .before .pre in
     let at-if1 = c .before .if1 in
     let h = value-told (at-args .d .now) (text "%type") (at-loop .i) (at-next-named .result) (at-next-named .ensures) (at-v .given .1) in
     let f = row-fits (at-args .d .now) (at-loop .row) (at-loop .i) _ _ (at-loop .inv .2) h (at-pre .0) in
@@ -114,18 +134,27 @@ add-names-requires c κs =
 
 add-row : tie.Need-add-row Inv-loop μ-loop
 add-row c =
-    let at-args = c .before .before .before .before .before .before .before .before .before .before .before .before .before .before .args in
-    let at-loop = c .before .before .before .before .before .before .before .before .before .before .loop in
+    let at-args = c .before .before .before .before .before .before .before .before .before .before .before .before .before .before .before .args in
+    let at-loop = c .before .before .before .before .before .before .before .before .before .before .before .loop in
     let at-next-named = c .before .before .before .before .before .before .before .before .next-named in
     let at-v = c .before .before .before .before .before .before .v in
-    let at-pre = c .before .before .before .before .before .before .before .before .before .before .before .before .before .before .pre in
+    let at-pre = c .before .before .before .before .before .before .before .before .before .before .before .before .before .before .before .pre in
     let h = value-told (at-args .d .now) (text "%type") (at-loop .i) (at-next-named .result) (at-next-named .ensures) (at-v .given .1) in
     omega (arith, passed-inside (at-args .d .now) (text "%type") (at-loop .row) (at-loop .i) (at-loop .inv .2) _ _ h, rows-few (at-args .d .now) (at-pre .0))
 
+add-i : tie.Need-add-i Inv-loop μ-loop
+add-i c =
+    let at-args = c .before .before .before .before .before .before .before .before .before .before .before .before .before .before .before .args in
+    let at-loop = c .before .before .before .before .before .before .before .before .before .before .before .loop in
+    let at-next-named = c .before .before .before .before .before .before .before .before .next-named in
+    let at-v = c .before .before .before .before .before .before .v in
+    let h = value-told (at-args .d .now) (text "%type") (at-loop .i) (at-next-named .result) (at-next-named .ensures) (at-v .given .1) in
+    omega (arith, h .inside)
+
 loop-less : tie.Need-loop-less Inv-loop μ-loop
 loop-less c =
-    let at-args = c .before .before .before .before .before .before .before .before .before .before .before .before .before .before .args in
-    let at-loop = c .before .before .before .before .before .before .before .before .before .before .loop in
+    let at-args = c .before .before .before .before .before .before .before .before .before .before .before .before .before .before .before .args in
+    let at-loop = c .before .before .before .before .before .before .before .before .before .before .before .loop in
     let at-next-named = c .before .before .before .before .before .before .before .before .next-named in
     let at-v = c .before .before .before .before .before .before .v in
     let h = value-told (at-args .d .now) (text "%type") (at-loop .i) (at-next-named .result) (at-next-named .ensures) (at-v .given .1) in
@@ -133,11 +162,11 @@ loop-less c =
 
 loop-again : tie.Need-loop-again Inv-loop μ-loop
 loop-again c =
-    let at-args = c .before .before .before .before .before .before .before .before .before .before .before .before .before .before .args in
-    let at-loop = c .before .before .before .before .before .before .before .before .before .before .loop in
+    let at-args = c .before .before .before .before .before .before .before .before .before .before .before .before .before .before .before .args in
+    let at-loop = c .before .before .before .before .before .before .before .before .before .before .before .loop in
     let at-next-named = c .before .before .before .before .before .before .before .before .next-named in
     let at-v = c .before .before .before .before .before .before .v in
-    let at-pre = c .before .before .before .before .before .before .before .before .before .before .before .before .before .before .pre in
+    let at-pre = c .before .before .before .before .before .before .before .before .before .before .before .before .before .before .before .pre in
     let at-add-names = c .before .before .add-names in
     let at-if1 = c .before .before .before .before .if1 in
     let h = value-told (at-args .d .now) (text "%type") (at-loop .i) (at-next-named .result) (at-next-named .ensures) (at-v .given .1) in
@@ -147,7 +176,7 @@ loop-again c =
     let b = passed-inside (at-args .d .now) (text "%type") (at-loop .row) (at-loop .i) (at-loop .inv .2) _ _ h in
     let z = at-if1 .left in
     let y = at-loop .inv .3 in
-    (omega (arith, at-loop .inv .0), omega (arith, b), passed-more (at-args .d .now) (text "%type") (at-loop .row) (at-loop .i) (at-loop .inv .2) _ _ h, omega (arith, a .count, a .long, length-map (typedNames (valueFrom (drop (g .1 .0) (at-args .d .now)))) (termOf (at-loop .row))), a .long ∙ at-loop .inv .4, (λ e. absurd (omega (arith, at-loop .inv .0))), rows-more (at-args .d .now) (at-loop .row) (at-loop .i) _ _ (at-loop .inv .2) h (at-pre .0) (at-args .from) (at-args .entries .now) (at-args .n) (at-loop .entries) (at-loop .k) _ _ (at-loop .inv .6) a)
+    (omega (arith, at-loop .inv .0), omega (arith, b), passed-more (at-args .d .now) (text "%type") (at-loop .row) (at-loop .i) (at-loop .inv .2) _ _ h, omega (arith, a .count, a .long, length-map (typedNames (valueFrom (drop (at-loop .i + g .1 .0) (at-args .d .now)))) (termOf (at-loop .row))), a .long ∙ at-loop .inv .4, (λ e. absurd (omega (arith, at-loop .inv .0))), rows-more (at-args .d .now) (at-loop .row) (at-loop .i) _ _ (at-loop .inv .2) h (at-pre .0) (at-args .from) (at-args .entries .now) (at-args .n) (at-loop .entries) (at-loop .k) _ _ (at-loop .inv .6) a)
 
 pub add-types-spec : {M : Type 1} → statement M
 add-types-spec =
@@ -157,6 +186,9 @@ add-types-spec =
     μ-loop
     pass-types-requires
     loop-holds
+    sub-next-named
+    part-next-named-start
+    part-next-named-end
     slice-aggregate-next-named
     next-named-requires
     enum-known-v
@@ -166,8 +198,10 @@ add-types-spec =
     sub-if1
     same-length-2
     returns-2
+    add-add-names
     cast-add-names
     add-names-requires
     add-row
+    add-i
     loop-less
     loop-again)
