@@ -47,7 +47,7 @@ fn has_field(d: &[u8], name: &[u8]) -> bool
     requires { ⌜ isReadable (now d) ≡ true ⌝ }
     ensures { λ r. ⌜ r ≡ not (eqb (length (valuesOf (now (name .entry)) (recordIn (now (d .entry))))) 0) ⌝ }
 {
-    let v = records::next_named(d, name, 0);
+    let v = records::next_named(d, name);
     match v {
         FoundField::At {
             start: _,
@@ -155,7 +155,7 @@ fn keys_apart(d: &[u8], part: &[u8], scratch: &mut [u8], entries: &mut [u32]) ->
     requires { ⌜ (valueBytes ≤ length (now scratch)) × (entriesEnd ≤ length (now entries)) ⌝ }
     ensures { λ r. ⌜ r ≡ distinct (keysOf (ruled (recordIn (now (d .entry))) (records (readOf (now (part .entry)))))) ⌝ }
 {
-    let v = records::next_named(d, b"%key", 0);
+    let v = records::next_named(d, b"%key");
     let FoundField::At {
         start: _,
         value,

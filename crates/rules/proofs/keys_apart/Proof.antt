@@ -2,7 +2,7 @@
 use borrow.Author.Needs.{needs}
 use native.Mathlib.Omega.{arith}
 use Prim.Native.Nat.{_≤_}
-use mathlib.Core.Path.{ap}
+use mathlib.Core.Path.{ap, subst}
 use mathlib.Core.List.{List, []}
 use lib.ListN.{length, getD}
 use Rattle.format.specs.Bytes.{Bytes, text}
@@ -10,7 +10,7 @@ use Rattle.lines.specs.Value.{valueFrom}
 use Rattle.words.specs.Spans.{span}
 use Rattle.words.proofs.Decoded.{decoded-all, decoded-length, decoded-inside}
 use Rattle.words.proofs.Finding.{found, not-found}
-use Rattle.records.proofs.Named.{value-told}
+use Rattle.records.specs.Named.{NamedNext}
 use Rattle.columns.proofs.Granted.{fits-at}
 use Rattle.rules.proofs.Walking.{key-few}
 use Rattle.rules.proofs.Granted.{described-by}
@@ -30,7 +30,7 @@ slice-aggregate-next-named c = search needs
 next-named-requires : tie.Need-next-named-requires
 next-named-requires c κs =
     let at-pre = c .before .before .before .before .before .pre in
-    ((omega arith, at-pre .0 .0 .reads))
+    (at-pre .0 .0 .reads)
 
 enum-known-v : tie.Need-enum-known-v
 enum-known-v c = search needs
@@ -43,28 +43,28 @@ returns c =
     let at-args = c .before .before .before .before .before .before .before .before .args in
     let at-next-named = c .before .before .next-named in
     let at-enum-told = c .enum-told in
-    no-key (at-args .d .now) (at-args .part .now) (value-told (at-args .d .now) (text "%key") 0 (at-next-named .result) (at-next-named .ensures) (at-enum-told .given .1))
+    no-key (at-args .d .now) (at-args .part .now) (subst (NamedNext (at-args .d .now) (text "%key") 0) (at-enum-told .given .1) (at-next-named .ensures) .value)
 
 sub-copy-value : tie.Need-sub-copy-value
 sub-copy-value c =
     let at-args = c .before .before .before .before .before .before .before .before .before .args in
     let at-next-named = c .before .before .before .next-named in
     let at-v = c .before .v in
-    let h = value-told (at-args .d .now) (text "%key") 0 (at-next-named .result) (at-next-named .ensures) (at-v .given .1) in h .within
+    let h = subst (NamedNext (at-args .d .now) (text "%key") 0) (at-v .given .1) (at-next-named .ensures) .value in h .within
 
 part-copy-value-start : tie.Need-part-copy-value-start
 part-copy-value-start c =
     let at-args = c .before .before .before .before .before .before .before .before .before .args in
     let at-next-named = c .before .before .before .next-named in
     let at-v = c .before .v in
-    let h = value-told (at-args .d .now) (text "%key") 0 (at-next-named .result) (at-next-named .ensures) (at-v .given .1) in h .within
+    let h = subst (NamedNext (at-args .d .now) (text "%key") 0) (at-v .given .1) (at-next-named .ensures) .value in h .within
 
 part-copy-value-end : tie.Need-part-copy-value-end
 part-copy-value-end c =
     let at-args = c .before .before .before .before .before .before .before .before .before .args in
     let at-next-named = c .before .before .before .next-named in
     let at-v = c .before .v in
-    let h = value-told (at-args .d .now) (text "%key") 0 (at-next-named .result) (at-next-named .ensures) (at-v .given .1) in h .inside
+    let h = subst (NamedNext (at-args .d .now) (text "%key") 0) (at-v .given .1) (at-next-named .ensures) .value in h .inside
 
 copy-value-requires : tie.Need-copy-value-requires
 copy-value-requires c κs =
@@ -72,7 +72,7 @@ copy-value-requires c κs =
     let at-next-named = c .before .before .before .before .before .next-named in
     let at-v = c .before .before .before .v in
     let at-pre = c .before .before .before .before .before .before .before .before .before .before .before .pre in
-    let h = value-told (at-args .d .now) (text "%key") 0 (at-next-named .result) (at-next-named .ensures) (at-v .given .1) in
+    let h = subst (NamedNext (at-args .d .now) (text "%key") 0) (at-v .given .1) (at-next-named .ensures) .value in
     let f = fits-at (at-args .d .now) (described-by (at-args .d .now) (at-pre .0 .0) (at-pre .0 .1)) (text "%key") 0 in
     omega (arith, f, ap (λ (vs : List Bytes). length (getD vs 0 [])) (h .values), at-pre .1 .1 .0)
 
@@ -83,7 +83,7 @@ slice-reshare-prefix-next-word c =
     let at-v = c .before .before .before .before .before .before .v in
     let at-pre = c .before .before .before .before .before .before .before .before .before .before .before .before .before .before .pre in
     let at-copy-value = c .before .before .copy-value in
-    let h = value-told (at-args .d .now) (text "%key") 0 (at-next-named .result) (at-next-named .ensures) (at-v .given .1) in
+    let h = subst (NamedNext (at-args .d .now) (text "%key") 0) (at-v .given .1) (at-next-named .ensures) .value in
     let f = fits-at (at-args .d .now) (described-by (at-args .d .now) (at-pre .0 .0) (at-pre .0 .1)) (text "%key") 0 in
     let g = at-v .given .0 in
     let fit : length (valueFrom (span (g .1 .0) (g .1 .1 .0) (at-args .d .now))) ≤ length (at-args .scratch .now) = omega (arith, f, ap (λ (vs : List Bytes). length (getD vs 0 [])) (h .values), at-pre .1 .1 .0) in
@@ -117,7 +117,7 @@ returns-2 c =
     let at-pre = c .before .before .before .before .before .before .before .before .before .before .before .before .before .before .before .before .before .before .pre in
     let at-next-word = c .before .before .next-word in
     let at-enum-told2 = c .enum-told2 in
-    let h = value-told (at-args .d .now) (text "%key") 0 (at-next-named .result) (at-next-named .ensures) (at-v .given .1) in
+    let h = subst (NamedNext (at-args .d .now) (text "%key") 0) (at-v .given .1) (at-next-named .ensures) .value in
     let g = at-v .given .0 in
     let q = decoded-all (valueFrom (span (g .1 .0) (g .1 .1 .0) (at-args .d .now))) (at-args .scratch .now) _ (at-copy-value .result) (at-copy-value .ensures .0) (at-copy-value .ensures .1) in
     no-word (at-args .d .now) (at-args .part .now) (g .1 .0) (g .1 .1 .0) h _ q (key-once-named (at-args .d .now) (at-pre .0 .0)) (not-found _ (at-next-word .ensures) (at-enum-told2 .given .1))
@@ -143,7 +143,7 @@ part-keys-distinct-end c =
     let at-copy-value = c .before .before .before .before .before .before .before .before .copy-value in
     let at-next-word = c .before .before .before .before .next-word in
     let at-w = c .before .before .w in
-    let h = value-told (at-args .d .now) (text "%key") 0 (at-next-named .result) (at-next-named .ensures) (at-v .given .1) in
+    let h = subst (NamedNext (at-args .d .now) (text "%key") 0) (at-v .given .1) (at-next-named .ensures) .value in
     let f = fits-at (at-args .d .now) (described-by (at-args .d .now) (at-pre .0 .0) (at-pre .0 .1)) (text "%key") 0 in
     let g = at-v .given .0 in
     let fit : length (valueFrom (span (g .1 .0) (g .1 .1 .0) (at-args .d .now))) ≤ length (at-args .scratch .now) = omega (arith, f, ap (λ (vs : List Bytes). length (getD vs 0 [])) (h .values), at-pre .1 .1 .0) in
@@ -161,7 +161,7 @@ keys-distinct-requires c κs =
     let at-copy-value = c .before .before .before .before .before .before .before .before .before .before .copy-value in
     let at-next-word = c .before .before .before .before .before .before .next-word in
     let at-pre = c .before .before .before .before .before .before .before .before .before .before .before .before .before .before .before .before .before .before .before .before .before .before .pre in
-    let h = value-told (at-args .d .now) (text "%key") 0 (at-next-named .result) (at-next-named .ensures) (at-v .given .1) in
+    let h = subst (NamedNext (at-args .d .now) (text "%key") 0) (at-v .given .1) (at-next-named .ensures) .value in
     let g = at-v .given .0 in
     let x = at-w .given .0 in
     let u = decoded-all (valueFrom (span (g .1 .0) (g .1 .1 .0) (at-args .d .now))) (at-args .scratch .now) _ (at-copy-value .result) (at-copy-value .ensures .0) (at-copy-value .ensures .1) in
@@ -187,7 +187,7 @@ returns-3 c =
     let at-next-word = c .before .before .before .before .before .before .before .before .before .next-word in
     let at-pre = c .before .before .before .before .before .before .before .before .before .before .before .before .before .before .before .before .before .before .before .before .before .before .before .before .before .pre in
     let at-keys-distinct = c .before .before .keys-distinct in
-    let h = value-told (at-args .d .now) (text "%key") 0 (at-next-named .result) (at-next-named .ensures) (at-v .given .1) in
+    let h = subst (NamedNext (at-args .d .now) (text "%key") 0) (at-v .given .1) (at-next-named .ensures) .value in
     let g = at-v .given .0 in
     let x = at-w .given .0 in
     let u = decoded-all (valueFrom (span (g .1 .0) (g .1 .1 .0) (at-args .d .now))) (at-args .scratch .now) _ (at-copy-value .result) (at-copy-value .ensures .0) (at-copy-value .ensures .1) in
