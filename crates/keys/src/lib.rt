@@ -16,6 +16,7 @@ ghost use Rattle.keys.specs.Order.{ranked, Tells};
 ghost use Rattle.keys.specs.Gathered.{Gathered};
 use records::FoundField;
 use sorting::Compared;
+use sorting::Entry;
 
 fn narrow(x: usize) -> u32
     requires { ⌜ x < 4294967296 ⌝ }
@@ -29,8 +30,8 @@ fn entry(s: &[u8], at: usize) -> u32
     requires { ⌜ (at < fileBytes) × (at ≤ length (now s)) ⌝ }
     ensures { λ r. ⌜ r ≡ entryOf at (valueFrom (drop at (now (s .entry)))) ⌝ }
 {
-    let p = sorting::mix(s, at, false) / 65536;
-    narrow(at) + 65536 * narrow(p)
+    let p = narrow(sorting::mix(s, at, false)) / Entry::PLACES;
+    narrow(at) + Entry::PLACES * p
 }
 
 // The keys of two entries compared, by their bytes only where the fingerprints are equal.
@@ -38,8 +39,8 @@ fn compare_entries(s: &[u8], x: u32, y: u32) -> Compared
     requires { ⌜ (IsEntry (now s) x) × (IsEntry (now s) y) ⌝ }
     ensures { λ r. ⌜ r ≡ ranked (keyAt (now (s .entry)) x) (keyAt (now (s .entry)) y) ⌝ }
 {
-    let p = x / 65536;
-    let q = y / 65536;
+    let p = x / Entry::PLACES;
+    let q = y / Entry::PLACES;
     if p < q {
         return Compared::Before;
     }

@@ -2,6 +2,7 @@
 // number whose lower 16 bits are the place of its text. Nothing is promised of the order that the sort makes: whoever needs it looks whether the entries rise.
 ghost use mathlib.Core.Path.{_≡_};
 ghost use mathlib.Core.Bool.{not};
+ghost use mathlib.Core.List.{[], _∷_};
 ghost use Prim.Native.Nat.{_<_, _≤_, _%_};
 ghost use lib.ListN.{length};
 ghost use Rattle.sorting.specs.Texts.{isWordByte, keeps, textAt, TextByte, mixed};
@@ -15,10 +16,37 @@ fn wide(x: u32) -> usize
     x as usize
 }
 
-fn wide_byte(x: u8) -> usize
-    ensures { λ r. ⌜ (r ≡ x) × (r < 256) ⌝ }
+// The parts of an entry, from the lowest bits up: the place in 16; where words are sorted, a tag in 6; then bits that the text is mixed into. The upper ten name the bucket that it is sorted in.
+pub struct Entry {}
+
+impl Entry {
+    pub const PLACES: u32 = 65536;
+
+    pub const TAGGED: u32 = 4194304;
+
+    const BUCKETS: usize = 1024;
+
+    // So few are sorted by insertion.
+    const FEW: usize = 48;
+}
+
+// How bytes are mixed into a number of 32 bits: each is added to the number so far and the sum multiplied.
+pub struct Mixing {}
+
+impl Mixing {
+    pub const START: usize = 2166136261;
+
+    const FACTOR: usize = 2654435761;
+
+    const NUMBERS: usize = 4294967296;
+}
+
+// One byte more.
+pub fn mix_byte(h: usize, b: u8) -> usize
+    requires { ⌜ h < 4294967296 ⌝ }
+    ensures { λ r. ⌜ (r ≡ mixed h (b ∷ [])) × (r < 4294967296) ⌝ }
 {
-    x as usize
+    (h + b as usize) * Mixing::FACTOR % Mixing::NUMBERS
 }
 
 // Can a byte stand in a name or a symbol? Gaps, commas and parentheses cannot.
@@ -62,14 +90,14 @@ pub fn text_byte(s: &[u8], i: usize, words: bool) -> Decoded
 pub fn mix(s: &[u8], i: usize, words: bool) -> usize
     ensures { λ r. ⌜ (r ≡ mixed 2166136261 (textAt words (now (s .entry)) i)) × (r < 4294967296) ⌝ }
 {
-    let mut h: usize = 2166136261;
+    let mut h = Mixing::START;
     let mut at = i;
     loop {
         let d = text_byte(s, at, words);
         let Decoded::Byte { byte, next } = d else {
             return h;
         };
-        h = (h + wide_byte(byte)) * 2654435761 % 4294967296;
+        h = mix_byte(h, byte);
         at = next;
     }
 }
@@ -114,15 +142,15 @@ pub fn compare(s: &[u8], i: usize, j: usize, words: bool) -> Compared
 pub fn place(x: u32) -> usize
     ensures { λ r. ⌜ r ≡ x % 65536 ⌝ }
 {
-    wide(x % 65536)
+    wide(x % Entry::PLACES)
 }
 
 // What the order looks at first: above the place, for words above 6 more bits.
 fn rank(x: u32, words: bool) -> u32 {
     if words {
-        return x / 4194304;
+        return x / Entry::TAGGED;
     }
-    x / 65536
+    x / Entry::PLACES
 }
 
 // For the sort alone: by rank, then by text, then by all that stands above the place. Nothing is said of the answer.
@@ -137,7 +165,7 @@ fn is_before(s: &[u8], x: u32, y: u32, words: bool) -> bool {
     }
     let c = compare(s, place(x), place(y), words);
     match c {
-        Compared::Equal => x / 65536 < y / 65536,
+        Compared::Equal => x / Entry::PLACES < y / Entry::PLACES,
         Compared::Before => true,
         Compared::Behind => false,
     }
@@ -247,7 +275,7 @@ fn sort_bucket(s: &[u8], entries: &mut [u32], words: bool, lo: usize, hi: usize)
     requires { ⌜ (lo ≤ hi) × (hi ≤ length (now entries)) ⌝ }
     ensures { λ _. ⌜ Moved (now (entries .entry)) (now (entries .exit)) ⌝ }
 {
-    if hi - lo <= 48 {
+    if hi - lo <= Entry::FEW {
         sort_few(s, &mut *entries, words, lo, hi);
     } else {
         sort_part(s, &mut *entries, words, lo, hi);
@@ -258,7 +286,7 @@ fn sort_bucket(s: &[u8], entries: &mut [u32], words: bool, lo: usize, hi: usize)
 fn bucket(x: u32) -> usize
     ensures { λ r. ⌜ r < 1024 ⌝ }
 {
-    wide(x / 4194304)
+    wide(x / Entry::TAGGED)
 }
 
 // The entries of each bucket are counted.
@@ -268,7 +296,7 @@ fn count_buckets(entries: &[u32], counts: &mut [u32])
     let mut i = 0;
     while i < entries.len() {
         let b = bucket(entries[i]);
-        counts[b] = counts[b] % 65536 + 1;
+        counts[b] = counts[b] % Entry::PLACES + 1;
         i += 1;
     }
 }
@@ -280,7 +308,7 @@ fn sum_counts(counts: &mut [u32]) {
     while b < counts.len() {
         let count = counts[b];
         counts[b] = total;
-        total = (total + count % 65536) % 65536;
+        total = (total + count % Entry::PLACES) % Entry::PLACES;
         b += 1;
     }
 }
@@ -298,7 +326,7 @@ fn settle(entries: &mut [u32], next: &mut [u32], i: usize) -> bool
     if entries.len() <= j {
         return false;
     }
-    next[b] = next[b] % 65536 + 1;
+    next[b] = next[b] % Entry::PLACES + 1;
     swap(&mut *entries, i, j);
     true
 }
@@ -327,7 +355,7 @@ fn fill_buckets(entries: &mut [u32], starts: &[u32], next: &mut [u32])
     ensures { λ _. ⌜ Moved (now (entries .entry)) (now (entries .exit)) ⌝ }
 {
     let mut b = 0;
-    while b < 1024 {
+    while b < Entry::BUCKETS {
         let e = wide(starts[b + 1]);
         fill_bucket(&mut *entries, &mut *next, b, e);
         b += 1;
@@ -340,7 +368,7 @@ fn sort_buckets(s: &[u8], entries: &mut [u32], words: bool, starts: &[u32])
     ensures { λ _. ⌜ Moved (now (entries .entry)) (now (entries .exit)) ⌝ }
 {
     let mut b = 0;
-    while b < 1024 {
+    while b < Entry::BUCKETS {
         let lo = wide(starts[b]);
         b += 1;
         let hi = wide(starts[b]);
@@ -369,7 +397,7 @@ pub fn sort(s: &[u8], entries: &mut [u32], words: bool)
     ensures { λ _. ⌜ Moved (now (entries .entry)) (now (entries .exit)) ⌝ }
 {
     let n = entries.len();
-    if n <= 48 {
+    if n <= Entry::FEW {
         sort_few(s, &mut *entries, words, 0, n);
     } else {
         sort_many(s, &mut *entries, words);

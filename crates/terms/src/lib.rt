@@ -15,17 +15,12 @@ ghost use Rattle.terms.specs.Joined.{TagsFrom, Joined, IsJoined};
 use format::Record;
 use lines::Decoded;
 use sorting::Compared;
+use sorting::Mixing;
 
 fn wide(x: u32) -> u64
     ensures { λ r. ⌜ r ≡ x ⌝ }
 {
     x as u64
-}
-
-fn wide_byte(x: u8) -> usize
-    ensures { λ r. ⌜ (r ≡ x) × (r < 256) ⌝ }
-{
-    x as usize
 }
 
 fn narrow(x: usize) -> u32
@@ -55,10 +50,10 @@ fn single(k: u64) -> u64
 fn mix_word(w: &[u8]) -> usize
     ensures { λ r. ⌜ (r ≡ mixed 2166136261 (now (w .entry))) × (r < 4294967296) ⌝ }
 {
-    let mut h: usize = 2166136261;
+    let mut h = Mixing::START;
     let mut i = 0;
     while i < w.len() {
-        h = (h + wide_byte(w[i])) * 2654435761 % 4294967296;
+        h = sorting::mix_byte(h, w[i]);
         i += 1;
     }
     h

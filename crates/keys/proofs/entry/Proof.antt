@@ -37,8 +37,8 @@ returns c =
     let at-args = c .before .before .before .before .args in
     let at-mix = c .before .before .mix in
     let at-narrow = c .before .narrow in
-    let p : at-narrow2 .result ≡ printOf (valueFrom (drop (at-args .at) (at-args .s .now))) = at-narrow2 .ensures ∙ ap (λ (z : ℕ). z / 65536) (at-mix .ensures .0 ∙ ap (mixed 2166136261) (text-whole (at-args .s .now) (at-args .at))) in
-    let q = at-narrow .ensures in
+    let p : at-narrow .result / 65536 ≡ printOf (valueFrom (drop (at-args .at) (at-args .s .now))) = ap (λ (z : ℕ). z / 65536) (at-narrow .ensures ∙ at-mix .ensures .0 ∙ ap (mixed 2166136261) (text-whole (at-args .s .now) (at-args .at))) in
+    let q = at-narrow2 .ensures in
     omega arith
 
 pub entry-spec : {M : Type 1} → statement M

@@ -11,7 +11,7 @@ use Rattle.sorting.proofs.mix.Tie as tie
 use Rattle.sorting.proofs.mix.Reads as reads
 use Rattle.sorting.proofs.mix.Lts as lts
 use Rattle.sorting.proofs.text_byte.Reads as text-byte-reads
-use Rattle.sorting.proofs.wide_byte.Reads as wide-byte-reads
+use Rattle.sorting.proofs.mix_byte.Reads as mix-byte-reads
 
 abbrev Inv-loop : tie.InvT-loop
 Inv-loop s i words h₀ at₀ h at = (mixed h (textAt words s at) ≡ mixed 2166136261 (textAt words s i)) × (h < 4294967296)
@@ -41,14 +41,8 @@ returns c =
     let e = text-told (at-args .words) (at-args .s .now) (at-loop .at) (at-text-byte .result) (at-text-byte .ensures) (at-enum-told .given .1) in
     (sym (ap (mixed (at-loop .h)) e) ∙ at-loop .inv .0, at-loop .inv .1)
 
-wide-byte-requires : tie.Need-wide-byte-requires Inv-loop μ-loop
-wide-byte-requires c κs = search needs
-
-add-h : tie.Need-add-h Inv-loop μ-loop
-add-h c = search needs
-
-mul-h : tie.Need-mul-h Inv-loop μ-loop
-mul-h c = search needs
+mix-byte-requires : tie.Need-mix-byte-requires Inv-loop μ-loop
+mix-byte-requires c κs = search needs
 
 loop-less : tie.Need-loop-less Inv-loop μ-loop
 loop-less c =
@@ -66,10 +60,10 @@ loop-again c =
     let at-loop = c .before .before .before .before .before .loop in
     let at-text-byte = c .before .before .before .before .text-byte in
     let at-d = c .before .before .d in
-    let at-wide-byte = c .wide-byte in
+    let at-mix-byte = c .mix-byte in
     let e = text-told (at-args .words) (at-args .s .now) (at-loop .at) (at-text-byte .result) (at-text-byte .ensures) (at-d .given .1) in
-    let w = at-wide-byte .ensures .0 in
-    (rw w (sym (ap (mixed (at-loop .h)) (e .0)) ∙ at-loop .inv .0), omega arith)
+    let w = at-mix-byte .ensures .0 in
+    (rw w (sym (ap (mixed (at-loop .h)) (e .0)) ∙ at-loop .inv .0), at-mix-byte .ensures .1)
 
 pub mix-spec : {M : Type 1} → statement M
 mix-spec =
@@ -82,8 +76,6 @@ mix-spec =
     enum-known-d
     enum-told
     returns
-    wide-byte-requires
-    add-h
-    mul-h
+    mix-byte-requires
     loop-less
     loop-again)

@@ -10,7 +10,7 @@ use Rattle.terms.proofs.mix_word.Statement.{statement}
 use Rattle.terms.proofs.mix_word.Tie as tie
 use Rattle.terms.proofs.mix_word.Reads as reads
 use Rattle.terms.proofs.mix_word.Lts as lts
-use Rattle.terms.proofs.wide_byte.Reads as wide-byte-reads
+use Rattle.sorting.proofs.mix_byte.Reads as mix-byte-reads
 
 abbrev Inv-loop : tie.InvT-loop
 Inv-loop w h₀ i₀ h i = (mixed h (drop i w) ≡ mixed 2166136261 w) × (h < 4294967296)
@@ -21,17 +21,11 @@ abbrev μ-loop : tie.MeasureT-loop
 loop-holds : tie.Need-loop-holds Inv-loop μ-loop
 loop-holds c = (refl, omega arith)
 
-shared-slice-read-wide-byte : tie.Need-shared-slice-read-wide-byte Inv-loop μ-loop
-shared-slice-read-wide-byte c = search needs
+shared-slice-read-mix-byte : tie.Need-shared-slice-read-mix-byte Inv-loop μ-loop
+shared-slice-read-mix-byte c = search needs
 
-wide-byte-requires : tie.Need-wide-byte-requires Inv-loop μ-loop
-wide-byte-requires c κs = search needs
-
-add-h : tie.Need-add-h Inv-loop μ-loop
-add-h c = search needs
-
-mul-h : tie.Need-mul-h Inv-loop μ-loop
-mul-h c = search needs
+mix-byte-requires : tie.Need-mix-byte-requires Inv-loop μ-loop
+mix-byte-requires c κs = search needs
 
 add-i : tie.Need-add-i Inv-loop μ-loop
 add-i c = search needs
@@ -42,12 +36,12 @@ loop-less c = search needs
 loop-again : tie.Need-loop-again Inv-loop μ-loop
 unfolding mixed
 loop-again c =
-    let at-wide-byte = c .wide-byte in
+    let at-mix-byte = c .mix-byte in
     let at-loop = c .before .before .before .loop in
     let at-args = c .before .before .before .before .before .args in
     let at-loop-test = c .before .before .loop-test in
-    let e = at-wide-byte .ensures .0 in
-    (rw e (sym (ap (mixed (at-loop .h)) (at-cons (at-args .w .now) (at-loop .i) (at-loop-test .taken))) ∙ at-loop .inv .0), omega arith)
+    let e = at-mix-byte .ensures .0 in
+    (rw e (sym (ap (mixed (at-loop .h)) (at-cons (at-args .w .now) (at-loop .i) (at-loop-test .taken))) ∙ at-loop .inv .0), at-mix-byte .ensures .1)
 
 returns : tie.Need-returns Inv-loop μ-loop
 unfolding mixed
@@ -64,10 +58,8 @@ mix-word-spec =
     Inv-loop
     μ-loop
     loop-holds
-    shared-slice-read-wide-byte
-    wide-byte-requires
-    add-h
-    mul-h
+    shared-slice-read-mix-byte
+    mix-byte-requires
     add-i
     loop-less
     loop-again
