@@ -1,89 +1,109 @@
 -- Where the type of a value ends: in its own text, or in that of the typedef to which its names lead.
-use Prim.Native.Nat.{ℕ, zero, suc, _-_, _≤_, _<_}
+use Prim.Native.Nat.{ℕ, zero, suc, _≤_, _<_}
 use native.Mathlib.Omega.{arith}
-use mathlib.Core.Path.{_≡_, refl, sym, ap, _∙_}
+use mathlib.Core.Path.{_≡_, refl, sym, ap, _∙_, subst}
 use mathlib.Core.Bool.{true, false, false≢true}
 use mathlib.Core.List.{List, [], _∷_, map}
-use mathlib.Core.Option.{Option, none, some}
-use borrow.Author.Tests.{le-leb, ne-eqb}
-use denote.Enum.Declared.{tagOf}
-use lib.ListN.{length, getD}
-use types.Run.{OneOf, miss}
-use Rattle.format.specs.Lists.{onward}
+use mathlib.Core.Option.{Option, none}
+use lib.ListN.{length, drop, getD}
 use Rattle.format.specs.Bytes.{Bytes, text, all, isSome}
+use Rattle.format.specs.Limits.{valueBytes}
 use Rattle.format.specs.Words.{firstWord, afterWord}
 use Rattle.format.specs.Numbers.{intBounds}
-use Rattle.format.specs.Types.{Typed, Typedef, typeOf, kindOf as lastKind}
+use Rattle.format.specs.Types.{Kind, Typed, Typedef as Defined, typeOf}
+use Rattle.lines.specs.Value.{valueFrom}
 use Rattle.records.specs.Named.{valuesFrom}
-use Rattle.typedefs.specs.Targets.{targetBy, targetIn, followOf, leads}
+use Rattle.typing.specs.Meaning.{Told}
+use Rattle.typedefs.specs.Names.{AreNames}
+use Rattle.typedefs.specs.Targets.{targetIn, targetsIn, followOf}
+use Rattle.typedefs.specs.Typedefs.{typeText, IsTypedef, AreTypedefs, rowOf, rowBy, endRow}
 use Rattle.typedefs.specs.declared.Followed.{Followed}
-use Rattle.typedefs.proofs.Followed.{the-type}
-use Rattle.typedefs.proofs.Following.{typeAt, kindOnly, kindBy, index-most}
-use Rattle.typedefs.proofs.Defined.{isTyped, defsOf, cut-typed, typed-all, kind-stays, rows, few-names, leads-by}
-use Rattle.typedefs.proofs.Ending.{type-ends}
+use Rattle.typedefs.specs.declared.Names.{Names}
+use Rattle.typedefs.specs.declared.Target.{Target}
+use Rattle.typedefs.specs.declared.Typedef.{Typedef}
+use Rattle.typedefs.specs.declared.Typedefs.{Typedefs}
+use Rattle.typedefs.proofs.Chains.{targets-length}
+use Rattle.typedefs.proofs.Following.{typeAt as typeOfNumber, kindOnly, kindBy, kindTo}
+use Rattle.typedefs.proofs.Defined.{isTyped, defsOf, cut-typed, typed-all, kind-by}
 use Rattle.dictionary.specs.Known.{Described}
+use Rattle.enums.specs.Enums.{typeAt}
 use Rattle.columns.specs.Meets.{kindOf}
-use Rattle.columns.specs.Rows.{targetsOf}
-use Rattle.columns.proofs.Granted.{typedefs-few, typedefs-end}
+use Rattle.columns.proofs.Granted.{fits-at, typedefs-end}
 
 -- a typedef that has a kind, by its number
-number-type : (vs : List Bytes) → all isTyped vs ≡ true → (j : ℕ) → isSome (kindOnly (typeAt (defsOf vs) j)) ≡ true → (j < length vs) × (typeAt (defsOf vs) j ≡ typeOf intBounds (afterWord (getD vs j [])))
+number-type : (vs : List Bytes) → all isTyped vs ≡ true → (j : ℕ) → isSome (kindOnly (typeOfNumber (defsOf vs) j)) ≡ true
+    → (j < length vs) × (typeOfNumber (defsOf vs) j ≡ typeOf intBounds (afterWord (getD vs j [])))
 number-type [] h j k = absurd (false≢true k)
-number-type (v ∷ vs) h zero k = let c = cut-typed v vs h in (omega arith, ap (λ (ds : List Typedef). typeAt ds 0) (c .defs) ∙ sym (c .is))
+number-type (v ∷ vs) h zero k = let c = cut-typed v vs h in (omega arith, ap (λ (ds : List Defined). typeOfNumber ds 0) (c .defs) ∙ sym (c .is))
 number-type (v ∷ vs) h (suc j) k =
     let c = cut-typed v vs h in
-    let e : typeAt (defsOf (v ∷ vs)) (suc j) ≡ typeAt (defsOf vs) j = ap (λ (ds : List Typedef). typeAt ds (suc j)) (c .defs) in
+    let e : typeOfNumber (defsOf (v ∷ vs)) (suc j) ≡ typeOfNumber (defsOf vs) j = ap (λ (ds : List Defined). typeOfNumber ds (suc j)) (c .defs) in
     let r = number-type vs (c .others) j (sym (ap (λ (x : Option Typed). isSome (kindOnly x)) e) ∙ k) in
     (omega (arith, r .0), e ∙ r .1)
 
--- a chain that does not end has no kind
-no-kind : (ds : List Typedef) (f : Followed) → OneOf (1 ∷ 2 ∷ []) (tagOf the-type f) → kindBy ds f ≡ none
-no-kind ds (Followed.End i) h = absurd (miss (1 ∷ 2 ∷ []) 0 tt h)
-no-kind ds Followed.Missing h = refl
-no-kind ds Followed.Loop h = refl
+-- the type of the value at v ends in the kind that r holds
+pub record Ended (d : Bytes) (v : ℕ) (r : Typedef) : Type 0 where
+  pub there : r .value < length d
+  pub fits : length (valueFrom (drop (r .value) d)) ≤ valueBytes
+  pub told : Told (typeText d (r .value)) (typeOf intBounds (typeText d (r .value))) (r .kind)
+  pub ends : kindOf d (valueFrom (drop v d)) ≡ kindOnly (typeAt d (r .value))
 
--- t is the target of a type that ends in a kind
-module _ (d : Bytes) (h : Described d) (ts : List ℕ) (are : ts ≡ targetsOf d) (w : Bytes) (t : ℕ) (e : t ≡ targetIn (map firstWord (valuesFrom d (text "%typedef") 0)) w)
-    (k : isSome (kindOf d w) ≡ true) where
+module _ (d : Bytes) (h : Described d) (names : Names) (are : AreNames d names) (defs : Typedefs) (table : AreTypedefs d (names .places) defs) (v : ℕ) (there : v < length d)
+    (fits : length (valueFrom (drop v d)) ≤ valueBytes) (own : Typedef) (is : IsTypedef d v own) (some-kind : isSome (kindOf d (valueFrom (drop v d))) ≡ true) where
   abbrev vs : List Bytes
   vs = valuesFrom d (text "%typedef") 0
 
-  few : length vs ≤ 32
-  few = typedefs-few d h
+  abbrev ts : List Target
+  ts = map (targetIn (map firstWord vs)) vs
+
+  abbrev value : Bytes
+  value = valueFrom (drop v d)
 
   typed : all isTyped vs ≡ true
   typed = typed-all (defsOf vs) vs (typedefs-end d h)
 
-  own-by : (x : Option Typed) → t ≡ targetBy (map firstWord vs) x → t ≡ 33 → onward (lastKind (defsOf vs)) x ≡ kindOnly x
-  own-by none q z = refl
-  own-by (some (Typed.kind l)) q z = kind-stays (length (defsOf vs)) (defsOf vs) l
-  own-by (some (Typed.alias n)) q z = absurd (omega (arith, index-most 0 n (map firstWord vs) (omega (arith, few-names vs few typed))))
+  -- by the place that a typedef was read at
+  ended-at : (p : ℕ) (r : Typedef) → IsTypedef d p r → p < length d → length (valueFrom (drop p d)) ≤ valueBytes → kindOf d value ≡ kindOnly (typeAt d p) → Ended d v r
+  ended-at p r q l f e =
+      record {
+        there = omega (arith, q .place);
+        fits = subst (λ (x : ℕ). length (valueFrom (drop x d)) ≤ valueBytes) (sym (q .place)) f;
+        told = subst (λ (x : ℕ). Told (typeText d x) (typeOf intBounds (typeText d x)) (r .kind)) (sym (q .place)) (q .told);
+        ends = subst (λ (x : ℕ). kindOf d value ≡ kindOnly (typeAt d x)) (sym (q .place)) e;
+      }
 
-  -- a kind of its own
-  pub own-kind : t ≡ 33 → kindOf d w ≡ kindOnly (typeOf intBounds (afterWord w))
-  own-kind z = own-by (typeOf intBounds (afterWord w)) e z
+  no-kind : kindOf d value ≡ none → ⊥
+  no-kind e = false≢true (sym (ap isSome e) ∙ some-kind)
 
-  -- a name that leads nowhere
-  pub not-lost : (t ≡ 33 → ⊥) → length ts ≤ t → ⊥
-  not-lost n l =
-      let p : leads ts t ≡ false = rw (ne-eqb t 33 n, le-leb (length ts) t l) in
-      let q : isSome (kindOf d w) ≡ leads ts t =
-      leads-by vs few typed (typeOf intBounds (afterWord w)) ∙ ap (leads (targetsOf d)) (sym e) ∙ ap (λ (xs : List ℕ). leads xs t) (sym are) in
-      false≢true (sym (q ∙ p) ∙ k)
+  count-is : defs .targets .count ≡ length ts
+  count-is = sym (targets-length (defs .targets) (table .bounded)) ∙ ap length (table .targets-are)
 
-  module _ (n : t ≡ 33 → ⊥) (l : t < length ts) (f : Followed) (q : f ≡ followOf (length ts - 1) ts t) where
-    ends-at : kindOf d w ≡ kindBy (defsOf vs) f
-    ends-at =
-        let z : t < length (rows vs few typed) = omega (arith, ap length are) in
-        type-ends vs few typed (typeOf intBounds (afterWord w)) t e n z
-        ∙ ap (λ (xs : List ℕ). kindBy (defsOf vs) (followOf (length xs - 1) xs t)) (sym are) ∙ ap (kindBy (defsOf vs)) (sym q)
+  kind-is : (t : Target) → own .target ≡ t → kindOf d value ≡ kindTo (defsOf vs) ts (length ts) (typeOf intBounds (afterWord value)) t
+  kind-is t e = kind-by vs typed (typeOf intBounds (afterWord value)) ∙ ap (kindTo (defsOf vs) ts (length ts) (typeOf intBounds (afterWord value))) (sym (is .target-is) ∙ e)
 
-    pub not-open : OneOf (1 ∷ 2 ∷ []) (tagOf the-type f) → ⊥
-    not-open o = false≢true (sym (ap isSome (ends-at ∙ no-kind (defsOf vs) f o)) ∙ k)
+  -- the chain of an alias
+  chain-ended : (f : Followed) → kindOf d value ≡ kindBy (defsOf vs) f → Ended d v (rowOf (defs .rows) own f)
+  chain-ended (Followed.End k) e =
+      let r = number-type vs typed k (sym (ap isSome e) ∙ some-kind) in
+      let l : k < names .count = omega (arith, r .0, are .values .count) in
+      let p = are .values .places k l in
+      ended-at (getD (names .places) k 0) (getD (defs .rows) k own) (table .row k own (omega (arith, r .0, count-is, length-ts vs))) (p .0)
+      (omega (arith, ap length (p .1), fits-at d h (text "%typedef") k))
+      (e ∙ ap kindOnly (r .1) ∙ ap (λ (x : Bytes). kindOnly (typeOf intBounds (afterWord x))) (sym (p .1)))
+    where
+      length-ts : (ws : List Bytes) → length (map (targetIn (map firstWord vs)) ws) ≡ length ws
+      length-ts [] = refl
+      length-ts (w ∷ ws) = ap suc (length-ts ws)
+  chain-ended Followed.Missing e = absurd (no-kind e)
+  chain-ended Followed.Loop e = absurd (no-kind e)
 
-    -- the kind of the typedef at the end
-    pub end-kind : (j : ℕ) → f ≡ Followed.End j → (j < length vs) × (kindOf d w ≡ kindOnly (typeOf intBounds (afterWord (getD vs j []))))
-    end-kind j g =
-        let p : kindOf d w ≡ kindOnly (typeAt (defsOf vs) j) = ends-at ∙ ap (kindBy (defsOf vs)) g in
-        let r = number-type vs typed j (sym (ap isSome p) ∙ k) in
-        (r .0, p ∙ ap kindOnly (r .1))
+  ended-by : (t : Target) → own .target ≡ t → Ended d v (rowBy defs own t)
+  ended-by Target.Kind e = ended-at v own is there fits (kind-is Target.Kind e)
+  ended-by (Target.Alias j) e =
+      chain-ended (followOf (defs .targets .count) (targetsIn (defs .targets)) j)
+      (kind-is (Target.Alias j) e ∙ ap (λ (m : ℕ). kindBy (defsOf vs) (followOf m ts j)) (sym count-is)
+      ∙ ap (λ (us : List Target). kindBy (defsOf vs) (followOf (defs .targets .count) us j)) (sym (table .targets-are)))
+  ended-by Target.Missing e = absurd (no-kind (kind-is Target.Missing e))
+
+  pub type-ended : Ended d v (endRow defs own)
+  type-ended = ended-by (own .target) refl

@@ -1,38 +1,38 @@
 -- The table of kinds, filled row by row.
-use Prim.Native.Nat.{ℕ, _+_, _<_}
+use Prim.Native.Nat.{ℕ, _+_, _≤_, _<_}
 use native.Mathlib.Omega.{arith}
 use mathlib.Core.Path.{_≡_, refl, sym, ap, _∙_, subst}
 use mathlib.Core.Bool.{true}
-use mathlib.Core.List.{List}
+use mathlib.Core.List.{List, []}
 use mathlib.Core.Option.{Option, none, some}
 use borrow.Author.Tests.{eqb-true, eqb-false}
 use lib.Dec.{eqb}
 use lib.ListN.{length, drop, getD, set}
 use lib.Seq.{getD-set-same, getD-set-other}
 use Rattle.format.specs.Bytes.{Bytes, text, isSome}
-use Rattle.format.specs.Words.{afterWord}
 use Rattle.format.specs.Types.{Typed}
 use Rattle.lines.specs.Value.{valueFrom}
 use Rattle.records.specs.Walk.{recordIn}
 use Rattle.sorting.proofs.Tests.{by-bool}
-use Rattle.typing.specs.Meaning.{typedIn}
+use Rattle.typing.specs.Meaning.{typedIn, typeAnswer}
 use Rattle.typing.specs.declared.Shape.{Shape}
+use Rattle.typing.specs.declared.TypeOf.{TypeOf}
 use Rattle.records.specs.Named.{ValueHere}
+use Rattle.typedefs.specs.Names.{AreNames}
+use Rattle.typedefs.specs.Typedefs.{typeText, IsTypedef, AreTypedefs, endRow}
+use Rattle.typedefs.specs.declared.Names.{Names}
+use Rattle.typedefs.specs.declared.Typedef.{Typedef}
+use Rattle.typedefs.specs.declared.Typedefs.{Typedefs}
 use Rattle.typedefs.proofs.Following.{kindOnly}
-use Rattle.typedefs.proofs.Placing.{passed-value}
 use Rattle.dictionary.specs.Known.{Described, typeValue}
-use Rattle.typedefs.proofs.Placing.{Passed, passed-inside}
+use Rattle.typedefs.proofs.Placing.{Passed, passed-inside, passed-value}
 use Rattle.enums.specs.Enums.{typeAt}
 use Rattle.columns.specs.Meets.{kindOf}
-use Rattle.columns.specs.Rows.{TypeAt, EndAt, textOf, IsKind, anyRow}
+use Rattle.columns.specs.Rows.{textOf, IsKind, anyRow}
 use Rattle.columns.specs.declared.Row.{Row}
 use Rattle.columns.proofs.Shapes.{kind-is}
 use Rattle.columns.proofs.Granted.{fits-at, type-ends}
-
--- a kind is a type
-kind-typed : (x : Option Typed) → isSome (kindOnly x) ≡ true → isSome x ≡ true
-kind-typed none e = e
-kind-typed (some t) e = refl
+use Rattle.columns.proofs.Ends.{Ended, type-ended}
 
 -- the `%type` field behind `count` others
 module _ (d : Bytes) (h : Described d) (count i v e : ℕ) (b : Passed d (text "%type") count i) (f : ValueHere d (text "%type") i v e) where
@@ -42,25 +42,37 @@ module _ (d : Bytes) (h : Described d) (count i v e : ℕ) (b : Passed d (text "
   ends : isSome (kindOf d (typeValue (recordIn d) count)) ≡ true
   ends = type-ends d h count (passed-inside d (text "%type") count i b v e f)
 
-  pub type-here : TypeAt d v
-  type-here =
-      record {
-        there = f .value-there;
-        fits = omega (arith, ap length value-is, fits-at d h (text "%type") count);
-        ends = ap (λ (w : Bytes). isSome (kindOf d w)) value-is ∙ ends;
-      }
+  pub type-fits : length (valueFrom (drop v d)) ≤ 4096
+  type-fits = omega (arith, ap length value-is, fits-at d h (text "%type") count)
 
-  module _ (r : ℕ) (a : EndAt d v r) where
-    end-is : kindOf d (typeValue (recordIn d) count) ≡ kindOnly (typeAt d r)
-    end-is = sym (ap (kindOf d) value-is) ∙ a .ends
+  -- the typedef in which it ends
+  module _ (names : Names) (are : AreNames d names) (defs : Typedefs) (table : AreTypedefs d (names .places) defs) (own : Typedef) (is : IsTypedef d v own) where
+    ended : Ended d v (endRow defs own)
+    ended = type-ended d h names are defs table v (f .value-there) type-fits own is (ap (λ (w : Bytes). isSome (kindOf d w)) value-is ∙ ends)
 
-    pub end-typed : isSome (typeAt d r) ≡ true
-    end-typed = kind-typed (typeAt d r) (sym (ap isSome end-is) ∙ ends)
+    module _ (r : Typedef) (q : r ≡ endRow defs own) where
+      at-end : Ended d v r
+      at-end = subst (Ended d v) (sym q) ended
 
-    pub row-kind : (k : Shape) (t : ℕ) → typeAt d r ≡ some (typedIn (afterWord (valueFrom (drop r d))) k) → t ≡ textOf k r → IsKind d (kindOf d (typeValue (recordIn d) count)) k t
-    row-kind k t q z =
-        subst (IsKind d (kindOf d (typeValue (recordIn d) count)) k) (sym z)
-        (kind-is d r (omega (arith, a .there, h .short)) (omega (arith, a .there)) (a .fits) (kindOf d (typeValue (recordIn d) count)) end-is ends k q)
+      end-is : kindOf d (typeValue (recordIn d) count) ≡ kindOnly (typeAt d (r .value))
+      end-is = sym (ap (kindOf d) value-is) ∙ at-end .ends
+
+      pub end-typed : isSome (typeAnswer [] (r .kind)) ≡ true
+      end-typed = typed-is (r .kind) (ap isSome (at-end .told .answers) ∙ kind-typed (typeAt d (r .value)) (sym (ap isSome end-is) ∙ ends))
+        where
+          kind-typed : (x : Option Typed) → isSome (kindOnly x) ≡ true → isSome x ≡ true
+          kind-typed none z = z
+          kind-typed (some t) z = refl
+
+          typed-is : (t : TypeOf) → isSome (typeAnswer (typeText d (r .value)) t) ≡ true → isSome (typeAnswer [] t) ≡ true
+          typed-is (TypeOf.Is k) z = refl
+          typed-is TypeOf.Fault z = z
+
+      pub row-kind : (k : Shape) (t : ℕ) → ((s : Bytes) → typeAnswer s (r .kind) ≡ some (typedIn s k)) → t ≡ textOf k (r .value) → IsKind d (kindOf d (typeValue (recordIn d) count)) k t
+      row-kind k t g z =
+          subst (IsKind d (kindOf d (typeValue (recordIn d) count)) k) (sym z)
+          (kind-is d (r .value) (omega (arith, at-end .there, h .short)) (omega (arith, at-end .there)) (at-end .fits) (kindOf d (typeValue (recordIn d) count)) end-is ends k
+          (sym (at-end .told .answers) ∙ g (typeText d (r .value))))
 
 -- the first n rows of the table
 abbrev pub Filled : Bytes → List Row → List ℕ → ℕ → Type 0

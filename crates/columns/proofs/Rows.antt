@@ -10,6 +10,7 @@ use lib.ListN.{length, getD}
 use Rattle.format.specs.Bytes.{Bytes, among}
 use Rattle.format.specs.Words.{trim}
 use Rattle.terms.specs.Sets.{inSet}
+use Rattle.typedefs.proofs.Ending.{any-default}
 use Rattle.readings.specs.Readings.{metBy}
 use Rattle.enums.specs.Enums.{enumIn}
 use Rattle.enums.specs.Rows.{leaderOf, Found}
@@ -17,12 +18,6 @@ use Rattle.columns.specs.Meets.{rowMet, rowsMet}
 use Rattle.columns.specs.Rows.{IsKinds, isSymbol, anyRow, rowAsks, rowsAsk}
 use Rattle.columns.specs.declared.Row.{Row}
 use Rattle.columns.specs.declared.Kinds.{Kinds}
-
--- what stands at a place does not depend on what would stand behind the last
-pub any-default : {A : Type 0} (l : List A) (k : ℕ) (a b : A) → k < length l → getD l k a ≡ getD l k b
-any-default [] k a b h = absurd (omega arith)
-any-default (x ∷ l) zero a b h = refl
-any-default (x ∷ l) (suc k) a b h = any-default l k a b (omega arith)
 
 -- the rows from k on before the next
 module _ (r : Kinds) (from x tags : ℕ) (v : Bytes) (k next : ℕ) where

@@ -2,46 +2,26 @@
 use Prim.Native.Nat.{ℕ, zero, suc, _≤_, _<_}
 use mathlib.Core.Path.{_≡_}
 use mathlib.Core.Bool.{Bool, true, _&&_, _||_, not}
-use mathlib.Core.List.{List, map}
+use mathlib.Core.List.{List}
 use mathlib.Core.Option.{Option}
 use lib.Dec.{ltb}
-use lib.ListN.{length, drop, getD}
-use Rattle.format.specs.Bytes.{Bytes, text, among, isSome}
-use Rattle.format.specs.Limits.{fileBytes, valueBytes, typeFields}
+use lib.ListN.{length, getD}
+use Rattle.format.specs.Bytes.{Bytes, text, among}
+use Rattle.format.specs.Limits.{fileBytes, typeFields}
 use Rattle.format.specs.Words.{trim}
 use Rattle.format.specs.Types.{Kind}
-use Rattle.lines.specs.Value.{valueFrom}
 use Rattle.records.specs.Walk.{recordIn}
 use Rattle.typing.specs.declared.Shape.{Shape}
 use Rattle.records.specs.Named.{valuesFrom}
-use Rattle.typedefs.specs.Walks.{namesFrom}
-use Rattle.typedefs.specs.Targets.{targetIn}
-use Rattle.typedefs.proofs.Following.{kindOnly}
 use Rattle.terms.specs.Sets.{inSet}
 use Rattle.dictionary.specs.Known.{typeValue}
 use Rattle.readings.specs.Readings.{metBy}
-use Rattle.enums.specs.Enums.{typeAt, enumIn}
+use Rattle.enums.specs.Enums.{enumIn}
 use Rattle.enums.specs.Rows.{TextAt, leaderOf, IsSymbols}
 use Rattle.columns.specs.Meets.{meetsKind, kindOf}
 use Rattle.columns.specs.declared.Row.{Row}
 use Rattle.columns.specs.declared.Kinds.{Kinds}
 use Rattle.columns.specs.declared.Typed.{Typed}
-
--- the targets of a descriptor's typedefs
-abbrev pub targetsOf : Bytes → List ℕ
-targetsOf d = map (targetIn (namesFrom d 0)) (valuesFrom d (text "%typedef") 0)
-
--- the value at v has a type that ends in a kind
-pub record TypeAt (d : Bytes) (v : ℕ) : Type 0 where
-  pub there : v < length d
-  pub fits : length (valueFrom (drop v d)) ≤ valueBytes
-  pub ends : isSome (kindOf d (valueFrom (drop v d))) ≡ true
-
--- the type of the value at v ends in the kind that the value at r holds
-pub record EndAt (d : Bytes) (v r : ℕ) : Type 0 where
-  pub there : r < length d
-  pub fits : length (valueFrom (drop r d)) ≤ valueBytes
-  pub ends : kindOf d (valueFrom (drop v d)) ≡ kindOnly (typeAt d r)
 
 -- where the text of a kind stands that was read at v: only an `enum` needs it
 abbrev pub textOf : Shape → ℕ → ℕ

@@ -2,31 +2,31 @@
 // A `%type` field is a row: its kind is that at the end of its type, which stands in its own value or in that of a typedef.
 ghost use mathlib.Core.Path.{_≡_};
 ghost use mathlib.Core.Bool.{true};
+ghost use mathlib.Core.List.{[]};
 ghost use mathlib.Core.Option.{some};
 ghost use Prim.Native.Nat.{_-_, _<_, _≤_};
-ghost use lib.ListN.{length, drop};
-ghost use Rattle.format.specs.Bytes.{isSome};
+ghost use lib.ListN.{length};
+ghost use Rattle.format.specs.Bytes.{Bytes, isSome};
 ghost use Rattle.format.specs.Limits.{valueBytes, typeFields};
-ghost use Rattle.format.specs.Words.{trim, afterWord};
+ghost use Rattle.format.specs.Words.{trim};
 ghost use Rattle.format.specs.Numbers.{intBounds, intOf};
 ghost use Rattle.lines.specs.Value.{valueFrom};
 ghost use Rattle.numbers.specs.Meaning.{intAnswer};
-ghost use Rattle.typing.specs.Meaning.{typedIn};
+ghost use Rattle.typing.specs.Meaning.{typedIn, typeAnswer};
 ghost use Rattle.typedefs.specs.Names.{AreNames};
+ghost use Rattle.typedefs.specs.Typedefs.{AreTypedefs};
 ghost use Rattle.dictionary.specs.Known.{Described};
-ghost use Rattle.enums.specs.Enums.{typeAt};
 ghost use Rattle.terms.specs.Sets.{tags, inSet};
 ghost use Rattle.enums.specs.Rows.{leaderOf, Leads, IsSymbols, Found};
 ghost use Rattle.columns.specs.Meets.{rowsMet};
-ghost use Rattle.columns.specs.Rows.{targetsOf, TypeAt, EndAt, textOf, IsKinds, IsTyped, isSymbol, rowsAsk};
+ghost use Rattle.columns.specs.Rows.{textOf, IsKinds, IsTyped, isSymbol, rowsAsk};
 use enums::Symbols;
 use format::Descriptor;
 use format::File;
 use numbers::IntOf;
 use records::FoundField;
-use typedefs::Followed;
 use typedefs::Names;
-use typedefs::Targets;
+use typedefs::Typedefs;
 use typing::Shape;
 use typing::TypeOf;
 
@@ -42,15 +42,11 @@ pub struct Kinds {
     pub count: usize,
 }
 
-// The type behind the first word of the value at a place.
-fn type_at(d: &[u8], value: usize, scratch: &mut [u8]) -> Shape
-    requires { ⌜ (value ≤ length (now d)) × (length (valueFrom (drop value (now d))) ≤ length (now scratch)) ⌝ }
-    requires { ⌜ isSome (typeAt (now d) value) ≡ true ⌝ }
-    ensures { λ r. ⌜ typeAt (now (d .entry)) value ≡ some (typedIn (afterWord (valueFrom (drop value (now (d .entry))))) r) ⌝ }
+// The kind of a type that is one.
+fn shape_of(t: TypeOf) -> Shape
+    requires { ⌜ isSome (typeAnswer [] t) ≡ true ⌝ }
+    ensures { λ r. ⌜ ((s : Bytes) → typeAnswer s t ≡ some (typedIn s r)) ⌝ }
 {
-    let n = lines::copy_value(&d[value..], &mut *scratch);
-    let at = typedefs::behind_word(&scratch[..n]);
-    let t = typing::type_of(&scratch[at..n]);
     let TypeOf::Is(kind) = t else {
         return Shape::Line;
     };
@@ -67,31 +63,9 @@ fn text_of(kind: Shape, value: usize) -> usize
     }
 }
 
-// Where the value stands that holds the kind at the end of the type of the value at a place: there, or a typedef's.
-fn end_of(d: &[u8], names: Names, targets: &[usize], value: usize, scratch: &mut [u8]) -> usize
-    requires { ⌜ Described (now d) × AreNames (now d) names × (now targets ≡ targetsOf (now d)) ⌝ }
-    requires { ⌜ TypeAt (now d) value × (valueBytes ≤ length (now scratch)) ⌝ }
-    ensures { λ r. ⌜ EndAt (now (d .entry)) value r ⌝ }
-{
-    let t = typedefs::target_of(d, names, value, &mut *scratch);
-    if t == Targets::KIND {
-        return value;
-    }
-    let count = targets.len();
-    if count <= t {
-        return value;
-    }
-    let f = typedefs::follow(targets, t, count - 1);
-    let Followed::End(number) = f else {
-        return value;
-    };
-    let places = names.places;
-    places[number]
-}
-
-// The kinds of a descriptor, by the names and the targets of its typedefs.
-fn fill(d: &[u8], names: Names, targets: &[usize], scratch: &mut [u8]) -> Kinds
-    requires { ⌜ Described (now d) × AreNames (now d) names × (now targets ≡ targetsOf (now d)) ⌝ }
+// The kinds of a descriptor, by its typedefs and their names.
+fn fill(d: &[u8], names: Names, defs: Typedefs, scratch: &mut [u8]) -> Kinds
+    requires { ⌜ Described (now d) × AreNames (now d) names × AreTypedefs (now d) (names .places) defs ⌝ }
     requires { ⌜ valueBytes ≤ length (now scratch) ⌝ }
     ensures { λ r. ⌜ IsKinds (now (d .entry)) r ⌝ }
 {
@@ -109,8 +83,11 @@ fn fill(d: &[u8], names: Names, targets: &[usize], scratch: &mut [u8]) -> Kinds
         else {
             return Kinds { rows, texts, count };
         };
-        let at = end_of(d, names, targets, value, &mut *scratch);
-        let kind = type_at(d, at, &mut *scratch);
+        let own = typedefs::read_typedef(d, names, value, &mut *scratch);
+        let t = typedefs::end_of(defs, own);
+        let at = t.value;
+        let read = t.kind;
+        let kind = shape_of(read);
         rows[count] = Row { kind };
         texts[count] = text_of(kind, at);
         count += 1;
@@ -125,10 +102,8 @@ pub fn read(d: &[u8], scratch: &mut [u8]) -> Kinds
     ensures { λ r. ⌜ IsKinds (now (d .entry)) r ⌝ }
 {
     let names = typedefs::read_names(d);
-    let t = typedefs::read_targets(d, names, &mut *scratch);
-    let rows = t.rows;
-    let count = t.count;
-    fill(d, names, &rows[..count], &mut *scratch)
+    let defs = typedefs::read_typedefs(d, names, &mut *scratch);
+    fill(d, names, defs, &mut *scratch)
 }
 
 // The rows of whose texts a value is a symbol, blanks and newlines around it aside.

@@ -15,7 +15,7 @@ use Rattle.format.specs.Types.{Typed, Typedef, typeOf, kindOf}
 use Rattle.format.specs.Rules.{typedefOf, endKind, isTypedefName, distinct}
 use Rattle.typedefs.specs.Targets.{targetBy, targetIn, leads, areDefined}
 use Rattle.typedefs.specs.declared.Target.{Target}
-use Rattle.typedefs.proofs.Following.{namesIn, targetsBy, kind-leads}
+use Rattle.typedefs.proofs.Following.{namesIn, targetsBy, kindTo, follow-target, kind-leads}
 
 -- four tests in another order
 pub swap : (a b p q : Bool) → ((a && b) && (p && q)) ≡ ((a && p) && (b && q))
@@ -90,7 +90,18 @@ module _ (vs : List Bytes) (h : all isTyped vs ≡ true) where
   pub targets-are : targetsBy (namesIn (defsOf vs)) (defsOf vs) ≡ map (targetIn (map firstWord vs)) vs
   targets-are = ap (λ (ms : List Bytes). targetsBy ms (defsOf vs)) (names-defs vs h) ∙ targets-defs (map firstWord vs) vs h
 
-  -- a type has a kind by the definitions if its target ends, and only then
+  -- the kind of a type by the definitions, by its target
+  pub kind-by : (x : Option Typed) → onward (kindOf (defsOf vs)) x
+      ≡ kindTo (defsOf vs) (map (targetIn (map firstWord vs)) vs) (length (map (targetIn (map firstWord vs)) vs)) x (targetBy (map firstWord vs) x)
+  kind-by x =
+      let ds : List Typedef = defsOf vs in
+      let ts : List Target = map (targetIn (map firstWord vs)) vs in
+      follow-target ds (length ds) x
+      ∙ ap (λ (m : ℕ). kindTo ds (targetsBy (namesIn ds) ds) m x (targetBy (namesIn ds) x)) (length-targets (namesIn ds) ds)
+      ∙ ap (λ (us : List Target). kindTo ds us (length us) x (targetBy (namesIn ds) x)) targets-are
+      ∙ ap (λ (ms : List Bytes). kindTo ds ts (length ts) x (targetBy ms x)) (names-defs vs h)
+
+  -- there is one if its target ends, and only then
   pub leads-by : (x : Option Typed) → isSome (onward (kindOf (defsOf vs)) x) ≡ leads (map (targetIn (map firstWord vs)) vs) (targetBy (map firstWord vs) x)
   leads-by x =
       kind-leads (defsOf vs) (length-targets (namesIn (defsOf vs)) (defsOf vs)) x

@@ -26,22 +26,22 @@ loop-holds : tie.Need-loop-holds Inv-loop μ-loop
 loop-holds c = (omega arith, refl)
 
 mul-row : tie.Need-mul-row Inv-loop μ-loop
-mul-row c = 
+mul-row c =
     let at-pre = c .before .before .pre in
     omega (arith, at-pre .0)
 
 element-copy-out-row : tie.Need-element-copy-out-row Inv-loop μ-loop
-element-copy-out-row c = 
+element-copy-out-row c =
     let at-pre = c .before .before .pre in
     omega (arith, at-pre .0, at-pre .1)
 
 target-ends-requires : tie.Need-target-ends-requires Inv-loop μ-loop
-target-ends-requires c κs = 
+target-ends-requires c κs =
     let at-pre = c .before .before .before .pre in
     at-pre
 
 returns : tie.Need-returns Inv-loop μ-loop
-returns c = 
+returns c =
     let at-args = c .before .before .before .before .before .args in
     let at-target-ends = c .before .target-ends in
     let at-pre = c .before .before .before .before .before .pre in
@@ -54,7 +54,7 @@ returns c =
     ∙ ap (λ (b : Bool). b && all (leads ts) (drop (at-loop .i + 1) ts)) (not-true (at-target-ends .result) (at-if1 .taken)))
 
 add-i : tie.Need-add-i Inv-loop μ-loop
-add-i c = 
+add-i c =
     let at-pre = c .before .before .before .before .before .pre in
     omega (arith, at-pre .0)
 
@@ -62,7 +62,7 @@ loop-less : tie.Need-loop-less Inv-loop μ-loop
 loop-less c = search needs
 
 loop-again : tie.Need-loop-again Inv-loop μ-loop
-loop-again c = 
+loop-again c =
     let at-args = c .before .before .before .before .before .args in
     let at-target-ends = c .before .target-ends in
     let at-pre = c .before .before .before .before .before .pre in
@@ -70,12 +70,14 @@ loop-again c =
     let at-loop-test = c .before .before .before .loop-test in
     let at-if1 = c .if1 in
     let ts = targetsIn (at-args .t1) in
-    let e = at-target-ends .ensures ∙ ap (leads ts) (sym (target-at (at-args .t1) at-pre (at-loop .i) _ (at-loop-test .taken))) in
-    (omega arith, at-loop .inv .1 ∙ ends-cut ts (at-loop .i) (at-target-ends .result) (omega (arith, at-loop-test .taken, targets-length (at-args .t1) at-pre)) e
-    ∙ ap (λ (b : Bool). b && all (leads ts) (drop (at-loop .i + 1) ts)) (not-false (at-target-ends .result) (at-if1 .left)))
+    let e = at-target-ends .ensures ∙ ap (leads ts) (sym (target-at (at-args .t1) at-pre (at-loop .i) _ (at-loop-test .taken))) in (
+      omega arith,
+      at-loop .inv .1 ∙ ends-cut ts (at-loop .i) (at-target-ends .result) (omega (arith, at-loop-test .taken, targets-length (at-args .t1) at-pre)) e
+          ∙ ap (λ (b : Bool). b && all (leads ts) (drop (at-loop .i + 1) ts)) (not-false (at-target-ends .result) (at-if1 .left)),
+    )
 
 returns-2 : tie.Need-returns-2 Inv-loop μ-loop
-returns-2 c = 
+returns-2 c =
     let at-args = c .before .before .args in
     let at-loop = c .before .loop in
     let at-loop-test = c .loop-test in

@@ -30,7 +30,7 @@ abbrev μ-loop : tie.MeasureT-loop
 μ-loop d names targets scratch₀ i₀ t9 scratch i = length d - i
 
 loop-holds : tie.Need-loop-holds Inv-loop μ-loop
-loop-holds c = 
+loop-holds c =
     let at-pre = c .before .before .pre in
     (omega arith, at-pre .0 .0, refl, at-pre .1, refl)
 
@@ -38,7 +38,7 @@ slice-aggregate-next-named : tie.Need-slice-aggregate-next-named Inv-loop μ-loo
 slice-aggregate-next-named c = search needs
 
 next-named-requires : tie.Need-next-named-requires Inv-loop μ-loop
-next-named-requires c κs = 
+next-named-requires c κs =
     let at-loop = c .before .loop in
     ((at-loop .inv .0, at-loop .inv .1))
 
@@ -49,12 +49,12 @@ enum-told : tie.Need-enum-told Inv-loop μ-loop
 enum-told c = search needs
 
 same-length : tie.Need-same-length Inv-loop μ-loop
-same-length c = 
+same-length c =
     let at-loop = c .before .before .before .before .loop in
     at-loop .inv .2
 
 returns : tie.Need-returns Inv-loop μ-loop
-returns c = 
+returns c =
     let at-args = c .before .before .before .before .before .before .before .args in
     let at-loop = c .before .before .before .before .loop in
     let at-next-named = c .before .before .next-named in
@@ -63,7 +63,7 @@ returns c =
     sym (at-loop .inv .4 ∙ ap (all (wellBy (namesFrom (at-args .d .now) 0) (targetsIn (at-args .targets)))) h)
 
 type-well-requires : tie.Need-type-well-requires Inv-loop μ-loop
-type-well-requires c κs = 
+type-well-requires c κs =
     let at-args = c .before .before .before .before .before .before .before .before .before .args in
     let at-v = c .before .before .v in
     let at-loop = c .before .before .before .before .before .before .loop in
@@ -76,13 +76,13 @@ type-well-requires c κs =
     (((at-pre .0 .1, at-pre .0 .2), (omega (arith, h .value-there), omega (arith, f .0, at-loop .inv .2, ap length (h .ends-itself)))))
 
 same-length-2 : tie.Need-same-length-2 Inv-loop μ-loop
-same-length-2 c = 
+same-length-2 c =
     let at-scratch = c .before .before .scratch in
     let at-loop = c .before .before .before .before .before .before .before .before .before .before .loop in
     omega (arith, at-scratch .given, at-loop .inv .2)
 
 returns-2 : tie.Need-returns-2 Inv-loop μ-loop
-returns-2 c = 
+returns-2 c =
     let at-args = c .before .before .before .before .before .before .before .before .before .before .before .before .before .args in
     let at-v = c .before .before .before .before .before .before .v in
     let at-loop = c .before .before .before .before .before .before .before .before .before .before .loop in
@@ -96,7 +96,7 @@ returns-2 c =
     sym (at-loop .inv .4 ∙ all-cut p d (text "%type") (at-loop .i) (g .0 .1 .0) (g .0 .1 .1 .0) (at-type-well .result) h (at-type-well .ensures) ∙ ap (λ (b : Bool). b && all p (valuesFrom d (text "%type") (g .0 .1 .1 .0))) (not-true (at-type-well .result) (at-if1 .taken)))
 
 loop-less : tie.Need-loop-less Inv-loop μ-loop
-loop-less c = 
+loop-less c =
     let at-args = c .before .before .before .before .before .before .before .before .before .before .before .before .before .args in
     let at-loop = c .before .before .before .before .before .before .before .before .before .before .loop in
     let at-next-named = c .before .before .before .before .before .before .before .before .next-named in
@@ -104,7 +104,7 @@ loop-less c =
     let h = value-told (at-args .d .now) (text "%type") (at-loop .i) (at-next-named .result) (at-next-named .ensures) (at-v .given .1) in omega (arith, h .moves, h .inside)
 
 loop-again : tie.Need-loop-again Inv-loop μ-loop
-loop-again c = 
+loop-again c =
     let at-args = c .before .before .before .before .before .before .before .before .before .before .before .before .before .args in
     let at-v = c .before .before .before .before .before .before .v in
     let at-loop = c .before .before .before .before .before .before .before .before .before .before .loop in

@@ -13,7 +13,7 @@ enum-known-to : tie.Need-enum-known-to
 enum-known-to c = search needs
 
 returns : tie.Need-returns
-returns c = 
+returns c =
     let at-args = c .before .args in
     let at-match = c .match in
     end-own (at-args .t1) (at-args .t) (at-match .keys2)
@@ -22,7 +22,7 @@ cast-follow : tie.Need-cast-follow
 cast-follow c = search needs
 
 follow-requires : tie.Need-follow-requires
-follow-requires c κs = 
+follow-requires c κs =
     let at-pre = c .before .before .before .before .pre in
     at-pre .0
 
@@ -30,7 +30,7 @@ enum-known-f : tie.Need-enum-known-f
 enum-known-f c = search needs
 
 returns-2 : tie.Need-returns-2
-returns-2 c = 
+returns-2 c =
     let at-args = c .before .before .before .before .before .before .args in
     let at-to = c .before .before .before .before .to in
     let at-follow = c .before .follow in
@@ -38,7 +38,7 @@ returns-2 c =
     end-open (at-args .t1) (at-args .t) (at-to .given .0 .0) (at-to .given .1) (at-follow .result) (at-follow .ensures) (at-match2 .keys2)
 
 mul-result : tie.Need-mul-result
-mul-result c = 
+mul-result c =
     let at-args = c .before .before .before .before .before .before .before .before .args in
     let at-to = c .before .before .before .before .before .before .to in
     let at-follow = c .before .before .before .follow in
@@ -48,7 +48,7 @@ mul-result c =
     omega (arith, l, at-pre .0 .0)
 
 element-copy-out-result : tie.Need-element-copy-out-result
-element-copy-out-result c = 
+element-copy-out-result c =
     let at-args = c .before .before .before .before .before .before .before .before .args in
     let at-to = c .before .before .before .before .before .before .to in
     let at-follow = c .before .before .before .follow in
@@ -58,7 +58,7 @@ element-copy-out-result c =
     omega (arith, l, at-pre .0 .0, at-pre .1)
 
 returns-3 : tie.Need-returns-3
-returns-3 c = 
+returns-3 c =
     let at-args = c .before .before .before .before .before .before .before .before .before .args in
     let at-to = c .before .before .before .before .before .before .before .to in
     let at-follow = c .before .before .before .before .follow in

@@ -24,23 +24,23 @@ use Rattle.lines.proofs.copy_value.Reads as copy-value-reads
 use Rattle.typedefs.proofs.first_index.Reads as first-index-reads
 
 mul-value : tie.Need-mul-value
-mul-value c = 
+mul-value c =
     let at-pre = c .before .before .before .pre in
     omega (arith, at-pre .0 .0 .values .few)
 
 array-read-value : tie.Need-array-read-value
-array-read-value c = 
+array-read-value c =
     let at-pre = c .before .before .before .pre in
     omega (arith, at-pre .0 .0 .values .few, at-pre .0 .0 .values .long)
 
 sub-copy-value : tie.Need-sub-copy-value
-sub-copy-value c = 
+sub-copy-value c =
     let at-pre = c .before .before .before .pre in
     let at-args = c .before .before .before .args in
     omega (arith, at-pre .0 .0 .values .places (at-args .k) (at-pre .0 .1) .0)
 
 part-copy-value-start : tie.Need-part-copy-value-start
-part-copy-value-start c = 
+part-copy-value-start c =
     let at-pre = c .before .before .before .pre in
     let at-args = c .before .before .before .args in
     omega (arith, at-pre .0 .0 .values .places (at-args .k) (at-pre .0 .1) .0)
@@ -49,18 +49,18 @@ part-copy-value-end : tie.Need-part-copy-value-end
 part-copy-value-end c = search needs
 
 copy-value-requires : tie.Need-copy-value-requires
-copy-value-requires c κs = 
+copy-value-requires c κs =
     let at-args = c .before .before .before .before .before .args in
     let at-pre = c .before .before .before .before .before .pre in
     subst (λ (x : Bytes). length (valueFrom x) ≤ length (at-args .scratch .now)) (sym (rest (at-args .d .now) (getD (at-args .names .places) (at-args .k) 0))) (place-fits (at-args .d .now) (at-args .names) (at-pre .0 .0) (at-args .k) (at-pre .0 .1) (length (at-args .scratch .now)) (at-pre .1))
 
 add-first-index : tie.Need-add-first-index
-add-first-index c = 
+add-first-index c =
     let at-pre = c .before .before .before .before .before .before .before .before .pre in
     omega (arith, at-pre .0 .0 .values .few, at-pre .0 .1)
 
 slice-reshare-prefix-first-index : tie.Need-slice-reshare-prefix-first-index
-slice-reshare-prefix-first-index c = 
+slice-reshare-prefix-first-index c =
     let at-args = c .before .before .before .before .before .before .before .before .args in
     let at-copy-value = c .before .before .copy-value in
     let at-pre = c .before .before .before .before .before .before .before .before .pre in
@@ -68,14 +68,14 @@ slice-reshare-prefix-first-index c =
     decoded-inside (valueFrom (span p (length (at-args .d .now)) (at-args .d .now))) (at-args .scratch .now) _ (at-copy-value .result) (at-copy-value .ensures .0) (at-copy-value .ensures .1) (subst (λ (x : Bytes). length (valueFrom x) ≤ length (at-args .scratch .now)) (sym (rest (at-args .d .now) p)) (place-fits (at-args .d .now) (at-args .names) (at-pre .0 .0) (at-args .k) (at-pre .0 .1) (length (at-args .scratch .now)) (at-pre .1)))
 
 slice-aggregate-first-index : tie.Need-slice-aggregate-first-index
-slice-aggregate-first-index c = 
+slice-aggregate-first-index c =
     let at-args = c .before .before .before .before .before .before .before .before .before .args in
     let at-copy-value = c .before .before .before .copy-value in
     let p = getD (at-args .names .places) (at-args .k) 0 in
     decoded-length (valueFrom (span p (length (at-args .d .now)) (at-args .d .now))) (at-args .scratch .now) _ (at-copy-value .result) (at-copy-value .ensures .0) (at-copy-value .ensures .1)
 
 first-index-requires : tie.Need-first-index-requires
-first-index-requires c κs = 
+first-index-requires c κs =
     let at-pre = c .before .before .before .before .before .before .before .before .before .pre in
     (at-pre .0 .0, omega (arith, at-pre .0 .1))
 
@@ -86,7 +86,7 @@ same-length : tie.Need-same-length
 same-length c = search needs
 
 returns : tie.Need-returns
-returns c = 
+returns c =
     let at-args = c .before .before .before .before .before .before .before .before .before .before .before .before .args in
     let at-copy-value = c .before .before .before .before .before .before .copy-value in
     let at-pre = c .before .before .before .before .before .before .before .before .before .before .before .before .pre in
@@ -102,7 +102,7 @@ same-length-2 : tie.Need-same-length-2
 same-length-2 c = search needs
 
 returns-2 : tie.Need-returns-2
-returns-2 c = 
+returns-2 c =
     let at-args = c .before .before .before .before .before .before .before .before .before .before .before .args in
     let at-copy-value = c .before .before .before .before .before .copy-value in
     let at-pre = c .before .before .before .before .before .before .before .before .before .before .before .pre in

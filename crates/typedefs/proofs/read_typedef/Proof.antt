@@ -34,20 +34,20 @@ part-copy-value-end : tie.Need-part-copy-value-end
 part-copy-value-end c = search needs
 
 copy-value-requires : tie.Need-copy-value-requires
-copy-value-requires c κs = 
+copy-value-requires c κs =
     let at-args = c .before .before .before .before .args in
     let at-pre = c .before .before .before .before .pre in
     subst (λ (x : Bytes). length (valueFrom x) ≤ length (at-args .scratch .now)) (sym (rest (at-args .d .now) (at-args .value))) (at-pre .1 .1)
 
 slice-reshare-prefix-behind-word : tie.Need-slice-reshare-prefix-behind-word
-slice-reshare-prefix-behind-word c = 
+slice-reshare-prefix-behind-word c =
     let at-args = c .before .before .before .before .before .before .before .args in
     let at-copy-value = c .before .before .copy-value in
     let at-pre = c .before .before .before .before .before .before .before .pre in
     decoded-inside (valueFrom (span (at-args .value) (length (at-args .d .now)) (at-args .d .now))) (at-args .scratch .now) _ (at-copy-value .result) (at-copy-value .ensures .0) (at-copy-value .ensures .1) (subst (λ (x : Bytes). length (valueFrom x) ≤ length (at-args .scratch .now)) (sym (rest (at-args .d .now) (at-args .value))) (at-pre .1 .1))
 
 slice-aggregate-behind-word : tie.Need-slice-aggregate-behind-word
-slice-aggregate-behind-word c = 
+slice-aggregate-behind-word c =
     let at-args = c .before .before .before .before .before .before .before .before .args in
     let at-copy-value = c .before .before .before .copy-value in
     decoded-length (valueFrom (span (at-args .value) (length (at-args .d .now)) (at-args .d .now))) (at-args .scratch .now) _ (at-copy-value .result) (at-copy-value .ensures .0) (at-copy-value .ensures .1)
@@ -56,7 +56,7 @@ behind-word-requires : tie.Need-behind-word-requires
 behind-word-requires c κs = search needs
 
 sub-type-of : tie.Need-sub-type-of
-sub-type-of c = 
+sub-type-of c =
     let at-args = c .before .before .before .before .before .before .before .before .before .args in
     let at-copy-value = c .before .before .before .before .copy-value in
     let at-behind-word = c .behind-word in
@@ -64,7 +64,7 @@ sub-type-of c =
     omega (arith, l, at-behind-word .ensures .0)
 
 part-type-of-start : tie.Need-part-type-of-start
-part-type-of-start c = 
+part-type-of-start c =
     let at-args = c .before .before .before .before .before .before .before .before .before .before .args in
     let at-copy-value = c .before .before .before .before .before .copy-value in
     let at-behind-word = c .before .behind-word in
@@ -72,7 +72,7 @@ part-type-of-start c =
     omega (arith, l, at-behind-word .ensures .0)
 
 part-type-of-end : tie.Need-part-type-of-end
-part-type-of-end c = 
+part-type-of-end c =
     let at-args = c .before .before .before .before .before .before .before .before .before .before .args in
     let at-copy-value = c .before .before .before .before .before .copy-value in
     let at-pre = c .before .before .before .before .before .before .before .before .before .before .pre in
@@ -82,7 +82,7 @@ type-of-requires : tie.Need-type-of-requires
 type-of-requires c κs = search needs
 
 sub-target-in : tie.Need-sub-target-in
-sub-target-in c = 
+sub-target-in c =
     let at-args = c .before .before .before .before .before .before .before .before .before .before .before .before .args in
     let at-copy-value = c .before .before .before .before .before .before .before .copy-value in
     let at-behind-word = c .before .before .before .behind-word in
@@ -90,7 +90,7 @@ sub-target-in c =
     omega (arith, l, at-behind-word .ensures .0)
 
 part-target-in-start : tie.Need-part-target-in-start
-part-target-in-start c = 
+part-target-in-start c =
     let at-args = c .before .before .before .before .before .before .before .before .before .before .before .before .before .args in
     let at-copy-value = c .before .before .before .before .before .before .before .before .copy-value in
     let at-behind-word = c .before .before .before .before .behind-word in
@@ -98,14 +98,14 @@ part-target-in-start c =
     omega (arith, l, at-behind-word .ensures .0)
 
 part-target-in-end : tie.Need-part-target-in-end
-part-target-in-end c = 
+part-target-in-end c =
     let at-args = c .before .before .before .before .before .before .before .before .before .before .before .before .before .args in
     let at-copy-value = c .before .before .before .before .before .before .before .before .copy-value in
     let at-pre = c .before .before .before .before .before .before .before .before .before .before .before .before .before .pre in
     decoded-inside (valueFrom (span (at-args .value) (length (at-args .d .now)) (at-args .d .now))) (at-args .scratch .now) _ (at-copy-value .result) (at-copy-value .ensures .0) (at-copy-value .ensures .1) (subst (λ (x : Bytes). length (valueFrom x) ≤ length (at-args .scratch .now)) (sym (rest (at-args .d .now) (at-args .value))) (at-pre .1 .1))
 
 target-in-requires : tie.Need-target-in-requires
-target-in-requires c κs = 
+target-in-requires c κs =
     let at-pre = c .before .before .before .before .before .before .before .before .before .before .before .before .before .before .pre in
     let at-type-of = c .before .before .type-of in
     (at-pre .0, at-type-of .ensures .sound)
@@ -114,7 +114,7 @@ same-length : tie.Need-same-length
 same-length c = search needs
 
 returns : tie.Need-returns
-returns c = 
+returns c =
     let at-args = c .before .before .before .before .before .before .before .before .before .before .before .before .before .before .before .args in
     let at-copy-value = c .before .before .before .before .before .before .before .before .before .before .copy-value in
     let at-behind-word = c .before .before .before .before .before .before .behind-word in

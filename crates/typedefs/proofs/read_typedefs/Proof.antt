@@ -31,17 +31,17 @@ loop-holds : tie.Need-loop-holds Inv-loop μ-loop
 loop-holds c = (omega arith, refl, refl, refl, λ k other h. absurd (omega arith), refl)
 
 mul-read-typedef : tie.Need-mul-read-typedef Inv-loop μ-loop
-mul-read-typedef c = 
+mul-read-typedef c =
     let at-pre = c .before .before .before .before .before .pre in
     omega (arith, at-pre .0 .values .few)
 
 array-read-read-typedef : tie.Need-array-read-read-typedef Inv-loop μ-loop
-array-read-read-typedef c = 
+array-read-read-typedef c =
     let at-pre = c .before .before .before .before .before .pre in
     omega (arith, at-pre .0 .values .few, at-pre .0 .values .long)
 
 read-typedef-requires : tie.Need-read-typedef-requires Inv-loop μ-loop
-read-typedef-requires c κs = 
+read-typedef-requires c κs =
     let at-pre = c .before .before .before .before .before .before .pre in
     let at-loop = c .before .before .loop in
     let at-loop-test = c .before .loop-test in
@@ -50,22 +50,22 @@ read-typedef-requires c κs =
     ((h, (omega (arith, h .values .places (at-loop .k) (at-loop-test .taken) .0), omega (arith, place-fits (at-args .d .now) (at-args .names) h (at-loop .k) (at-loop-test .taken) (length (at-args .scratch .now)) (at-pre .1), at-loop .inv .1))))
 
 mul-rows : tie.Need-mul-rows Inv-loop μ-loop
-mul-rows c = 
+mul-rows c =
     let at-pre = c .before .before .before .before .before .before .before .before .before .pre in
     omega (arith, at-pre .0 .values .few)
 
 array-set-from-rows : tie.Need-array-set-from-rows Inv-loop μ-loop
-array-set-from-rows c = 
+array-set-from-rows c =
     let at-pre = c .before .before .before .before .before .before .before .before .before .pre in
     omega (arith, at-pre .0 .values .few)
 
 mul-links : tie.Need-mul-links Inv-loop μ-loop
-mul-links c = 
+mul-links c =
     let at-pre = c .before .before .before .before .before .before .before .before .before .pre in
     omega (arith, at-pre .0 .values .few)
 
 array-set-from-links : tie.Need-array-set-from-links Inv-loop μ-loop
-array-set-from-links c = 
+array-set-from-links c =
     let at-pre = c .before .before .before .before .before .before .before .before .before .pre in
     omega (arith, at-pre .0 .values .few)
 
@@ -76,7 +76,7 @@ loop-less : tie.Need-loop-less Inv-loop μ-loop
 loop-less c = search needs
 
 loop-again : tie.Need-loop-again Inv-loop μ-loop
-loop-again c = 
+loop-again c =
     let at-pre = c .before .before .before .before .before .before .before .before .before .pre in
     let at-args = c .before .before .before .before .before .before .before .before .before .args in
     let at-read-typedef = c .before .before .read-typedef in
@@ -86,21 +86,23 @@ loop-again c =
     let h = at-pre .0 in
     let d = at-args .d .now in
     let is = at-read-typedef .ensures in
-    let v = h .values .places (at-loop .k) (at-loop-test .taken) in
-    (
-      omega arith, omega (arith, at-scratch .given, at-loop .inv .1), simp length-set (at-loop .inv .2), simp length-set (at-loop .inv .3),
+    let v = h .values .places (at-loop .k) (at-loop-test .taken) in (
+      omega arith,
+      omega (arith, at-scratch .given, at-loop .inv .1),
+      simp length-set (at-loop .inv .2),
+      simp length-set (at-loop .inv .3),
       rows-more d (at-args .names .places) (at-loop .rows) (at-loop .k) (at-read-typedef .result) (omega (arith, at-loop .inv .2, h .values .few)) is (at-loop .inv .4),
       targets-more (targetIn (namesFrom d 0)) (valuesFrom d (text "%typedef") 0) (at-loop .links) (at-loop .k) (record { to = at-read-typedef .result .target })
-      (omega (arith, at-loop .inv .3, h .values .few)) (omega (arith, h .values .count)) (is .target-is ∙ ap (targetIn (namesFrom d 0)) (v .1)) (at-loop .inv .5),
+          (omega (arith, at-loop .inv .3, h .values .few)) (omega (arith, h .values .count)) (is .target-is ∙ ap (targetIn (namesFrom d 0)) (v .1)) (at-loop .inv .5),
     )
 
 same-length : tie.Need-same-length Inv-loop μ-loop
-same-length c = 
+same-length c =
     let at-loop = c .before .loop in
     at-loop .inv .1
 
 returns : tie.Need-returns Inv-loop μ-loop
-returns c = 
+returns c =
     let at-pre = c .before .before .before .before .before .pre in
     let at-args = c .before .before .before .before .before .args in
     let at-loop = c .before .loop in

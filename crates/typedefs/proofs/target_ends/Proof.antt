@@ -34,13 +34,13 @@ enum-told-5 : tie.Need-enum-told-5
 enum-told-5 c = search needs
 
 returns : tie.Need-returns
-returns c = 
+returns c =
     let at-args = c .before .before .args in
     let at-enum-told = c .enum-told in
     sym (ap (leads (targetsIn (at-args .targets))) (at-enum-told .given .1))
 
 returns-2 : tie.Need-returns-2
-returns-2 c = 
+returns-2 c =
     let at-args = c .before .before .before .before .before .before .args in
     let at-pre = c .before .before .before .before .before .before .pre in
     let at-t = c .before .before .before .before .t in
@@ -49,7 +49,7 @@ returns-2 c =
     leads-alias (at-args .targets) at-pre (at-args .t) (at-t .given .0 .0) (at-follow .result) _ (at-t .given .1) (at-follow .ensures) (at-enum-told2 .given .1)
 
 returns-3 : tie.Need-returns-3
-returns-3 c = 
+returns-3 c =
     let at-args = c .before .before .before .before .before .before .args in
     let at-pre = c .before .before .before .before .before .before .pre in
     let at-t = c .before .before .before .before .t in
@@ -58,7 +58,7 @@ returns-3 c =
     leads-alias (at-args .targets) at-pre (at-args .t) (at-t .given .0 .0) (at-follow .result) _ (at-t .given .1) (at-follow .ensures) (at-enum-told3 .given .1)
 
 returns-4 : tie.Need-returns-4
-returns-4 c = 
+returns-4 c =
     let at-args = c .before .before .before .before .before .before .args in
     let at-pre = c .before .before .before .before .before .before .pre in
     let at-t = c .before .before .before .before .t in
@@ -67,7 +67,7 @@ returns-4 c =
     leads-alias (at-args .targets) at-pre (at-args .t) (at-t .given .0 .0) (at-follow .result) _ (at-t .given .1) (at-follow .ensures) (at-enum-told4 .given .1)
 
 returns-5 : tie.Need-returns-5
-returns-5 c = 
+returns-5 c =
     let at-args = c .before .before .args in
     let at-enum-told5 = c .enum-told5 in
     sym (ap (leads (targetsIn (at-args .targets))) (at-enum-told5 .given .1))

@@ -23,7 +23,7 @@ enum-told : tie.Need-enum-told
 enum-told c = search needs
 
 returns : tie.Need-returns
-returns c = 
+returns c =
     let at-args = c .before .before .before .before .args in
     let at-enum-told = c .enum-told in
     sym (ap (λ (x : TypeOf). targetBy (namesFrom (at-args .d .now) 0) (typeAnswer (at-args .s .now) x)) (at-enum-told .given .1))
@@ -32,7 +32,7 @@ enum-known-k : tie.Need-enum-known-k
 enum-known-k c = search needs
 
 sub-index-from : tie.Need-sub-index-from
-sub-index-from c = 
+sub-index-from c =
     let at-args = c .before .before .before .before .before .before .before .before .args in
     let at-k = c .before .k in
     let at-t = c .before .before .before .before .t in
@@ -40,7 +40,7 @@ sub-index-from c =
     let h = sound-shape (at-args .s .now) (at-k .given .1) (subst (SoundType (at-args .s .now)) (at-t .given .1) (at-pre .1)) in omega (arith, h .0, h .1)
 
 part-index-from-start : tie.Need-part-index-from-start
-part-index-from-start c = 
+part-index-from-start c =
     let at-args = c .before .before .before .before .before .before .before .before .args in
     let at-k = c .before .k in
     let at-t = c .before .before .before .before .t in
@@ -48,7 +48,7 @@ part-index-from-start c =
     let h = sound-shape (at-args .s .now) (at-k .given .1) (subst (SoundType (at-args .s .now)) (at-t .given .1) (at-pre .1)) in omega (arith, h .0, h .1)
 
 part-index-from-end : tie.Need-part-index-from-end
-part-index-from-end c = 
+part-index-from-end c =
     let at-args = c .before .before .before .before .before .before .before .before .args in
     let at-k = c .before .k in
     let at-t = c .before .before .before .before .t in
@@ -56,12 +56,12 @@ part-index-from-end c =
     let h = sound-shape (at-args .s .now) (at-k .given .1) (subst (SoundType (at-args .s .now)) (at-t .given .1) (at-pre .1)) in omega (arith, h .0, h .1)
 
 index-from-requires : tie.Need-index-from-requires
-index-from-requires c κs = 
+index-from-requires c κs =
     let at-pre = c .before .before .before .before .before .before .before .before .before .pre in
     (at-pre .0, omega arith)
 
 returns-2 : tie.Need-returns-2
-returns-2 c = 
+returns-2 c =
     let at-index-from = c .index-from in
     let at-args = c .before .before .before .before .before .before .before .before .before .before .args in
     let at-t = c .before .before .before .before .before .before .t in
@@ -70,7 +70,7 @@ returns-2 c =
     ∙ ap (λ (k : Shape). targetBy (namesFrom (at-args .d .now) 0) (some (typedIn (at-args .s .now) k))) (at-k .given .1))
 
 returns-3 : tie.Need-returns-3
-returns-3 c = 
+returns-3 c =
     let at-args = c .before .before .before .before .before .before .args in
     let at-t = c .before .before .t in
     let at-match2 = c .match2 in

@@ -34,20 +34,20 @@ part-copy-value-end : tie.Need-part-copy-value-end
 part-copy-value-end c = search needs
 
 copy-value-requires : tie.Need-copy-value-requires
-copy-value-requires c κs = 
+copy-value-requires c κs =
     let at-args = c .before .before .before .before .args in
     let at-pre = c .before .before .before .before .pre in
     subst (λ (x : Bytes). length (valueFrom x) ≤ length (at-args .scratch .now)) (sym (rest (at-args .d .now) (at-args .value))) (at-pre .1 .1)
 
 slice-reshare-prefix-names-well : tie.Need-slice-reshare-prefix-names-well
-slice-reshare-prefix-names-well c = 
+slice-reshare-prefix-names-well c =
     let at-args = c .before .before .before .before .before .before .before .args in
     let at-copy-value = c .before .before .copy-value in
     let at-pre = c .before .before .before .before .before .before .before .pre in
     decoded-inside (valueFrom (span (at-args .value) (length (at-args .d .now)) (at-args .d .now))) (at-args .scratch .now) _ (at-copy-value .result) (at-copy-value .ensures .0) (at-copy-value .ensures .1) (subst (λ (x : Bytes). length (valueFrom x) ≤ length (at-args .scratch .now)) (sym (rest (at-args .d .now) (at-args .value))) (at-pre .1 .1))
 
 slice-aggregate-names-well : tie.Need-slice-aggregate-names-well
-slice-aggregate-names-well c = 
+slice-aggregate-names-well c =
     let at-args = c .before .before .before .before .before .before .before .before .args in
     let at-copy-value = c .before .before .before .copy-value in
     decoded-length (valueFrom (span (at-args .value) (length (at-args .d .now)) (at-args .d .now))) (at-args .scratch .now) _ (at-copy-value .result) (at-copy-value .ensures .0) (at-copy-value .ensures .1)
@@ -59,7 +59,7 @@ same-length : tie.Need-same-length
 same-length c = search needs
 
 returns : tie.Need-returns
-returns c = 
+returns c =
     let at-args = c .before .before .before .before .before .before .before .before .before .before .args in
     let at-copy-value = c .before .before .before .before .before .copy-value in
     let at-names-well = c .before .names-well in
@@ -71,13 +71,13 @@ returns c =
     sym (ap (λ (b : Bool). b && leads (targetsIn (at-args .targets)) (targetIn (namesFrom d 0) v)) e)
 
 read-typedef-requires : tie.Need-read-typedef-requires
-read-typedef-requires c κs = 
+read-typedef-requires c κs =
     let at-pre = c .before .before .before .before .before .before .before .before .before .before .before .pre in
     let at-scratch = c .before .before .before .before .before .scratch in
     (at-pre .0 .0, (at-pre .1 .0, omega (arith, at-scratch .given, at-pre .1 .1)))
 
 target-ends-requires : tie.Need-target-ends-requires
-target-ends-requires c κs = 
+target-ends-requires c κs =
     let at-pre = c .before .before .before .before .before .before .before .before .before .before .before .before .before .before .pre in
     at-pre .0 .1
 
@@ -85,7 +85,7 @@ same-length-2 : tie.Need-same-length-2
 same-length-2 c = search needs
 
 returns-2 : tie.Need-returns-2
-returns-2 c = 
+returns-2 c =
     let at-args = c .before .before .before .before .before .before .before .before .before .before .before .before .before .before .before .args in
     let at-copy-value = c .before .before .before .before .before .before .before .before .before .before .copy-value in
     let at-names-well = c .before .before .before .before .before .before .names-well in

@@ -28,17 +28,17 @@ use Rattle.typedefs.proofs.read_names.Reads as read-names-reads
 use Rattle.typedefs.proofs.read_typedefs.Reads as read-typedefs-reads
 
 names-good-requires : tie.Need-names-good-requires
-names-good-requires c κs = 
+names-good-requires c κs =
     let at-pre = c .before .before .before .pre in
     ((at-pre .0 .0, at-pre .1 .0 .1))
 
 same-length : tie.Need-same-length
-same-length c = 
+same-length c =
     let at-scratch = c .before .before .scratch in
     at-scratch .given
 
 returns : tie.Need-returns
-returns c = 
+returns c =
     let at-args = c .before .before .before .before .before .before .before .args in
     let at-names-good = c .before .before .before .names-good in
     let at-if1 = c .if1 in
@@ -50,7 +50,7 @@ returns c =
     sym (not-defined (fieldsOf (readOf d)) (defined-by vs (at-names-good .result) (distinct ns) ends (at-names-good .ensures) refl refl ∙ ap (λ (t : Bool). (t && distinct ns) && ends) (not-true (at-names-good .result) (at-if1 .taken))))
 
 read-names-requires : tie.Need-read-names-requires
-read-names-requires c κs = 
+read-names-requires c κs =
     let at-pre = c .before .before .before .before .before .before .before .pre in
     let at-args = c .before .before .before .before .before .before .before .args in
     let at-names-good = c .before .before .before .names-good in
@@ -58,7 +58,7 @@ read-names-requires c κs =
     ((at-pre .0, (at-pre .1 .0 .0, type-names (namesFrom (at-args .d .now) 0) (sym (at-names-good .ensures) ∙ not-false (at-names-good .result) (at-if1 .left)))))
 
 names-apart-requires : tie.Need-names-apart-requires
-names-apart-requires c κs = 
+names-apart-requires c κs =
     let at-read-names = c .before .read-names in
     let at-args = c .before .before .before .before .before .before .before .before .before .args in
     let at-scratch = c .before .before .before .before .scratch in
@@ -66,13 +66,13 @@ names-apart-requires c κs =
     (at-read-names .ensures, ap (λ (m : ℕ). fitFrom m (at-args .d .now) (text "%typedef") 0) (at-scratch .given) ∙ at-pre .1 .0 .1)
 
 same-length-2 : tie.Need-same-length-2
-same-length-2 c = 
+same-length-2 c =
     let at-scratch2 = c .before .before .scratch2 in
     let at-scratch = c .before .before .before .before .before .before .before .before .scratch in
     at-scratch2 .given ∙ at-scratch .given
 
 returns-2 : tie.Need-returns-2
-returns-2 c = 
+returns-2 c =
     let at-args = c .before .before .before .before .before .before .before .before .before .before .before .before .before .args in
     let at-names-good = c .before .before .before .before .before .before .before .before .before .names-good in
     let at-names-apart = c .before .before .before .names-apart in
@@ -87,7 +87,7 @@ returns-2 c =
     ∙ ap (λ (t : Bool). (t && at-names-apart .result) && ends) (not-false (at-names-good .result) (at-if1 .left)) ∙ ap (λ (t : Bool). (true && t) && ends) (not-true (at-names-apart .result) (at-if2 .taken))))
 
 read-typedefs-requires : tie.Need-read-typedefs-requires
-read-typedefs-requires c κs = 
+read-typedefs-requires c κs =
     let at-read-names = c .before .before .before .before .before .before .read-names in
     let at-args = c .before .before .before .before .before .before .before .before .before .before .before .before .before .before .args in
     let at-scratch2 = c .before .before .before .scratch2 in
@@ -96,19 +96,19 @@ read-typedefs-requires c κs =
     ((at-read-names .ensures, ap (λ (m : ℕ). fitFrom m (at-args .d .now) (text "%typedef") 0) (at-scratch2 .given ∙ at-scratch .given) ∙ at-pre .1 .0 .1))
 
 all-end-requires : tie.Need-all-end-requires
-all-end-requires c κs = 
+all-end-requires c κs =
     let at-read-typedefs = c .before .before .before .read-typedefs in
     at-read-typedefs .ensures .bounded
 
 same-length-3 : tie.Need-same-length-3
-same-length-3 c = 
+same-length-3 c =
     let at-scratch3 = c .before .before .before .before .scratch3 in
     let at-scratch2 = c .before .before .before .before .before .before .before .before .before .scratch2 in
     let at-scratch = c .before .before .before .before .before .before .before .before .before .before .before .before .before .before .before .scratch in
     at-scratch3 .given ∙ at-scratch2 .given ∙ at-scratch .given
 
 returns-3 : tie.Need-returns-3
-returns-3 c = 
+returns-3 c =
     let at-args = c .before .before .before .before .before .before .before .before .before .before .before .before .before .before .before .before .before .before .before .before .args in
     let at-read-typedefs = c .before .before .before .before .before .read-typedefs in
     let at-names-good = c .before .before .before .before .before .before .before .before .before .before .before .before .before .before .before .before .names-good in
@@ -124,7 +124,7 @@ returns-3 c =
     ∙ ap (λ (t : Bool). (t && at-names-apart .result) && at-all-end .result) (not-false (at-names-good .result) (at-if1 .left)) ∙ ap (λ (t : Bool). (true && t) && at-all-end .result) (not-false (at-names-apart .result) (at-if2 .left)) ∙ not-true (at-all-end .result) (at-if3 .taken)))
 
 all-well-requires : tie.Need-all-well-requires
-all-well-requires c κs = 
+all-well-requires c κs =
     let at-pre = c .before .before .before .before .before .before .before .before .before .before .before .before .before .before .before .before .before .before .before .before .before .pre in
     let at-read-names = c .before .before .before .before .before .before .before .before .before .before .before .before .before .read-names in
     let at-read-typedefs = c .before .before .before .before .before .before .read-typedefs in
@@ -135,7 +135,7 @@ all-well-requires c κs =
     (((at-pre .0 .0, at-read-names .ensures, at-read-typedefs .ensures .bounded), ap (λ (m : ℕ). fitFrom m (at-args .d .now) (text "%type") 0) (at-scratch3 .given ∙ at-scratch2 .given ∙ at-scratch .given) ∙ at-pre .1 .1))
 
 same-length-4 : tie.Need-same-length-4
-same-length-4 c = 
+same-length-4 c =
     let at-scratch4 = c .before .scratch4 in
     let at-scratch3 = c .before .before .before .before .before .before .before .before .scratch3 in
     let at-scratch2 = c .before .before .before .before .before .before .before .before .before .before .before .before .before .scratch2 in
@@ -143,7 +143,7 @@ same-length-4 c =
     at-scratch4 .given ∙ at-scratch3 .given ∙ at-scratch2 .given ∙ at-scratch .given
 
 returns-4 : tie.Need-returns-4
-returns-4 c = 
+returns-4 c =
     let at-args = c .before .before .before .before .before .before .before .before .before .before .before .before .before .before .before .before .before .before .before .before .before .before .before .before .args in
     let at-read-typedefs = c .before .before .before .before .before .before .before .before .before .read-typedefs in
     let at-all-well = c .before .before .all-well in
