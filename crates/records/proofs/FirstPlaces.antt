@@ -2,28 +2,30 @@
 use Prim.Native.Nat.{ℕ, _+_, _-_, _≤_, _<_}
 use native.Mathlib.Omega.{arith}
 use mathlib.Core.Path.{_≡_, refl, sym, ap, _∙_, subst}
-use mathlib.Core.Bool.{Bool, true, false}
+use mathlib.Core.Bool.{Bool, true, false, _||_}
 use mathlib.Core.List.{List, [], _∷_, _++_, append-nil, append-assoc, map}
 use lib.ListN.{length, take, drop, length-append, length-drop}
 use lib.Seq.{drop-drop}
 use Rattle.format.specs.Lists.{isFilled}
-use Rattle.format.specs.Bytes.{Bytes, pick}
+use Rattle.format.specs.Bytes.{Bytes, text, same, pick}
 use Rattle.format.specs.Lines.{Line, bytes}
 use Rattle.format.specs.Pieces.{Piece, readOf}
 use Rattle.format.specs.Records.{Record, Block, blocks, countOf, fieldsOf}
 use Rattle.format.specs.Calls.{lead, fromFirst, toLast}
 use Rattle.format.proofs.Whole.{Sound}
 use Rattle.format.proofs.Renaming.{sound-starts}
-use Rattle.lines.specs.Line.{nameLen}
+use Rattle.lines.specs.Value.{valueFrom}
+use Rattle.lines.proofs.Cuts.{rest}
+use Rattle.words.specs.Spans.{span}
 use Rattle.records.specs.Places.{isReadable, Placed, sizeIn, placesIn, placesOf, isDescriptor, firstPlace}
-use Rattle.records.specs.Walk.{leadSize, untilBlank, fromBlank, isRec, runFrom}
+use Rattle.records.specs.Walk.{recordIn, leadSize, untilBlank, fromBlank, runFrom}
+use Rattle.records.specs.Fields.{FieldHere}
 use Rattle.records.specs.declared.Run.{Run}
 use Rattle.records.specs.declared.Place.{Place}
 use Rattle.records.specs.declared.NextRecord.{NextRecord}
-use Rattle.records.proofs.Walks.{size-append, size-piece, size-none, placesRun, places-walk, run-told}
+use Rattle.records.proofs.Walks.{size-append, size-piece, placesRun, places-walk, run-told}
 use Rattle.records.proofs.Shifts.{raise, places-raised}
 use Rattle.records.proofs.Readings.{Reads, reads-readable, reads-of, reads-length, readable-reads, reads-take, reads-drop, places-read, reads-places}
-use Rattle.records.proofs.Steps.{FieldAt, lead-none, lead-field, run-field}
 
 -- pieces in two parts
 
@@ -155,15 +157,82 @@ found-by s (p ∷ ps) k f e h =
     let b : p .start ≡ k = sym (f .begins) ∙ e in
     ap NextRecord.At (sym (ap (placeRun (p .start)) (f .runs)) ∙ ap (λ (j : ℕ). placeRun j (runAt j s)) b)
 
--- a part whose walk comes to its end before any field
-pub next-nothing : (s : Bytes) (i : ℕ) → isReadable s ≡ true → isReadable (drop i s) ≡ true → i ≤ length s → leadSize s ≡ i + leadSize (drop i s) → readOf (drop i s) ≡ [] → firstPlace (placesOf s) ≡ NextRecord.Nothing
-next-nothing s i e r h q z =
-    let n : length (drop i s) ≡ 0 = sym (reads-length (readable-reads (drop i s) r)) ∙ ap sizeIn z ∙ size-none in
-    nothing-by s (placesOf s) (first-place s e) (omega (arith, q, lead-none s i z, n, length-drop i s))
+-- what stands before a field leads
+lead-before : (b ps : List Piece) → fieldsOf b ≡ [] → lead (b ++ ps) ≡ b ++ lead ps
+lead-before [] ps e = refl
+lead-before (Piece.blank l ∷ b) ps e = ap {B = List Piece} (λ x. Piece.blank l ∷ x) (lead-before b ps e)
+lead-before (Piece.comment l ∷ b) ps e = ap {B = List Piece} (λ x. Piece.comment l ∷ x) (lead-before b ps e)
+lead-before (Piece.field n v ls ∷ b) ps e = absurd (omega (arith, ap length e))
 
--- a part whose walk comes to a field at byte i: t tells whether it is a `%rec`, and r is the run behind it
-pub next-found : (s : Bytes) (i v k : ℕ) (t : Bool) (r : Run) → isReadable s ≡ true → leadSize s ≡ i + leadSize (drop i s) → FieldAt s i (nameLen (drop i s)) v k
-    → t ≡ isRec (take (length s - i) (drop i s)) → r ≡ runFrom (i + k) (i + k) t (readOf (drop (i + k) s)) → firstPlace (placesOf s) ≡ NextRecord.At (placeRun i r)
-next-found s i v k t r e q f g h =
-    found-by s (placesOf s) i (first-place s e) (omega (arith, q, lead-field s i (nameLen (drop i s)) v k f)) (omega (arith, f .passed .moves, f .passed .inside))
-    ∙ ap (λ (x : Run). NextRecord.At (placeRun i x)) (run-field s i i false v k t f g ∙ sym h)
+-- a part without a field
+pub next-nothing : (s : Bytes) → isReadable s ≡ true → recordIn s ≡ [] → firstPlace (placesOf s) ≡ NextRecord.Nothing
+unfolding leadSize
+next-nothing s r e =
+    let ps = readOf s in
+    let l : lead ps ≡ ps = ap lead (sym (append-nil ps)) ∙ lead-before ps [] e ∙ append-nil ps in
+    nothing-by s (placesOf s) (first-place s r) (ap sizeIn l ∙ reads-length (readable-reads s r))
+
+-- a run in a part from byte k on
+abbrev pub movedRun : ℕ → Run → Run
+movedRun k r = record { end = k + r .end; after = k + r .after; descriptor = r .descriptor }
+
+run-moved : (k i end : ℕ) (d : Bool) (ps : List Piece) → runFrom (k + i) (k + end) d ps ≡ movedRun k (runFrom i end d ps)
+unfolding runFrom
+run-moved k i end d [] = refl
+run-moved k i end d (Piece.blank l ∷ ps) = refl
+run-moved k i end d (Piece.comment l ∷ ps) =
+    let z : k + i + countOf (l ∷ []) ≡ k + (i + countOf (l ∷ [])) = omega arith in
+    ap (λ (j : ℕ). runFrom j (k + end) d ps) z ∙ run-moved k (i + countOf (l ∷ [])) end d ps
+run-moved k i end d (Piece.field n v ls ∷ ps) =
+    let z : k + i + countOf ls ≡ k + (i + countOf ls) = omega arith in
+    ap (λ (j : ℕ). runFrom j j (d || same (text "%rec") n) ps) z ∙ run-moved k (i + countOf ls) (i + countOf ls) (d || same (text "%rec") n) ps
+
+-- it ends within its pieces
+run-within : (i end : ℕ) (d : Bool) (ps : List Piece) → end ≤ i → (runFrom i end d ps .end ≤ runFrom i end d ps .after) × (runFrom i end d ps .after ≤ i + sizeIn ps)
+unfolding runFrom
+run-within i end d [] h = (h, omega arith)
+run-within i end d (Piece.blank l ∷ ps) h = (h, omega arith)
+run-within i end d (Piece.comment l ∷ ps) h =
+    let w = run-within (i + countOf (l ∷ [])) end d ps (omega arith) in
+    (w .0, omega (arith, w .1, size-piece (Piece.comment l) ps))
+run-within i end d (Piece.field n v ls ∷ ps) h =
+    let k : ℕ = i + countOf ls in
+    let w = run-within k k (d || same (text "%rec") n) ps (omega arith) in
+    (w .0, omega (arith, w .1, size-piece (Piece.field n v ls) ps))
+
+-- a part whose first field is known: t tells whether it is a `%rec`, and r is the run behind it
+module _ (s : Bytes) (a n v e : ℕ) (t : Bool) (r : Run) (h : isReadable s ≡ true) (f : FieldHere s 0 a n v e) (g : t ≡ same (text "%rec") (span a n s))
+    (q : r ≡ runFrom 0 0 t (readOf (take (length s - e) (drop e s)))) where
+  run-here : runAt a s ≡ movedRun e r
+  unfolding runFrom
+  run-here =
+      let p = f .piece in
+      let z : e ≡ e + 0 = omega arith in
+      let ps = readOf (drop e s) in
+      ap (runFrom a a false) (p .reads)
+      ∙ ap (λ (j : ℕ). runFrom j j (same (text "%rec") (span a n s)) ps) (p .ends ∙ z)
+      ∙ ap (λ (b : Bool). runFrom (e + 0) (e + 0) b ps) (sym g)
+      ∙ run-moved e 0 0 t ps
+      ∙ ap (movedRun e) (ap (λ (x : Bytes). runFrom 0 0 t (readOf x)) (sym (rest s e)) ∙ sym q)
+
+  lead-here : leadSize s ≡ a
+  unfolding leadSize
+  lead-here =
+      let l = f .loose in
+      let p = f .piece in
+      let w : readOf s ≡ l .before ++ (Piece.field (span a n s) (valueFrom (span v e s)) (p .own) ∷ readOf (drop e s)) = l .reads ∙ ap (λ (ps : List Piece). l .before ++ ps) (p .reads) in
+      ap (λ (ps : List Piece). sizeIn (lead ps)) w
+      ∙ ap sizeIn (lead-before (l .before) (Piece.field (span a n s) (valueFrom (span v e s)) (p .own) ∷ readOf (drop e s)) (l .none) ∙ append-nil (l .before))
+      ∙ omega (arith, l .size)
+
+  pub next-found : firstPlace (placesOf s) ≡ NextRecord.At (placeRun a (movedRun e r))
+  next-found = found-by s (placesOf s) a (first-place s h) lead-here (omega (arith, f .moves, f .inside)) ∙ ap (λ (x : Run). NextRecord.At (placeRun a x)) run-here
+
+  -- it ends inside
+  pub next-inside : (r .end ≤ r .after) × (e + r .after ≤ length s)
+  next-inside =
+      let w = run-within 0 0 t (readOf (drop e s)) (omega arith) in
+      let x : r ≡ runFrom 0 0 t (readOf (drop e s)) = q ∙ ap (λ (x : Bytes). runFrom 0 0 t (readOf x)) (rest s e) in
+      let y : r .end ≡ runFrom 0 0 t (readOf (drop e s)) .end = ap (λ (x : Run). x .end) x in
+      let z : r .after ≡ runFrom 0 0 t (readOf (drop e s)) .after = ap (λ (x : Run). x .after) x in
+      (omega (arith, w .0), omega (arith, w .1, reads-length (readable-reads (drop e s) (f .readable)), length-drop e s, f .inside))

@@ -3,7 +3,6 @@ pub mod Walks
 pub mod Shifts
 pub mod Readings
 pub mod Steps
-pub mod FieldNames
 pub mod FirstPlaces
 pub mod Looks
 pub mod NextFields

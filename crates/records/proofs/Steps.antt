@@ -13,10 +13,9 @@ use Rattle.format.specs.Bytes.{Bytes, text, same}
 use Rattle.format.specs.Lines.{Line, lines, Form, form}
 use Rattle.format.specs.Pieces.{Piece, linesOf, allLines, bytesOf, pieces, someOf, readOf}
 use Rattle.format.specs.Records.{Field, countOf, fieldsOf}
-use Rattle.format.specs.Calls.{lead}
 use Rattle.format.proofs.Lines.{lines-bytes, Clean}
 use Rattle.format.proofs.Renaming.{sound-starts}
-use Rattle.lines.specs.Line.{lineLen, firstLine, nameLen}
+use Rattle.lines.specs.Line.{lineLen, firstLine}
 use Rattle.lines.specs.Piece.{valueAt, fieldNext, extentOf, nextBy, nextOf, isFault, sizeOf, pieceOf, onPiece}
 use Rattle.lines.specs.Value.{valueFrom}
 use Rattle.lines.specs.declared.Extent.{Extent}
@@ -26,8 +25,8 @@ use Rattle.lines.proofs.Nexts.{next-first}
 use Rattle.lines.proofs.Pieces.{next-cut, no-pieces}
 use Rattle.lines.proofs.Inside.{Inside, next-inside}
 use Rattle.records.specs.Places.{isReadable, sizeIn, headLine}
-use Rattle.records.specs.Walk.{recordIn, leadSize, isRec, runFrom}
-use Rattle.records.proofs.Walks.{size-piece, size-none, Loose}
+use Rattle.records.specs.Walk.{recordIn, runFrom}
+use Rattle.records.proofs.Walks.{size-piece}
 use Rattle.records.proofs.Readings.{Reads, reads-length, readable-ended, readable-pieces, readable-reads}
 
 -- a piece of k bytes from byte i on, and the part behind it
@@ -181,22 +180,6 @@ module _ (s : Bytes) (i : ℕ) where
   pub part-formed : isReadable (drop i s) ≡ true → isFault (nextOf (take (length s - i) (drop i s))) ≡ false
   part-formed e = rw (rest s i) (no-fault (nextOf (drop i s)) (step-at s i (drop i s) refl e))
 
--- What stands before the first field, step by step.
-module _ (s : Bytes) (i : ℕ) where
-  pub lead-none : readOf (drop i s) ≡ [] → leadSize (drop i s) ≡ 0
-  unfolding leadSize
-  lead-none e = rw e size-none
-
-  pub lead-loose : (p : Piece) (k : ℕ) → Loose p → Passed s i p k → leadSize (drop i s) ≡ k + leadSize (drop (i + k) s)
-  unfolding leadSize
-  lead-loose p k h f =
-      let ps = readOf (drop (i + k) s) in
-      ap (λ (qs : List Piece). sizeIn (lead qs)) (f .reads) ∙ ap sizeIn (h ps .1) ∙ size-piece p (lead ps) ∙ ap (λ (j : ℕ). j + sizeIn (lead ps)) (f .size)
-
-  pub lead-field : (n v k : ℕ) → FieldAt s i n v k → leadSize (drop i s) ≡ 0
-  unfolding leadSize
-  lead-field n v k f = rw (f .passed .reads) size-none
-
 -- A record's run, step by step.
 module _ (s : Bytes) (i end : ℕ) (d : Bool) where
   pub run-none : readOf (drop i s) ≡ [] → runFrom i end d (readOf (drop i s)) ≡ record { end = end; after = i; descriptor = d }
@@ -211,16 +194,13 @@ module _ (s : Bytes) (i end : ℕ) (d : Bool) where
   unfolding runFrom
   run-comment l k p = ap (runFrom i end d) (p .reads) ∙ ap (λ (j : ℕ). runFrom (i + j) end d (readOf (drop (i + k) s))) (p .size)
 
-  pub run-field : (v k : ℕ) (t : Bool) → FieldAt s i (nameLen (drop i s)) v k → t ≡ isRec (take (length s - i) (drop i s)) → runFrom i end d (readOf (drop i s)) ≡ runFrom (i + k) (i + k) (d || t) (readOf (drop (i + k) s))
+  pub run-field : (n v k : ℕ) (t : Bool) → FieldAt s i n v k → t ≡ same (text "%rec") (take ((i + n) - i) (drop i s)) → runFrom i end d (readOf (drop i s)) ≡ runFrom (i + k) (i + k) (d || t) (readOf (drop (i + k) s))
   unfolding runFrom
-  run-field v k t f e =
-      let u : Bytes = drop i s in
+  run-field n v k t f e =
       let ps = readOf (drop (i + k) s) in
-      let z : (i + nameLen u) - i ≡ nameLen u = omega arith in
-      let named : take (nameLen u) u ≡ f .name = ap (λ (j : ℕ). take j u) (sym z) ∙ f .named in
       ap (runFrom i end d) (f .passed .reads)
       ∙ ap (λ (j : ℕ). runFrom (i + j) (i + j) (d || same (text "%rec") (f .name)) ps) (f .passed .size)
-      ∙ ap (λ (b : Bool). runFrom (i + k) (i + k) (d || b) ps) (ap (same (text "%rec")) (sym named) ∙ ap isRec (sym (rest s i)) ∙ sym e)
+      ∙ ap (λ (b : Bool). runFrom (i + k) (i + k) (d || b) ps) (ap (same (text "%rec")) (sym (f .named)) ∙ sym e)
 
 -- The fields of a part, step by step.
 module _ (s : Bytes) (i : ℕ) where

@@ -2,13 +2,11 @@
 use Prim.Native.Nat.{ℕ, _+_}
 use mathlib.Core.Bool.{Bool, _||_}
 use mathlib.Core.List.{List, [], _∷_}
-use lib.ListN.{take}
 use Rattle.format.specs.Bytes.{Bytes, text, same}
 use Rattle.format.specs.Pieces.{Piece, readOf}
 use Rattle.format.specs.Records.{Record, Block, countOf, fieldsOf}
 use Rattle.format.specs.Sets.{valuesOf}
 use Rattle.format.specs.Calls.{lead}
-use Rattle.lines.specs.Line.{nameLen}
 use Rattle.records.specs.Places.{sizeIn, namesSet}
 use Rattle.records.specs.declared.Run.{Run}
 
@@ -32,10 +30,6 @@ fromBlank [] = []
 fromBlank (Piece.blank l ∷ ps) = Piece.blank l ∷ ps
 fromBlank (Piece.comment l ∷ ps) = fromBlank ps
 fromBlank (Piece.field n v ls ∷ ps) = fromBlank ps
-
--- is the name that a part begins with `%rec`
-abbrev pub isRec : Bytes → Bool
-isRec s = same (text "%rec") (take (nameLen s) s)
 
 -- A record's run over pieces that begin at a place: so far its last field ends at end, and descriptor says whether a `%rec` was met.
 unfoldable pub runFrom : ℕ → ℕ → Bool → List Piece → Run

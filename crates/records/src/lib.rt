@@ -56,6 +56,50 @@ pub fn is_readable(s: &[u8]) -> bool
     }
 }
 
+// Where a field stands in a part: its first byte, the byte behind its name, its value's first byte, the byte behind it.
+pub enum NextField {
+    At {
+        start: usize,
+        named: usize,
+        value: usize,
+        end: usize,
+    },
+    Nothing,
+}
+
+// The first field of a part.
+pub fn next_field(s: &[u8]) -> NextField
+    requires { ⌜ isReadable (now s) ≡ true ⌝ }
+    ensures { λ r. ⌜ FieldNext (now (s .entry)) 0 r ⌝ }
+{
+    let mut i = 0;
+    loop {
+        let n = lines::read_piece(&s[i..]);
+        match n {
+            Next::Blank { size } => {
+                i += size;
+            }
+            Next::Comment { size } => {
+                i += size;
+            }
+            Next::Field { name, value, size } => {
+                return NextField::At {
+                    start: i,
+                    named: i + name,
+                    value: i + value,
+                    end: i + size,
+                };
+            }
+            Next::End => {
+                return NextField::Nothing;
+            }
+            Next::Fault => {
+                return NextField::Nothing;
+            }
+        }
+    }
+}
+
 // Where a record stands in a part: its first field's first byte, the byte behind its last field, the byte behind its block.
 pub struct Place {
     pub start: usize,
@@ -83,14 +127,13 @@ pub fn is_rec(name: &[u8]) -> bool
     lines::same_bytes(b"%rec", name)
 }
 
-// A record that goes on at a byte, behind one of its fields; described: whether a `%rec` was met before.
-fn record_run(s: &[u8], at: usize, described: bool) -> Run
-    requires { ⌜ at ≤ length (now s) ⌝ }
-    requires { ⌜ isReadable (drop at (now s)) ≡ true ⌝ }
-    ensures { λ r. ⌜ r ≡ runFrom at at described (readOf (drop at (now (s .entry)))) ⌝ }
+// A record that goes on where a part begins, behind one of its fields; described: whether a `%rec` was met before.
+fn record_run(s: &[u8], described: bool) -> Run
+    requires { ⌜ isReadable (now s) ≡ true ⌝ }
+    ensures { λ r. ⌜ r ≡ runFrom 0 0 described (readOf (now (s .entry))) ⌝ }
 {
-    let mut end = at;
-    let mut i = at;
+    let mut end = 0;
+    let mut i = 0;
     let mut descriptor = described;
     loop {
         let n = lines::read_piece(&s[i..]);
@@ -139,39 +182,24 @@ pub fn next_record(s: &[u8]) -> NextRecord
     requires { ⌜ isReadable (now s) ≡ true ⌝ }
     ensures { λ r. ⌜ r ≡ firstPlace (placesOf (now (s .entry))) ⌝ }
 {
-    let mut i = 0;
-    loop {
-        let n = lines::read_piece(&s[i..]);
-        match n {
-            Next::Blank { size } => {
-                i += size;
-            }
-            Next::Comment { size } => {
-                i += size;
-            }
-            Next::Field {
-                name,
-                value: _,
-                size,
-            } => {
-                let e = i + name;
-                let here = is_rec(&s[i..e]);
-                let r = record_run(s, i + size, here);
-                return NextRecord::At(Place {
-                    start: i,
-                    end: r.end,
-                    after: r.after,
-                    descriptor: r.descriptor,
-                });
-            }
-            Next::End => {
-                return NextRecord::Nothing;
-            }
-            Next::Fault => {
-                return NextRecord::Nothing;
-            }
-        }
-    }
+    let f = next_field(s);
+    let NextField::At {
+        start,
+        named,
+        value: _,
+        end,
+    } = f
+    else {
+        return NextRecord::Nothing;
+    };
+    let here = is_rec(&s[start..named]);
+    let r = record_run(&s[end..], here);
+    NextRecord::At(Place {
+        start,
+        end: end + r.end,
+        after: end + r.after,
+        descriptor: r.descriptor,
+    })
 }
 
 // The records of a part before any descriptor: how many there are, and the byte behind the last one's block, 0 where there is none.
@@ -270,50 +298,6 @@ pub fn find_record(s: &[u8], k: usize) -> FoundRecord
         }
         left -= 1;
         i += p.after;
-    }
-}
-
-// Where a field stands in a part: its first byte, the byte behind its name, its value's first byte, the byte behind it.
-pub enum NextField {
-    At {
-        start: usize,
-        named: usize,
-        value: usize,
-        end: usize,
-    },
-    Nothing,
-}
-
-// The first field of a part.
-pub fn next_field(s: &[u8]) -> NextField
-    requires { ⌜ isReadable (now s) ≡ true ⌝ }
-    ensures { λ r. ⌜ FieldNext (now (s .entry)) 0 r ⌝ }
-{
-    let mut i = 0;
-    loop {
-        let n = lines::read_piece(&s[i..]);
-        match n {
-            Next::Blank { size } => {
-                i += size;
-            }
-            Next::Comment { size } => {
-                i += size;
-            }
-            Next::Field { name, value, size } => {
-                return NextField::At {
-                    start: i,
-                    named: i + name,
-                    value: i + value,
-                    end: i + size,
-                };
-            }
-            Next::End => {
-                return NextField::Nothing;
-            }
-            Next::Fault => {
-                return NextField::Nothing;
-            }
-        }
     }
 }
 

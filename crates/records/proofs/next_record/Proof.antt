@@ -1,230 +1,141 @@
--- `records::next_record` meets its contract. The invariant: the part from i on is readable, and what stands before its first field is what is left.
--- The measure is what is left of the length.
+-- `records::next_record` meets its contract: the first field begins the first place, and the run behind it ends there.
 use borrow.Author.Needs.{needs}
-use Prim.Native.Nat.{_+_, _-_, _≤_}
 use native.Mathlib.Omega.{arith}
-use mathlib.Core.Path.{_≡_, sym}
-use mathlib.Core.Bool.{true}
-use lib.ListN.{length, drop}
-use Rattle.format.specs.Pieces.{Piece}
-use Rattle.records.specs.Places.{isReadable}
-use Rattle.records.specs.Walk.{leadSize}
-use Rattle.records.proofs.Walks.{blank-loose, comment-loose}
-use Rattle.records.proofs.Readings.{part-ended}
-use Rattle.records.proofs.Steps.{part-formed, steps, lead-loose}
-use Rattle.records.proofs.FieldNames.{field-named, rec-told}
-use Rattle.records.proofs.FirstPlaces.{next-nothing, next-found}
+use mathlib.Core.Path.{sym, subst}
+use Rattle.records.specs.Fields.{FieldNext}
+use Rattle.records.proofs.Readings.{part-readable}
+use Rattle.records.proofs.FirstPlaces.{next-nothing, next-found, next-inside}
 use Rattle.records.proofs.next_record.Statement.{statement}
 use Rattle.records.proofs.next_record.Tie as tie
 use Rattle.records.proofs.next_record.Reads as reads
 use Rattle.records.proofs.next_record.Lts as lts
-use Rattle.lines.proofs.read_piece.Reads as read-piece-reads
 use Rattle.records.proofs.is_rec.Reads as is-rec-reads
+use Rattle.records.proofs.next_field.Reads as next-field-reads
 use Rattle.records.proofs.record_run.Reads as record-run-reads
 
-abbrev Inv-loop : tie.InvT-loop
-Inv-loop s i₀ i = (i ≤ length s) × (isReadable (drop i s) ≡ true) × (leadSize s ≡ i + leadSize (drop i s))
+next-field-requires : tie.Need-next-field-requires
+next-field-requires c κs = search needs
 
-abbrev μ-loop : tie.MeasureT-loop
-μ-loop s i₀ i = length s - i
+enum-known-f : tie.Need-enum-known-f
+enum-known-f c = search needs
 
-loop-holds : tie.Need-loop-holds Inv-loop μ-loop
-loop-holds c =
-    let at-pre = c .before .pre in
-    (omega arith, at-pre, omega arith)
-
-sub-read-piece : tie.Need-sub-read-piece Inv-loop μ-loop
-sub-read-piece c = search needs
-
-part-read-piece-start : tie.Need-part-read-piece-start Inv-loop μ-loop
-part-read-piece-start c = search needs
-
-part-read-piece-end : tie.Need-part-read-piece-end Inv-loop μ-loop
-part-read-piece-end c = search needs
-
-read-piece-requires : tie.Need-read-piece-requires Inv-loop μ-loop
-read-piece-requires c κs =
-    let at-args = c .before .before .before .args in
-    let at-loop = c .before .loop in
-    (part-ended (at-args .s .now) (at-loop .i) (at-loop .inv .1), part-formed (at-args .s .now) (at-loop .i) (at-loop .inv .1))
-
-enum-known-n : tie.Need-enum-known-n Inv-loop μ-loop
-enum-known-n c = search needs
-
-add-i : tie.Need-add-i Inv-loop μ-loop
-add-i c =
-    let at-args = c .before .before .before .before .before .before .before .args in
-    let at-loop = c .before .before .before .before .before .loop in
-    let at-read-piece = c .before .before .before .read-piece in
-    let at-n = c .before .n in
-    let p = steps (at-args .s .now) (at-loop .i) (at-read-piece .result) (at-loop .inv .1) (at-read-piece .ensures) (at-n .given .1) in
-    omega (arith, p .1 .inside)
-
-loop-less : tie.Need-loop-less Inv-loop μ-loop
-loop-less c =
-    let at-args = c .before .before .before .before .before .before .before .args in
-    let at-loop = c .before .before .before .before .before .loop in
-    let at-read-piece = c .before .before .before .read-piece in
-    let at-n = c .before .n in
-    let p = steps (at-args .s .now) (at-loop .i) (at-read-piece .result) (at-loop .inv .1) (at-read-piece .ensures) (at-n .given .1) in
-    omega (arith, p .1 .inside, p .1 .moves)
-
-loop-again : tie.Need-loop-again Inv-loop μ-loop
-loop-again c =
-    let at-args = c .before .before .before .before .before .before .before .args in
-    let at-loop = c .before .before .before .before .before .loop in
-    let at-read-piece = c .before .before .before .read-piece in
-    let at-n = c .before .n in
-    let p = steps (at-args .s .now) (at-loop .i) (at-read-piece .result) (at-loop .inv .1) (at-read-piece .ensures) (at-n .given .1) in
-    (p .1 .inside, p .1 .readable, omega (arith, at-loop .inv .2, lead-loose (at-args .s .now) (at-loop .i) (Piece.blank (p .0)) (at-n .given .0 .0) (blank-loose (p .0)) (p .1)))
-
-enum-known-n-2 : tie.Need-enum-known-n-2 Inv-loop μ-loop
-enum-known-n-2 c = search needs
-
-add-i-2 : tie.Need-add-i-2 Inv-loop μ-loop
-add-i-2 c =
-    let at-args = c .before .before .before .before .before .before .before .args in
-    let at-loop = c .before .before .before .before .before .loop in
-    let at-read-piece = c .before .before .before .read-piece in
-    let at-n2 = c .before .n2 in
-    let p = steps (at-args .s .now) (at-loop .i) (at-read-piece .result) (at-loop .inv .1) (at-read-piece .ensures) (at-n2 .given .1) in
-    omega (arith, p .1 .inside)
-
-loop-less-2 : tie.Need-loop-less-2 Inv-loop μ-loop
-loop-less-2 c =
-    let at-args = c .before .before .before .before .before .before .before .args in
-    let at-loop = c .before .before .before .before .before .loop in
-    let at-read-piece = c .before .before .before .read-piece in
-    let at-n2 = c .before .n2 in
-    let p = steps (at-args .s .now) (at-loop .i) (at-read-piece .result) (at-loop .inv .1) (at-read-piece .ensures) (at-n2 .given .1) in
-    omega (arith, p .1 .inside, p .1 .moves)
-
-loop-again-2 : tie.Need-loop-again-2 Inv-loop μ-loop
-loop-again-2 c =
-    let at-args = c .before .before .before .before .before .before .before .args in
-    let at-loop = c .before .before .before .before .before .loop in
-    let at-read-piece = c .before .before .before .read-piece in
-    let at-n2 = c .before .n2 in
-    let p = steps (at-args .s .now) (at-loop .i) (at-read-piece .result) (at-loop .inv .1) (at-read-piece .ensures) (at-n2 .given .1) in
-    (p .1 .inside, p .1 .readable, omega (arith, at-loop .inv .2, lead-loose (at-args .s .now) (at-loop .i) (Piece.comment (p .0)) (at-n2 .given .0 .0) (comment-loose (p .0)) (p .1)))
-
-enum-known-n-3 : tie.Need-enum-known-n-3 Inv-loop μ-loop
-enum-known-n-3 c = search needs
-
-add-e : tie.Need-add-e Inv-loop μ-loop
-add-e c =
-    let at-args = c .before .before .before .before .before .before .before .args in
-    let at-loop = c .before .before .before .before .before .loop in
-    let at-read-piece = c .before .before .before .read-piece in
-    let at-n3 = c .before .n3 in
-    let p = steps (at-args .s .now) (at-loop .i) (at-read-piece .result) (at-loop .inv .1) (at-read-piece .ensures) (at-n3 .given .1) in
-    omega (arith, p .passed .inside, p .name-inside)
-
-sub-is-rec : tie.Need-sub-is-rec Inv-loop μ-loop
-sub-is-rec c = search needs
-
-part-is-rec-start : tie.Need-part-is-rec-start Inv-loop μ-loop
-part-is-rec-start c = search needs
-
-part-is-rec-end : tie.Need-part-is-rec-end Inv-loop μ-loop
-part-is-rec-end c =
-    let at-args = c .before .before .before .before .before .before .before .args in
-    let at-loop = c .before .before .before .before .before .loop in
-    let at-read-piece = c .before .before .before .read-piece in
-    let at-n3 = c .before .n3 in
-    let p = steps (at-args .s .now) (at-loop .i) (at-read-piece .result) (at-loop .inv .1) (at-read-piece .ensures) (at-n3 .given .1) in
-    omega (arith, p .passed .inside, p .name-inside)
-
-is-rec-requires : tie.Need-is-rec-requires Inv-loop μ-loop
-is-rec-requires c κs = search needs
-
-add-record-run : tie.Need-add-record-run Inv-loop μ-loop
-add-record-run c =
-    let at-args = c .before .before .before .before .before .before .before .before .before .args in
-    let at-loop = c .before .before .before .before .before .before .before .loop in
-    let at-read-piece = c .before .before .before .before .before .read-piece in
-    let at-n3 = c .before .before .before .n3 in
-    let p = steps (at-args .s .now) (at-loop .i) (at-read-piece .result) (at-loop .inv .1) (at-read-piece .ensures) (at-n3 .given .1) in
-    omega (arith, p .passed .inside)
-
-record-run-requires : tie.Need-record-run-requires Inv-loop μ-loop
-record-run-requires c κs =
-    let at-args = c .before .before .before .before .before .before .before .before .before .args in
-    let at-loop = c .before .before .before .before .before .before .before .loop in
-    let at-read-piece = c .before .before .before .before .before .read-piece in
-    let at-n3 = c .before .before .before .n3 in
-    let p = steps (at-args .s .now) (at-loop .i) (at-read-piece .result) (at-loop .inv .1) (at-read-piece .ensures) (at-n3 .given .1) in
-    (p .passed .inside, p .passed .readable)
-
-returns : tie.Need-returns Inv-loop μ-loop
-returns c =
-    let at-n3 = c .before .before .before .before .n3 in
-    let at-args = c .before .before .before .before .before .before .before .before .before .before .args in
-    let at-loop = c .before .before .before .before .before .before .before .before .loop in
-    let at-read-piece = c .before .before .before .before .before .before .read-piece in
-    let at-is-rec = c .before .is-rec in
-    let at-record-run = c .record-run in
-    let at-pre = c .before .before .before .before .before .before .before .before .before .before .pre in
-    let g = at-n3 .given in
-    let s = at-args .s .now in
-    let i = at-loop .i in
-    let p = field-named s i (at-read-piece .result) (at-loop .inv .1) (at-read-piece .ensures) (g .1) in
-    let t = rec-told s i (at-read-piece .result) (at-loop .inv .1) (at-read-piece .ensures) (g .1) (at-is-rec .result) (at-is-rec .ensures) in
-    sym (next-found s i (g .0 .1 .0) (g .0 .1 .1 .0) (at-is-rec .result) (at-record-run .result) (at-pre) (at-loop .inv .2) p t (at-record-run .ensures))
-
-enum-told : tie.Need-enum-told Inv-loop μ-loop
+enum-told : tie.Need-enum-told
 enum-told c = search needs
 
-returns-2 : tie.Need-returns-2 Inv-loop μ-loop
-returns-2 c =
-    let at-args = c .before .before .before .before .before .before .args in
-    let at-loop = c .before .before .before .before .loop in
-    let at-read-piece = c .before .before .read-piece in
+returns : tie.Need-returns
+returns c =
+    let at-pre = c .before .before .before .before .pre in
+    let at-args = c .before .before .before .before .args in
+    let at-next-field = c .before .before .next-field in
     let at-enum-told = c .enum-told in
-    let at-pre = c .before .before .before .before .before .before .pre in
-    let p = steps (at-args .s .now) (at-loop .i) (at-read-piece .result) (at-loop .inv .1) (at-read-piece .ensures) (at-enum-told .given .1) in
-    sym (next-nothing (at-args .s .now) (at-loop .i) (at-pre) (at-loop .inv .1) (at-loop .inv .0) (at-loop .inv .2) p)
+    sym (next-nothing (at-args .s .now) at-pre (subst (FieldNext (at-args .s .now) 0) (at-enum-told .given .1) (at-next-field .ensures)))
 
-enum-told-2 : tie.Need-enum-told-2 Inv-loop μ-loop
-enum-told-2 c = search needs
+sub-is-rec : tie.Need-sub-is-rec
+sub-is-rec c =
+    let at-args = c .before .before .before .before .before .args in
+    let at-next-field = c .before .before .before .next-field in
+    let at-f = c .before .f in
+    let f = subst (FieldNext (at-args .s .now) 0) (at-f .given .1) (at-next-field .ensures) in
+    f .named
 
-returns-3 : tie.Need-returns-3 Inv-loop μ-loop
-returns-3 c =
-    let at-args = c .before .before .before .before .before .before .args in
-    let at-loop = c .before .before .before .before .loop in
-    let at-read-piece = c .before .before .read-piece in
-    let at-enum-told2 = c .enum-told2 in
-    absurd (steps (at-args .s .now) (at-loop .i) (at-read-piece .result) (at-loop .inv .1) (at-read-piece .ensures) (at-enum-told2 .given .1))
+part-is-rec-start : tie.Need-part-is-rec-start
+part-is-rec-start c =
+    let at-args = c .before .before .before .before .before .args in
+    let at-next-field = c .before .before .before .next-field in
+    let at-f = c .before .f in
+    let f = subst (FieldNext (at-args .s .now) 0) (at-f .given .1) (at-next-field .ensures) in
+    f .named
+
+part-is-rec-end : tie.Need-part-is-rec-end
+part-is-rec-end c =
+    let at-args = c .before .before .before .before .before .args in
+    let at-next-field = c .before .before .before .next-field in
+    let at-f = c .before .f in
+    let f = subst (FieldNext (at-args .s .now) 0) (at-f .given .1) (at-next-field .ensures) in
+    omega (arith, f .name-inside, f .inside)
+
+is-rec-requires : tie.Need-is-rec-requires
+is-rec-requires c κs = search needs
+
+sub-record-run : tie.Need-sub-record-run
+sub-record-run c =
+    let at-args = c .before .before .before .before .before .before .before .args in
+    let at-next-field = c .before .before .before .before .before .next-field in
+    let at-f = c .before .before .before .f in
+    let f = subst (FieldNext (at-args .s .now) 0) (at-f .given .1) (at-next-field .ensures) in
+    f .inside
+
+part-record-run-start : tie.Need-part-record-run-start
+part-record-run-start c =
+    let at-args = c .before .before .before .before .before .before .before .args in
+    let at-next-field = c .before .before .before .before .before .next-field in
+    let at-f = c .before .before .before .f in
+    let f = subst (FieldNext (at-args .s .now) 0) (at-f .given .1) (at-next-field .ensures) in
+    f .inside
+
+part-record-run-end : tie.Need-part-record-run-end
+part-record-run-end c = search needs
+
+record-run-requires : tie.Need-record-run-requires
+record-run-requires c κs =
+    let at-args = c .before .before .before .before .before .before .before .before .args in
+    let at-next-field = c .before .before .before .before .before .before .next-field in
+    let at-f = c .before .before .before .before .f in
+    let f = subst (FieldNext (at-args .s .now) 0) (at-f .given .1) (at-next-field .ensures) in
+    part-readable (at-args .s .now) _ (f .readable)
+
+add-t9 : tie.Need-add-t9
+add-t9 c =
+    let at-args = c .before .before .before .before .before .before .before .before .before .before .args in
+    let at-next-field = c .before .before .before .before .before .before .before .before .next-field in
+    let at-f = c .before .before .before .before .before .before .f in
+    let at-is-rec = c .before .before .before .is-rec in
+    let at-record-run = c .before .record-run in
+    let at-pre = c .before .before .before .before .before .before .before .before .before .before .pre in
+    let f = subst (FieldNext (at-args .s .now) 0) (at-f .given .1) (at-next-field .ensures) in
+    let x = next-inside (at-args .s .now) _ _ _ _ (at-is-rec .result) (at-record-run .result) at-pre f (at-is-rec .ensures) (at-record-run .ensures) in
+    omega (arith, x .0, x .1)
+
+add-t15 : tie.Need-add-t15
+add-t15 c =
+    let at-args = c .before .before .before .before .before .before .before .before .before .before .before .args in
+    let at-next-field = c .before .before .before .before .before .before .before .before .before .next-field in
+    let at-f = c .before .before .before .before .before .before .before .f in
+    let at-is-rec = c .before .before .before .before .is-rec in
+    let at-record-run = c .before .before .record-run in
+    let at-pre = c .before .before .before .before .before .before .before .before .before .before .before .pre in
+    let f = subst (FieldNext (at-args .s .now) 0) (at-f .given .1) (at-next-field .ensures) in
+    let x = next-inside (at-args .s .now) _ _ _ _ (at-is-rec .result) (at-record-run .result) at-pre f (at-is-rec .ensures) (at-record-run .ensures) in
+    omega (arith, x .1)
+
+returns-2 : tie.Need-returns-2
+returns-2 c =
+    let at-args = c .before .before .before .before .before .before .before .before .before .before .before .args in
+    let at-next-field = c .before .before .before .before .before .before .before .before .before .next-field in
+    let at-f = c .before .before .before .before .before .before .before .f in
+    let at-is-rec = c .before .before .before .before .is-rec in
+    let at-record-run = c .before .before .record-run in
+    let at-pre = c .before .before .before .before .before .before .before .before .before .before .before .pre in
+    let f = subst (FieldNext (at-args .s .now) 0) (at-f .given .1) (at-next-field .ensures) in
+    let x = next-found (at-args .s .now) _ _ _ _ (at-is-rec .result) (at-record-run .result) at-pre f (at-is-rec .ensures) (at-record-run .ensures) in
+    sym x
 
 pub next-record-spec : {M : Type 1} → statement M
 next-record-spec =
     tie.close
     (tie.spec
-    Inv-loop
-    μ-loop
-    loop-holds
-    sub-read-piece
-    part-read-piece-start
-    part-read-piece-end
-    read-piece-requires
-    enum-known-n
-    add-i
-    loop-less
-    loop-again
-    enum-known-n-2
-    add-i-2
-    loop-less-2
-    loop-again-2
-    enum-known-n-3
-    add-e
+    next-field-requires
+    enum-known-f
+    enum-told
+    returns
     sub-is-rec
     part-is-rec-start
     part-is-rec-end
     is-rec-requires
-    add-record-run
+    sub-record-run
+    part-record-run-start
+    part-record-run-end
     record-run-requires
-    returns
-    enum-told
-    returns-2
-    enum-told-2
-    returns-3)
+    add-t9
+    add-t15
+    returns-2)

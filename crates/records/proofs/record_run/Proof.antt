@@ -11,7 +11,6 @@ use Rattle.records.specs.Places.{isReadable}
 use Rattle.records.specs.Walk.{runFrom}
 use Rattle.records.proofs.Readings.{part-ended}
 use Rattle.records.proofs.Steps.{part-formed, steps, run-none, run-blank, run-comment, run-field}
-use Rattle.records.proofs.FieldNames.{field-named, rec-told}
 use Rattle.records.proofs.record_run.Statement.{statement}
 use Rattle.records.proofs.record_run.Tie as tie
 use Rattle.records.proofs.record_run.Reads as reads
@@ -20,15 +19,15 @@ use Rattle.lines.proofs.read_piece.Reads as read-piece-reads
 use Rattle.records.proofs.is_rec.Reads as is-rec-reads
 
 abbrev Inv-loop : tie.InvT-loop
-Inv-loop s at described end₀ i₀ descriptor₀ end i descriptor = (i ≤ length s) × (isReadable (drop i s) ≡ true) × (runFrom at at described (readOf (drop at s)) ≡ runFrom i end descriptor (readOf (drop i s)))
+Inv-loop s described end₀ i₀ descriptor₀ end i descriptor = (i ≤ length s) × (isReadable (drop i s) ≡ true) × (runFrom 0 0 described (readOf s) ≡ runFrom i end descriptor (readOf (drop i s)))
 
 abbrev μ-loop : tie.MeasureT-loop
-μ-loop s at described end₀ i₀ descriptor₀ end i descriptor = length s - i
+μ-loop s described end₀ i₀ descriptor₀ end i descriptor = length s - i
 
 loop-holds : tie.Need-loop-holds Inv-loop μ-loop
 loop-holds c =
     let at-pre = c .before .pre in
-    (at-pre .0, at-pre .1, refl)
+    (omega arith, at-pre, refl)
 
 sub-read-piece : tie.Need-sub-read-piece Inv-loop μ-loop
 sub-read-piece c = search needs
@@ -133,9 +132,8 @@ loop-again-2 c =
     let g = at-n2 .given in
     let s = at-args .s .now in
     let i = at-loop .i in
-    let p = field-named s i (at-read-piece .result) (at-loop .inv .1) (at-read-piece .ensures) (g .1) in
-    let t = rec-told s i (at-read-piece .result) (at-loop .inv .1) (at-read-piece .ensures) (g .1) (at-is-rec .result) (at-is-rec .ensures) in
-    (p .passed .inside, p .passed .readable, at-loop .inv .2 ∙ run-field s i (at-loop .end) (at-loop .descriptor) (g .0 .1 .0) (g .0 .1 .1 .0) (at-is-rec .result) p t)
+    let p = steps s i (at-read-piece .result) (at-loop .inv .1) (at-read-piece .ensures) (g .1) in
+    (p .passed .inside, p .passed .readable, at-loop .inv .2 ∙ run-field s i (at-loop .end) (at-loop .descriptor) _ _ _ (at-is-rec .result) p (at-is-rec .ensures))
 
 enum-told : tie.Need-enum-told Inv-loop μ-loop
 enum-told c = search needs
