@@ -55,7 +55,7 @@ fn add_names(d: &[u8], entries: &mut [u32]) -> Places
     let mut i = 0;
     let mut count = 0;
     loop {
-        let v = records::next_named(d, b"%typedef", i);
+        let v = records::next_named(&d[i..], b"%typedef");
         let FoundField::At {
             start: _,
             value,
@@ -64,11 +64,12 @@ fn add_names(d: &[u8], entries: &mut [u32]) -> Places
         else {
             return Places { rows, count };
         };
-        let at = records::pass(d, value, true);
-        rows[count] = value;
+        let a = i + value;
+        let at = records::pass(d, a, true);
+        rows[count] = a;
         entries[count] = terms::entry(d, at, count as u32);
         count += 1;
-        i = end;
+        i += end;
     }
 }
 
@@ -327,7 +328,7 @@ fn names_good(d: &[u8], scratch: &mut [u8]) -> bool
 {
     let mut i = 0;
     loop {
-        let v = records::next_named(d, b"%typedef", i);
+        let v = records::next_named(&d[i..], b"%typedef");
         let FoundField::At {
             start: _,
             value,
@@ -336,11 +337,11 @@ fn names_good(d: &[u8], scratch: &mut [u8]) -> bool
         else {
             return true;
         };
-        let n = lines::copy_value(&d[value..end], &mut *scratch);
+        let n = lines::copy_value(&d[i + value..i + end], &mut *scratch);
         if !name_good(&scratch[..n]) {
             return false;
         }
-        i = end;
+        i += end;
     }
 }
 
@@ -438,7 +439,7 @@ fn all_well(d: &[u8], names: Names, targets: Targets, scratch: &mut [u8]) -> boo
 {
     let mut i = 0;
     loop {
-        let v = records::next_named(d, b"%type", i);
+        let v = records::next_named(&d[i..], b"%type");
         let FoundField::At {
             start: _,
             value,
@@ -447,10 +448,10 @@ fn all_well(d: &[u8], names: Names, targets: Targets, scratch: &mut [u8]) -> boo
         else {
             return true;
         };
-        if !type_well(d, names, targets, value, &mut *scratch) {
+        if !type_well(d, names, targets, i + value, &mut *scratch) {
             return false;
         }
-        i = end;
+        i += end;
     }
 }
 
