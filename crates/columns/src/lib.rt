@@ -74,7 +74,7 @@ fn fill(d: &[u8], names: Names, defs: Typedefs, scratch: &mut [u8]) -> Kinds
     let mut i = 0;
     let mut count = 0;
     loop {
-        let v = records::next_named(d, b"%type", i);
+        let v = records::next_named(&d[i..], b"%type");
         let FoundField::At {
             start: _,
             value,
@@ -83,7 +83,7 @@ fn fill(d: &[u8], names: Names, defs: Typedefs, scratch: &mut [u8]) -> Kinds
         else {
             return Kinds { rows, texts, count };
         };
-        let own = typedefs::read_typedef(d, names, value, &mut *scratch);
+        let own = typedefs::read_typedef(d, names, i + value, &mut *scratch);
         let t = typedefs::end_of(defs, own);
         let at = t.value;
         let read = t.kind;
@@ -91,7 +91,7 @@ fn fill(d: &[u8], names: Names, defs: Typedefs, scratch: &mut [u8]) -> Kinds
         rows[count] = Row { kind };
         texts[count] = text_of(kind, at);
         count += 1;
-        i = end;
+        i += end;
     }
 }
 

@@ -6,6 +6,7 @@ use mathlib.Core.Path.{_≡_, refl}
 use lib.ListN.{length, length-set}
 use Rattle.format.specs.Bytes.{text}
 use Rattle.records.specs.Named.{valuesFrom}
+use Rattle.records.proofs.Readings.{part-readable}
 use Rattle.records.proofs.Named.{value-told}
 use Rattle.typedefs.proofs.Placing.{Passed, passed-start, passed-inside, passed-more}
 use Rattle.dictionary.proofs.Typing.{row-none, rows-few}
@@ -32,13 +33,23 @@ loop-holds c =
     let at-pre = c .before .before .pre in
     (passed-start (at-args .d .now) (text "%type") (at-pre .0 .0 .reads), omega arith, refl, refl, refl, λ k l. absurd (omega arith))
 
+sub-next-named : tie.Need-sub-next-named Inv-loop μ-loop
+sub-next-named c = search needs
+
+part-next-named-start : tie.Need-part-next-named-start Inv-loop μ-loop
+part-next-named-start c = search needs
+
+part-next-named-end : tie.Need-part-next-named-end Inv-loop μ-loop
+part-next-named-end c = search needs
+
 slice-aggregate-next-named : tie.Need-slice-aggregate-next-named Inv-loop μ-loop
 slice-aggregate-next-named c = search needs
 
 next-named-requires : tie.Need-next-named-requires Inv-loop μ-loop
 next-named-requires c κs =
-    let at-loop = c .before .loop in
-    ((at-loop .inv .0 .inside, at-loop .inv .0 .readable))
+    let at-args = c .before .before .before .before .before .args in
+    let at-loop = c .before .before .loop in
+    part-readable (at-args .d .now) (at-loop .i) (at-loop .inv .0 .readable)
 
 enum-known-v : tie.Need-enum-known-v Inv-loop μ-loop
 enum-known-v c = search needs
@@ -48,29 +59,38 @@ enum-told c = search needs
 
 same-length : tie.Need-same-length Inv-loop μ-loop
 same-length c =
-    let at-loop = c .before .before .before .before .loop in
+    let at-loop = c .before .before .before .before .before .loop in
     at-loop .inv .2
 
 returns : tie.Need-returns Inv-loop μ-loop
 returns c =
-    let at-args = c .before .before .before .before .before .before .before .args in
-    let at-loop = c .before .before .before .before .loop in
+    let at-args = c .before .before .before .before .before .before .before .before .args in
+    let at-loop = c .before .before .before .before .before .loop in
     let at-next-named = c .before .before .next-named in
     let at-enum-told = c .enum-told in
-    let at-pre = c .before .before .before .before .before .before .before .pre in
+    let at-pre = c .before .before .before .before .before .before .before .before .pre in
     let d = at-args .d .now in
     let e = value-told d (text "%type") (at-loop .i) (at-next-named .result) (at-next-named .ensures) (at-enum-told .given .1) in
     let n = row-none d (at-loop .count) (at-loop .i) (at-loop .inv .0) e in
     let few = rows-few d (at-pre .0 .0) in
     record { few = omega (arith, at-loop .inv .1); count = omega (arith, at-loop .inv .1); rows-long = at-loop .inv .3; texts-long = at-loop .inv .4; row = at-loop .inv .5 }
 
-read-typedef-requires : tie.Need-read-typedef-requires Inv-loop μ-loop
-read-typedef-requires c κs =
+add-read-typedef : tie.Need-add-read-typedef Inv-loop μ-loop
+add-read-typedef c =
     let at-args = c .before .before .before .before .before .before .before .before .before .args in
     let at-loop = c .before .before .before .before .before .before .loop in
+    let at-next-named = c .before .before .before .next-named in
+    let at-v = c .before .v in
+    let h = value-told (at-args .d .now) (text "%type") (at-loop .i) (at-next-named .result) (at-next-named .ensures) (at-v .given .1) in
+    omega (arith, h .value-there)
+
+read-typedef-requires : tie.Need-read-typedef-requires Inv-loop μ-loop
+read-typedef-requires c κs =
+    let at-args = c .before .before .before .before .before .before .before .before .before .before .args in
+    let at-loop = c .before .before .before .before .before .before .before .loop in
     let at-next-named = c .before .before .before .before .next-named in
     let at-v = c .before .before .v in
-    let at-pre = c .before .before .before .before .before .before .before .before .before .pre in
+    let at-pre = c .before .before .before .before .before .before .before .before .before .before .pre in
     let d = at-args .d .now in
     let h = value-told d (text "%type") (at-loop .i) (at-next-named .result) (at-next-named .ensures) (at-v .given .1) in
     let l = type-fits d (at-pre .0 .0) (at-loop .count) (at-loop .i) _ _ (at-loop .inv .0) h in
@@ -78,16 +98,16 @@ read-typedef-requires c κs =
 
 end-of-requires : tie.Need-end-of-requires Inv-loop μ-loop
 end-of-requires c κs =
-    let at-pre = c .before .before .before .before .before .before .before .before .before .before .before .before .pre in
+    let at-pre = c .before .before .before .before .before .before .before .before .before .before .before .before .before .pre in
     (at-pre .0 .2 .bounded, at-pre .0 .2 .long)
 
 shape-of-requires : tie.Need-shape-of-requires Inv-loop μ-loop
 shape-of-requires c κs =
-    let at-args = c .before .before .before .before .before .before .before .before .before .before .before .before .before .args in
-    let at-loop = c .before .before .before .before .before .before .before .before .before .before .loop in
+    let at-args = c .before .before .before .before .before .before .before .before .before .before .before .before .before .before .args in
+    let at-loop = c .before .before .before .before .before .before .before .before .before .before .before .loop in
     let at-next-named = c .before .before .before .before .before .before .before .before .next-named in
     let at-v = c .before .before .before .before .before .before .v in
-    let at-pre = c .before .before .before .before .before .before .before .before .before .before .before .before .before .pre in
+    let at-pre = c .before .before .before .before .before .before .before .before .before .before .before .before .before .before .pre in
     let at-read-typedef = c .before .before .before .read-typedef in
     let at-end-of = c .end-of in
     let d = at-args .d .now in
@@ -96,22 +116,22 @@ shape-of-requires c κs =
 
 mul-rows : tie.Need-mul-rows Inv-loop μ-loop
 mul-rows c =
-    let at-args = c .before .before .before .before .before .before .before .before .before .before .before .before .before .before .args in
-    let at-loop = c .before .before .before .before .before .before .before .before .before .before .before .loop in
+    let at-args = c .before .before .before .before .before .before .before .before .before .before .before .before .before .before .before .args in
+    let at-loop = c .before .before .before .before .before .before .before .before .before .before .before .before .loop in
     let at-next-named = c .before .before .before .before .before .before .before .before .before .next-named in
     let at-v = c .before .before .before .before .before .before .before .v in
-    let at-pre = c .before .before .before .before .before .before .before .before .before .before .before .before .before .before .pre in
+    let at-pre = c .before .before .before .before .before .before .before .before .before .before .before .before .before .before .before .pre in
     let d = at-args .d .now in
     let h = value-told d (text "%type") (at-loop .i) (at-next-named .result) (at-next-named .ensures) (at-v .given .1) in
     omega (arith, passed-inside d (text "%type") (at-loop .count) (at-loop .i) (at-loop .inv .0) _ _ h, rows-few d (at-pre .0 .0))
 
 array-set-from-rows : tie.Need-array-set-from-rows Inv-loop μ-loop
 array-set-from-rows c =
-    let at-args = c .before .before .before .before .before .before .before .before .before .before .before .before .before .before .args in
-    let at-loop = c .before .before .before .before .before .before .before .before .before .before .before .loop in
+    let at-args = c .before .before .before .before .before .before .before .before .before .before .before .before .before .before .before .args in
+    let at-loop = c .before .before .before .before .before .before .before .before .before .before .before .before .loop in
     let at-next-named = c .before .before .before .before .before .before .before .before .before .next-named in
     let at-v = c .before .before .before .before .before .before .before .v in
-    let at-pre = c .before .before .before .before .before .before .before .before .before .before .before .before .before .before .pre in
+    let at-pre = c .before .before .before .before .before .before .before .before .before .before .before .before .before .before .before .pre in
     let d = at-args .d .now in
     let h = value-told d (text "%type") (at-loop .i) (at-next-named .result) (at-next-named .ensures) (at-v .given .1) in
     omega (arith, passed-inside d (text "%type") (at-loop .count) (at-loop .i) (at-loop .inv .0) _ _ h, rows-few d (at-pre .0 .0))
@@ -121,41 +141,51 @@ text-of-requires c κs = search needs
 
 mul-texts : tie.Need-mul-texts Inv-loop μ-loop
 mul-texts c =
-    let at-args = c .before .before .before .before .before .before .before .before .before .before .before .before .before .before .before .args in
-    let at-loop = c .before .before .before .before .before .before .before .before .before .before .before .before .loop in
+    let at-args = c .before .before .before .before .before .before .before .before .before .before .before .before .before .before .before .before .args in
+    let at-loop = c .before .before .before .before .before .before .before .before .before .before .before .before .before .loop in
     let at-next-named = c .before .before .before .before .before .before .before .before .before .before .next-named in
     let at-v = c .before .before .before .before .before .before .before .before .v in
-    let at-pre = c .before .before .before .before .before .before .before .before .before .before .before .before .before .before .before .pre in
+    let at-pre = c .before .before .before .before .before .before .before .before .before .before .before .before .before .before .before .before .pre in
     let d = at-args .d .now in
     let h = value-told d (text "%type") (at-loop .i) (at-next-named .result) (at-next-named .ensures) (at-v .given .1) in
     omega (arith, passed-inside d (text "%type") (at-loop .count) (at-loop .i) (at-loop .inv .0) _ _ h, rows-few d (at-pre .0 .0))
 
 array-write-texts : tie.Need-array-write-texts Inv-loop μ-loop
 array-write-texts c =
-    let at-args = c .before .before .before .before .before .before .before .before .before .before .before .before .before .before .before .args in
-    let at-loop = c .before .before .before .before .before .before .before .before .before .before .before .before .loop in
+    let at-args = c .before .before .before .before .before .before .before .before .before .before .before .before .before .before .before .before .args in
+    let at-loop = c .before .before .before .before .before .before .before .before .before .before .before .before .before .loop in
     let at-next-named = c .before .before .before .before .before .before .before .before .before .before .next-named in
     let at-v = c .before .before .before .before .before .before .before .before .v in
-    let at-pre = c .before .before .before .before .before .before .before .before .before .before .before .before .before .before .before .pre in
+    let at-pre = c .before .before .before .before .before .before .before .before .before .before .before .before .before .before .before .before .pre in
     let d = at-args .d .now in
     let h = value-told d (text "%type") (at-loop .i) (at-next-named .result) (at-next-named .ensures) (at-v .given .1) in
     omega (arith, passed-inside d (text "%type") (at-loop .count) (at-loop .i) (at-loop .inv .0) _ _ h, rows-few d (at-pre .0 .0))
 
 add-count : tie.Need-add-count Inv-loop μ-loop
 add-count c =
-    let at-args = c .before .before .before .before .before .before .before .before .before .before .before .before .before .before .before .args in
-    let at-loop = c .before .before .before .before .before .before .before .before .before .before .before .before .loop in
+    let at-args = c .before .before .before .before .before .before .before .before .before .before .before .before .before .before .before .before .args in
+    let at-loop = c .before .before .before .before .before .before .before .before .before .before .before .before .before .loop in
     let at-next-named = c .before .before .before .before .before .before .before .before .before .before .next-named in
     let at-v = c .before .before .before .before .before .before .before .before .v in
-    let at-pre = c .before .before .before .before .before .before .before .before .before .before .before .before .before .before .before .pre in
+    let at-pre = c .before .before .before .before .before .before .before .before .before .before .before .before .before .before .before .before .pre in
     let d = at-args .d .now in
     let h = value-told d (text "%type") (at-loop .i) (at-next-named .result) (at-next-named .ensures) (at-v .given .1) in
     omega (arith, passed-inside d (text "%type") (at-loop .count) (at-loop .i) (at-loop .inv .0) _ _ h, rows-few d (at-pre .0 .0))
 
+add-i : tie.Need-add-i Inv-loop μ-loop
+add-i c =
+    let at-args = c .before .before .before .before .before .before .before .before .before .before .before .before .before .before .before .before .args in
+    let at-good = c .before .before .before .before .before .before .before .before .before .before .before .before .before .before .before .before .good in
+    let at-loop = c .before .before .before .before .before .before .before .before .before .before .before .before .before .loop in
+    let at-next-named = c .before .before .before .before .before .before .before .before .before .before .next-named in
+    let at-v = c .before .before .before .before .before .before .before .before .v in
+    let h = value-told (at-args .d .now) (text "%type") (at-loop .i) (at-next-named .result) (at-next-named .ensures) (at-v .given .1) in
+    omega (arith, h .inside, at-good .0 .0)
+
 loop-less : tie.Need-loop-less Inv-loop μ-loop
 loop-less c =
-    let at-args = c .before .before .before .before .before .before .before .before .before .before .before .before .before .before .before .args in
-    let at-loop = c .before .before .before .before .before .before .before .before .before .before .before .before .loop in
+    let at-args = c .before .before .before .before .before .before .before .before .before .before .before .before .before .before .before .before .args in
+    let at-loop = c .before .before .before .before .before .before .before .before .before .before .before .before .before .loop in
     let at-next-named = c .before .before .before .before .before .before .before .before .before .before .next-named in
     let at-v = c .before .before .before .before .before .before .before .before .v in
     let h = value-told (at-args .d .now) (text "%type") (at-loop .i) (at-next-named .result) (at-next-named .ensures) (at-v .given .1) in
@@ -163,11 +193,11 @@ loop-less c =
 
 loop-again : tie.Need-loop-again Inv-loop μ-loop
 loop-again c =
-    let at-args = c .before .before .before .before .before .before .before .before .before .before .before .before .before .before .before .args in
-    let at-loop = c .before .before .before .before .before .before .before .before .before .before .before .before .loop in
+    let at-args = c .before .before .before .before .before .before .before .before .before .before .before .before .before .before .before .before .args in
+    let at-loop = c .before .before .before .before .before .before .before .before .before .before .before .before .before .loop in
     let at-next-named = c .before .before .before .before .before .before .before .before .before .before .next-named in
     let at-v = c .before .before .before .before .before .before .before .before .v in
-    let at-pre = c .before .before .before .before .before .before .before .before .before .before .before .before .before .before .before .pre in
+    let at-pre = c .before .before .before .before .before .before .before .before .before .before .before .before .before .before .before .before .pre in
     let at-read-typedef = c .before .before .before .before .before .read-typedef in
     let at-end-of = c .before .before .end-of in
     let at-shape-of = c .before .shape-of in
@@ -188,12 +218,16 @@ fill-spec =
     Inv-loop
     μ-loop
     loop-holds
+    sub-next-named
+    part-next-named-start
+    part-next-named-end
     slice-aggregate-next-named
     next-named-requires
     enum-known-v
     enum-told
     same-length
     returns
+    add-read-typedef
     read-typedef-requires
     end-of-requires
     shape-of-requires
@@ -203,5 +237,6 @@ fill-spec =
     mul-texts
     array-write-texts
     add-count
+    add-i
     loop-less
     loop-again)
