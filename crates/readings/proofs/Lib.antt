@@ -1,2 +1,0 @@
--- Laws of values against shapes.
-pub mod Meeting

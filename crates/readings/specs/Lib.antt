@@ -1,2 +1,0 @@
--- A value, read once, against the shapes of types.
-pub mod Readings
