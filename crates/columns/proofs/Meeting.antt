@@ -12,7 +12,7 @@ use Rattle.words.specs.Spans.{span}
 use Rattle.typing.specs.Meaning.{symbolsIn, Sound, meetsIn}
 use Rattle.typing.specs.declared.Shape.{Shape}
 use Rattle.typing.proofs.Shape.{the-type as shape-type}
-use Rattle.readings.specs.Readings.{metBy}
+use Rattle.columns.specs.Readings.{metBy}
 
 pub met-shape : (symbol : Bool) (v : Bytes) {k j : Shape} → k ≡ j → metBy j symbol v ≡ metBy k symbol v
 met-shape symbol v e = ap (λ (k : Shape). metBy k symbol v) (sym e)

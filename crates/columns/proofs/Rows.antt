@@ -11,7 +11,7 @@ use Rattle.format.specs.Bytes.{Bytes, among}
 use Rattle.format.specs.Words.{trim}
 use Rattle.terms.specs.Sets.{inSet}
 use Rattle.typedefs.proofs.Ending.{any-default}
-use Rattle.readings.specs.Readings.{metBy}
+use Rattle.columns.specs.Readings.{metBy}
 use Rattle.enums.specs.Enums.{enumIn}
 use Rattle.enums.specs.Rows.{leaderOf, Found}
 use Rattle.columns.specs.Meets.{rowMet, rowsMet}

@@ -21,7 +21,7 @@ use Rattle.typing.specs.declared.TypeOf.{TypeOf}
 use Rattle.typing.proofs.Shape.{the-type}
 use Rattle.typedefs.proofs.Chains.{told-none}
 use Rattle.typedefs.proofs.Following.{kindOnly}
-use Rattle.readings.specs.Readings.{metBy}
+use Rattle.columns.specs.Readings.{metBy}
 use Rattle.enums.specs.Enums.{typeSymbols, listed, typeAt, isEnumAt, enumIn}
 use Rattle.enums.specs.Rows.{TextAt}
 use Rattle.columns.specs.Meets.{meetsKind}

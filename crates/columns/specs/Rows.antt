@@ -15,7 +15,7 @@ use Rattle.typing.specs.declared.Shape.{Shape}
 use Rattle.records.specs.Named.{valuesFrom}
 use Rattle.terms.specs.Sets.{inSet}
 use Rattle.dictionary.specs.Known.{typeValue}
-use Rattle.readings.specs.Readings.{metBy}
+use Rattle.columns.specs.Readings.{metBy}
 use Rattle.enums.specs.Enums.{enumIn}
 use Rattle.enums.specs.Rows.{TextAt, leaderOf, IsSymbols}
 use Rattle.columns.specs.Meets.{meetsKind, kindOf}

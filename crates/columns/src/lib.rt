@@ -20,6 +20,7 @@ ghost use Rattle.terms.specs.Sets.{tags, inSet};
 ghost use Rattle.enums.specs.Rows.{leaderOf, Leads, IsSymbols, Found};
 ghost use Rattle.columns.specs.Meets.{rowsMet};
 ghost use Rattle.columns.specs.Rows.{textOf, IsKinds, IsTyped, isSymbol, rowsAsk};
+use dictionary::Tag;
 use enums::Symbols;
 use format::Descriptor;
 use format::File;
@@ -29,6 +30,8 @@ use typedefs::Names;
 use typedefs::Typedefs;
 use typing::Shape;
 use typing::TypeOf;
+
+mod readings;
 
 // The kind of a `%type` field.
 pub struct Row {
@@ -168,7 +171,7 @@ fn rows_met(typed: Typed, found: u64, tags: u64, v: &[u8], x: IntOf) -> bool
     true
 }
 
-// Does the value that begins where s does meet the kinds in a set of tags, of the rows that have their symbols?
+// Does the value that begins where s does meet the kinds in a set of tags, of the rows that have their symbols? Most names have no type, and their values are not looked at.
 pub fn value_met(
     d: &[u8],
     entries: &[u32],
@@ -181,6 +184,9 @@ pub fn value_met(
     requires { ⌜ length (valueFrom (now s)) ≤ length (now scratch) ⌝ }
     ensures { λ r. ⌜ r ≡ rowsMet (now (d .entry)) tags (typed .symbols .from) (typed .symbols .next - typed .symbols .from) (valueFrom (now (s .entry))) ⌝ }
 {
+    if tags % Tag::TYPES == 0 {
+        return true;
+    }
     let n = lines::copy_value(s, &mut *scratch);
     let x = readings::int_in(&scratch[..n]);
     let kinds = typed.kinds;

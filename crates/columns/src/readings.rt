@@ -5,7 +5,7 @@ ghost use Rattle.format.specs.Words.{trim};
 ghost use Rattle.format.specs.Numbers.{intBounds, intOf};
 ghost use Rattle.format.specs.Types.{isInRange};
 ghost use Rattle.numbers.specs.Meaning.{intIn, intAnswer};
-ghost use Rattle.readings.specs.Readings.{metBy};
+ghost use Rattle.columns.specs.Readings.{metBy};
 use numbers::IntOf;
 use numbers::Whole;
 use typing::Shape;

@@ -4,7 +4,6 @@ pub mod Sets
 pub mod Fields
 pub mod TallyNo
 pub mod Leasts
-pub mod Tags
 pub mod Walking
 pub mod Granted
 pub mod Room

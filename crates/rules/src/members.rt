@@ -10,12 +10,9 @@ ghost use Rattle.format.specs.Limits.{fileBytes, listWords};
 ghost use Rattle.format.specs.Pieces.{readOf};
 ghost use Rattle.format.proofs.Least.{least};
 ghost use Rattle.format.proofs.Records.{records};
-ghost use Rattle.lines.specs.Value.{valueFrom};
 ghost use Rattle.records.specs.Places.{isReadable};
 ghost use Rattle.records.specs.Walk.{recordIn};
 ghost use Rattle.rules.specs.Tallies.{tallyNo};
-ghost use Rattle.columns.specs.Meets.{rowsMet};
-ghost use Rattle.columns.specs.Rows.{IsTyped};
 ghost use Rattle.rules.specs.Members.{IsRulebook, fitsIn, partNo};
 use super::questions;
 use super::tables;
@@ -25,7 +22,6 @@ use super::tables::Tables;
 use super::tallies;
 use super::tallies::Tally;
 use columns::Typed;
-use dictionary::Tag;
 use format::Refusal;
 use lines::Next;
 
@@ -67,25 +63,6 @@ fn with_types(worst: u32, typed: bool) -> u32
         return worst;
     }
     questions::lesser(worst, Refusal::VALUE)
-}
-
-// Does the value that begins where s does meet the kinds of the rows in a set of tags? Most names have no type, and their values are not looked at.
-fn value_met(
-    d: &[u8],
-    entries: &[u32],
-    typed: Typed,
-    tags: u64,
-    s: &[u8],
-    scratch: &mut [u8],
-) -> bool
-    requires { ⌜ IsTyped (now d) (now entries) typed ⌝ }
-    requires { ⌜ length (valueFrom (now s)) ≤ length (now scratch) ⌝ }
-    ensures { λ r. ⌜ r ≡ rowsMet (now (d .entry)) tags (typed .symbols .from) (typed .symbols .next - typed .symbols .from) (valueFrom (now (s .entry))) ⌝ }
-{
-    if tags % Tag::TYPES == 0 {
-        return true;
-    }
-    columns::value_met(d, entries, typed, tags, s, &mut *scratch)
 }
 
 // The least number of the records of a part and how many they are, from the `%type` field on at which the tables begin. What was seen of a name is kept by the number of its field,
@@ -145,7 +122,7 @@ pub fn judge_part(
                 t = tallies::count(t, x.known, x.mandatory, x.unique);
                 let v = i + value;
                 let e = i + size;
-                let met = value_met(
+                let met = columns::value_met(
                     d,
                     &entries[Tables::SYMBOLS..Tables::END],
                     r.typed,

@@ -10,7 +10,7 @@ use Rattle.columns.proofs.rows_met.Tie as tie
 use Rattle.columns.proofs.rows_met.Reads as reads
 use Rattle.columns.proofs.rows_met.Lts as lts
 use Rattle.columns.proofs.is_symbol.Reads as is-symbol-reads
-use Rattle.readings.proofs.shape_met.Reads as shape-met-reads
+use Rattle.columns.proofs.readings.shape_met.Reads as shape-met-reads
 use Rattle.terms.proofs.has.Reads as has-reads
 
 abbrev Inv-loop : tie.InvT-loop

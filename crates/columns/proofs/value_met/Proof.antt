@@ -1,24 +1,32 @@
--- `columns::value_met` meets its contract.
+-- `columns::value_met` meets its contract: a set without tags of types asks for none.
 use Prim.Native.Nat.{_-_}
 use native.Mathlib.Omega.{arith}
-use mathlib.Core.Path.{ap, _∙_}
+use mathlib.Core.Path.{sym, ap, _∙_}
 use Rattle.lines.specs.Value.{valueFrom}
 use Rattle.words.proofs.Decoded.{decoded-all, decoded-length}
 use Rattle.columns.specs.Meets.{rowsMet}
 use Rattle.columns.proofs.Rows.{all-asked}
+use Rattle.columns.proofs.Tags.{none-met}
 use borrow.Author.Needs.{needs}
 use Rattle.columns.proofs.value_met.Statement.{statement}
 use Rattle.columns.proofs.value_met.Tie as tie
 use Rattle.columns.proofs.value_met.Reads as reads
 use Rattle.columns.proofs.value_met.Lts as lts
+use Rattle.columns.proofs.readings.int_in.Reads as int-in-reads
 use Rattle.columns.proofs.rows_met.Reads as rows-met-reads
 use Rattle.columns.proofs.texts_with.Reads as texts-with-reads
 use Rattle.lines.proofs.copy_value.Reads as copy-value-reads
-use Rattle.readings.proofs.int_in.Reads as int-in-reads
+
+returns : tie.Need-returns
+returns c =
+    let at-args = c .before .before .before .before .before .args in
+    let at-pre = c .before .before .before .before .before .pre in
+    let at-if1 = c .if1 in
+    sym (none-met (at-args .d .now) (at-args .tags) (at-args .typed .symbols .from) (at-args .typed .symbols .next - at-args .typed .symbols .from) (valueFrom (at-args .s .now)) (omega (arith, at-pre .0 .symbols-are .begins, at-pre .0 .within, at-pre .0 .kinds-are .few)) (at-if1 .taken))
 
 copy-value-requires : tie.Need-copy-value-requires
 copy-value-requires c κs =
-    let at-pre = c .before .before .before .before .before .pre in
+    let at-pre = c .before .before .before .before .before .before .pre in
     at-pre .1
 
 slice-reshare-prefix-int-in : tie.Need-slice-reshare-prefix-int-in
@@ -26,7 +34,7 @@ slice-reshare-prefix-int-in c = search needs
 
 slice-aggregate-int-in : tie.Need-slice-aggregate-int-in
 slice-aggregate-int-in c =
-    let at-args = c .before .before .before .before .before .before .before .before .before .args in
+    let at-args = c .before .before .before .before .before .before .before .before .before .before .args in
     let at-copy-value = c .before .before .before .copy-value in
     decoded-length (valueFrom (at-args .s .now)) (at-args .scratch .now) _ (at-copy-value .result) (at-copy-value .ensures .0) (at-copy-value .ensures .1)
 
@@ -41,13 +49,13 @@ slice-reshare-prefix-texts-with c = search needs
 
 slice-aggregate-texts-with-2 : tie.Need-slice-aggregate-texts-with-2
 slice-aggregate-texts-with-2 c =
-    let at-args = c .before .before .before .before .before .before .before .before .before .before .before .before .before .before .before .args in
+    let at-args = c .before .before .before .before .before .before .before .before .before .before .before .before .before .before .before .before .args in
     let at-copy-value = c .before .before .before .before .before .before .before .before .before .copy-value in
     decoded-length (valueFrom (at-args .s .now)) (at-args .scratch .now) _ (at-copy-value .result) (at-copy-value .ensures .0) (at-copy-value .ensures .1)
 
 texts-with-requires : tie.Need-texts-with-requires
 texts-with-requires c κs =
-    let at-pre = c .before .before .before .before .before .before .before .before .before .before .before .before .before .before .before .pre in
+    let at-pre = c .before .before .before .before .before .before .before .before .before .before .before .before .before .before .before .before .pre in
     at-pre .0 .symbols-are
 
 slice-reshare-prefix-rows-met : tie.Need-slice-reshare-prefix-rows-met
@@ -55,13 +63,13 @@ slice-reshare-prefix-rows-met c = search needs
 
 slice-aggregate-rows-met : tie.Need-slice-aggregate-rows-met
 slice-aggregate-rows-met c =
-    let at-args = c .before .before .before .before .before .before .before .before .before .before .before .before .before .before .before .before .before .args in
+    let at-args = c .before .before .before .before .before .before .before .before .before .before .before .before .before .before .before .before .before .before .args in
     let at-copy-value = c .before .before .before .before .before .before .before .before .before .before .before .copy-value in
     decoded-length (valueFrom (at-args .s .now)) (at-args .scratch .now) _ (at-copy-value .result) (at-copy-value .ensures .0) (at-copy-value .ensures .1)
 
 rows-met-requires : tie.Need-rows-met-requires
 rows-met-requires c κs =
-    let at-pre = c .before .before .before .before .before .before .before .before .before .before .before .before .before .before .before .before .before .pre in
+    let at-pre = c .before .before .before .before .before .before .before .before .before .before .before .before .before .before .before .before .before .before .pre in
     let at-int-in = c .before .before .before .before .before .before .before .int-in in
     let at-texts-with = c .before .texts-with in
     let z = at-pre .0 in
@@ -70,11 +78,11 @@ rows-met-requires c κs =
 same-length : tie.Need-same-length
 same-length c = search needs
 
-returns : tie.Need-returns
-returns c =
-    let at-pre = c .before .before .before .before .before .before .before .before .before .before .before .before .before .before .before .before .before .before .pre in
+returns-2 : tie.Need-returns-2
+returns-2 c =
+    let at-pre = c .before .before .before .before .before .before .before .before .before .before .before .before .before .before .before .before .before .before .before .pre in
     let at-rows-met = c .rows-met in
-    let at-args = c .before .before .before .before .before .before .before .before .before .before .before .before .before .before .before .before .before .before .args in
+    let at-args = c .before .before .before .before .before .before .before .before .before .before .before .before .before .before .before .before .before .before .before .args in
     let at-texts-with = c .before .before .texts-with in
     let at-copy-value = c .before .before .before .before .before .before .before .before .before .before .before .before .copy-value in
     let z = at-pre .0 in
@@ -86,6 +94,7 @@ pub value-met-spec : {M : Type 1} → statement M
 value-met-spec =
     tie.close
     (tie.spec
+    returns
     copy-value-requires
     slice-reshare-prefix-int-in
     slice-aggregate-int-in
@@ -98,4 +107,4 @@ value-met-spec =
     slice-aggregate-rows-met
     rows-met-requires
     same-length
-    returns)
+    returns-2)

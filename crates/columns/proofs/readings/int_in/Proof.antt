@@ -1,11 +1,11 @@
--- `readings::int_in` meets its contract.
+-- `columns::readings::int_in` meets its contract.
 use borrow.Author.Needs.{needs}
 use mathlib.Core.Path.{ap, _∙_}
 use Rattle.format.specs.Numbers.{intBounds, intOf}
-use Rattle.readings.proofs.int_in.Statement.{statement}
-use Rattle.readings.proofs.int_in.Tie as tie
-use Rattle.readings.proofs.int_in.Reads as reads
-use Rattle.readings.proofs.int_in.Lts as lts
+use Rattle.columns.proofs.readings.int_in.Statement.{statement}
+use Rattle.columns.proofs.readings.int_in.Tie as tie
+use Rattle.columns.proofs.readings.int_in.Reads as reads
+use Rattle.columns.proofs.readings.int_in.Lts as lts
 use Rattle.numbers.proofs.int_of.Reads as int-of-reads
 use Rattle.words.proofs.trimmed.Reads as trimmed-reads
 

@@ -1,12 +1,12 @@
--- `readings::is_between` meets its contract.
+-- `columns::readings::is_between` meets its contract.
 use borrow.Author.Needs.{needs}
 use mathlib.Core.Path.{sym, ap, _∙_}
 use Rattle.format.specs.Types.{isInRange}
 use Rattle.numbers.specs.Meaning.{intIn, intAnswer}
-use Rattle.readings.proofs.is_between.Statement.{statement}
-use Rattle.readings.proofs.is_between.Tie as tie
-use Rattle.readings.proofs.is_between.Reads as reads
-use Rattle.readings.proofs.is_between.Lts as lts
+use Rattle.columns.proofs.readings.is_between.Statement.{statement}
+use Rattle.columns.proofs.readings.is_between.Tie as tie
+use Rattle.columns.proofs.readings.is_between.Reads as reads
+use Rattle.columns.proofs.readings.is_between.Lts as lts
 use Rattle.numbers.proofs.at_most.Reads as at-most-reads
 
 enum-known-x : tie.Need-enum-known-x

@@ -1,16 +1,16 @@
--- `readings::shape_met` meets its contract, kind by kind.
+-- `columns::readings::shape_met` meets its contract, kind by kind.
 use borrow.Author.Needs.{needs}
 use mathlib.Core.Path.{ap, _∙_}
 use Rattle.format.specs.Bytes.{isSome}
 use Rattle.format.specs.Types.{isInRange}
 use Rattle.numbers.specs.Meaning.{intIn}
-use Rattle.readings.proofs.Meeting.{met-shape, apart}
-use Rattle.readings.proofs.shape_met.Statement.{statement}
-use Rattle.readings.proofs.shape_met.Tie as tie
-use Rattle.readings.proofs.shape_met.Reads as reads
-use Rattle.readings.proofs.shape_met.Lts as lts
-use Rattle.readings.proofs.is_between.Reads as is-between-reads
-use Rattle.readings.proofs.is_int.Reads as is-int-reads
+use Rattle.columns.proofs.Meeting.{met-shape, apart}
+use Rattle.columns.proofs.readings.shape_met.Statement.{statement}
+use Rattle.columns.proofs.readings.shape_met.Tie as tie
+use Rattle.columns.proofs.readings.shape_met.Reads as reads
+use Rattle.columns.proofs.readings.shape_met.Lts as lts
+use Rattle.columns.proofs.readings.is_between.Reads as is-between-reads
+use Rattle.columns.proofs.readings.is_int.Reads as is-int-reads
 use Rattle.typing.proofs.meets.Reads as meets-reads
 
 enum-told : tie.Need-enum-told

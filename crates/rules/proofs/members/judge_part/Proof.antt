@@ -19,7 +19,7 @@ use Rattle.rules.proofs.members.judge_part.Reads as reads
 use Rattle.rules.proofs.members.judge_part.Lts as lts
 use Rattle.lines.proofs.read_piece.Reads as read-piece-reads
 use Rattle.rules.proofs.members.closed.Reads as closed-reads
-use Rattle.rules.proofs.members.value_met.Reads as value-met-reads
+use Rattle.columns.proofs.value_met.Reads as value-met-reads
 use Rattle.rules.proofs.members.with_types.Reads as with-types-reads
 use Rattle.rules.proofs.tallies.count.Reads as count-reads
 use Rattle.rules.proofs.tables.look_up.Reads as look-up-reads
