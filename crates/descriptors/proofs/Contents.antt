@@ -1,11 +1,10 @@
 -- What a name asks of its value: a name is one of the rows, or no row's, or does not start with `%`.
 use Prim.Native.Nat.{ℕ, suc, _+_, _≤_, _<_}
 use native.Mathlib.Omega.{arith}
-use mathlib.Core.Path.{_≡_, refl, sym, ap, _∙_, subst}
+use mathlib.Core.Path.{_≡_, refl, ap, _∙_, subst}
 use mathlib.Core.Bool.{Bool, true, false, _&&_, _||_, not, or-false}
 use mathlib.Core.List.{List, [], _∷_, map}
 use lib.ListN.{length, getD}
-use borrow.Author.Tests.{eq-eqb, ne-eqb}
 use Rattle.format.specs.Lines.{isSpecial}
 use Rattle.format.specs.Bytes.{Bytes, text, any, same, pick}
 use Rattle.format.specs.Numbers.{intBounds}
@@ -73,10 +72,6 @@ asks-none n r s e h v k =
     ap (λ (b : Bool). not b || any (λ (x : Shape). same n (x .name) && x .fits v) (shapes intBounds)) s
     ∙ no-row n v (shapes intBounds) (rows-passed n (shapes intBounds) (omega (arith, e, h)))
 
--- one that does not start with `%`, by its first byte
-module _ (n : Bytes) (b : ℕ) (e : b ≡ getD n 0 0) where
-  pub special : b ≡ 37 → isSpecial n ≡ true
-  special h = eq-eqb (getD n 0 0) 37 (sym e ∙ h)
-
-  pub asks-plain : (b ≡ 37 → ⊥) → Asks n Content.Free
-  asks-plain h v k = ap (λ (x : Bool). not x || any (λ (y : Shape). same n (y .name) && y .fits v) (shapes intBounds)) (ne-eqb (getD n 0 0) 37 (λ q. h (e ∙ q)))
+-- one that does not start with `%`
+pub asks-plain : (n : Bytes) → isSpecial n ≡ false → Asks n Content.Free
+asks-plain n e v k = ap (λ (b : Bool). not b || any (λ (x : Shape). same n (x .name) && x .fits v) (shapes intBounds)) e

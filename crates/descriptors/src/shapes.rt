@@ -132,7 +132,7 @@ fn special_content(name: &[u8]) -> Content
 pub fn content_of(name: &[u8]) -> Content
     ensures { λ r. ⌜ Asks (now (name .entry)) r ⌝ }
 {
-    if lines::byte(name, 0) == b'%' {
+    if lines::is_special(name) {
         special_content(name)
     } else {
         Content::Free

@@ -11,7 +11,7 @@ ghost use Rattle.format.specs.Bytes.{classTable, pick, all};
 ghost use Rattle.format.specs.Words.{words};
 ghost use Rattle.format.specs.Limits.{fileBytes, recordFields, nameBytes, valueBytes, descriptors};
 ghost use Rattle.format.specs.Records.{fieldsOf};
-ghost use Rattle.format.specs.Lines.{isEnded, isSpecial};
+ghost use Rattle.format.specs.Lines.{isEnded};
 ghost use Rattle.format.specs.Questions.{fitsRules};
 ghost use Rattle.lines.specs.Value.{valueFrom};
 ghost use Rattle.records.specs.Places.{isReadable};
@@ -63,13 +63,6 @@ fn value_bound(s: &[u8]) -> usize
     lines::value_len(s)
 }
 
-// Does a name begin with `%`?
-fn is_special(name: &[u8]) -> bool
-    ensures { λ r. ⌜ r ≡ isSpecial (now (name .entry)) ⌝ }
-{
-    lines::byte(name, 0) == b'%'
-}
-
 // A record that goes on: how many fields it has so far, whether one of them has a `%` name, how many are `%rec`, where the first begins and where the last ends.
 struct Open {
     fields: usize,
@@ -108,7 +101,7 @@ fn with_field(o: Open, name: &[u8], start: usize, end: usize) -> Open
     ensures { λ r. ⌜ r ≡ openOn o (now (name .entry)) start end ⌝ }
 {
     let first = first_place(o.fields, start, o.start);
-    if is_special(name) {
+    if lines::is_special(name) {
         let here = records::is_rec(name);
         return Open {
             fields: o.fields + 1,

@@ -4,7 +4,7 @@ ghost use mathlib.Core.Bool.{true, false};
 ghost use Prim.Native.Nat.{_+_, _<_, _≤_};
 ghost use lib.ListN.{length, drop, getD};
 ghost use Rattle.format.specs.Bytes.{classTable, same, isBlank, all};
-ghost use Rattle.format.specs.Lines.{lines, isEnded};
+ghost use Rattle.format.specs.Lines.{lines, isEnded, isSpecial};
 ghost use Rattle.format.specs.Calls.{over};
 ghost use Rattle.lines.specs.Line.{lineLen, firstLine, GoesOn, nameLen};
 ghost use Rattle.lines.specs.Piece.{extentOf, nextOf, isFault};
@@ -16,6 +16,13 @@ pub fn byte(s: &[u8], i: usize) -> u8
     ensures { λ r. ⌜ r ≡ getD (now (s .entry)) i 0 ⌝ }
 {
     if i < s.len() { s[i] } else { 0 }
+}
+
+// Does a name begin with `%`?
+pub fn is_special(name: &[u8]) -> bool
+    ensures { λ r. ⌜ r ≡ isSpecial (now (name .entry)) ⌝ }
+{
+    byte(name, 0) == b'%'
 }
 
 // Are two texts the same?
@@ -146,7 +153,7 @@ fn field_extent(s: &[u8], at: usize) -> Extent
             }
             return Extent::Size(i);
         }
-        if taken {} else {
+        if !taken {
             if s[i] != b'+' {
                 return Extent::Size(i);
             }

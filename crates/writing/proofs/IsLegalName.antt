@@ -6,10 +6,10 @@ use mathlib.Core.Path.{_≡_, refl, sym, ap, _∙_}
 use mathlib.Core.Bool.{Bool, true, false, _&&_, not, and-false}
 use mathlib.Core.List.{[], _∷_}
 use lib.Dec.{eqb, leb, eqb·suc-suc, eqb·zero-suc}
-use lib.ListN.{length, getD}
-use borrow.Author.Tests.{lt-leb, le-leb, eq-eqb, ne-eqb}
+use lib.ListN.{length}
+use borrow.Author.Tests.{lt-leb, le-leb}
 use Rattle.format.specs.Bytes.{Bytes, pick, all}
-use Rattle.format.specs.Lines.{isFirst, isLater, isName}
+use Rattle.format.specs.Lines.{isFirst, isLater, isName, isSpecial}
 use Rattle.format.specs.Limits.{nameBytes}
 use Rattle.format.specs.Written.{isLegalName}
 use Rattle.lines.specs.Line.{run, nameLen}
@@ -44,23 +44,23 @@ name-whole (c ∷ s) h = go (isFirst c) h
 
 -- a legal name, by the three questions that are asked of it
 module _ (s : Bytes) where
-  legal-by : (a b d : Bool) → isName s ≡ a → leb (length s) nameBytes ≡ b → eqb (getD s 0 0) 37 ≡ d → isLegalName s ≡ (a && b && not d)
+  legal-by : (a b d : Bool) → isName s ≡ a → leb (length s) nameBytes ≡ b → isSpecial s ≡ d → isLegalName s ≡ (a && b && not d)
   legal-by a b d p q r =
-      ap (λ (t : Bool). t && leb (length s) nameBytes && not (eqb (getD s 0 0) 37)) p
-      ∙ ap (λ (t : Bool). a && t && not (eqb (getD s 0 0) 37)) q
+      ap (λ (t : Bool). t && leb (length s) nameBytes && not (isSpecial s)) p
+      ∙ ap (λ (t : Bool). a && t && not (isSpecial s)) q
       ∙ ap (λ (t : Bool). a && b && not t) r
 
   pub name-long : nameBytes < length s → isLegalName s ≡ false
-  name-long h = legal-by (isName s) false (eqb (getD s 0 0) 37) refl (lt-leb (length s) nameBytes h) refl ∙ ap (λ (t : Bool). t && not (eqb (getD s 0 0) 37)) (and-false (isName s))
+  name-long h = legal-by (isName s) false (isSpecial s) refl (lt-leb (length s) nameBytes h) refl ∙ ap (λ (t : Bool). t && not (isSpecial s)) (and-false (isName s))
 
-  pub name-special : getD s 0 0 ≡ 37 → isLegalName s ≡ false
-  name-special e = legal-by (isName s) (leb (length s) nameBytes) true refl refl (eq-eqb (getD s 0 0) 37 e) ∙ and-false (isName s && leb (length s) nameBytes)
+  pub name-special : isSpecial s ≡ true → isLegalName s ≡ false
+  name-special e = legal-by (isName s) (leb (length s) nameBytes) true refl refl e ∙ and-false (isName s && leb (length s) nameBytes)
 
   pub name-unnamed : nameLen s ≡ 0 → isLegalName s ≡ false
-  name-unnamed e = legal-by false (leb (length s) nameBytes) (eqb (getD s 0 0) 37) (name-none s e) refl refl
+  name-unnamed e = legal-by false (leb (length s) nameBytes) (isSpecial s) (name-none s e) refl refl
 
-  pub name-legal : length s ≤ nameBytes → (getD s 0 0 ≡ 37 → ⊥) → 0 < nameLen s → isLegalName s ≡ eqb (nameLen s) (length s)
-  name-legal h e k = legal-by (eqb (nameLen s) (length s)) true false (name-whole s k) (le-leb (length s) nameBytes h) (ne-eqb (getD s 0 0) 37 e) ∙ same (eqb (nameLen s) (length s))
+  pub name-legal : length s ≤ nameBytes → isSpecial s ≡ false → 0 < nameLen s → isLegalName s ≡ eqb (nameLen s) (length s)
+  name-legal h e k = legal-by (eqb (nameLen s) (length s)) true false (name-whole s k) (le-leb (length s) nameBytes h) e ∙ same (eqb (nameLen s) (length s))
     where
       same : (a : Bool) → a && true && true ≡ a
       same true = refl

@@ -25,7 +25,7 @@ pub fn is_legal_name(s: &[u8]) -> bool
     if s.len() > Record::NAME {
         return false;
     }
-    if lines::byte(s, 0) == b'%' {
+    if lines::is_special(s) {
         return false;
     }
     let n = lines::name_len(&table, s);

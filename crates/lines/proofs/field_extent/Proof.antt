@@ -3,7 +3,8 @@ use Prim.Native.Nat.{_+_, _<_, _-_}
 use native.Mathlib.Omega.{arith}
 use mathlib.Core.Path.{_≡_}
 use mathlib.Core.Bool.{true, false}
-use borrow.Author.Tests.{ne-eqb}
+use borrow.Author.Tests.{ne-eqb, not-true, not-false}
+use lib.Dec.{eqb}
 use lib.ListN.{length, drop, getD}
 use Rattle.format.specs.Lines.{lines}
 use Rattle.lines.specs.Piece.{extentOf}
@@ -77,24 +78,6 @@ returns-2 c =
     let at-if1 = c .before .if1 in
     rw (at-loop .inv .3, extent-past (at-args .s .now) (at-loop .i) (at-line-end .result) (at-loop .inv .0) (at-loop .inv .1) (at-loop .inv .2) (at-line-end .ensures .0), at-if2 .left, extent-end (at-args .s .now) false (at-line-end .result + 1) (omega (arith, at-if1 .taken)))
 
-loop-less : tie.Need-loop-less Inv-loop μ-loop
-loop-less c =
-    let at-line-end = c .before .before .before .line-end in
-    let at-args = c .before .before .before .before .before .before .args in
-    let at-loop = c .before .before .before .before .loop in
-    let at-pre = c .before .before .before .before .before .before .pre in
-    omega (arith, at-line-end .ensures .0, line-at-inside (at-args .s .now) (at-loop .i) (at-pre .0) (at-loop .inv .0))
-
-loop-again : tie.Need-loop-again Inv-loop μ-loop
-loop-again c =
-    let at-line-end = c .before .before .before .line-end in
-    let at-if1 = c .before .if1 in
-    let at-args = c .before .before .before .before .before .before .args in
-    let at-loop = c .before .before .before .before .loop in
-    let at-pre = c .before .before .before .before .before .before .pre in
-    let at-if3 = c .if3 in
-    (omega (arith, at-line-end .ensures .0, at-if1 .left, line-at-inside (at-args .s .now) (at-loop .i) (at-pre .0) (at-loop .inv .0)), omega arith, newline-before (at-args .s .now) (at-line-end .result) (at-line-end .ensures .1), rw (at-loop .inv .3, extent-past (at-args .s .now) (at-loop .i) (at-line-end .result) (at-loop .inv .0) (at-loop .inv .1) (at-loop .inv .2) (at-line-end .ensures .0), at-if3 .taken))
-
 shared-slice-read-if4 : tie.Need-shared-slice-read-if4 Inv-loop μ-loop
 shared-slice-read-if4 c =
     let at-line-end = c .before .before .before .before .line-end in
@@ -113,18 +96,18 @@ returns-3 c =
     let at-if1 = c .before .before .before .if1 in
     let at-pre = c .before .before .before .before .before .before .before .before .pre in
     let at-if4 = c .if4 in
-    rw (at-loop .inv .3, extent-past (at-args .s .now) (at-loop .i) (at-line-end .result) (at-loop .inv .0) (at-loop .inv .1) (at-loop .inv .2) (at-line-end .ensures .0), at-if3 .left, extent-step (at-args .s .now) false (at-line-end .result + 1) (omega (arith, at-line-end .ensures .0, at-if1 .left, line-at-inside (at-args .s .now) (at-loop .i) (at-pre .0) (at-loop .inv .0))), ne-eqb _ _ (at-if4 .taken))
+    rw (at-loop .inv .3, extent-past (at-args .s .now) (at-loop .i) (at-line-end .result) (at-loop .inv .0) (at-loop .inv .1) (at-loop .inv .2) (at-line-end .ensures .0), not-true (eqb (getD (at-args .s .now) (at-line-end .result - 1) 0) 92) (at-if3 .taken), extent-step (at-args .s .now) false (at-line-end .result + 1) (omega (arith, at-line-end .ensures .0, at-if1 .left, line-at-inside (at-args .s .now) (at-loop .i) (at-pre .0) (at-loop .inv .0))), ne-eqb _ _ (at-if4 .taken))
 
-loop-less-2 : tie.Need-loop-less-2 Inv-loop μ-loop
-loop-less-2 c =
+loop-less : tie.Need-loop-less Inv-loop μ-loop
+loop-less c =
     let at-line-end = c .before .before .before .before .before .line-end in
     let at-args = c .before .before .before .before .before .before .before .before .args in
     let at-loop = c .before .before .before .before .before .before .loop in
     let at-pre = c .before .before .before .before .before .before .before .before .pre in
     omega (arith, at-line-end .ensures .0, line-at-inside (at-args .s .now) (at-loop .i) (at-pre .0) (at-loop .inv .0))
 
-loop-again-2 : tie.Need-loop-again-2 Inv-loop μ-loop
-loop-again-2 c =
+loop-again : tie.Need-loop-again Inv-loop μ-loop
+loop-again c =
     let at-line-end = c .before .before .before .before .before .line-end in
     let at-args = c .before .before .before .before .before .before .before .before .args in
     let at-if1 = c .before .before .before .if1 in
@@ -133,7 +116,25 @@ loop-again-2 c =
     let at-if3 = c .before .before .if3 in
     let at-if4 = c .if4 in
     let h : at-line-end .result + 1 < length (at-args .s .now) = omega (arith, at-line-end .ensures .0, at-if1 .left, line-at-inside (at-args .s .now) (at-loop .i) (at-pre .0) (at-loop .inv .0)) in
-    (h, omega arith, newline-before (at-args .s .now) (at-line-end .result) (at-line-end .ensures .1), rw (at-loop .inv .3, extent-past (at-args .s .now) (at-loop .i) (at-line-end .result) (at-loop .inv .0) (at-loop .inv .1) (at-loop .inv .2) (at-line-end .ensures .0), at-if3 .left, extent-plus (at-args .s .now) (at-line-end .result + 1) h (at-if4 .left)))
+    (h, omega arith, newline-before (at-args .s .now) (at-line-end .result) (at-line-end .ensures .1), rw (at-loop .inv .3, extent-past (at-args .s .now) (at-loop .i) (at-line-end .result) (at-loop .inv .0) (at-loop .inv .1) (at-loop .inv .2) (at-line-end .ensures .0), not-true (eqb (getD (at-args .s .now) (at-line-end .result - 1) 0) 92) (at-if3 .taken), extent-plus (at-args .s .now) (at-line-end .result + 1) h (at-if4 .left)))
+
+loop-less-2 : tie.Need-loop-less-2 Inv-loop μ-loop
+loop-less-2 c =
+    let at-line-end = c .before .before .before .line-end in
+    let at-args = c .before .before .before .before .before .before .args in
+    let at-loop = c .before .before .before .before .loop in
+    let at-pre = c .before .before .before .before .before .before .pre in
+    omega (arith, at-line-end .ensures .0, line-at-inside (at-args .s .now) (at-loop .i) (at-pre .0) (at-loop .inv .0))
+
+loop-again-2 : tie.Need-loop-again-2 Inv-loop μ-loop
+loop-again-2 c =
+    let at-line-end = c .before .before .before .line-end in
+    let at-if1 = c .before .if1 in
+    let at-args = c .before .before .before .before .before .before .args in
+    let at-loop = c .before .before .before .before .loop in
+    let at-pre = c .before .before .before .before .before .before .pre in
+    let at-if3 = c .if3 in
+    (omega (arith, at-line-end .ensures .0, at-if1 .left, line-at-inside (at-args .s .now) (at-loop .i) (at-pre .0) (at-loop .inv .0)), omega arith, newline-before (at-args .s .now) (at-line-end .result) (at-line-end .ensures .1), rw (at-loop .inv .3, extent-past (at-args .s .now) (at-loop .i) (at-line-end .result) (at-loop .inv .0) (at-loop .inv .1) (at-loop .inv .2) (at-line-end .ensures .0), not-false (eqb (getD (at-args .s .now) (at-line-end .result - 1) 0) 92) (at-if3 .left)))
 
 pub field-extent-spec : {M : Type 1} → statement M
 field-extent-spec =
@@ -148,9 +149,9 @@ field-extent-spec =
     add-i
     returns
     returns-2
-    loop-less
-    loop-again
     shared-slice-read-if4
     returns-3
+    loop-less
+    loop-again
     loop-less-2
     loop-again-2)

@@ -7,7 +7,7 @@ use Rattle.writing.proofs.is_legal_name.Statement.{statement}
 use Rattle.writing.proofs.is_legal_name.Tie as tie
 use Rattle.writing.proofs.is_legal_name.Reads as reads
 use Rattle.writing.proofs.is_legal_name.Lts as lts
-use Rattle.lines.proofs.byte.Reads as byte-reads
+use Rattle.lines.proofs.is_special.Reads as is-special-reads
 use Rattle.lines.proofs.name_len.Reads as name-len-reads
 use Rattle.format.proofs.classes.Reads as classes-reads
 
@@ -20,15 +20,15 @@ returns c =
     let at-if1 = c .if1 in
     sym (name-long (at-args .s .now) (at-if1 .taken))
 
-byte-requires : tie.Need-byte-requires
-byte-requires c κs = search needs
+is-special-requires : tie.Need-is-special-requires
+is-special-requires c κs = search needs
 
 returns-2 : tie.Need-returns-2
 returns-2 c =
     let at-args = c .before .before .before .before .before .args in
-    let at-byte = c .before .byte in
+    let at-is-special = c .before .is-special in
     let at-if2 = c .if2 in
-    sym (name-special (at-args .s .now) (sym (at-byte .ensures) ∙ at-if2 .taken))
+    sym (name-special (at-args .s .now) (sym (at-is-special .ensures) ∙ at-if2 .taken))
 
 name-len-requires : tie.Need-name-len-requires
 name-len-requires c κs = search needs
@@ -46,8 +46,8 @@ returns-4 c =
     let at-args = c .before .before .before .before .before .before .before .before .args in
     let at-if1 = c .before .before .before .before .before .if1 in
     let at-if2 = c .before .before .before .if2 in
-    let at-byte = c .before .before .before .before .byte in
-    rw (at-name-len .ensures) (sym (name-legal (at-args .s .now) (at-if1 .left) (λ q. at-if2 .left (at-byte .ensures ∙ q)) (omega (arith, at-name-len .ensures))))
+    let at-is-special = c .before .before .before .before .is-special in
+    rw (at-name-len .ensures) (sym (name-legal (at-args .s .now) (at-if1 .left) (sym (at-is-special .ensures) ∙ at-if2 .left) (omega (arith, at-name-len .ensures))))
 
 pub is-legal-name-spec : {M : Type 1} → statement M
 is-legal-name-spec =
@@ -55,7 +55,7 @@ is-legal-name-spec =
     (tie.spec
     classes-requires
     returns
-    byte-requires
+    is-special-requires
     returns-2
     name-len-requires
     returns-3

@@ -1,13 +1,13 @@
--- `limits::is_special` meets its contract.
+-- `lines::is_special` meets its contract.
 use Prim.Native.Nat.{ℕ}
 use mathlib.Core.Path.{ap}
 use lib.Dec.{eqb}
 use borrow.Author.Needs.{needs}
-use Rattle.limits.proofs.is_special.Statement.{statement}
-use Rattle.limits.proofs.is_special.Tie as tie
-use Rattle.limits.proofs.is_special.Reads as reads
-use Rattle.limits.proofs.is_special.Lts as lts
+use Rattle.lines.proofs.is_special.Statement.{statement}
+use Rattle.lines.proofs.is_special.Tie as tie
+use Rattle.lines.proofs.is_special.Reads as reads
+use Rattle.lines.proofs.is_special.Lts as lts
 use Rattle.lines.proofs.byte.Reads as byte-reads
 
 byte-requires : tie.Need-byte-requires
 byte-requires c κs = search needs
