@@ -300,9 +300,10 @@ fn all_end(targets: Targets) -> bool
 fn is_reserved(s: &[u8]) -> bool
     ensures { λ r. ⌜ r ≡ among (now (s .entry)) reserved ⌝ }
 {
-    typing::is_among(
+    words::is_among(
         s,
         b"int range real line size enum bool field uuid email date regexp rec",
+        13,
     )
 }
 

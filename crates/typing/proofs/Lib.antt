@@ -4,4 +4,3 @@ pub mod Comments
 pub mod Uuids
 pub mod TypeHeads
 pub mod Meeting
-pub mod Among

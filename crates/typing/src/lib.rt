@@ -1,12 +1,10 @@
 // Types, over decoded text: reading a type, and whether a value meets it.
 use numbers::Whole;
 
-mod fixed;
 mod kinds;
 mod symbols;
 mod values;
 
-pub use fixed::is_among;
 pub use kinds::type_of;
 pub use values::meets;
 

@@ -11,7 +11,6 @@ ghost use Rattle.words.specs.Spans.{span};
 ghost use Rattle.numbers.specs.Meaning.{intIn};
 ghost use Rattle.typing.specs.Meaning.{Sound, meetsIn};
 use super::Shape;
-use super::fixed::is_among;
 use super::symbols::has_symbol;
 use numbers::IntOf;
 use numbers::Whole;
@@ -20,7 +19,7 @@ use numbers::Whole;
 fn is_truth(s: &[u8]) -> bool
     ensures { λ r. ⌜ r ≡ among (now (s .entry)) truths ⌝ }
 {
-    is_among(s, b"yes no 0 1 true false")
+    words::is_among(s, b"yes no 0 1 true false", 6)
 }
 
 // Hex digits from start to end, and a dash behind them?

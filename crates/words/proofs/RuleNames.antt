@@ -2,10 +2,12 @@
 use Prim.Native.Nat.{ℕ, suc, _<_}
 use native.Mathlib.Omega.{arith}
 use mathlib.Core.Path.{_≡_, refl, sym, ap, _∙_}
-use mathlib.Core.Bool.{Bool, true, false}
+use mathlib.Core.Bool.{Bool, true, false, _||_}
 use mathlib.Core.List.{List, [], _∷_}
+use borrow.Author.Tests.{ltb-true, ltb-false, lt-ltb, le-ltb}
+use lib.Dec.{ltb}
 use lib.ListN.{length, getD}
-use Rattle.format.specs.Bytes.{Bytes, pick, same}
+use Rattle.format.specs.Bytes.{Bytes, pick, same, among}
 use Rattle.format.proofs.Listing.{same-true}
 use Rattle.words.specs.RuleNames.{placeIn}
 
@@ -18,6 +20,19 @@ module _ (w : Bytes) (ws : List Bytes) (v : Bytes) (vs : List Bytes) (e : ws ≡
 
   pub place-later : same w v ≡ false → placeIn w ws ≡ suc (placeIn w vs)
   place-later q = place-by false q
+
+-- a word is one of a list if its place is before their number, and only then
+pub place-among : (w : Bytes) (ws : List Bytes) → ltb (placeIn w ws) (length ws) ≡ among w ws
+place-among w [] = refl
+place-among w (v ∷ vs) = go (same w v) (place-among w vs)
+  where
+    go : (t : Bool) → ltb (placeIn w vs) (length vs) ≡ among w vs → ltb (pick t 0 (suc (placeIn w vs))) (suc (length vs)) ≡ t || among w vs
+    go true e = lt-ltb 0 (suc (length vs)) (omega arith)
+    go false e = both (ltb (placeIn w vs) (length vs)) refl ∙ e
+      where
+        both : (b : Bool) → ltb (placeIn w vs) (length vs) ≡ b → ltb (suc (placeIn w vs)) (suc (length vs)) ≡ b
+        both true q = lt-ltb (suc (placeIn w vs)) (suc (length vs)) (let h = ltb-true (placeIn w vs) (length vs) q in omega arith)
+        both false q = le-ltb (suc (placeIn w vs)) (suc (length vs)) (let h = ltb-false (placeIn w vs) (length vs) q in omega arith)
 
 -- a word that has another place than a name is not that name
 pub not-placed : (w v : Bytes) (ws : List Bytes) (n k : ℕ) → n ≡ placeIn w ws → placeIn v ws ≡ k → (n ≡ k → ⊥) → same v w ≡ false

@@ -1,28 +1,7 @@
 // The names of a descriptor's fields, numbered.
 ghost use mathlib.Core.Path.{_≡_};
-ghost use Rattle.format.specs.Words.{words};
 ghost use Rattle.words.specs.RuleNames.{placeIn, ruleNames};
-use super::Word;
-use super::next_word;
-
-// The place of a word among the words of a text, from 0 on; how many there are where it is none of them.
-pub fn word_place(w: &[u8], list: &[u8]) -> usize
-    ensures { λ r. ⌜ r ≡ placeIn (now (w .entry)) (words (now (list .entry))) ⌝ }
-{
-    let mut rest = list;
-    let mut n = 0;
-    loop {
-        let x = next_word(rest);
-        let Word::At { start, end } = x else {
-            return n;
-        };
-        if lines::same_bytes(w, &rest[start..end]) {
-            return n;
-        }
-        n += 1;
-        rest = &rest[end..];
-    }
-}
+use super::fixed::word_place;
 
 // The numbers of these names.
 pub struct Rule {}

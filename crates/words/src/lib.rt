@@ -11,10 +11,12 @@ ghost use Rattle.words.specs.Spans.{span, notByte, nextWord};
 use format::Class;
 
 mod fieldnames;
+mod fixed;
 
 pub use fieldnames::Rule;
 pub use fieldnames::rule_of;
-pub use fieldnames::word_place;
+pub use fixed::is_among;
+pub use fixed::word_place;
 
 // Is this byte a blank or a newline?
 pub fn is_gap(b: u8) -> bool

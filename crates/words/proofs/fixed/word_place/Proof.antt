@@ -1,4 +1,4 @@
--- `words::fieldnames::word_place` meets its contract. The invariant: n words are passed, and the place is that among the words of the rest, n further. The measure is the rest.
+-- `words::fixed::word_place` meets its contract. The invariant: n words are passed, and the place is that among the words of the rest, n further. The measure is the rest.
 use borrow.Author.Needs.{needs}
 use Prim.Native.Nat.{_≤_, _+_}
 use native.Mathlib.Omega.{arith}
@@ -8,10 +8,10 @@ use Rattle.format.specs.Words.{words}
 use Rattle.words.specs.RuleNames.{placeIn}
 use Rattle.words.proofs.Finding.{found, not-found}
 use Rattle.words.proofs.RuleNames.{place-here, place-later}
-use Rattle.words.proofs.fieldnames.word_place.Statement.{statement}
-use Rattle.words.proofs.fieldnames.word_place.Tie as tie
-use Rattle.words.proofs.fieldnames.word_place.Reads as reads
-use Rattle.words.proofs.fieldnames.word_place.Lts as lts
+use Rattle.words.proofs.fixed.word_place.Statement.{statement}
+use Rattle.words.proofs.fixed.word_place.Tie as tie
+use Rattle.words.proofs.fixed.word_place.Reads as reads
+use Rattle.words.proofs.fixed.word_place.Lts as lts
 use Rattle.lines.proofs.same_bytes.Reads as same-bytes-reads
 use Rattle.words.proofs.next_word.Reads as next-word-reads
 
