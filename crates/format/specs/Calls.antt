@@ -10,7 +10,7 @@ use Rattle.format.specs.Lists.{onlyIf, onward, flat, filter, front, behi
 use Rattle.format.specs.Pieces.{Piece, bytesOf, readOf}
 use Rattle.format.specs.Records.{Block, isLoose, isRecord}
 use Rattle.format.specs.Sets.{valuesOf, Group, groups, isMember, RecSet, setsOf}
-use Rattle.format.specs.Limits.{fileBytes, recordFields}
+use Rattle.format.specs.Limits.{fileBytes, contentsBytes, recordFields}
 use Rattle.format.specs.Written.{Pair, writtenAll, isLegalPair}
 use Rattle.format.specs.Edits.{Edit}
 use Rattle.format.specs.Questions.{Row, firstNo, nameOf, verdict}
@@ -71,6 +71,7 @@ pub record Filled : Type 0 where
   pub result : Answer
   pub out : Bytes
 
+-- what the code answers and what the buffer holds after it, in these words
 abbrev pub filledBy : Reply → Bytes → Filled
 filledBy r out = record { result = answered r; out = out }
 
@@ -185,7 +186,7 @@ pub record Built : Type 0 where
 
 -- room for a tag, a length of two bytes and so many bytes of contents at a place of a buffer
 abbrev pub hasRoom : ℕ → ℕ → ℕ → Bool
-hasRoom room at n = leb n 65535 && leb (at + (3 + n)) room
+hasRoom room at n = leb n contentsBytes && leb (at + (3 + n)) room
 
 -- one field more, at a place; the bytes before and behind it stay. Without room none changes, and the place is one that has no room.
 unfoldable pub fieldAnswer : Bytes → ℕ → Tagged → Built

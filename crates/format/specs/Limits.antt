@@ -5,6 +5,10 @@ use Prim.Native.Nat.{ℕ}
 abbrev pub fileBytes : ℕ
 fileBytes = 65536
 
+-- what a length of two bytes can say: the contents of a tagged field of a request
+abbrev pub contentsBytes : ℕ
+contentsBytes = 65535
+
 -- "a field's own name 64 (a listed name may be longer); value 4,096; 256 fields a record"
 abbrev pub nameBytes : ℕ
 nameBytes = 64
