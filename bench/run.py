@@ -2,8 +2,8 @@
 """Times the library against GNU recutils on the same files in one run: `python3 bench/run.py`.
 
 Makes its files in target/bench, builds bench/time.c over target/staticlib/librecfile.a (made by `rt staticlib recfile`) and bench/librec.c
-over librec, and prints times and ratios, in processes and in memory; growth and instructions of the check and of each edit; the peak stack
-of each call; and the check of every file of bench/shapes.py, the slowest last. Times are the best of several runs on both sides. Where a
+over librec, and prints times and ratios, in processes and in memory; growth and instructions of the check and of each edit; instructions of
+a directory's calls; the peak stack of each call; and the check of every file of bench/shapes.py, the slowest last. Times are the best of several runs on both sides. Where a
 figure has a limit, it stands beside it.
 """
 import os
@@ -21,6 +21,7 @@ TIMER, LIBREC = os.path.join(OUT, 'time'), os.path.join(OUT, 'librec')
 
 EDITS = ('insert', 'delete', 'add', 'set', 'drop', 'rename')
 GROWTH, EDIT, STACK = 8.5, 2.2, 163840
+FILL, LISTED = 1.3, 1.15
 FASTER = {'book 1 KB': 150, 'book 8 KB': 250, 'book 64 KB': 700}
 
 
@@ -79,13 +80,13 @@ def theirs(path, *words):
     return best * 1e9
 
 
-def instructions(path, call):
-    """Those of one call, or None without valgrind: eleven calls less one, so that the start of the program is not counted."""
+def instructions(path, call, more=10):
+    """Those of one call, or None without valgrind: eleven calls, or so many more than one, less one, so that the start of the program is not counted."""
     def total(calls):
         out = run('valgrind', '--tool=callgrind', '--callgrind-out-file=/dev/null', TIMER, path, call, str(calls)).stderr
         return int(re.search(r'Collected : (\d+)', out).group(1))
 
-    return (total(11) - total(1)) / 10 if shutil.which('valgrind') else None
+    return (total(1 + more) - total(1)) / more if shutil.which('valgrind') else None
 
 
 def against_recutils(files):
@@ -149,6 +150,22 @@ def counted(files):
     print()
 
 
+def directories(files):
+    """Instructions of filling a directory as many times those of the check, of an edit with it as many times those without it, and of a count in it, which are the same whatever the file."""
+    if not shutil.which('valgrind'):
+        return
+    for name in ('book 64 KB', 'sets 64 KB'):
+        path = files[name][0]
+        ratio = instructions(path, 'fill') / instructions(path, 'check')
+        print('instructions, fill, %s: %.2f times those of the check (at most %.1f): %s' % (name, ratio, FILL, verdict(ratio <= FILL)), flush=True)
+    path = files['book 64 KB'][0]
+    for call in ('insert', 'set'):
+        ratio = instructions(path, call + '-listed') / instructions(path, call)
+        print('instructions, %-6s with a directory: %.2f times those without (at most %.2f): %s' % (call, ratio, LISTED, verdict(ratio <= LISTED)), flush=True)
+    counts = {name: round(instructions(files[name][0], 'count-at', 10000)) for name in files}
+    print('instructions, count at a position: %s (the same of each): %s\n' % (', '.join('%s %d' % c for c in counts.items()), verdict(len(set(counts.values())) == 1)), flush=True)
+
+
 def stack(paths):
     """The peak stack of each call on any of some files."""
     deepest = {}
@@ -157,7 +174,7 @@ def stack(paths):
             call, depth = line.split()
             deepest[call] = max(deepest.get(call, 0), int(depth))
     for call, depth in deepest.items():
-        print('stack, %-6s: %6d bytes (at most %d): %s' % (call, depth, STACK, verdict(depth <= STACK)))
+        print('stack, %-13s: %6d bytes (at most %d): %s' % (call, depth, STACK, verdict(depth <= STACK)))
     print()
 
 
@@ -191,6 +208,8 @@ def main():
     in_memory(files)
     growth(files)
     counted(files)
+    text = shapes.sets()['64 sets of few records']
+    directories({**files, 'sets 64 KB': (kept('sets', text), len(text), 64)})
     stack([files['book 64 KB'][0], kept('aliases', shapes.aliases())])
     slow_shapes(files['book 64 KB'][0])
 

@@ -1,7 +1,8 @@
-/* Times one call of the library on a file: `time FILE CALL`, where CALL is check, fetch or one of the six edits (insert, delete,
- * add, set, drop, rename). Prints nanoseconds a call, the best of several rounds, and the number that the call gave. An edit is
- * timed on a fresh copy of the file each time, the copy not counted. `time FILE CALL N` makes N calls and prints nothing, for a
- * counter of instructions. `time FILE stack` prints the peak stack of each call in bytes, `time FILE depth` that of the check. */
+/* Times one call of the library on a file: `time FILE CALL`, where CALL is check, fetch, fill, count-at, one of the six edits
+ * (insert, delete, add, set, drop, rename), or insert-listed or set-listed, the same with a directory. Prints nanoseconds a call,
+ * the best of several rounds, and the number that the call gave. An edit is timed on a fresh copy of the file each time, the copy
+ * not counted; count-at asks for the last set. `time FILE CALL N` makes N calls and prints nothing, for a counter of instructions.
+ * `time FILE stack` prints the peak stack of each call in bytes, `time FILE depth` that of the check. */
 #include <recfile.h>
 #include <stdio.h>
 #include <stdlib.h>
@@ -10,8 +11,11 @@
 
 #define ROOM 131072
 
+#define ENTRIES (RECFILE_MAX_DESCRIPTORS + 1)
+
 static uint8_t file[ROOM], work[ROOM], request[512], out[4096];
-static size_t used, request_len;
+static recfile_entry entries[ENTRIES];
+static size_t used, request_len, sets;
 static uint32_t number;
 
 static double now(void)
@@ -97,6 +101,9 @@ static void view(void)
 }
 static void count(void) { recfile_count(file, sizeof file, used, (const uint8_t *)"Scan", 4, &number); }
 static void write_record(void) { recfile_write(request, request_len, out, sizeof out, &number); }
+static void fill(void) { sets = recfile_fill(file, sizeof file, used, entries, ENTRIES, &number); }
+static void edit_listed(void) { recfile_edit_listed(work, 65536, used, request, request_len, entries, ENTRIES, &number); }
+static void count_at(void) { recfile_count_at(entries, ENTRIES, sets - 1, &number); }
 
 /* The calls by name; an edit has a maker of its request. */
 static const struct call {
@@ -107,6 +114,7 @@ static const struct call {
     {"check", NULL, check}, {"count", NULL, count}, {"fetch", NULL, fetch}, {"view", NULL, view}, {"write", NULL, write_record},
     {"insert", insert_request, edit}, {"delete", delete_request, edit}, {"add", add_request, edit}, {"set", set_request, edit},
     {"drop", drop_request, edit}, {"rename", rename_request, edit},
+    {"fill", NULL, fill}, {"count-at", NULL, count_at}, {"insert-listed", insert_request, edit_listed}, {"set-listed", set_request, edit_listed},
 };
 
 #define CALLS (sizeof calls / sizeof *calls)
@@ -166,6 +174,7 @@ int main(int argc, char **argv)
     if (f == NULL)
         return 2;
     used = fread(file, 1, sizeof file, f);
+    fill();
     insert_request();
     if (strcmp(argv[2], "depth") == 0) {
         printf("%zu\n", stack_of(&calls[0]));

@@ -1,18 +1,22 @@
-/* Recfiles on a card: check, look up, write and edit a file that lies in a buffer.
+/* Recfiles on a card: check, look up, list, write and edit a file that lies in a buffer.
  *
  * The file is the first `used` bytes of a buffer of `len` bytes. A set is named by its %rec; the default set, of the records
  * before any descriptor, has the empty name. Records and the occurrences of a name in a record are counted from 0. Descriptors
  * have no record number. docs/FORMAT.md says what a file and a request are.
  *
  * Every call returns on every input; none needs another to be made first. A call that is refused changes no byte of any buffer,
- * and gives the number of the first question that says no (enum recfile_refusal; recfile_request_field gives none).
+ * and gives the number of the first question that says no (enum recfile_refusal; recfile_request_field gives none). Nor does it
+ * change an entry of a list, but for recfile_edit_listed, which says what it does.
  *
  * What the caller sees to:
  *
- * - A buffer is a pointer and a length: so many bytes, all readable, of `buf` in recfile_edit, of `out` and of the `request` of
- *   recfile_request_field also writable. They need no alignment. A length is at most PTRDIFF_MAX, as that of any object is.
- * - A pointer to bytes may be NULL where its length is 0. `number` and `start` are never NULL: they point to a uint32_t and a
- *   size_t, aligned, writable and readable.
+ * - A buffer is a pointer and a length: so many bytes, all readable, of `buf` in recfile_edit and recfile_edit_listed, of `out`
+ *   and of the `request` of recfile_request_field also writable. They need no alignment. A length is at most PTRDIFF_MAX, as that
+ *   of any object is.
+ * - A list is a pointer and a number of entries, aligned and readable, in recfile_fill and recfile_edit_listed also writable; it
+ *   has at most PTRDIFF_MAX bytes.
+ * - A pointer to bytes or to entries may be NULL where its length is 0. `number` and `start` are never NULL: they point to a
+ *   uint32_t and a size_t, aligned, writable and readable.
  * - What a call writes overlaps nothing else that it is given: an `out` that lies over `buf` overwrites the file.
  * - The stack has room. A call takes at most 160 KiB (163,840 bytes), as measured by bench/run.py.
  *
@@ -32,9 +36,9 @@
 
 /* The version of this header. An archive made of the same sources belongs to it. */
 #define RECFILE_VERSION_MAJOR 1
-#define RECFILE_VERSION_MINOR 0
+#define RECFILE_VERSION_MINOR 1
 #define RECFILE_VERSION_PATCH 0
-#define RECFILE_VERSION "1.0.0"
+#define RECFILE_VERSION "1.1.0"
 
 #ifdef __cplusplus
 extern "C" {
@@ -69,6 +73,7 @@ enum recfile_refusal {
     RECFILE_REFUSED_ILLEGAL = 25,     /* a new name or value is not legal */
     RECFILE_REFUSED_LARGE = 26,       /* the result is longer than the buffer or than RECFILE_MAX_FILE */
     RECFILE_REFUSED_ROOM = 27,        /* the text is longer than the buffer it is to be put into */
+    RECFILE_REFUSED_LIST = 28,        /* the list has fewer entries than the file has sets */
 
     /* the questions of the result, raised by RECFILE_REFUSED_RESULT */
     RECFILE_REFUSED_RESULT = 100,
@@ -159,6 +164,36 @@ size_t recfile_write(const uint8_t *request, size_t request_len,
  * ones behind stay. Refused (1 to 14, 20 to 26, 104, 108 to 114): returns `used`, and the buffer stays as it is. */
 size_t recfile_edit(uint8_t *buf, size_t len, size_t used,
                     const uint8_t *request, size_t request_len, uint32_t *number);
+
+/* A directory of sets: a list of entries, one for each set in the order of recfile_set_name, the default set first. A list of
+ * RECFILE_MAX_DESCRIPTORS + 1 entries is long enough for every file. It says how many records each set has without a look at the
+ * file.
+ *
+ * The list is right after recfile_fill and after every recfile_edit_listed, accepted or refused, whatever it held before; 1 to 14
+ * and 28 leave it as it is. So does recfile_edit: where that was accepted, the list is out of date until the next
+ * recfile_edit_listed or recfile_fill. Entries behind the last set's are never changed. */
+typedef struct {
+    size_t place;                     /* the first byte of the descriptor's block; 0 for the default set */
+    size_t count;                     /* how many records the set has */
+    size_t end;                       /* the byte behind the block of its last record, or of its descriptor where it has none;
+                                         0 for the default set without a record */
+} recfile_entry;
+
+/* Puts the entries of the file's sets at the front of the list and returns how many they are, the default set's included; the
+ * entries behind them stay. Refused (1 to 14, 28): returns 0, and the list stays as it is. */
+size_t recfile_fill(const uint8_t *buf, size_t len, size_t used,
+                    recfile_entry *entries, size_t entries_len, uint32_t *number);
+
+/* recfile_edit, with a directory. Refused (1 to 14, 28): returns `used`, and neither the buffer nor the list is changed. Else it
+ * does and returns what recfile_edit does, refusals included, and then puts the entries of the file as it stands at the front of
+ * the list, as recfile_fill would: after a refusal (20 to 26, 104, 108 to 114) those of the file that was there. */
+size_t recfile_edit_listed(uint8_t *buf, size_t len, size_t used,
+                           const uint8_t *request, size_t request_len,
+                           recfile_entry *entries, size_t entries_len, uint32_t *number);
+
+/* The number of records of the set at a position in a directory: the `count` of that entry. It sees no file: an entry behind the
+ * last set's gives what it happens to hold. Refused where the list has no such entry (21): returns 0. */
+size_t recfile_count_at(const recfile_entry *entries, size_t entries_len, size_t position, uint32_t *number);
 
 #ifdef __cplusplus
 }

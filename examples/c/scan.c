@@ -1,4 +1,4 @@
-/* Files a scan in the receipt book on standard input, looks it up and prints its record.
+/* Files a scan in the receipt book on standard input, looks it up and prints its record; a directory of the book's sets is kept beside it.
  *
  *   rt staticlib recfile
  *   cc -O2 -Iinclude examples/c/scan.c target/staticlib/librecfile.a -o target/scan
@@ -9,6 +9,7 @@
 #include <string.h>
 
 static uint8_t book[65536];
+static recfile_entry directory[RECFILE_MAX_DESCRIPTORS + 1];
 
 /* A field of a request whose contents are text. */
 static size_t text(uint8_t *request, size_t len, size_t at, uint8_t tag, const char *contents)
@@ -30,9 +31,13 @@ int main(void)
     size_t used = fread(book, 1, sizeof book, stdin);
     uint8_t request[256], value[64];
     uint32_t number;
-    size_t at, count, start, len;
+    size_t at, sets, count, start, len;
 
     if (refused("check", recfile_check(book, sizeof book, used)))
+        return 1;
+
+    sets = recfile_fill(book, sizeof book, used, directory, RECFILE_MAX_DESCRIPTORS + 1, &number);
+    if (refused("fill", number))
         return 1;
 
     at = recfile_request_field(request, sizeof request, 0, RECFILE_TAG_KIND, &insert, 1);
@@ -45,7 +50,7 @@ int main(void)
         printf("the request is too long\n");
         return 1;
     }
-    used = recfile_edit(book, sizeof book, used, request, at, &number);
+    used = recfile_edit_listed(book, sizeof book, used, request, at, directory, sets, &number);
     if (refused("insert", number))
         return 1;
 
@@ -53,6 +58,12 @@ int main(void)
     if (refused("count", number))
         return 1;
     printf("%zu scans, %zu bytes\n", count, used);
+
+    /* the same count without a look at the file: the default set is at 0, Scan behind it */
+    count = recfile_count_at(directory, sets, 1, &number);
+    if (refused("count_at", number))
+        return 1;
+    printf("in the directory of %zu sets: %zu\n", sets, count);
 
     len = recfile_fetch(book, sizeof book, used, set, 4, count - 1, (const uint8_t *)"Page", 4, 0, value, sizeof value, &number);
     if (refused("fetch", number))

@@ -4,6 +4,8 @@
 #![allow(dead_code)]
 
 mod c {
+    use super::Entry;
+
     extern "C" {
         pub fn recfile_check(buf: *const u8, len: usize, used: usize) -> u32;
         pub fn recfile_count(buf: *const u8, len: usize, used: usize, set: *const u8, set_len: usize, number: *mut u32) -> usize;
@@ -23,6 +25,14 @@ mod c {
         pub fn recfile_edit(
             buf: *mut u8, len: usize, used: usize, request: *const u8, request_len: usize, number: *mut u32,
         ) -> usize;
+        pub fn recfile_fill(
+            buf: *const u8, len: usize, used: usize, entries: *mut Entry, entries_len: usize, number: *mut u32,
+        ) -> usize;
+        pub fn recfile_edit_listed(
+            buf: *mut u8, len: usize, used: usize, request: *const u8, request_len: usize,
+            entries: *mut Entry, entries_len: usize, number: *mut u32,
+        ) -> usize;
+        pub fn recfile_count_at(entries: *const Entry, entries_len: usize, position: usize, number: *mut u32) -> usize;
     }
 }
 
@@ -32,6 +42,25 @@ pub struct Refused(pub u32);
 
 fn accepted<T>(value: T, number: u32) -> Result<T, Refused> {
     if number == 0 { Ok(value) } else { Err(Refused(number)) }
+}
+
+/// The most sets that a file has, the default set included.
+pub const MAX_SETS: usize = 65;
+
+/// A set in a directory of sets.
+#[repr(C)]
+#[derive(Clone, Copy, Debug, Default, PartialEq, Eq)]
+pub struct Entry {
+    pub place: usize,
+    pub count: usize,
+    pub end: usize,
+}
+
+/// The number of records of the set at a position in a directory.
+pub fn count_at(entries: &[Entry], position: usize) -> Result<usize, Refused> {
+    let mut number = 0;
+    let n = unsafe { c::recfile_count_at(entries.as_ptr(), entries.len(), position, &mut number) };
+    accepted(n, number)
 }
 
 /// A file at the front of a buffer.
@@ -95,6 +124,27 @@ impl<'a> File<'a> {
         self.used = unsafe {
             c::recfile_edit(
                 self.buf.as_mut_ptr(), self.buf.len(), self.used, request.as_ptr(), request.len(), &mut number,
+            )
+        };
+        accepted((), number)
+    }
+
+    /// The number of sets, whose entries stand at the front of the list.
+    pub fn fill(&self, entries: &mut [Entry]) -> Result<usize, Refused> {
+        let mut number = 0;
+        let n = unsafe {
+            c::recfile_fill(self.buf.as_ptr(), self.buf.len(), self.used, entries.as_mut_ptr(), entries.len(), &mut number)
+        };
+        accepted(n, number)
+    }
+
+    /// An edit that leaves the list right, accepted or refused.
+    pub fn edit_listed(&mut self, request: &[u8], entries: &mut [Entry]) -> Result<(), Refused> {
+        let mut number = 0;
+        self.used = unsafe {
+            c::recfile_edit_listed(
+                self.buf.as_mut_ptr(), self.buf.len(), self.used, request.as_ptr(), request.len(),
+                entries.as_mut_ptr(), entries.len(), &mut number,
             )
         };
         accepted((), number)

@@ -1,4 +1,4 @@
-//! Files a scan in the receipt book on standard input, looks it up and prints its record.
+//! Files a scan in the receipt book on standard input, looks it up and prints its record; a directory of the book's sets is kept beside it.
 //!
 //!   rt staticlib recfile
 //!   rustc --edition 2021 -O examples/rust/scan.rs -L target/staticlib -l static=recfile -o target/scan-rust
@@ -6,7 +6,7 @@
 
 mod recfile;
 
-use recfile::{kind, File, Refused, Request};
+use recfile::{kind, Entry, File, Refused, Request};
 use std::io::Read;
 
 fn main() -> Result<(), Refused> {
@@ -17,13 +17,19 @@ fn main() -> Result<(), Refused> {
     let mut file = File::new(&mut book, text.len());
     file.check()?;
 
+    let mut directory = [Entry::default(); recfile::MAX_SETS];
+    let sets = file.fill(&mut directory)?;
+
     let mut room = [0u8; 256];
     let request = Request::new(&mut room, kind::INSERT, "Scan").pair("Id", "2").pair("Page", "front");
     let insert = request.bytes().expect("a request of at most 256 bytes");
-    file.edit(insert)?;
+    file.edit_listed(insert, &mut directory)?;
 
     let count = file.count(b"Scan")?;
     println!("{} scans, {} bytes", count, file.used());
+
+    // the same count without a look at the file: the default set is at 0, Scan behind it
+    println!("in the directory of {} sets: {}", sets, recfile::count_at(&directory[..sets], 1)?);
 
     let mut value = [0u8; 64];
     let n = file.fetch(b"Scan", count - 1, b"Page", 0, &mut value)?;

@@ -2,8 +2,8 @@
  *
  * Each buffer that a call is given has exactly its size. It lies on the heap, where valgrind sees a byte read or written outside
  * it (and the address sanitizer one that the library's memcpy and memset touch); at the end of a page that another follows which
- * cannot be touched; or at the front of a page behind such a one. An empty buffer is NULL. After a call each buffer that it may
- * not change is compared with what it was.
+ * cannot be touched; or at the front of a page behind such a one. So has each list of entries. An empty buffer or list is NULL.
+ * After a call each buffer that it may not change is compared with what it was.
  *
  * Usage: calls [heap]    (heap: only there)
  */
@@ -193,10 +193,58 @@ static void written(const uint8_t *request, size_t request_len, size_t room, uin
     give_back(told, sizeof *told);
 }
 
-static void edited(const char *file, size_t room, const uint8_t *request, size_t request_len, uint32_t number, const char *after)
+/* A list of `len` entries of filler, and what it holds after a call: the first `sets` of them are these, the others stay. */
+struct list {
+    size_t len, sets;
+    const recfile_entry *holds;
+};
+
+static void listed(struct list list, const recfile_entry *got)
 {
-    size_t used = strlen(file), after_len = strlen(after), n, i;
+    same("entries", got, list.holds, list.sets * sizeof *got);
+    if (list.len > list.sets)
+        filler("entries behind them stay", (const uint8_t *)(got + list.sets), (list.len - list.sets) * sizeof *got);
+}
+
+static void filled(const char *file, struct list list, uint32_t number)
+{
+    size_t len = strlen(file), n;
+    uint8_t *buf = lend(file, len);
+    recfile_entry *entries = lend(NULL, list.len * sizeof *entries);
+    uint32_t *told = lend(NULL, sizeof *told);
+
+    asked = "fill";
+    n = recfile_fill(buf, len, len, entries, list.len, told);
+    expect("number", *told, number);
+    expect("sets", n, list.sets);
+    listed(list, entries);
+    same("the file stays", buf, file, len);
+    give_back(buf, len);
+    give_back(entries, list.len * sizeof *entries);
+    give_back(told, sizeof *told);
+}
+
+static void counted_at(struct list list, size_t position, uint32_t number, size_t records)
+{
+    recfile_entry *entries = lend(list.holds, list.len * sizeof *entries);
+    uint32_t *told = lend(NULL, sizeof *told);
+    size_t n;
+
+    asked = "count_at";
+    n = recfile_count_at(entries, list.len, position, told);
+    expect("number", *told, number);
+    expect("records", n, records);
+    same("the list stays", entries, list.holds, list.len * sizeof *entries);
+    give_back(entries, list.len * sizeof *entries);
+    give_back(told, sizeof *told);
+}
+
+/* An edit, given a list where there is one. */
+static void edited(const char *file, size_t room, const uint8_t *request, size_t request_len, const struct list *list, uint32_t number, const char *after)
+{
+    size_t used = strlen(file), after_len = strlen(after), entries_len = list == NULL ? 0 : list->len, n, i;
     uint8_t *before = malloc(room + 1), *buf, *asks = lend(request, request_len);
+    recfile_entry *entries = lend(NULL, entries_len * sizeof *entries);
     uint32_t *told = lend(NULL, sizeof *told);
 
     if (before == NULL)
@@ -204,8 +252,9 @@ static void edited(const char *file, size_t room, const uint8_t *request, size_t
     memset(before, FILLER, room + 1);
     memcpy(before, file, used);
     buf = lend(before, room);
-    asked = "edit";
-    n = recfile_edit(buf, room, used, asks, request_len, told);
+    asked = list == NULL ? "edit" : "edit_listed";
+    n = list == NULL ? recfile_edit(buf, room, used, asks, request_len, told)
+                     : recfile_edit_listed(buf, room, used, asks, request_len, entries, entries_len, told);
     expect("number", *told, number);
     expect("length", n, after_len);
     same("the file after it", buf, after, after_len);
@@ -214,9 +263,12 @@ static void edited(const char *file, size_t room, const uint8_t *request, size_t
     if (room > after_len)
         same("what is behind it", buf + after_len, before + after_len, room - after_len);
     same("the request stays", asks, request, request_len);
+    if (list != NULL)
+        listed(*list, entries);
     free(before);
     give_back(buf, room);
     give_back(asks, request_len);
+    give_back(entries, entries_len * sizeof *entries);
     give_back(told, sizeof *told);
 }
 
@@ -321,12 +373,12 @@ static void rename_field(const char *of, unsigned record, const char *name, unsi
 /* Refused: the file stays. */
 static void refused(const char *file, size_t room, uint32_t why)
 {
-    edited(file, room, request, end, why, file);
+    edited(file, room, request, end, NULL, why, file);
 }
 
 static void accepted(const char *file, size_t room, const char *after)
 {
-    edited(file, room, request, end, RECFILE_ACCEPTED, after);
+    edited(file, room, request, end, NULL, RECFILE_ACCEPTED, after);
 }
 
 /* Text of `n` times a piece behind a head. */
@@ -391,6 +443,7 @@ static void files(void)
         { RECFILE_REFUSED_SIZE, "%rec: Scan\n%size: 1\n" },
     };
     static const char *const lists[] = { "%rec: S\n%mandatory:", "%rec: S\n%prohibit:", "%rec: S\n%allowed:", "%rec: S\n%unique:" };
+    struct list list = { 0, 0, NULL };
     size_t i;
     char *text;
 
@@ -404,6 +457,10 @@ static void files(void)
             viewed(faults[i].text, "Scan", 0, faults[i].number, 0, 0);
             delete("Scan", 0);
             refused(faults[i].text, strlen(faults[i].text) + 9, faults[i].number);
+            for (list.len = 0; list.len < 4; list.len++) {
+                filled(faults[i].text, list, faults[i].number);
+                edited(faults[i].text, strlen(faults[i].text), request, end, &list, faults[i].number, faults[i].text);
+            }
         }
     }
 
@@ -593,8 +650,8 @@ static void edits(void)
     refused("", 0, RECFILE_REFUSED_LARGE);
 
     /* what is asked for */
-    edited(book, len, NULL, 0, RECFILE_REFUSED_FORM, book);
-    edited("", 0, NULL, 0, RECFILE_REFUSED_FORM, "");
+    edited(book, len, NULL, 0, NULL, RECFILE_REFUSED_FORM, book);
+    edited("", 0, NULL, 0, NULL, RECFILE_REFUSED_FORM, "");
     begin(9, "Scan");
     refused(book, len, RECFILE_REFUSED_FORM);
     delete("X", 0);
@@ -634,6 +691,132 @@ static void edits(void)
     free(almost);
 }
 
+/* A list of any length below that of the sets is too short: no byte and no entry is changed, whatever the request. */
+static void short_lists(const char *file, size_t sets)
+{
+    struct list list = { 0, 0, NULL };
+    size_t len = strlen(file);
+
+    for (list.len = 0; list.len < sets; list.len++) {
+        filled(file, list, RECFILE_REFUSED_LIST);
+        edited(file, len + 99, request, end, &list, RECFILE_REFUSED_LIST, file);
+        edited(file, len, NULL, 0, &list, RECFILE_REFUSED_LIST, file);
+    }
+}
+
+/* The file stays, and the list is right, whatever it held. */
+static void refused_listed(const char *file, size_t room, size_t sets, const recfile_entry *holds, uint32_t why)
+{
+    struct list list = { sets, sets, holds };
+
+    for (; list.len < sets + 3; list.len++)
+        edited(file, room, request, end, &list, why, file);
+}
+
+static void accepted_listed(const char *file, const char *after, size_t sets, const recfile_entry *holds)
+{
+    struct list list = { sets, sets, holds };
+
+    for (; list.len < sets + 3; list.len++)
+        edited(file, strlen(file) + 99, request, end, &list, RECFILE_ACCEPTED, after);
+}
+
+static void directories(void)
+{
+    /* comments before and behind, blank lines, and a blank line that a backslash took on */
+    static const char shop[] = "A: 0\n# end\n\n# alone\n\n# till\n%rec: Till\n\n\n%rec: Scan\n%key: Id\n\nId: 1\\\n\n# folded\n\n# last\n";
+    static const recfile_entry none[] = { { 0, 0, 0 } }, of_book[] = { { 0, 0, 0 }, { 0, 1, 90 } }, of_shop[] = { { 0, 1, 11 }, { 21, 0, 39 }, { 41, 1, 79 } };
+    static const recfile_entry scanned[] = { { 0, 0, 0 }, { 0, 2, 105 } }, emptied[] = { { 0, 0, 0 }, { 0, 0, 51 } };
+    static const recfile_entry undone[] = { { 0, 0, 0 }, { 16, 0, 34 }, { 36, 1, 74 } }, sold[] = { { 0, 1, 11 }, { 21, 1, 45 }, { 47, 1, 85 } };
+    char *all = numbered("", "%rec: S@\n\n", RECFILE_MAX_DESCRIPTORS);
+    recfile_entry most[RECFILE_MAX_DESCRIPTORS + 1] = { { 0, 0, 0 } };
+    struct list list = { 0, 0, NULL };
+    size_t i, place;
+
+    for (i = 1, place = 0; i <= RECFILE_MAX_DESCRIPTORS; i++) {
+        most[i].place = place;
+        most[i].end = place + strlen("%rec: S0\n") + (i > 10);
+        place = most[i].end + 1;
+    }
+    delete("Scan", 7);
+    short_lists("", 1);
+    short_lists(book, 2);
+    short_lists(shop, 3);
+    list.len = RECFILE_MAX_DESCRIPTORS;
+    filled(all, list, RECFILE_REFUSED_LIST);
+    edited(all, strlen(all), NULL, 0, &list, RECFILE_REFUSED_LIST, all);
+    for (i = 0; i < 3; i++) {
+        filled("", (struct list){ 1 + i, 1, none }, RECFILE_ACCEPTED);
+        filled("# c\n\n", (struct list){ 1 + i, 1, none }, RECFILE_ACCEPTED);
+        filled(book, (struct list){ 2 + i, 2, of_book }, RECFILE_ACCEPTED);
+        filled(shop, (struct list){ 3 + i, 3, of_shop }, RECFILE_ACCEPTED);
+        list = (struct list){ RECFILE_MAX_DESCRIPTORS + 1 + i, RECFILE_MAX_DESCRIPTORS + 1, most };
+        filled(all, list, RECFILE_ACCEPTED);
+        edited(all, strlen(all), NULL, 0, &list, RECFILE_REFUSED_FORM, all);
+    }
+
+    refused_listed(book, sizeof book - 1, 2, of_book, RECFILE_REFUSED_NO_RECORD);
+    delete("X", 0);
+    refused_listed(shop, sizeof shop - 1, 3, of_shop, RECFILE_REFUSED_NO_SET);
+    delete("", 0);
+    refused_listed("", 0, 1, none, RECFILE_REFUSED_NO_RECORD);
+    accepted_listed(shop, "# end\n\n# alone\n\n# till\n%rec: Till\n\n\n%rec: Scan\n%key: Id\n\nId: 1\\\n\n# folded\n\n# last\n", 3, undone);
+    insert("Till", "A", "1");
+    accepted_listed(shop, "A: 0\n# end\n\n# alone\n\n# till\n%rec: Till\n\nA: 1\n\n\n%rec: Scan\n%key: Id\n\nId: 1\\\n\n# folded\n\n# last\n", 3, sold);
+    refused_listed(shop, sizeof shop - 1, 3, of_shop, RECFILE_REFUSED_LARGE);
+    insert("Scan", "Id", "1");
+    refused_listed(shop, sizeof shop + 99, 3, of_shop, RECFILE_REFUSED_RESULT_KEY);
+    text(RECFILE_TAG_NAME, "Page");
+    refused_listed(book, sizeof book + 99, 2, of_book, RECFILE_REFUSED_FORM);
+    insert("Scan", "Id", "2");
+    text(RECFILE_TAG_NAME, "Page");
+    text(RECFILE_TAG_VALUE, "p");
+    accepted_listed(book, "%rec: Scan\n%key: Id\n%type: Id int\n%mandatory: Page\n\nId: 1\nPage: front\n# folded\nPage: back\n\nId: 2\nPage: p\n", 2, scanned);
+    delete("Scan", 0);
+    accepted_listed(book, "%rec: Scan\n%key: Id\n%type: Id int\n%mandatory: Page\n\n# folded\n", 2, emptied);
+
+    counted_at((struct list){ 0, 0, NULL }, 0, RECFILE_REFUSED_NO_SET, 0);
+    counted_at((struct list){ 0, 0, NULL }, SIZE_MAX, RECFILE_REFUSED_NO_SET, 0);
+    for (i = 0; i < 3; i++)
+        counted_at((struct list){ 3, 3, of_shop }, i, RECFILE_ACCEPTED, of_shop[i].count);
+    counted_at((struct list){ 3, 3, of_shop }, 3, RECFILE_REFUSED_NO_SET, 0);
+    counted_at((struct list){ 2, 2, of_shop }, 2, RECFILE_REFUSED_NO_SET, 0);
+    counted_at((struct list){ 3, 3, of_shop }, SIZE_MAX, RECFILE_REFUSED_NO_SET, 0);
+    counted_at((struct list){ 3, 3, of_shop }, SIZE_MAX / sizeof *of_shop + 1, RECFILE_REFUSED_NO_SET, 0);
+    free(all);
+}
+
+/* An edit without the list leaves it out of date; the next one with it, refused or not, or the next filling makes it right. */
+static void out_of_date(void)
+{
+    size_t room = sizeof book + 99, used = sizeof book - 1, bytes = 3 * sizeof(recfile_entry);
+    uint8_t *buf = lend(NULL, room);
+    recfile_entry *entries = lend(NULL, bytes);
+    uint32_t *told = lend(NULL, sizeof *told);
+
+    asked = "a list out of date";
+    memcpy(buf, book, used);
+    expect("filled", recfile_fill(buf, room, used, entries, 3, told), 2);
+    expect("one record", recfile_count_at(entries, 3, 1, told), 1);
+    delete("Scan", 0);
+    used = recfile_edit(buf, room, used, request, end, told);
+    expect("the edit", *told, RECFILE_ACCEPTED);
+    expect("still one", recfile_count_at(entries, 3, 1, told), 1);
+    expect("refused", recfile_edit_listed(buf, room, used, request, end, entries, 3, told), used);
+    expect("its number", *told, RECFILE_REFUSED_NO_RECORD);
+    expect("none", recfile_count_at(entries, 3, 1, told), 0);
+    insert("", "A", "1");
+    used = recfile_edit(buf, room, used, request, end, told);
+    expect("the insert", *told, RECFILE_ACCEPTED);
+    expect("still none", recfile_count_at(entries, 3, 0, told), 0);
+    expect("filled anew", recfile_fill(buf, room, used, entries, 3, told), 2);
+    expect("one", recfile_count_at(entries, 3, 0, told), 1);
+    filler("the third entry stays", (const uint8_t *)(entries + 2), sizeof *entries);
+    give_back(buf, room);
+    give_back(entries, bytes);
+    give_back(told, sizeof *told);
+}
+
 int main(int argc, char **argv)
 {
     int last = argc > 1 && strcmp(argv[1], "heap") == 0 ? HEAP : FRONT;
@@ -644,6 +827,8 @@ int main(int argc, char **argv)
         fields();
         writes();
         edits();
+        directories();
+        out_of_date();
     }
     printf("%u answers, %u wrong\n", answers, wrong);
     return wrong != 0;

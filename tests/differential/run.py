@@ -3,8 +3,9 @@
 
 Usage: python3 tests/differential/run.py [SEED [ROUNDS]]     (after `rt staticlib recfile`; needs cc; recutils if it is installed)
 
-Random, damaged and limit-sized files, such with many types, names and symbols, and such with runs of joints; every call on each of them; requests built field by field; lists of edits with other
-bytes behind the file. It prints how many answers were compared and stops at the first that differs, showing what was asked.
+Random, damaged and limit-sized files, such with many types, names and symbols, such with runs of joints, and such of many sets with comments and blank lines anywhere; every call on each of them;
+requests built field by field; lists of edits with other bytes behind the file, some of them given a directory of its sets. It prints how many answers were compared and stops at the first that differs,
+showing what was asked.
 """
 import ctypes
 import os
@@ -32,9 +33,18 @@ def load():
     subprocess.run(['cc', '-shared', '-o', shared, '-Wl,--whole-archive', archive, '-Wl,--no-whole-archive'], check=True)
     lib = ctypes.CDLL(shared)
     lib.recfile_check.restype = ctypes.c_uint32
-    for name in ('count', 'set_name', 'fetch', 'view', 'request_field', 'write', 'edit'):
+    for name in ('count', 'set_name', 'fetch', 'view', 'request_field', 'write', 'edit', 'fill', 'edit_listed', 'count_at'):
         getattr(lib, 'recfile_' + name).restype = size
     return lib
+
+
+def lent(entries):
+    """A list of entries for the library, each three numbers."""
+    return (size * (3 * len(entries)))(*[n for e in entries for n in e])
+
+
+def held(room):
+    return [tuple(room[k:k + 3]) for k in range(0, len(room), 3)]
 
 
 class Library:
@@ -82,6 +92,21 @@ class Library:
         n = self.lib.recfile_edit(room, size(len(buf)), size(used), request, size(len(request)), ctypes.byref(number))
         return number.value, n, room.raw[:len(buf)]
 
+    def fill(self, buf, used, entries):
+        number, list_ = ctypes.c_uint32(77), lent(entries)
+        n = self.lib.recfile_fill(bytes(buf), size(len(buf)), size(used), list_, size(len(entries)), ctypes.byref(number))
+        return number.value, n, held(list_)
+
+    def edit_listed(self, buf, used, request, entries):
+        number, room, list_ = ctypes.c_uint32(77), ctypes.create_string_buffer(bytes(buf), max(1, len(buf))), lent(entries)
+        n = self.lib.recfile_edit_listed(room, size(len(buf)), size(used), request, size(len(request)), list_, size(len(entries)), ctypes.byref(number))
+        return number.value, n, room.raw[:len(buf)], held(list_)
+
+    def count_at(self, entries, position):
+        number = ctypes.c_uint32(77)
+        n = self.lib.recfile_count_at(lent(entries), size(len(entries)), size(position), ctypes.byref(number))
+        return number.value, n
+
 
 class Tests:
     def __init__(self, library, seed):
@@ -117,15 +142,25 @@ class Tests:
             self.compare('view', buf, used, name, row)
             self.compare('fetch', buf, used, name, row, r.choice([b'A', b'B', b'Id', b'Page', b'', b'Q']), r.choice([0, 0, 1, 2 ** 63]), b'\xee' * r.choice([0, 1, 3, 40]))
 
+    def directory(self, buf, used):
+        """The file's directory in a list of any length; it is mostly long enough."""
+        r, need = self.random, recfile.fill(buf, used, [(0, 0, 0)] * 65)[1]
+        entries = self.samples.entries(max(0, need + r.choice([-1, 0, 0, 0, 1, 5])))
+        return self.compare('fill', buf, used, entries)[2]
+
     def edits(self, buf, used, rounds):
-        """A list of edits, a longer one and of its own sets where the file passes."""
-        sets = [b'', b'S', b'T', b'Scan']
+        """A list of edits, a longer one and of its own sets where the file passes; half of them are given its directory."""
+        r, sets, entries = self.random, [b'', b'S', b'T', b'Scan'], self.directory(buf, used)
         if recfile.check(buf, used) == 0:
             sets, rounds = [s.name for s in recfile.passed(buf, used)[1] if s.records] + [b''], 4 * rounds
         for _ in range(rounds):
             request = self.samples.request(sets)
-            self.compare('write', request, b'\xee' * self.random.choice([0, 5, 200]))
-            _, used, buf = self.compare('edit', buf, used, request)
+            self.compare('write', request, b'\xee' * r.choice([0, 5, 200]))
+            if r.random() < .5:
+                _, used, buf = self.compare('edit', buf, used, request)
+            else:
+                _, used, buf, entries = self.compare('edit_listed', buf, used, request, entries)
+                self.compare('count_at', entries, r.choice([0, 1, 2, len(entries), 2 ** 64 - 1]))
         return buf, used
 
     def build(self, parts):
@@ -284,6 +319,7 @@ def main():
         tests.file(tests.passing())
         tests.file(tests.crowds.file())
         tests.file(tests.damaged(tests.crowds.file()), rounds=1)
+        tests.file(tests.samples.arranged(tests.random.choice([1, 2, 3, 8])))
         tests.file(tests.jointed(tests.passing()), rounds=2)
         tests.file(tests.jointed(tests.crowds.file()), rounds=1)
     print('%d answers compared with tests/model/recfile.py, seed %d: all the same' % (tests.done, seed))

@@ -1,6 +1,6 @@
 #!/usr/bin/env python3
 """The examples of docs/FORMAT.md: each file, and each request on the receipt book, is refused with the number that stands there; a damaged file cut into parts shows the
-numbers that stand there; and where GNU recutils is there, recfix finds a fault in the files of which the page says so.
+numbers that stand there; the directory of a file is the one that stands there; and where GNU recutils is there, recfix finds a fault in the files of which the page says so.
 
 Usage: python3 tests/format/examples.py     (after `rt staticlib recfile`; needs cc)
 """
@@ -53,11 +53,28 @@ def parts(lib, section):
         sys.exit('the parts of the damaged file are judged\n%sand the page says\n%s' % (out, shown))
 
 
+def filled(lib, text, entries):
+    """The number, the number of sets and the list after filling one of so many entries."""
+    number, room = ctypes.c_uint32(77), (size * (3 * entries))()
+    sets = lib.recfile_fill(text, size(len(text)), size(len(text)), room, size(entries), ctypes.byref(number))
+    return number.value, sets, [tuple(room[k:k + 3]) for k in range(0, 3 * entries, 3)]
+
+
+def directory(lib, section):
+    """The directory of the section's file is the one of its table."""
+    text = indented(section[section.index('Of this file'):].split('\n'))
+    size_said = int(re.search(r'Of this file of (\d+) bytes', section).group(1))
+    entries = [tuple(map(int, row)) for row in re.findall(r'^\| .* \| (\d+) \| (\d+) \| (\d+) \|$', section[section.index('the directory is'):], flags=re.M)]
+    got = filled(lib, text, len(entries))
+    if len(text) != size_said or got != (0, len(entries), entries):
+        sys.exit('the directory of a file of %d bytes is %r, and the page says %r' % (len(text), got, entries))
+
+
 def main():
     archive, shared = (os.path.join(ROOT, 'target', *p) for p in (('staticlib', 'librecfile.a'), ('librecfile.so',)))
     subprocess.run(['cc', '-shared', '-o', shared, '-Wl,--whole-archive', archive, '-Wl,--no-whole-archive'], check=True)
     lib = ctypes.CDLL(shared)
-    lib.recfile_edit.restype = size
+    lib.recfile_edit.restype = lib.recfile_fill.restype = size
     with open(os.path.join(ROOT, 'docs', 'FORMAT.md'), encoding='utf-8') as f:
         page = f.read()
 
@@ -75,6 +92,7 @@ def main():
             sys.exit('recfix finds another fault in the example of %s than the page says' % number)
         files += 1
     parts(lib, page[page.index('## Finding the fault by hand'):])
+    directory(lib, page[page.index('## The directory of sets'):page.index('## What a call is refused for')])
 
     def edit(text, room, request):
         buf, number = ctypes.create_string_buffer(text, room), ctypes.c_uint32(77)
@@ -96,10 +114,10 @@ def main():
     add = bytes.fromhex('01 0001 03 02 0000 03 0002 0000 04 0001 42 06 0001 32')
     number = ctypes.c_uint32(77)
     lib.recfile_fetch(book, size(len(book)), size(len(book)), b'Scan', size(4), size(0), b'Page', size(4), size(0), ctypes.create_string_buffer(4), size(4), ctypes.byref(number))
-    if (edit(book, 109, insert), number.value, edit(b'A: 1\n' * 256, 65536, add)) != (26, 27, 104):
-        sys.exit('26, 27 and 104 are not as the page says')
-    requests += 3
-    print('docs/FORMAT.md: %d files and %d requests are as the page says' % (files, requests))
+    if (edit(book, 109, insert), number.value, filled(lib, book, 1)[0], edit(b'A: 1\n' * 256, 65536, add)) != (26, 27, 28, 104):
+        sys.exit('26, 27, 28 and 104 are not as the page says')
+    requests += 4
+    print('docs/FORMAT.md: %d files, a directory and %d requests are as the page says' % (files, requests))
 
 
 main()

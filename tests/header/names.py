@@ -1,5 +1,5 @@
 #!/usr/bin/env python3
-"""The names of include/recfile.h, and those of examples/rust/recfile.rs, are the numbers of the library's code and definitions.
+"""The names of include/recfile.h, and those of examples/rust/recfile.rs, are the numbers of the library's code and definitions; an entry of a directory has the same fields in all three.
 
 Usage: python3 tests/header/names.py
 """
@@ -75,7 +75,17 @@ def main():
         if got != {name: value for name, value in header.items() if name.startswith(prefix)}:
             sys.exit('the constants of `%s` in examples/rust/recfile.rs are not those of the header' % module)
 
+    sets = int(re.search(r'^pub const MAX_SETS: usize = (\d+);', wrapper, flags=re.M).group(1))
+    if sets != header['MAX_DESCRIPTORS'] + 1:
+        sys.exit('MAX_SETS in examples/rust/recfile.rs is not one more than the header\'s descriptors')
+
     text = read('include', 'recfile.h')
+    entry = re.findall(r'size_t (\w+);', re.search(r'typedef struct \{\n(.*?)\} recfile_entry;', text, flags=re.S).group(1))
+    for where, there in (('the library', read('crates', 'format', 'src', 'lib.rt')), ('examples/rust/recfile.rs', wrapper)):
+        block = re.search(r'#\[repr\(C\)\]\n(?:#\[.*\]\n)*pub struct Entry \{\n(.*?)^\}', there, flags=re.M | re.S)
+        if block is None or re.findall(r'pub (\w+): usize,', block.group(1)) != entry:
+            sys.exit('an entry of %s is not the header\'s: %s' % (where, ' '.join(entry)))
+
     version = '.'.join(re.search(r'define RECFILE_VERSION_%s (\d+)' % part, text).group(1) for part in ('MAJOR', 'MINOR', 'PATCH'))
     if '#define RECFILE_VERSION "%s"' % version not in text:
         sys.exit('RECFILE_VERSION is not ' + version)

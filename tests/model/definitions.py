@@ -1,10 +1,11 @@
 #!/usr/bin/env python3
-"""The definitions of crates/format against the implementation in recfile.py, on random files and lists of edits.
+"""The definitions of crates/format against the implementation in recfile.py, on random files, lists of edits and directories of sets.
 
 Usage: tests/model/definitions.py [SEED [COUNT]]       (from the repository's root; needs rt)
 
-It states what recfile.py answers as equations about the definitions, which the checker must prove by computing both sides: the verdict of COUNT files, and the numbers,
-lengths and buffer of COUNT / 2 lists of edits. The equations go into a copy of the crate in a temporary folder.
+It states what recfile.py answers as equations about the definitions, which the checker must prove by computing both sides: the verdict of COUNT files; the numbers,
+lengths and buffer of COUNT / 2 lists of edits; the directory of COUNT / 2 files, filled and after an edit that is given it; and COUNT / 4 lists of edits, some of them given
+the directory, run on the buffer and on the plain file. The equations go into a copy of the crate in a temporary folder.
 """
 import collections
 import os
@@ -16,10 +17,10 @@ import tempfile
 import recfile
 import samples
 
-HEAD = '''-- What the independent implementation answers, of random files and lists of edits.
+HEAD = '''-- What the independent implementation answers, of random files, lists of edits and directories of sets.
 use Prim.Native.Nat.{ℕ}
 use mathlib.Core.Path.{_≡_, refl}
-use mathlib.Core.Bool.{Bool, true, _&&_}
+use mathlib.Core.Bool.{Bool, true, false, _&&_}
 use mathlib.Core.List.{List, [], _∷_, _++_}
 use lib.Dec.{eqb}
 use lib.ListN.{length, replicate}
@@ -30,8 +31,10 @@ use Rattle.format.specs.Written.{written}
 use Rattle.format.specs.Questions.{fileOf, verdictIn, verdict}
 use Rattle.format.specs.Requests.{tagged, requestOf}
 use Rattle.format.specs.Plain.{plainOf, lengthOf, apply, step}
-use Rattle.format.specs.Calls.{editAnswer}
-use Rattle.format.specs.Runs.{Call, run, Ran, Told}
+use Rattle.format.specs.Calls.{Answer, numberIn, valueOr, editAnswer}
+use Rattle.format.specs.Directory.{directoryOf, Listed, fillAnswer, listedStep, listedAnswer, Kept, keptAnswer, countAtAnswer}
+use Rattle.format.specs.Runs.{Call, run, Ran, plainRun, PlainRan, entriesAfter, Told}
+use Rattle.format.specs.declared.Entry.{Entry}
 
 abbrev judged : Bytes → ℕ → Bool
 judged s k = eqb (verdict s (length s)) k
@@ -45,8 +48,40 @@ edited file spare calls told buffer =
     let r : Ran = run calls (file ++ replicate spare 170) (length file) in
     same (numbers (r .told)) told && same (r .buffer) buffer
 
+abbrev entry : ℕ → ℕ → ℕ → Entry
+entry place count end = record { place = place; count = count; end = end }
+
+abbrev holds : List Entry → List Entry → Bool
+holds [] [] = true
+holds [] (y ∷ ys) = false
+holds (x ∷ xs) [] = false
+holds (x ∷ xs) (y ∷ ys) = eqb (x .place) (y .place) && (eqb (x .count) (y .count) && (eqb (x .end) (y .end) && holds xs ys))
+
+abbrev answers : Answer → ℕ → ℕ → ℕ → Bool
+answers a other number value = eqb (numberIn a) number && eqb (valueOr other a) value
+
+abbrev lists : Bytes → ℕ → List Entry → ℕ → ℕ → List Entry → Bool
+lists buffer used old number value new =
+    let a : Listed = fillAnswer buffer used old in
+    answers (a .result) 0 number value && holds (a .entries) new
+
+abbrev keeps : Bytes → ℕ → Bytes → List Entry → ℕ → ℕ → Bytes → List Entry → Bool
+keeps buffer used request old number value after new =
+    let a : Kept = keptAnswer buffer used request old in
+    answers (a .result) used number value && (same (a .out) after && holds (a .entries) new)
+
+abbrev counts : List Entry → ℕ → ℕ → ℕ → Bool
+counts entries i number value = answers (countAtAnswer entries i) 0 number value
+
+abbrev runs : Bytes → ℕ → List Call → List ℕ → Bytes → List Entry → List Entry → Bool
+runs file spare calls told buffer old new =
+    let start : Bytes = file ++ replicate spare 170 in
+    let p : PlainRan = plainRun (length start) calls (plainOf (readOf file)) (length file) in
+    edited file spare calls told buffer && (same (numbers (p .told)) told && holds (entriesAfter calls start (length file) old) new)
+
 '''
-UNFOLDING = 'unfolding bytesOf pieces readOf setsOf written fileOf verdictIn verdict tagged requestOf plainOf lengthOf apply step editAnswer run\n'
+UNFOLDING = 'unfolding bytesOf pieces readOf setsOf written fileOf verdictIn verdict tagged requestOf plainOf lengthOf apply step editAnswer run ' \
+    'directoryOf fillAnswer listedStep listedAnswer keptAnswer countAtAnswer plainRun entriesAfter\n'
 
 
 def literal(data):
@@ -58,34 +93,113 @@ def listed(items):
     return '(%s)' % ' ∷ '.join(list(items) + ['[]'])
 
 
+def entries(items):
+    return listed('entry %d %d %d' % e for e in items)
+
+
 def equation(name, term):
     return '%s : %s ≡ true\n%s%s = refl\n\n' % (name, term, UNFOLDING, name)
 
 
+class Equations:
+    """The text of the equations, and how often each number is the answer."""
+
+    def __init__(self, seed):
+        self.samples, self.text = samples.Samples(seed), HEAD
+        self.random = self.samples.random
+        self.verdicts, self.edits, self.filled, self.kept = (collections.Counter() for _ in range(4))
+
+    def files(self, count):
+        """Equations of the verdict of files; those that pass."""
+        passing, files = [], 0
+        while files < count:
+            data = self.samples.file()
+            number = recfile.check(data, len(data))
+            if number == 0 and len(data) > 30:
+                passing.append(data)
+            if self.verdicts[number] < max(4, count // 8):
+                self.verdicts[number] += 1
+                files += 1
+                self.text += equation('file-%d' % files, 'judged %s %d' % (literal(data), number))
+        return passing
+
+    def edit_lists(self, passing, count):
+        r = self.random
+        for k in range(count):
+            data = r.choice(passing)
+            sets = [s.name for s in recfile.read_sets(recfile.read_pieces(data))]
+            spare = r.choice([0, 5, 20, 200, 200])
+            requests = [self.samples.request(sets) for _ in range(r.randint(2, 9))]
+            buffer, used, told = data + bytes([170]) * spare, len(data), []
+            for request in requests:
+                number, used, buffer = recfile.edit(buffer, used, request)
+                told += [number, used]
+                self.edits[number] += 1
+            self.text += equation('run-%d' % k, 'edited %s %d %s %s %s' % (
+                literal(data), spare, listed('Call.edit ' + literal(q) for q in requests), listed(str(n) for n in told), literal(buffer)))
+
+    def names(self, data):
+        """The names of a file's sets, those with records several times."""
+        sets = recfile.read_sets(recfile.read_pieces(data)) if recfile.check(data, len(data)) == 0 else [recfile.Set(b'', None)]
+        return [s.name for s in sets] + 3 * [s.name for s in sets if s.records], len(sets)
+
+    def room(self, sets):
+        """The length of a list for so many sets, now and then too short."""
+        return max(0, sets + self.random.choice([-2, -1, 0, 0, 0, 0, 1, 3]))
+
+    def directories(self, passing, count):
+        """Each file's directory, filled and then kept by an edit of a list that holds anything; a count at a position."""
+        r = self.random
+        for k in range(count):
+            data = self.samples.arranged(r.randint(1, 6)) if r.random() < .8 else r.choice([r.choice(passing), self.samples.file()])
+            names, sets = self.names(data)
+            buffer = data + bytes([170]) * r.choice([0, 1, 30, 60])
+            used = max(0, len(data) + r.choice([0] * 20 + [-1, 1, 100]))
+            old = self.samples.entries(self.room(sets))
+            number, value, new = recfile.fill(buffer, used, old)
+            self.filled[number] += 1
+            self.text += equation('fill-%d' % k, 'lists %s %d %s %d %d %s' % (literal(buffer), used, entries(old), number, value, entries(new)))
+            request = self.samples.request(names)
+            number, value, after, new = recfile.edit_listed(buffer, used, request, old)
+            self.kept[number] += 1
+            self.text += equation('kept-%d' % k, 'keeps %s %d %s %s %d %d %s %s' % (literal(buffer), used, literal(request), entries(old), number, value, literal(after), entries(new)))
+            position = r.randint(0, len(new) + 1)
+            self.text += equation('count-%d' % k, 'counts %s %d %d %d' % (entries(new), position, *recfile.count_at(new, position)))
+
+    def listed_runs(self, count):
+        """Lists of edits, most of them given the directory, from one that is freshly filled or holds anything."""
+        r = self.random
+        for k in range(count):
+            data = b'A'
+            while recfile.check(data, len(data)) != 0:
+                data = self.samples.arranged(r.randint(1, 4))
+            names, sets = self.names(data)
+            spare = r.choice([0, 5, 20, 200, 200])
+            buffer, used, told, calls = data + bytes([170]) * spare, len(data), [], []
+            old = self.samples.entries(self.room(sets))
+            if r.random() < .5:
+                old = recfile.fill(buffer, used, old)[2]
+            new = old
+            for request in [self.samples.request(names) for _ in range(r.randint(1, 5))]:
+                if r.random() < .7:
+                    calls.append('Call.listed %d %s' % (len(old), literal(request)))
+                    number, used, buffer, new = recfile.edit_listed(buffer, used, request, new)
+                    self.kept[number] += 1
+                else:
+                    calls.append('Call.edit ' + literal(request))
+                    number, used, buffer = recfile.edit(buffer, used, request)
+                    self.edits[number] += 1
+                told += [number, used]
+            self.text += equation('listed-%d' % k, 'runs %s %d %s %s %s %s %s' % (
+                literal(data), spare, listed(calls), listed(str(n) for n in told), literal(buffer), entries(old), entries(new)))
+
+
 def main(seed=1, count=300):
-    source, seen, answers, passing, text = samples.Samples(seed), collections.Counter(), collections.Counter(), [], HEAD
-    files = 0
-    while files < count:
-        data = source.file()
-        number = recfile.check(data, len(data))
-        if number == 0 and len(data) > 30:
-            passing.append(data)
-        if seen[number] < max(4, count // 8):
-            seen[number] += 1
-            files += 1
-            text += equation('file-%d' % files, 'judged %s %d' % (literal(data), number))
-    for k in range(count // 2):
-        data = source.random.choice(passing)
-        sets = [s.name for s in recfile.read_sets(recfile.read_pieces(data))]
-        spare = source.random.choice([0, 5, 20, 200, 200])
-        requests = [source.request(sets) for _ in range(source.random.randint(2, 9))]
-        buffer, used, told = data + bytes([170]) * spare, len(data), []
-        for request in requests:
-            number, used, buffer = recfile.edit(buffer, used, request)
-            told += [number, used]
-            answers[number] += 1
-        text += equation('run-%d' % k, 'edited %s %d %s %s %s' % (
-            literal(data), spare, listed('Call.edit ' + literal(q) for q in requests), listed(str(n) for n in told), literal(buffer)))
+    e = Equations(seed)
+    passing = e.files(count)
+    e.edit_lists(passing, count // 2)
+    e.directories(passing, count // 2)
+    e.listed_runs(count // 4)
     with tempfile.TemporaryDirectory() as folder:
         shutil.copytree('crates/format', folder + '/crates/format', ignore=shutil.ignore_patterns('must-fail'))
         with open(folder + '/crates.txt', 'w') as f:
@@ -93,15 +207,15 @@ def main(seed=1, count=300):
         with open(folder + '/crates/format/proofs/Lib.antt', 'a') as f:
             f.write('pub mod Random\n')
         with open(folder + '/crates/format/proofs/Random.antt', 'w') as f:
-            f.write(text)
+            f.write(e.text)
         said = subprocess.run(['rt', 'dev', 'format'], cwd=folder, capture_output=True, text=True)
     errors = [line for line in (said.stdout + said.stderr).splitlines() if ': error' in line]
-    print('files by verdict:', dict(sorted(seen.items())))
-    print('edits by number:', dict(sorted(answers.items())))
+    for what, numbers in (('files by verdict', e.verdicts), ('edits by number', e.edits), ('directories filled, by number', e.filled), ('edits with a directory, by number', e.kept)):
+        print('%s: %s' % (what, dict(sorted(numbers.items()))))
     for line in errors[:10]:
         print(line[:300])
     agreed = said.returncode == 0 and not errors
-    print('%d files and %d lists of edits: %s' % (count, count // 2, 'agreed' if agreed else 'NOT agreed'))
+    print('%d files, %d lists of edits, %d directories, %d lists of edits with one: %s' % (count, count // 2, count // 2, count // 4, 'agreed' if agreed else 'NOT agreed'))
     sys.exit(0 if agreed else 1)
 
 

@@ -2,6 +2,7 @@
 
 It is slow and plain: every call reads the file anew. Tests compare the library with it.
 """
+import itertools
 import re
 
 FILE, NAME, VALUE, FIELDS = 65536, 64, 4096, 256
@@ -559,3 +560,40 @@ def edit(buf, used, req):
     except No as no:
         return no.number, used, buf
     return 0, len(new), new + bytes(max(0, used - len(new))) + buf[max(used, len(new)):]
+
+
+def entries_of(pieces, sets):
+    """An entry for each set, the default set first: the place of its descriptor's block, how many records it has, the byte behind its last record's block."""
+    places = list(itertools.accumulate((len(p.raw) for p in pieces), initial=0))
+    out = []
+    for s in sets:
+        last = s.records[-1] if s.records else s.descriptor
+        out.append((places[s.descriptor.block[0]] if s.descriptor else 0, len(s.records), places[last.block[1]] if last else 0))
+    return out
+
+
+def fill(buf, used, entries):
+    """(number, how many sets, entries after it)"""
+    try:
+        new = entries_of(*passed(buf, used))
+        if len(new) > len(entries):
+            raise No(28)
+        return 0, len(new), new + entries[len(new):]
+    except No as no:
+        return no.number, 0, entries
+
+
+def edit_listed(buf, used, req, entries):
+    """(number, length, buffer after it, entries after it)"""
+    number, _, _ = fill(buf, used, entries)
+    if number:
+        return number, used, buf, entries
+    number, used, buf = edit(buf, used, req)
+    refused, _, entries = fill(buf, used, entries)
+    assert not refused
+    return number, used, buf, entries
+
+
+def count_at(entries, position):
+    """(number, count)"""
+    return (0, entries[position][1]) if position < len(entries) else (21, 0)

@@ -80,6 +80,49 @@ class Samples:
             text = text[:-1]
         return text.encode('latin-1')
 
+    def arranged(self, sets):
+        """A file of so many sets, the default set included: comments and blank lines wherever they may stand, blank-looking lines that a backslash took on, and few rules, so that nearly all pass."""
+        r = self.random
+        comments = ['#', '# c', '#\\', '# %rec: X', '#A: 1']
+        endings = ['', '', '', '\\\n', '\\\n \t', '\\\n\\\n', '\\\n# x', '\\\nB: 1', '\n+ y', '\n+', '\n+\\\n']
+
+        def block(fields):
+            out = []
+            for f in fields + [None]:
+                while r.random() < .15:
+                    out.append(r.choice(comments))
+                out += [f] if f else []
+            return out
+
+        def descriptor(k):
+            rules = ['%key: Id', '%mandatory: A', '%size: <= 3', '%type: A int', '%unique: B', '%prohibit: C', '%doc: d' + r.choice(endings), 'Foo:' + r.choice(endings).replace('\\', ' \\', 1)]
+            fields = ['%rec: ' + r.choice(['S%d', 'S%d\\\n', '\n+ S%d', ' S%d\n+', 'S\\\n%d']) % k] + r.sample(rules, r.choice([0, 0, 1, 2]))
+            r.shuffle(fields)
+            return block(fields)
+
+        def record(k):
+            return block(['Id: %d' % k] * (r.random() < .8) + [r.choice(NAMES[:2]) + ': %d' % r.randint(1, 9) + r.choice(endings) for _ in range(r.randint(1, 2))])
+
+        blocks, key = [], 0
+        for k in range(sets):
+            blocks += [descriptor(k)] if k else []
+            for _ in range(r.choice([0, 0, 1, 1, 2, 3])):
+                key += 1
+                blocks.append(record(key))
+            while r.random() < .2:
+                blocks.insert(r.randint(max(0, len(blocks) - 3), len(blocks)), [r.choice(comments) for _ in range(r.randint(1, 2))])
+        blanks = ['\n', '\n', '\n', ' \n', '\t \n', '\n\n']
+        text = r.choice(['', '', '', '\n', ' \n\n']) + ''.join('\n'.join(b) + '\n' + r.choice(blanks) for b in blocks)
+        if r.random() < .5 and blocks:
+            while text.endswith(('\n\n', ' \n')) and not text.endswith(('\\\n\n', '\\\n \t\n')):
+                text = text[:-1].rstrip(' \t')
+        return text.encode()
+
+    def entries(self, count):
+        """So many entries that hold anything."""
+        r = self.random
+        return [tuple(r.choice([0, 1, 7, 500, 2 ** 16, 2 ** 64 - 1]) for _ in range(3)) for _ in range(count)]
+
     def request(self, sets):
         r = self.random
         kind = r.randint(1, 6)

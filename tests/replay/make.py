@@ -13,43 +13,12 @@ sys.path.insert(0, os.path.join(ROOT, 'tests', 'model'))
 
 import recfile  # noqa: E402
 import samples  # noqa: E402
+from edits import add, delete, drop, head, insert, pair, rename, setting  # noqa: E402
 from frames import four, frame, packed, two, whole  # noqa: E402
-from samples import number, tagged  # noqa: E402
+from samples import tagged  # noqa: E402
 
 RECEIPTS = open(os.path.join(ROOT, 'samples', 'receipts.rec'), 'rb').read()
 MORE = 200      # of spare bytes in a large buffer
-
-
-def pair(name, value):
-    return tagged(4, name) + tagged(6, value)
-
-
-def head(kind, name):
-    return tagged(1, bytes([kind])) + tagged(2, name)
-
-
-def insert(name, *pairs):
-    return head(1, name) + b''.join(pair(n, v) for n, v in pairs)
-
-
-def delete(name, row):
-    return head(2, name) + tagged(3, number(row))
-
-
-def add(name, row, field, value):
-    return head(3, name) + tagged(3, number(row)) + pair(field, value)
-
-
-def setting(name, row, field, occurrence, value):
-    return head(4, name) + tagged(3, number(row)) + tagged(4, field) + tagged(5, number(occurrence)) + tagged(6, value)
-
-
-def drop(name, row, field, occurrence):
-    return head(5, name) + tagged(3, number(row)) + tagged(4, field) + tagged(5, number(occurrence))
-
-
-def rename(name, row, field, occurrence, new):
-    return head(6, name) + tagged(3, number(row)) + tagged(4, field) + tagged(5, number(occurrence)) + tagged(7, new)
 
 
 class Replay:

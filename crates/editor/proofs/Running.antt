@@ -9,7 +9,7 @@ use lib.Seq.{take-suc, take-at, drop-at, drop-drop, drop-cons, set-at, append-sn
 use Rattle.format.specs.Bytes.{Bytes}
 use Rattle.format.specs.Questions.{verdict}
 use Rattle.format.specs.Calls.{numberIn, valueOr, Filled, over, checkAnswer, editAnswer}
-use Rattle.format.specs.Runs.{Call, Told, Ran, ranOn, run, plainRun}
+use Rattle.format.specs.Runs.{Call, callAnswer, Told, Ran, ranOn, run, plainRun}
 use Rattle.format.specs.Plain.{Plain, plainOf}
 use Rattle.format.specs.Pieces.{readOf}
 use Rattle.format.specs.Demand.{Demand}
@@ -41,7 +41,7 @@ thenEdit q r =
 run-more : (cs : List Call) (q : Bytes) (buffer : Bytes) (used : ℕ) → run (cs ++ (Call.edit q ∷ [])) buffer used ≡ thenEdit q (run cs buffer used)
 unfolding run
 run-more [] q buffer used = refl
-run-more (Call.edit p ∷ cs) q buffer used = let e : Edited = editOf buffer used p in ap (ranOn (toldOf e)) (run-more cs q (e .buffer) (e .length))
+run-more (c ∷ cs) q buffer used = let e : Edited = editedOf used (callAnswer c buffer used) in ap (ranOn (toldOf e)) (run-more cs q (e .buffer) (e .length))
 
 -- the check's number stays: an edit that is accepted leaves a file that passes, and any other leaves all as it was
 verdict-on : (buffer : Bytes) (used : ℕ) (q : Bytes) (k : ℕ) → verdict buffer used ≡ k → verdict (editOf buffer used q .buffer) (editOf buffer used q .length) ≡ k

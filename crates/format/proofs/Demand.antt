@@ -16,14 +16,15 @@ use Rattle.format.specs.Numbers.{intBounds}
 use Rattle.format.specs.Edits.{Edit}
 use Rattle.format.specs.Questions.{nameOf, verdict}
 use Rattle.format.specs.Requests.{Request, requestOf}
-use Rattle.format.specs.Plain.{Plain, plainOf, lengthOf, indexOf, apply, membersAt, Asked, Step, step}
+use Rattle.format.specs.Plain.{Plain, plainOf, lengthOf, indexOf, apply, membersAt, Asked, Step}
 use Rattle.format.specs.Calls.{numberIn, valueOr, Filled}
-use Rattle.format.specs.Runs.{Call, callAnswer, callStep, Told, Ran, run, PlainRan, plainRun}
+use Rattle.format.specs.Runs.{Call, requestIn, callAnswer, callStep, Told, Ran, run, PlainRan, plainRun}
 use Rattle.format.specs.Origins.{ifAccepted}
 use Rattle.format.specs.Demand.{inserted, deleted, ifSet, toSet, tally, Demand}
 use Rattle.format.proofs.Describing.{apply-names}
 use Rattle.format.proofs.Applying.{Agrees, Granted, granted-set}
-use Rattle.format.proofs.Questions.{yes-granted, asked, Accepted, step-accepted, step-refused}
+use Rattle.format.proofs.Questions.{yes-granted, asked, Accepted}
+use Rattle.format.proofs.CallSteps.{call-accepted, call-refused}
 use Rattle.format.proofs.Passing.{verdict-read, holds-agrees, holds-start}
 use Rattle.format.proofs.Tallying.{apply-number, apply-others}
 use Rattle.format.proofs.Running.{Stands, stands-start, stands-room, stands-length, call-stands, call-told}
@@ -46,19 +47,19 @@ to-names f ss ts i (some q) e = ap (λ (k : Option ℕ). ifSet i k (f (q .edit))
 tally-names : (f : Edit → ℕ) (ss ts : List RecSet) (i : ℕ) (cs : List Call) (os : List Told) → map nameOf ss ≡ map nameOf ts → tally f ss i cs os ≡ tally f ts i cs os
 tally-names f ss ts i [] os e = refl
 tally-names f ss ts i (c ∷ cs) [] e = refl
-tally-names f ss ts i (Call.edit q ∷ cs) (o ∷ os) e = λ j. ifAccepted (o .number) (to-names f ss ts i (requestOf q) e j) 0 + tally-names f ss ts i cs os e j
+tally-names f ss ts i (c ∷ cs) (o ∷ os) e = λ j. ifAccepted (o .number) (to-names f ss ts i (requestOf (requestIn c)) e j) 0 + tally-names f ss ts i cs os e j
 
 -- one call
 
 abbrev held : ℕ → Plain → ℕ
 held i p = length (membersAt i (p .sets))
 
-step-names : (room : ℕ) (p : Plain) (q : Bytes) (n : ℕ) → step room p q .number ≡ n → map nameOf (step room p q .file .sets) ≡ map nameOf (p .sets)
-step-names room p q zero e = let a = step-accepted room p q e in ap (λ (x : Plain). map nameOf (x .sets)) (a .makes) ∙ apply-names (a .asks) p
-step-names room p q (suc k) e = ap (λ (x : Plain). map nameOf (x .sets)) (step-refused room p q k e)
+step-names : (room : ℕ) (p : Plain) (c : Call) (n : ℕ) → callStep room p c .number ≡ n → map nameOf (callStep room p c .file .sets) ≡ map nameOf (p .sets)
+step-names room p c zero e = let a = call-accepted room p c e in ap (λ (x : Plain). map nameOf (x .sets)) (a .makes) ∙ apply-names (a .asks) p
+step-names room p c (suc k) e = ap (λ (x : Plain). map nameOf (x .sets)) (call-refused room p c k e)
 
-call-names : (room : ℕ) (p : Plain) (c : Call) → map nameOf (callStep room p c .file .sets) ≡ map nameOf (p .sets)
-call-names room p (Call.edit q) = step-names room p q (step room p q .number) refl
+pub call-names : (room : ℕ) (p : Plain) (c : Call) → map nameOf (callStep room p c .file .sets) ≡ map nameOf (p .sets)
+call-names room p c = step-names room p c (callStep room p c .number) refl
 
 number-at : (a : Asked) → Granted a → Agrees (a .file) → (k : ℕ) → indexOf (a .request .set) (a .file .sets) ≡ some k → (i : ℕ) (b : Bool) → eqb k i ≡ b → held i (apply (a .request) (a .file)) + pick b (deleted (a .request .edit)) 0 ≡ held i (a .file) + pick b (inserted (a .request .edit)) 0
 number-at a g s k e i true h =
@@ -74,17 +75,19 @@ accepted-number room p q p′ s a i =
     let o : (f : Edit → ℕ) → toSet f (p .sets) i (requestOf q) ≡ pick (eqb k i) (f (a .asks .edit)) 0 = λ f. ap (toSet f (p .sets) i) (a .reads) ∙ ap (λ (x : Option ℕ). ifSet i x (f (a .asks .edit))) e in
     omega (arith, ap (held i) (a .makes), o deleted, o inserted, number-at c g s k e i (eqb k i) refl)
 
-step-number : (room : ℕ) (p : Plain) (q : Bytes) (n : ℕ) → Agrees p → step room p q .number ≡ n → (i : ℕ) → held i (step room p q .file) + ifAccepted n (toSet deleted (p .sets) i (requestOf q)) 0 ≡ held i p + ifAccepted n (toSet inserted (p .sets) i (requestOf q)) 0
-step-number room p q zero s e i = accepted-number room p q (step room p q .file) s (step-accepted room p q e) i
-step-number room p q (suc k) s e i = ap (λ (x : Plain). held i x + 0) (step-refused room p q k e)
+step-number : (room : ℕ) (p : Plain) (c : Call) (n : ℕ) → Agrees p → callStep room p c .number ≡ n
+    → (i : ℕ) → held i (callStep room p c .file) + ifAccepted n (toSet deleted (p .sets) i (requestOf (requestIn c))) 0 ≡ held i p + ifAccepted n (toSet inserted (p .sets) i (requestOf (requestIn c))) 0
+step-number room p c zero s e i = accepted-number room p (requestIn c) (callStep room p c .file) s (call-accepted room p c e) i
+step-number room p c (suc k) s e i = ap (λ (x : Plain). held i x + 0) (call-refused room p c k e)
 
 -- the first of a list
 call-tally : (room : ℕ) (p : Plain) (c : Call) (cs : List Call) (n l : ℕ) (ts : List Told) → Agrees p → callStep room p c .number ≡ n → (i m : ℕ)
     → m + tally deleted (callStep room p c .file .sets) i cs ts ≡ held i (callStep room p c .file) + tally inserted (callStep room p c .file .sets) i cs ts
     → m + tally deleted (p .sets) i (c ∷ cs) (record { number = n; length = l } ∷ ts) ≡ held i p + tally inserted (p .sets) i (c ∷ cs) (record { number = n; length = l } ∷ ts)
-call-tally room p (Call.edit q) cs n l ts a e i m h =
-    let same-tally : (f : Edit → ℕ) → tally f (step room p q .file .sets) i cs ts ≡ tally f (p .sets) i cs ts = λ f. tally-names f (step room p q .file .sets) (p .sets) i cs ts (call-names room p (Call.edit q)) in
-    omega (arith, h, same-tally deleted, same-tally inserted, step-number room p q n a e i)
+call-tally room p c cs n l ts a e i m h =
+    let ss : List RecSet = callStep room p c .file .sets in
+    let same-tally : (f : Edit → ℕ) → tally f ss i cs ts ≡ tally f (p .sets) i cs ts = λ f. tally-names f ss (p .sets) i cs ts (call-names room p c) in
+    omega (arith, h, same-tally deleted, same-tally inserted, step-number room p c n a e i)
 
 -- what a list leaves, from any state on the way
 record Leaves (start : Bytes) (p : Plain) (cs : List Call) (r : Ran) (l : PlainRan) : Type 0 where

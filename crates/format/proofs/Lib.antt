@@ -19,6 +19,7 @@ pub mod Requested
 pub mod Encoding
 pub mod Applying
 pub mod Questions
+pub mod CallSteps
 pub mod Describing
 pub mod Judging
 pub mod Passing
@@ -27,6 +28,7 @@ pub mod Filling
 pub mod Running
 pub mod Origins
 pub mod Demand
+pub mod Directory
 pub mod Results
 pub mod Answers
 pub mod Listing
@@ -40,4 +42,5 @@ pub mod Least
 pub mod Table
 pub mod Cases
 pub mod Lookups
+pub mod Directories
 pub mod Traps

@@ -8,16 +8,16 @@ use mathlib.Core.Option.{Option, none, some}
 use lib.Dec.{eqb}
 use lib.ListN.{length}
 use borrow.Author.Tests.{eq-eqb, ne-eqb}
-use Rattle.format.specs.Bytes.{Bytes, pick, upFrom, any}
+use Rattle.format.specs.Bytes.{pick, upFrom, any}
 use Rattle.format.specs.Lists.{filter, kept}
 use Rattle.format.specs.Pieces.{Piece}
 use Rattle.format.specs.Edits.{Edit}
-use Rattle.format.specs.Requests.{Request, requestOf}
-use Rattle.format.specs.Plain.{Plain, indexOf, applyIn, apply, lengthOf, step}
+use Rattle.format.specs.Requests.{Request}
+use Rattle.format.specs.Plain.{Plain, indexOf, applyIn, apply, lengthOf}
 use Rattle.format.specs.Runs.{Call, callStep, plainRun}
-use Rattle.format.specs.Origins.{Fate, setFates, requestFates, ifAccepted, fates, Origin, pieceOf, numberOf, Trace, carried, namedOf, startFrom, traced, Stays}
+use Rattle.format.specs.Origins.{Fate, setFates, requestFates, callFates, ifAccepted, fates, Origin, pieceOf, numberOf, Trace, carried, namedOf, startFrom, traced, Stays}
 use Rattle.format.proofs.Fates.{Goes, goes-edit}
-use Rattle.format.proofs.Questions.{step-accepted, step-refused}
+use Rattle.format.proofs.CallSteps.{call-accepted, call-refused}
 
 -- a request, on the plain file
 
@@ -31,15 +31,15 @@ goes-apply q p = goes-in (indexOf (q .set) (p .sets)) (q .edit) p
 
 -- a call, accepted or refused
 
-goes-step : (room : ℕ) (p : Plain) (q : Bytes) (n : ℕ) → step room p q .number ≡ n → Goes (ifAccepted n (requestFates (requestOf q) p) []) (p .pieces) (step room p q .file .pieces)
-goes-step room p q zero e =
-    let a = step-accepted room p q e in
-    subst (λ (x : Option Request). Goes (requestFates x p) (p .pieces) (step room p q .file .pieces)) (sym (a .reads)) (subst (λ (x : Plain). Goes (requestFates (some (a .asks)) p) (p .pieces) (x .pieces)) (sym (a .makes)) (goes-apply (a .asks) p))
-goes-step room p q (suc k) e = ap (λ (x : Plain). x .pieces) (sym (step-refused room p q k e))
+goes-step : (room : ℕ) (p : Plain) (c : Call) (n : ℕ) → callStep room p c .number ≡ n → Goes (ifAccepted n (callFates c p) []) (p .pieces) (callStep room p c .file .pieces)
+goes-step room p c zero e =
+    let a = call-accepted room p c e in
+    subst (λ (x : Option Request). Goes (requestFates x p) (p .pieces) (callStep room p c .file .pieces)) (sym (a .reads)) (subst (λ (x : Plain). Goes (requestFates (some (a .asks)) p) (p .pieces) (x .pieces)) (sym (a .makes)) (goes-apply (a .asks) p))
+goes-step room p c (suc k) e = ap (λ (x : Plain). x .pieces) (sym (call-refused room p c k e))
 
 call-goes : (room : ℕ) (p : Plain) (c : Call) → Goes (fates room p c) (p .pieces) (callStep room p c .file .pieces)
 unfolding fates
-call-goes room p (Call.edit q) = goes-step room p q (step room p q .number) refl
+call-goes room p c = goes-step room p c (callStep room p c .number) refl
 
 -- the pieces of origins, carried
 

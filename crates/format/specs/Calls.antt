@@ -16,7 +16,7 @@ use Rattle.format.specs.Edits.{Edit}
 use Rattle.format.specs.Questions.{Row, firstNo, nameOf, verdict}
 use Rattle.format.specs.Requests.{Tagged, Request, requestOf, taggedBytes}
 use Rattle.format.specs.declared.Answer.{Answer as Reply}
-use Rattle.format.specs.Plain.{plainOf, indexOf, Sought, soughtMembers, soughtRecord, foundRows, Step, step}
+use Rattle.format.specs.Plain.{Plain, plainOf, indexOf, Sought, soughtMembers, soughtRecord, foundRows, Step, step}
 
 -- a number, "marked as no refusal", or a refusal's number
 pub data Answer : Type 0 where
@@ -75,12 +75,12 @@ pub record Filled : Type 0 where
 abbrev pub filledBy : Reply → Bytes → Filled
 filledBy r out = record { result = answered r; out = out }
 
-abbrev pub leaves : Answer → Bytes → Bytes → Bytes
+abbrev pub leaves : {A : Type 0} → Answer → A → A → A
 leaves (value n) new old = new
 leaves (refusal k) new old = old
 
-abbrev pub over : Bytes → Bytes → Bytes
-over text out = text ++ drop (length text) out
+abbrev pub over : {A : Type 0} → List A → List A → List A
+over new old = new ++ drop (length new) old
 
 -- "27 if it is longer than that buffer"
 abbrev pub filled : ℕ → Bytes → Bytes → Filled
@@ -173,11 +173,14 @@ placed text used buffer = text ++ (replicate (used - length text) 0 ++ drop (max
 abbrev pub edited : ℕ → Bytes → Bytes → ℕ → Filled
 edited number text buffer used = let a : Answer = answer number (length text) in record { result = a; out = leaves a (placed text used buffer) buffer }
 
--- the file's questions, then what the edit makes of what the file reads as
-unfoldable pub editAnswer : Bytes → ℕ → Bytes → Filled
-editAnswer buffer used request =
-    let s : Step = step (length buffer) (plainOf (readOf (take used buffer))) request in
+-- the file's questions, then what a step makes of what the file reads as
+abbrev pub stepAnswer : (ℕ → Plain → Step) → Bytes → ℕ → Filled
+stepAnswer f buffer used =
+    let s : Step = f (length buffer) (plainOf (readOf (take used buffer))) in
     edited (thenNo (verdict buffer used) (s .number)) (bytesOf (s .file .pieces)) buffer used
+
+unfoldable pub editAnswer : Bytes → ℕ → Bytes → Filled
+editAnswer buffer used request = stepAnswer (λ (room : ℕ) (p : Plain). step room p request) buffer used
 
 -- A request under construction: the place behind its last field, and the buffer that it stands in.
 pub record Built : Type 0 where

@@ -12,7 +12,7 @@ use Rattle.format.specs.Edits.{Act, Edit}
 use Rattle.format.specs.Questions.{verdict}
 use Rattle.format.specs.Requests.{Request, requestOf}
 use Rattle.format.specs.Plain.{Plain, plainOf, lengthOf, indexOf, membersAt}
-use Rattle.format.specs.Runs.{Call, Told, Ran, PlainRan}
+use Rattle.format.specs.Runs.{Call, requestIn, Told, Ran, PlainRan}
 use Rattle.format.specs.Origins.{ifAccepted, startFrom, traced, Stays}
 
 -- how many records an edit inserts, and how many it deletes
@@ -39,7 +39,7 @@ toSet f ss i (some q) = ifSet i (indexOf (q .set) ss) (f (q .edit))
 abbrev pub tally : (Edit → ℕ) → List RecSet → ℕ → List Call → List Told → ℕ
 tally f ss i [] ts = 0
 tally f ss i (c ∷ cs) [] = 0
-tally f ss i (Call.edit q ∷ cs) (t ∷ ts) = ifAccepted (t .number) (toSet f ss i (requestOf q)) 0 + tally f ss i cs ts
+tally f ss i (c ∷ cs) (t ∷ ts) = ifAccepted (t .number) (toSet f ss i (requestOf (requestIn c))) 0 + tally f ss i cs ts
 
 -- What a list of calls leaves, given the buffer, the file's length in it and the plain file at its start.
 pub record Demand (start : Bytes) (used : ℕ) (first : Plain) (calls : List Call) (r : Ran) (p : PlainRan) : Type 0 where

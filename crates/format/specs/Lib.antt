@@ -16,6 +16,7 @@ pub mod Edits
 pub mod Requests
 pub mod Plain
 pub mod Calls
+pub mod Directory
 pub mod Runs
 pub mod Origins
 pub mod Demand

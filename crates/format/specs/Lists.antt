@@ -85,6 +85,11 @@ abbrev pub behindLast : {A : Type 0} → (A → Bool) → A → List A → List 
 behindLast t y [] = y ∷ []
 behindLast t y (x ∷ xs) = x ∷ pick (any t xs) (behindLast t y xs) (y ∷ xs)
 
+-- what stands up to the last that passes a test
+abbrev pub untilLast : {A : Type 0} → (A → Bool) → List A → List A
+untilLast t [] = []
+untilLast t (x ∷ xs) = pick (any t (x ∷ xs)) (x ∷ untilLast t xs) []
+
 -- what stands before the k-th that passes a test, or all where there is none
 abbrev pub before : {A : Type 0} → (A → Bool) → ℕ → List A → List A
 before t k [] = []

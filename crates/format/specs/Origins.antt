@@ -15,7 +15,7 @@ use Rattle.format.specs.Written.{newPiece}
 use Rattle.format.specs.Edits.{Act, Edit, isOf, changePiece, newline, newlineIf}
 use Rattle.format.specs.Requests.{Request, requestOf}
 use Rattle.format.specs.Plain.{Plain, indexOf}
-use Rattle.format.specs.Runs.{Call, callStep}
+use Rattle.format.specs.Runs.{Call, requestIn, callStep}
 
 -- What an accepted edit does to the pieces, one after another: it leaves a piece, it names one, it adds one. Where no more is said, the rest is left.
 pub data Fate : Type 0 where
@@ -69,7 +69,7 @@ requestFates (some q) p = setFates (indexOf (q .set) (p .sets)) (q .edit) (p .pi
 
 -- of a call; a refused one names nothing and adds nothing
 abbrev pub callFates : Call → Plain → List Fate
-callFates (Call.edit q) p = requestFates (requestOf q) p
+callFates c p = requestFates (requestOf (requestIn c)) p
 
 abbrev pub ifAccepted : {A : Type 0} → ℕ → A → A → A
 ifAccepted zero a b = a

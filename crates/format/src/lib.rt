@@ -114,6 +114,14 @@ impl Answer {
     }
 }
 
+// A set in a directory of sets: the first byte of its descriptor's block, how many records it has, and the byte behind its last record's block.
+#[repr(C)]
+pub struct Entry {
+    pub place: usize,
+    pub count: usize,
+    pub end: usize,
+}
+
 // A file, by its used length.
 pub struct File {
     pub used: usize,

@@ -46,6 +46,8 @@ impl Refusal {
     pub const LARGE: u32 = 26;
     // The text is longer than the buffer that it is written to.
     pub const ROOM: u32 = 27;
+    // The list has fewer entries than the file has sets.
+    pub const LIST: u32 = 28;
     // What the questions of a result are raised by, and the one about the fields of a record.
     pub const RESULT: u32 = 100;
 

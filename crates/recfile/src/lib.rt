@@ -2,7 +2,10 @@
 ghost use mathlib.Core.Path.{_≡_};
 ghost use lib.ListN.{length};
 ghost use Rattle.format.specs.Requests.{tag as tagOf};
-ghost use Rattle.format.specs.Calls.{numberIn, valueOr, checkAnswer, countAnswer, fetchAnswer, viewAnswer, writeAnswer, editAnswer, nameAnswer, fieldAnswer};
+ghost use Rattle.format.specs.Calls.{answered, numberIn, valueOr, checkAnswer, countAnswer, fetchAnswer, viewAnswer, writeAnswer, editAnswer, nameAnswer, fieldAnswer};
+ghost use Rattle.format.specs.Directory.{fillAnswer, keptAnswer, countAtAnswer};
+use format::Answer;
+use format::Entry;
 use lookup::Seen;
 
 // The number of the first question that says no of the file in the first `used` bytes of a buffer, else 0.
@@ -118,6 +121,58 @@ pub extern "C" fn recfile_edit(
     let edited = editor::edit(&mut *buf, used, request);
     *number = edited.number();
     edited.value_or(used)
+}
+
+// What C is told of an answer: its number, or another where it is refused, and the refusal's through a pointer.
+fn tell(a: Answer, other: usize, number: &mut u32) -> usize
+    ensures { λ r. ⌜ (r ≡ valueOr other (answered a)) × (now (number .exit) ≡ numberIn (answered a)) ⌝ }
+{
+    *number = a.number();
+    a.value_or(other)
+}
+
+// The number of sets, of which a list of entries is filled with the directory, 0 where it is refused.
+#[no_mangle]
+pub extern "C" fn recfile_fill(
+    buf: &[u8],
+    used: usize,
+    entries: &mut [Entry],
+    number: &mut u32,
+) -> usize
+    ensures { λ r. ⌜ (r ≡ valueOr 0 (fillAnswer (now (buf .entry)) used (now (entries .entry)) .result))
+        × (now (number .exit) ≡ numberIn (fillAnswer (now (buf .entry)) used (now (entries .entry)) .result))
+        × (now (entries .exit) ≡ fillAnswer (now (buf .entry)) used (now (entries .entry)) .entries) ⌝ }
+{
+    let filled = directory::fill(buf, used, entries);
+    tell(filled, 0, number)
+}
+
+// One edit that keeps a directory: the file's length after it, which is `used` where it is refused.
+#[no_mangle]
+pub extern "C" fn recfile_edit_listed(
+    buf: &mut [u8],
+    used: usize,
+    request: &[u8],
+    entries: &mut [Entry],
+    number: &mut u32,
+) -> usize
+    ensures { λ r. ⌜ (r ≡ valueOr used (keptAnswer (now (buf .entry)) used (now (request .entry)) (now (entries .entry)) .result))
+        × (now (number .exit) ≡ numberIn (keptAnswer (now (buf .entry)) used (now (request .entry)) (now (entries .entry)) .result))
+        × (now (buf .exit) ≡ keptAnswer (now (buf .entry)) used (now (request .entry)) (now (entries .entry)) .out)
+        × (now (entries .exit) ≡ keptAnswer (now (buf .entry)) used (now (request .entry)) (now (entries .entry)) .entries) ⌝ }
+{
+    let edited = directory::edit(buf, used, request, entries);
+    tell(edited, used, number)
+}
+
+// The number of records of the set at a position of a directory, 0 past its end.
+#[no_mangle]
+pub extern "C" fn recfile_count_at(entries: &[Entry], position: usize, number: &mut u32) -> usize
+    ensures { λ r. ⌜ (r ≡ valueOr 0 (countAtAnswer (now (entries .entry)) position))
+        × (now (number .exit) ≡ numberIn (countAtAnswer (now (entries .entry)) position)) ⌝ }
+{
+    let count = directory::count_at(entries, position);
+    tell(count, 0, number)
 }
 
 // One tagged field at a place of a request under construction: the byte behind it. Without room nothing is written, and it is one more than the request's length.

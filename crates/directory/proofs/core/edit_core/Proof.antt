@@ -1,0 +1,113 @@
+-- `directory::core::edit_core` meets its contract.
+use borrow.Author.Needs.{needs}
+use Prim.Native.Nat.{ℕ, _≤_, _<_}
+use mathlib.Core.Path.{_≡_, sym, ap, _∙_, subst}
+use lib.Seq.{length-take-le}
+use Rattle.directory.specs.Rows.{Does}
+use Rattle.directory.proofs.Files.{passing-fits, passing-readable, checked-passes, does-fail, does-short, does-edit}
+use Rattle.directory.proofs.core.edit_core.Statement.{statement}
+use Rattle.directory.proofs.core.edit_core.Tie as tie
+use Rattle.directory.proofs.core.edit_core.Reads as reads
+use Rattle.directory.proofs.core.edit_core.Lts as lts
+use Rattle.directory.proofs.core.count_sets.Reads as count-sets-reads
+use Rattle.editor.proofs.edit_passing.Reads as edit-passing-reads
+use Rattle.format.proofs.Answer.value_or.Reads as value-or-reads
+use Rattle.integrity.proofs.check_with.Reads as check-with-reads
+
+slice-aggregate-check-with : tie.Need-slice-aggregate-check-with
+slice-aggregate-check-with c = search needs
+
+check-with-requires : tie.Need-check-with-requires
+check-with-requires c κs = search needs
+
+same-length : tie.Need-same-length
+same-length c = search needs
+
+returns : tie.Need-returns
+returns c =
+    let at-args = c .before .before .before .before .before .before .before .args in
+    let at-check-with = c .before .before .check-with in
+    let at-if1 = c .if1 in
+    does-fail (at-args .buf .now) (at-args .used) (at-args .req .now) (at-args .room) (at-check-with .result) (at-check-with .ensures) (at-if1 .taken)
+
+slice-reshare-prefix-count-sets : tie.Need-slice-reshare-prefix-count-sets
+slice-reshare-prefix-count-sets c =
+    let at-args = c .before .before .before .before .before .before .before .args in
+    let at-check-with = c .before .before .check-with in
+    let at-if1 = c .if1 in
+    let v = checked-passes (at-args .buf .now) (at-args .used) (at-check-with .result) (at-check-with .ensures) (at-if1 .left) in
+    passing-fits (at-args .buf .now) (at-args .used) v
+
+slice-aggregate-count-sets : tie.Need-slice-aggregate-count-sets
+slice-aggregate-count-sets c =
+    let at-args = c .before .before .before .before .before .before .before .before .args in
+    let at-check-with = c .before .before .before .check-with in
+    let at-if1 = c .before .if1 in
+    let v = checked-passes (at-args .buf .now) (at-args .used) (at-check-with .result) (at-check-with .ensures) (at-if1 .left) in
+    sym (length-take-le (at-args .used) (at-args .buf .now) (passing-fits (at-args .buf .now) (at-args .used) v))
+
+count-sets-requires : tie.Need-count-sets-requires
+count-sets-requires c κs =
+    let at-args = c .before .before .before .before .before .before .before .before .args in
+    let at-check-with = c .before .before .before .check-with in
+    let at-if1 = c .before .if1 in
+    let v = checked-passes (at-args .buf .now) (at-args .used) (at-check-with .result) (at-check-with .ensures) (at-if1 .left) in
+    passing-readable (at-args .buf .now) (at-args .used) v
+
+same-length-2 : tie.Need-same-length-2
+same-length-2 c = search needs
+
+returns-2 : tie.Need-returns-2
+returns-2 c =
+    let at-args = c .before .before .before .before .before .before .before .before .before .before .args in
+    let at-check-with = c .before .before .before .before .before .check-with in
+    let at-count-sets = c .before .count-sets in
+    let at-if1 = c .before .before .before .if1 in
+    let at-if2 = c .if2 in
+    let v = checked-passes (at-args .buf .now) (at-args .used) (at-check-with .result) (at-check-with .ensures) (at-if1 .left) in
+    does-short (at-args .buf .now) (at-args .used) (at-args .req .now) (at-args .room) v (subst (λ (n : ℕ). at-args .room < n) (at-count-sets .ensures) (at-if2 .taken))
+
+slice-aggregate-edit-passing : tie.Need-slice-aggregate-edit-passing
+slice-aggregate-edit-passing c = search needs
+
+edit-passing-requires : tie.Need-edit-passing-requires
+edit-passing-requires c κs = search needs
+
+value-or-requires : tie.Need-value-or-requires
+value-or-requires c κs = search needs
+
+same-length-3 : tie.Need-same-length-3
+same-length-3 c = search needs
+
+returns-3 : tie.Need-returns-3
+returns-3 c =
+    let at-args = c .before .before .before .before .before .before .before .before .before .before .before .before .before .before .before .before .before .args in
+    let at-check-with = c .before .before .before .before .before .before .before .before .before .before .before .before .check-with in
+    let at-if1 = c .before .before .before .before .before .before .before .before .before .before .if1 in
+    let at-count-sets = c .before .before .before .before .before .before .before .before .count-sets in
+    let at-if2 = c .before .before .before .before .before .before .before .if2 in
+    let at-edit-passing = c .before .before .before .before .edit-passing in
+    let at-value-or = c .value-or in
+    let v = checked-passes (at-args .buf .now) (at-args .used) (at-check-with .result) (at-check-with .ensures) (at-if1 .left) in
+    let fits = subst (λ (n : ℕ). n ≤ at-args .room) (at-count-sets .ensures) (at-if2 .left) in
+    let done = does-edit (at-args .buf .now) (at-args .used) (at-args .req .now) (at-args .room) v fits (at-edit-passing .result) (at-edit-passing .last .0) (at-edit-passing .ensures) in
+    subst (Does (at-args .buf .now) (at-args .used) (at-args .req .now) (at-args .room) (at-edit-passing .last .0)) (λ i. record { answer = at-edit-passing .result; used = sym (at-value-or .ensures) i; sets = sym (at-count-sets .ensures) i }) done
+
+pub edit-core-spec : {M : Type 1} → statement M
+edit-core-spec =
+    tie.close
+    (tie.spec
+    slice-aggregate-check-with
+    check-with-requires
+    same-length
+    returns
+    slice-reshare-prefix-count-sets
+    slice-aggregate-count-sets
+    count-sets-requires
+    same-length-2
+    returns-2
+    slice-aggregate-edit-passing
+    edit-passing-requires
+    value-or-requires
+    same-length-3
+    returns-3)

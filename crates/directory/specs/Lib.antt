@@ -1,0 +1,3 @@
+-- What the parts of the directory's calls do.
+pub mod Blocks
+pub mod Rows
