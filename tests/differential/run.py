@@ -19,6 +19,7 @@ HERE = os.path.dirname(os.path.abspath(__file__))
 ROOT = os.path.dirname(os.path.dirname(HERE))
 sys.path.insert(0, os.path.join(ROOT, 'tests', 'model'))
 import crowds     # noqa: E402
+import frames     # noqa: E402
 import recfile    # noqa: E402
 import samples    # noqa: E402
 
@@ -227,6 +228,13 @@ class Tests:
             self.compare('check', text, len(text))
             self.edits(text + bytes(90), len(text), 1)
 
+    def int_ends(self):
+        """Numbers about the ends of int, and an edit of each file."""
+        for runs in samples.int_ends():
+            text = frames.whole(runs)
+            self.compare('check', text, len(text))
+            self.edits(text + bytes(90), len(text), 1)
+
     def limits(self):
         """Files about the size of every limit, and large ones."""
         def book(n):
@@ -311,6 +319,7 @@ def main():
     library = Library(load())
     tests = Tests(library, seed)
     tests.limits()
+    tests.int_ends()
     tests.limit_crowds()
     tests.builds(rounds)
     for _ in range(rounds):

@@ -3,7 +3,7 @@
 
 Usage: tests/model/definitions.py [SEED [COUNT]]       (from the repository's root; needs rt)
 
-It states what recfile.py answers as equations about the definitions, which the checker must prove by computing both sides: the verdict of COUNT files; the numbers,
+It states what recfile.py answers as equations about the definitions, which the checker must prove by computing both sides: the verdict of COUNT files and of those about the ends of int; the numbers,
 lengths and buffer of COUNT / 2 lists of edits; the directory of COUNT / 2 files, filled and after an edit that is given it; and COUNT / 4 lists of edits, some of them given
 the directory, run on the buffer and on the plain file. The equations go into a copy of the crate in a temporary folder.
 """
@@ -14,6 +14,7 @@ import subprocess
 import sys
 import tempfile
 
+import frames
 import recfile
 import samples
 
@@ -123,6 +124,13 @@ class Equations:
                 self.text += equation('file-%d' % files, 'judged %s %d' % (literal(data), number))
         return passing
 
+    def int_ends(self):
+        """Equations of the verdict of the files about the ends of int; how many."""
+        ends = [data for data in map(frames.whole, samples.int_ends()) if len(data) < 200]
+        for k, data in enumerate(ends):
+            self.text += equation('end-%d' % k, 'judged %s %d' % (literal(data), recfile.check(data, len(data))))
+        return len(ends)
+
     def edit_lists(self, passing, count):
         r = self.random
         for k in range(count):
@@ -197,6 +205,7 @@ class Equations:
 def main(seed=1, count=300):
     e = Equations(seed)
     passing = e.files(count)
+    ends = e.int_ends()
     e.edit_lists(passing, count // 2)
     e.directories(passing, count // 2)
     e.listed_runs(count // 4)
@@ -215,7 +224,7 @@ def main(seed=1, count=300):
     for line in errors[:10]:
         print(line[:300])
     agreed = said.returncode == 0 and not errors
-    print('%d files, %d lists of edits, %d directories, %d lists of edits with one: %s' % (count, count // 2, count // 2, count // 4, 'agreed' if agreed else 'NOT agreed'))
+    print('%d files, %d lists of edits, %d directories, %d lists of edits with one: %s' % (count + ends, count // 2, count // 2, count // 4, 'agreed' if agreed else 'NOT agreed'))
     sys.exit(0 if agreed else 1)
 
 

@@ -14,6 +14,26 @@ def number(n):
     return bytes([n // 256, n % 256])
 
 
+def int_ends():
+    """Files, as runs, with numbers at both sides of the ends of int and beyond 64 bits, in three bases: as values, ends of ranges and sizes; and numerals as long as a value may be."""
+    def described(rules, *value):
+        return [(1, b'%rec: S\n' + rules + b'\n\nA: '), *value, (1, b'\n')]
+
+    for n in (2 ** 31, 10 ** 12 - 1, 2 ** 63 - 1, 2 ** 63, 2 ** 63 + 1, 2 ** 64 - 1, 2 ** 64, 10 ** 20 - 1):
+        for form in (b'%d', b'-%d', b'0x%x', b'-0x%X', b'0%o', b'-0%o'):
+            w = form % n
+            for kind in (b'int', b'range MIN MAX', b'range MAX MAX', b'range MIN MIN'):
+                yield described(b'%type: A ' + kind, (1, w))
+            for kind in (b'range ' + w, b'range MIN ' + w, b'range ' + w + b' MAX'):
+                yield from (described(b'%type: A ' + kind, (1, end)) for end in (b'-9223372036854775808', b'9223372036854775807'))
+            for rule in (b'%type: A size ', b'%size: ', b'%size: < ', b'%size: >= '):
+                yield described(rule + w, (1, b'1'))
+    for front in (b'', b'-', b'0', b'-0', b'0x', b'-0x'):
+        for digit in (b'0', b'1', b'9'):
+            for end in (b'', b'1' + b'0' * 21, b'7' + b'f' * 15, b'8' + b'0' * 15):
+                yield from (described(b'%type: A int', (1, front), (n - len(front + end), digit), (1, end)) for n in (4096, 4097))
+
+
 class Samples:
     def __init__(self, seed):
         self.random = random.Random(seed)

@@ -144,7 +144,7 @@ def descriptors():
     each(*(described('%key:' + v + '\n') for v in ('', ' ', ' A', ' A B', ' 1', ' %A', ' A:', '  A ', '\tA', ' A\n+ ', ' A\n+ B', ' B')))
     each(described('%key: A\n%key: A\n'), described('%key: A\n%key: B\n'), described('%size: 1\n%size: 1\n'))
     each(*(described('%size:' + v + '\n') for v in ('', ' ', ' 1', ' 0', ' 2', ' 01', ' 0x1', ' 0X1', ' 00', ' -0', ' -1', ' +1', ' 1 1', ' <1', ' < 1', ' < 2', ' <= 1', ' <= 0', ' > 0', ' > 1', ' >= 1', ' >= 2', ' >= 0',
-                                                    ' = 1', ' == 1', ' != 1', ' <\n+ 2', ' 08', ' 2147483647', ' < 2147483647', ' < 2147483648', ' <', ' < <', ' < 2 3', ' a', ' 1.0', ' >= -0', ' >= 0x0', '  <=  1 ')))
+                                                    ' = 1', ' == 1', ' != 1', ' <\n+ 2', ' 08', ' 9223372036854775807', ' < 9223372036854775807', ' < 9223372036854775808', ' <', ' < <', ' < 2 3', ' a', ' 1.0', ' >= -0', ' >= 0x0', '  <=  1 ')))
     each(*(described('%size: ' + v + '\n', '') for v in ('0', '1', '< 1', '<= 0', '> 0', '>= 0', '< 0')))
     each(described('%foo: x\n'), described('%Rec: x\n'), described('%keys: A\n'), described('%confidential: A\n'), described('%sort: A\n'), described('%auto: A\n'), described('%singular: A\n'), described('%constraint: A\n'),
          described('%doc:\n'), described('%doc: a\n+ b\n%doc: c\n'), described('Foo: x\n'), described('Foo: x\n%key: A\n'))
@@ -152,8 +152,8 @@ def descriptors():
 
 def types():
     words = ['int', 'range', 'real', 'line', 'size', 'enum', 'bool', 'field', 'uuid', 'email', 'date', 'regexp', 'rec', 'T', '', 'Int', '1T', 'T_1', 'T-1', '%T', 'int 1', 'real 1', 'bool x', 'line x', 'field x', 'uuid x', 'T x',
-             'range 1', 'range 1 2', 'range 1 2 3', 'range MIN', 'range MIN MAX', 'range MAX MIN', 'range 5 1', 'range x', 'range 0x10', 'range 010 0x10', 'range -5 -1', 'range 2147483648', 'range -2147483648 1', 'range min', 'range 08',
-             'size 0', 'size 5', 'size -1', 'size -0', 'size x', 'size 1 2', 'size 0x5', 'size 2147483647', 'size 2147483648', 'enum a', 'enum a b', 'enum a a', 'enum (c)', 'enum (c) a', 'enum a (c', 'enum a c)', 'enum a ((c)) b',
+             'range 1', 'range 1 2', 'range 1 2 3', 'range MIN', 'range MIN MAX', 'range MAX MIN', 'range 5 1', 'range x', 'range 0x10', 'range 010 0x10', 'range -5 -1', 'range 9223372036854775808', 'range -9223372036854775808 1', 'range min', 'range 08',
+             'size 0', 'size 5', 'size -1', 'size -0', 'size x', 'size 1 2', 'size 0x5', 'size 9223372036854775807', 'size 9223372036854775808', 'enum a', 'enum a b', 'enum a a', 'enum (c)', 'enum (c) a', 'enum a (c', 'enum a c)', 'enum a ((c)) b',
              'enum a(c)b', 'enum(c) a', 'enum a (x y) b', 'enum a\n+ b', 'enum 1', 'enum _a', 'enum a_b-c', 'enum -a', 'enum a,b', 'enum (a) (b) c', 'enuma', 'enum a (c)(d) e', 'enum(a', 'enum)a', '\n+ int', ' int ', 'int\n+ ']
     for w in words:
         case(described('%type: A ' + w + '\n', ''))
@@ -177,8 +177,8 @@ def types():
 
 
 def values():
-    ints = ['0', '1', '-1', '-0', '00', '01', '010', '08', '09', '0x', '0x0', '0xfF', '0XF', '-0x10', '0xg', '+1', '1 2', '', ' 1', '1 ', ' \t1\t ', '2147483647', '2147483648', '-2147483648', '-2147483649', '0x7fffffff', '0x80000000', '-0x80000000',
-            '-0x80000001', '017777777777', '020000000000', '-020000000000', '99999999999999999999', '1.0', 'a', '-', '--1', '1-', '0' * 50, '0' * 50 + '7', '0x' + '0' * 50 + '1', '1\n+ ', '\n+ 1', '1\n+ 2', '1\\\n2']
+    ints = ['0', '1', '-1', '-0', '00', '01', '010', '08', '09', '0x', '0x0', '0xfF', '0XF', '-0x10', '0xg', '+1', '1 2', '', ' 1', '1 ', ' \t1\t ', '9223372036854775807', '9223372036854775808', '-9223372036854775808', '-9223372036854775809',
+            '0x7fffffffffffffff', '0x8000000000000000', '-0x8000000000000000', '-0x8000000000000001', '0777777777777777777777', '01000000000000000000000', '-01000000000000000000000', '99999999999999999999', '1.0', 'a', '-', '--1', '1-', '0' * 50, '0' * 50 + '7', '0x' + '0' * 50 + '1', '1\n+ ', '\n+ 1', '1\n+ 2', '1\\\n2']
     for v in ints:
         for t in ('int', 'range 10', 'range -5 8', 'range MIN MAX', 'range 5 1', 'real', 'line', 'size 3', 'bool', 'field', 'enum 0 1 a 010'):
             case(described('%type: A ' + t + '\n', 'A: ' + v + '\n'))
@@ -216,12 +216,17 @@ def marked():
     each(scan + '\nId: 2\nPage: p\n', scan + '\nId: 1\nPage: p\n', scan + '\nPage: p\n', scan.replace('Page: back\n', ''), scan[:69], scan.replace('Id: 1', 'Id: 08'), scan.replace('Id: 1', 'Id: 010'), scan.replace('Page: front', 'Id: front'), scan.replace('<= 3', '<= 0'))
 
 
+def ends():
+    for runs in samples.int_ends():
+        case(runs)
+
+
 def random_files(count):
     for seed in range(count):
         case(samples.Samples(seed).file())
 
 
-for make in (lengths, bytes_and_lines, limits, descriptors, types, values, rules, marked):
+for make in (lengths, bytes_and_lines, limits, descriptors, types, values, ends, rules, marked):
     make()
 random_files(800)
 

@@ -45,7 +45,7 @@ COINCIDE = [
     described('%size: 1\n'), described('%size: 2\n'), described('%size: 0\n'), described('%size: 0\n', ''), described('%size: 1\n', ''), described('%size: < 2\n'), described('%size: < 1\n'), described('%size: <= 1\n'), described('%size: <= 0\n'), described('%size: > 0\n'),
     described('%size: > 1\n'), described('%size: >= 1\n'), described('%size: >= 2\n'), described('%size: >= 1\n', ''), described('%size: -1\n'), described('%size: x\n'), described('%size: < 2 3\n'), described('%size: 0x1\n'), described('%size: 1\n%size: 1\n'),
     # types
-    *typed('int', '1', '-1', '0', '0x1F', '010', 'x', '', ' 1', '1.5', '0x', '1 2'),
+    *typed('int', '1', '-1', '0', '0x1F', '010', 'x', '', ' 1', '1.5', '0x', '1 2', '2147483648', '-0x80000001', '123456789012', '9223372036854775807', '-9223372036854775808'),
     *typed('range 5', '0', '5', '6', '-1', 'x'), *typed('range -2 3', '-2', '-3', '3', '4'), *typed('range MIN 3', '-100', '4'), *typed('range 3 MAX', '3', '2', '1000'),
     *typed('real', '1.5', '-1.5', '1', 'x', '1.5.5'), *typed('line', 'a b', 'a\n+ b', ''), *typed('size 3', 'abc', 'abcd', ''), *typed('bool', 'yes', 'no', '0', '1', 'true', 'false', 'x', '2'),
     *typed('enum a b', 'a', 'b', 'c', 'ab'), *typed('enum a (c) b', 'a', 'b', 'c'), *typed('field', 'A', '%A', '1', 'A B'), *typed('uuid', '01234567-89ab-cdef-0123-456789abcdef', '01234567-89AB-CDEF-0123-456789ABCDEF', 'x', '01234567-89ab-cdef-0123-456789abcdeg'),
@@ -69,7 +69,8 @@ DIFFER = {
     'recfix takes the key and the mandatory names as allowed': [described('%allowed: B\n%key: A\n'), described('%allowed: B\n%mandatory: A\n')],
     'of several types of one field recfix takes the last': [described('%type: A range 5\n%type: A int\n', 'A: 7\n')],
     'recfix takes typedefs called by a kind, and defined twice': [described('%typedef: int bool\n'), described('%typedef: T int\n%typedef: T bool\n%type: A T\n')],
-    'ints have no bounds in recfix, and 8 and 9 may follow a 0': typed('int', '2147483648', '-2147483649', '0x80000000', '08', '09'),
+    'ints have no bounds in recfix, and 8 and 9 may follow a 0': typed('int', '9223372036854775808', '-9223372036854775809', '0x8000000000000000', '08', '09'),
+    'the ends of ranges and the numbers of sizes have 32 bits in recfix': [*typed('range 3 MAX', '2147483648'), *typed('range MIN 3', '-2147483649'), *typed('range 4294967297', '5'), *typed('size 4294967297', 'abc'), described('%size: < 4294967297\n', 'A: 1\n\nA: 2\n')],
     'a real without digits, or with none before the dot': typed('real', '.5', '-', ''),
     'blanks around a uuid': typed('uuid', ' 01234567-89ab-cdef-0123-456789abcdef'),
 }

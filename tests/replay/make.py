@@ -201,6 +201,11 @@ def numbers(r):
            add(b'S', 0, b'K', b'1'), setting(b'S', 0, b'A', 0, b'x'), insert(b'S', (b'K', b'1'), (b'A', b'1')), insert(b'S', (b'K', b'2'), (b'A', b'1')), insert(b'S', (b'K', b'3'), (b'A', b'1')), setting(b'S', 1, b'K', 0, b'1'),
            delete(b'S', 0), setting(b'S', 0, b'K', 0, b'1'), insert(b'S', (b'K', b'1'), (b'A', b'1')), insert(b'S', (b'K', b'3'), (b'A', b'1')), delete(b'S', 1), delete(b'S', 0), delete(b'S', 0))
     r.look_around()
+    # 112 and 0 at both sides of the ends of int
+    r.start(b'%rec: S\n%type: A int\n%type: B range MIN MAX\n%type: C range MAX MAX\n%type: D range MIN MIN\n\nA: 0\nB: 0\nC: 9223372036854775807\nD: -9223372036854775808\n', room=400)
+    for value in (b'9223372036854775807', b'-9223372036854775808', b'-0x8000000000000000', b'-01000000000000000000000', b'9223372036854775808', b'-9223372036854775809', b'0x8000000000000000', b'18446744073709551616', b'123456789012'):
+        r.edit(*(setting(b'S', 0, name, 0, value) for name in (b'A', b'B', b'C', b'D')))
+    r.look_around()
     r.start(b'%rec: S\n%size: >= 1\n\nA: 1\n\n# c\n\n%rec: T\n\n', room=400, behind=b'behind')
     r.edit(delete(b'S', 0), insert(b'S', (b'A', b'2')), delete(b'S', 0), delete(b'S', 0), insert(b'T', (b'A', b'a\nb'), (b'B', b'')), insert(b'', (b'Z', b'z')), insert(b'T', (b'C', b'c')), delete(b'', 0), delete(b'T', 0))
     r.look_around()

@@ -31,7 +31,7 @@ Rise k [] = Unit {0}
 Rise k (r ∷ rs) = (k < r .number) × Rise (r .number) rs
 
 -- no question, or one above k
-abbrev Above : ℕ → ℕ → Type 0
+abbrev pub Above : ℕ → ℕ → Type 0
 Above k n = (n ≡ 0) ⊎ (k < n)
 
 above-more : (k j n : ℕ) → j ≤ k → Above k n → Above j n
@@ -42,7 +42,7 @@ first-by : (b : Bool) (k m n : ℕ) → k < n → Above n m → Above k (pick b 
 first-by true k m n h a = above-more n k m (omega arith) a
 first-by false k m n h a = inr h
 
-first-above : {A : Type 0} (rs : List (Row A)) (k : ℕ) → Rise k rs → (x : A) → Above k (firstNo rs x)
+pub first-above : {A : Type 0} (rs : List (Row A)) (k : ℕ) → Rise k rs → (x : A) → Above k (firstNo rs x)
 first-above [] k h x = inl refl
 first-above (r ∷ rs) k h x = first-by (r .asks x) k (firstNo rs x) (r .number) (h .0) (first-above rs (r .number) (h .1) x)
 

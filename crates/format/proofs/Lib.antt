@@ -39,6 +39,7 @@ pub mod Uncounted
 pub mod Dense
 pub mod Splices
 pub mod Least
+pub mod Wider
 pub mod Table
 pub mod Cases
 pub mod Lookups

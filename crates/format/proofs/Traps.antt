@@ -6,7 +6,7 @@ use mathlib.Core.Bool.{Bool, true, false}
 use mathlib.Core.List.{List, [], _∷_, _++_, map}
 use mathlib.Core.Option.{some}
 use lib.Dec.{eqb}
-use lib.ListN.{length}
+use lib.ListN.{length, replicate}
 use Rattle.format.specs.Bytes.{Bytes, text, all}
 use Rattle.format.specs.Pieces.{Piece, pieces}
 use Rattle.format.specs.Sets.{setsOf}
@@ -91,7 +91,7 @@ lines-told = refl
 descriptors-told : meeting (
     each 5 ("%key: Id\n" ∷ "%: x\n" ∷ "%rec: A\n%rec: B\n" ∷ "%rec: A\n\nA: b\n%doc: x\n" ∷ "%rec: A B\n\n%doc: x\n" ∷ []) ∷
     each 6 ("%rec: A B\n" ∷ "%rec:\n" ∷ "%rec: 1A\n" ∷ "%rec: %A\n" ∷ "%rec: A\n\n%rec: A\n" ∷ "%rec: A\n\n%rec:\n+ A\n" ∷ []) ∷
-    these 6 (("%foo: x\n" has "") ∷ ("%: x\n" has "") ∷ ("%key: a\n%key: a\n" has "") ∷ ("%key: a b\n" has "") ∷ ("%key:\n" has "") ∷ ("%key: 1\n" has "") ∷ ("%mandatory:\n" has "") ∷ ("%mandatory: a 1\n" has "") ∷ ("%allowed: a,b\n" has "") ∷ ("%unique: -\n" has "") ∷ ("%prohibit:\n" has "") ∷ ("%size: <1\n" has "") ∷ ("%size: < \n" has "") ∷ ("%size: -1\n" has "") ∷ ("%size: 08\n" has "") ∷ ("%size: 1 <\n" has "") ∷ ("%size: < 1 2\n" has "") ∷ ("%size: MAX\n" has "") ∷ ("%size: 2147483648\n" has "") ∷ ("%size: 0\n%size: 0\n" has "") ∷ ("%size: ==\n" has "") ∷ []) ∷
+    these 6 (("%foo: x\n" has "") ∷ ("%: x\n" has "") ∷ ("%key: a\n%key: a\n" has "") ∷ ("%key: a b\n" has "") ∷ ("%key:\n" has "") ∷ ("%key: 1\n" has "") ∷ ("%mandatory:\n" has "") ∷ ("%mandatory: a 1\n" has "") ∷ ("%allowed: a,b\n" has "") ∷ ("%unique: -\n" has "") ∷ ("%prohibit:\n" has "") ∷ ("%size: <1\n" has "") ∷ ("%size: < \n" has "") ∷ ("%size: -1\n" has "") ∷ ("%size: 08\n" has "") ∷ ("%size: 1 <\n" has "") ∷ ("%size: < 1 2\n" has "") ∷ ("%size: MAX\n" has "") ∷ ("%size: 0\n%size: 0\n" has "") ∷ ("%size: ==\n" has "") ∷ []) ∷
     these 0 (("foo: x\n" has "") ∷ ("%doc:\n%doc: a\n" has "") ∷ ("" has "") ∷ ("%key: %a\n" has "") ∷ ("%mandatory: a\n%mandatory: b\n+ c\n" has "") ∷ ("%size: -0\n" has "") ∷ ("%size: 0x0\n" has "") ∷ ("%size: <=\n+ 00\n" has "") ∷ ("%size: > 0\n" has "A: b\n") ∷ ("%size: >= 1\n" has "A: b\n") ∷ ("%size: < 2\n" has "A: b\n") ∷ []) ∷
     these 7 (("%typedef: T\n" has "") ∷ ("%typedef:\n" has "") ∷ ("%typedef: 1 int\n" has "") ∷ ("%typedef: %T int\n" has "") ∷ ("%typedef: int real\n" has "") ∷ ("%typedef: rec int\n" has "") ∷ ("%typedef: date int\n" has "") ∷ ("%typedef: N int\n%typedef: N int\n" has "") ∷ ("%typedef: N M\n" has "") ∷ ("%typedef: N N\n" has "") ∷ ("%typedef: A B\n%typedef: B C\n%typedef: C A\n" has "") ∷ ("%typedef: N int x\n" has "") ∷ ("%type: a\n" has "") ∷ ("%type: a,,b int\n" has "") ∷ ("%type: ,a int\n" has "") ∷ ("%type: a, int\n" has "") ∷ ("%type: 1 int\n" has "") ∷ ("%type: a email\n" has "") ∷ ("%type: a M\n" has "") ∷ ("%type: a range\n" has "") ∷ ("%type: a range 1 2 3\n" has "") ∷ ("%type: a range x\n" has "") ∷ ("%type: a size\n" has "") ∷ ("%type: a size -1\n" has "") ∷ ("%type: a size 1 2\n" has "") ∷ ("%type: a size MAX\n" has "") ∷ ("%type: a real 1\n" has "") ∷ ("%type: a enum\n" has "") ∷ ("%type: a enum (x)\n" has "") ∷ ("%type: a enum -x\n" has "") ∷ ("%type: a enum a (b\n" has "") ∷ ("%type: a enum a b)\n" has "") ∷ ("%type: a enum a (b (c) d)\n" has "") ∷ ("%type: a int (x)\n" has "") ∷ ("%type: a (x) enum a\n" has "") ∷ []) ∷
     these 0 (("%typedef: A B\n%typedef: B C\n%typedef: C int\n%type: x A\n" has "x: 1\n") ∷ ("%type: a enum(c) a\n" has "a: a\n") ∷ ("%type: a enum a(b)c\n" has "a: c\n") ∷ ("%type: a enum a (b\n+ c) d\n" has "a: d\n") ∷ ("%type: a enum a a\n" has "a: a\n") ∷ ("%type: a range 3 1\n" has "") ∷ ("%type: a range -3\n" has "") ∷ ("%typedef: enum_ enum x\n%type: a enum_\n" has "a: x\n") ∷ []) ∷ []) ≡ true
@@ -113,7 +113,36 @@ rules-told = refl
 
 -- values and types
 types-told : meeting (
-    these 0 (typed "int" ("0" ∷ "-0" ∷ "00" ∷ "010" ∷ "-0x0" ∷ "0x1F" ∷ "0xff" ∷ "2147483647" ∷ "-2147483648" ∷ "017777777777" ∷ " 7\n+ " ∷ "-020000000000" ∷ []) ∷ typed "range 2" ("0" ∷ "1" ∷ "2" ∷ []) ∷ typed "range -1 1" ("-1" ∷ "0" ∷ "1" ∷ "-0" ∷ []) ∷ typed "range MIN MAX" ("-2147483648" ∷ "2147483647" ∷ []) ∷ typed "range 1 MAX" ("1" ∷ []) ∷ typed "real" ("1" ∷ "-1.5" ∷ "00.10" ∷ "0" ∷ "12345678901234567890.5" ∷ " 1.5 " ∷ []) ∷ typed "line" ("" ∷ "a b" ∷ "x\\\n+ y" ∷ []) ∷ typed "size 3" ("" ∷ "abc" ∷ " a " ∷ "a\n+ b" ∷ []) ∷ typed "size 0" ("" ∷ []) ∷ typed "enum a b-c 1_ (x)" ("a" ∷ "b-c" ∷ "1_" ∷ " a\n+ " ∷ []) ∷ typed "bool" ("yes" ∷ "no" ∷ "0" ∷ "1" ∷ "true" ∷ "false" ∷ " yes" ∷ []) ∷ typed "field" ("A" ∷ "%" ∷ "a_1" ∷ " %rec " ∷ []) ∷ typed "uuid" ("550e8400-e29b-41d4-a716-446655440000" ∷ "550E8400-E29B-41D4-A716-446655440000" ∷ []) ∷ []) ∷
-    these 12 (typed "int" ("08" ∷ []) ∷ typed "int" ("" ∷ []) ∷ typed "int" ("-" ∷ []) ∷ typed "int" ("0x" ∷ []) ∷ typed "int" ("0X1" ∷ []) ∷ typed "int" ("+1" ∷ []) ∷ typed "int" ("1 2" ∷ []) ∷ typed "int" ("2147483648" ∷ []) ∷ typed "int" ("-2147483649" ∷ []) ∷ typed "int" ("0x80000000" ∷ []) ∷ typed "int" ("1.0" ∷ []) ∷ typed "int" ("--1" ∷ []) ∷ typed "int" ("1a" ∷ []) ∷ typed "range 2" ("3" ∷ []) ∷ typed "range 2" ("-1" ∷ []) ∷ typed "range -1 1" ("2" ∷ []) ∷ typed "range 1 0" ("1" ∷ []) ∷ typed "range MIN" ("0" ∷ []) ∷ typed "real" ("1." ∷ []) ∷ typed "real" (".5" ∷ []) ∷ typed "real" ("1.2.3" ∷ []) ∷ typed "real" ("" ∷ []) ∷ typed "real" ("1e5" ∷ []) ∷ typed "real" ("+1" ∷ []) ∷ typed "line" ("a\n+ b" ∷ []) ∷ typed "size 3" ("abcd" ∷ []) ∷ typed "size 3" ("ab\n+ c" ∷ []) ∷ typed "enum a b" ("c" ∷ []) ∷ typed "enum a b" ("a b" ∷ []) ∷ typed "enum a b" ("A" ∷ []) ∷ typed "bool" ("YES" ∷ []) ∷ typed "bool" ("2" ∷ []) ∷ typed "bool" ("" ∷ []) ∷ typed "field" ("1" ∷ []) ∷ typed "field" ("a b" ∷ []) ∷ typed "field" ("" ∷ []) ∷ typed "uuid" ("550e8400-e29b-41d4-a716-44665544000" ∷ []) ∷ typed "uuid" ("550e8400-e29b-41d4-a716-44665544000g" ∷ []) ∷ typed "uuid" ("550e8400e29b41d4a716446655440000" ∷ []) ∷ typed "uuid" ("550e8400-e29b-41d4-a716-446655440000-" ∷ []) ∷ []) ∷ []) ≡ true
+    these 0 (typed "int" ("0" ∷ "-0" ∷ "00" ∷ "010" ∷ "-0x0" ∷ "0x1F" ∷ "0xff" ∷ " 7\n+ " ∷ []) ∷ typed "range 2" ("0" ∷ "1" ∷ "2" ∷ []) ∷ typed "range -1 1" ("-1" ∷ "0" ∷ "1" ∷ "-0" ∷ []) ∷ typed "range 1 MAX" ("1" ∷ []) ∷ typed "real" ("1" ∷ "-1.5" ∷ "00.10" ∷ "0" ∷ "12345678901234567890.5" ∷ " 1.5 " ∷ []) ∷ typed "line" ("" ∷ "a b" ∷ "x\\\n+ y" ∷ []) ∷ typed "size 3" ("" ∷ "abc" ∷ " a " ∷ "a\n+ b" ∷ []) ∷ typed "size 0" ("" ∷ []) ∷ typed "enum a b-c 1_ (x)" ("a" ∷ "b-c" ∷ "1_" ∷ " a\n+ " ∷ []) ∷ typed "bool" ("yes" ∷ "no" ∷ "0" ∷ "1" ∷ "true" ∷ "false" ∷ " yes" ∷ []) ∷ typed "field" ("A" ∷ "%" ∷ "a_1" ∷ " %rec " ∷ []) ∷ typed "uuid" ("550e8400-e29b-41d4-a716-446655440000" ∷ "550E8400-E29B-41D4-A716-446655440000" ∷ []) ∷ []) ∷
+    these 12 (typed "int" ("08" ∷ []) ∷ typed "int" ("" ∷ []) ∷ typed "int" ("-" ∷ []) ∷ typed "int" ("0x" ∷ []) ∷ typed "int" ("0X1" ∷ []) ∷ typed "int" ("+1" ∷ []) ∷ typed "int" ("1 2" ∷ []) ∷ typed "int" ("1.0" ∷ []) ∷ typed "int" ("--1" ∷ []) ∷ typed "int" ("1a" ∷ []) ∷ typed "range 2" ("3" ∷ []) ∷ typed "range 2" ("-1" ∷ []) ∷ typed "range -1 1" ("2" ∷ []) ∷ typed "range 1 0" ("1" ∷ []) ∷ typed "range MIN" ("0" ∷ []) ∷ typed "real" ("1." ∷ []) ∷ typed "real" (".5" ∷ []) ∷ typed "real" ("1.2.3" ∷ []) ∷ typed "real" ("" ∷ []) ∷ typed "real" ("1e5" ∷ []) ∷ typed "real" ("+1" ∷ []) ∷ typed "line" ("a\n+ b" ∷ []) ∷ typed "size 3" ("abcd" ∷ []) ∷ typed "size 3" ("ab\n+ c" ∷ []) ∷ typed "enum a b" ("c" ∷ []) ∷ typed "enum a b" ("a b" ∷ []) ∷ typed "enum a b" ("A" ∷ []) ∷ typed "bool" ("YES" ∷ []) ∷ typed "bool" ("2" ∷ []) ∷ typed "bool" ("" ∷ []) ∷ typed "field" ("1" ∷ []) ∷ typed "field" ("a b" ∷ []) ∷ typed "field" ("" ∷ []) ∷ typed "uuid" ("550e8400-e29b-41d4-a716-44665544000" ∷ []) ∷ typed "uuid" ("550e8400-e29b-41d4-a716-44665544000g" ∷ []) ∷ typed "uuid" ("550e8400e29b41d4a716446655440000" ∷ []) ∷ typed "uuid" ("550e8400-e29b-41d4-a716-446655440000-" ∷ []) ∷ []) ∷ []) ≡ true
 unfolding pieces setsOf fileOf verdictIn verdict
 types-told = refl
+
+-- numbers at both sides of the ends of int, and beyond 64 bits; each of the second list is a file of its own
+abbrev alone : String → List String → List Bytes
+alone t vs = map (λ (v : String). typed t (v ∷ [])) vs
+
+abbrev sized : List String → List Bytes
+sized vs = map (λ (v : String). text "%rec: T\n%size: " ++ text v ++ text "\n") vs
+
+ends-told : meeting (
+    these 0 (typed "int" ("9223372036854775807" ∷ "-9223372036854775808" ∷ "0x7FFFFFFFFFFFFFFF" ∷ "-0x8000000000000000" ∷ "0777777777777777777777" ∷ "-01000000000000000000000" ∷ "123456789012" ∷ "2147483648" ∷ "-2147483649" ∷ "0x80000000" ∷ "040000000000" ∷ []) ∷ typed "range MIN MAX" ("-9223372036854775808" ∷ "9223372036854775807" ∷ []) ∷ typed "range MIN -0x8000000000000000" ("-9223372036854775808" ∷ []) ∷ typed "range MAX 9223372036854775807" ("0x7fffffffffffffff" ∷ []) ∷ typed "range 9223372036854775807" ("0" ∷ "9223372036854775807" ∷ []) ∷ typed "size 9223372036854775807" ("" ∷ "abc" ∷ []) ∷ typed "size 0x7fffffffffffffff" ("abc" ∷ []) ∷ []) ∷
+    these 12 (alone "int" ("9223372036854775808" ∷ "-9223372036854775809" ∷ "0x8000000000000000" ∷ "-0x8000000000000001" ∷ "01000000000000000000000" ∷ "-01000000000000000000001" ∷ "10000000000000000000" ∷ "99999999999999999999" ∷ "18446744073709551615" ∷ "18446744073709551616" ∷ "-18446744073709551617" ∷ "0x10000000000000000" ∷ "-0x10000000000000001" ∷ "02000000000000000000000" ∷ []) ++ alone "range MIN -9223372036854775808" ("-9223372036854775807" ∷ []) ++ alone "range MAX MAX" ("9223372036854775806" ∷ "2147483647" ∷ "18446744073709551615" ∷ []) ++ alone "range 0 MAX" ("-1" ∷ "9223372036854775808" ∷ []) ++ alone "range MIN" ("-9223372036854775808" ∷ "0" ∷ [])) ∷
+    these 7 (map (λ (t : String). typed t []) ("range 9223372036854775808" ∷ "range -9223372036854775809 0" ∷ "range 0 0x8000000000000000" ∷ "range -01000000000000000000001 0" ∷ "range 18446744073709551617" ∷ "size 9223372036854775808" ∷ "size 18446744073709551616" ∷ "size -0x8000000000000000" ∷ "size -1" ∷ [])) ∷
+    these 6 (sized ("9223372036854775808" ∷ "< 0x8000000000000000" ∷ "> 01000000000000000000000" ∷ "18446744073709551616" ∷ "< 18446744073709551617" ∷ "-9223372036854775808" ∷ "<= -1" ∷ [])) ∷
+    these 14 (sized ("9223372036854775807" ∷ "> 9223372036854775807" ∷ ">= 0x7fffffffffffffff" ∷ ">= 4294967296" ∷ "4294967296" ∷ [])) ∷
+    these 0 (sized ("< 9223372036854775807" ∷ "<= 0777777777777777777777" ∷ "<= 4294967296" ∷ "-00000000000000000000000" ∷ "0x00000000000000000000000" ∷ [])) ∷ []) ≡ true
+unfolding pieces setsOf fileOf verdictIn verdict
+ends-told = refl
+
+-- one value, of any length: some bytes between a front and an end
+abbrev filledBy : String → ℕ → ℕ → String → Bytes
+filledBy a n c z = text "%rec: T\n%type: A int\n\nA: " ++ text a ++ replicate n c ++ text z ++ text "\n"
+
+-- numerals as long as a value may be (4,096 bytes), of zeros and of other digits, and one byte longer
+long-told : meeting (
+    these 0 (filledBy "" 4096 48 "" ∷ filledBy "-" 4073 48 "1000000000000000000000" ∷ filledBy "0x" 4078 48 "7fffffffffffffff" ∷ []) ∷
+    these 12 (filledBy "" 4096 57 "" ∷ filledBy "" 4074 48 "1000000000000000000000" ∷ filledBy "-0x" 4093 102 "" ∷ []) ∷
+    these 4 (filledBy "" 4097 48 "" ∷ []) ∷ []) ≡ true
+unfolding pieces setsOf fileOf verdictIn verdict
+long-told = refl

@@ -18,9 +18,9 @@ pub record Bounds : Type 0 where
   pub least : ℕ
   pub greatest : ℕ
 
--- "−2,147,483,648 to 2,147,483,647"; this is the one place
+-- "−9,223,372,036,854,775,808 to 9,223,372,036,854,775,807, in hex and octal too"; this is the one place
 abbrev pub intBounds : Bounds
-intBounds = record { least = 2147483648; greatest = 2147483647 }
+intBounds = record { least = 9223372036854775808; greatest = 9223372036854775807 }
 
 -- the value of a digit of either case, 16 of any other byte
 abbrev pub digit : ℕ → ℕ

@@ -21,9 +21,9 @@ pub struct Ends {
 
 impl Ends {
     // This is the one place.
-    pub const LEAST: u64 = 2147483648;
+    pub const LEAST: u64 = 9223372036854775808;
 
-    pub const GREATEST: u64 = 2147483647;
+    pub const GREATEST: u64 = 9223372036854775807;
 }
 
 pub enum IntOf {
