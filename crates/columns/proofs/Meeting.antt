@@ -5,8 +5,7 @@ use mathlib.Core.Bool.{Bool, false}
 use mathlib.Core.List.{List, [], _∷_}
 use denote.Enum.Declared.{tagOf}
 use types.Run.{OneOf, miss}
-use Rattle.format.specs.Bytes.{Bytes, among}
-use Rattle.format.specs.Words.{trim}
+use Rattle.format.specs.Bytes.{Bytes}
 use Rattle.format.specs.Types.{uncomment}
 use Rattle.words.specs.Spans.{span}
 use Rattle.typing.specs.Meaning.{symbolsIn, Sound, meetsIn}
@@ -29,18 +28,6 @@ symbolsOf s Shape.Bool = []
 symbolsOf s Shape.Field = []
 symbolsOf s Shape.Uuid = []
 symbolsOf s (Shape.Alias a e) = []
-
-pub met-by : (s : Bytes) (k : Shape) (symbol : Bool) (v : Bytes) → symbol ≡ among (trim v) (symbolsOf s k) → metBy k symbol v ≡ meetsIn s k v
-met-by s Shape.Int symbol v e = refl
-met-by s (Shape.Range a b) symbol v e = refl
-met-by s Shape.Real symbol v e = refl
-met-by s Shape.Line symbol v e = refl
-met-by s (Shape.Size n) symbol v e = refl
-met-by s (Shape.Enum a b) symbol v e = e
-met-by s Shape.Bool symbol v e = refl
-met-by s Shape.Field symbol v e = refl
-met-by s Shape.Uuid symbol v e = refl
-met-by s (Shape.Alias a b) symbol v e = refl
 
 -- a kind that needs neither an int nor symbols
 pub record Apart (k : Shape) : Type 0 where

@@ -53,12 +53,6 @@ module _ (d name v : Bytes) where
       ∙ sym (and-assoc here (between (suc k) m) (between (suc k + m) n))
       ∙ ap (λ (j : ℕ). (here && between (suc k) m) && between j n) y
 
-  pub between-cut : (from next to : ℕ) → from ≤ next → next ≤ to → between from (to - from) ≡ between from (next - from) && between next (to - next)
-  between-cut from next to a b =
-      let z : to - from ≡ (next - from) + (to - next) = omega arith in
-      let y : from + (next - from) ≡ next = omega arith in
-      ap (between from) z ∙ between-split from (next - from) (to - next) ∙ ap (λ (j : ℕ). between from (next - from) && between j (to - next)) y
-
 -- one `%type` value
 abbrev ruleMet : Bytes → Bytes → Bytes → Bytes → Bool
 ruleMet d name v w = not (among name (typedNames w)) || meetsKind (kindOf d w) v

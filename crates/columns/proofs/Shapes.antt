@@ -15,21 +15,15 @@ use Rattle.format.specs.Types.{Kind, Typed, uncomment, meets}
 use Rattle.lines.specs.Value.{valueFrom}
 use Rattle.words.specs.Spans.{span}
 use Rattle.numbers.specs.Meaning.{intIn}
-use Rattle.typing.specs.Meaning.{symbolsIn, typedIn, Told}
+use Rattle.typing.specs.Meaning.{symbolsIn, typedIn}
 use Rattle.typing.specs.declared.Shape.{Shape}
-use Rattle.typing.specs.declared.TypeOf.{TypeOf}
 use Rattle.typing.proofs.Shape.{the-type}
-use Rattle.typedefs.proofs.Chains.{told-none}
 use Rattle.typedefs.proofs.Following.{kindOnly}
 use Rattle.columns.specs.Readings.{metBy}
 use Rattle.enums.specs.Enums.{typeSymbols, listed, typeAt, isEnumAt, enumIn}
 use Rattle.enums.specs.Rows.{TextAt}
 use Rattle.columns.specs.Meets.{meetsKind}
 use Rattle.columns.specs.Rows.{textOf, IsKind}
-
--- a text that has a type is not refused
-pub not-refused : (s : Bytes) (x : Option Typed) (r : TypeOf) → Told s x r → isSome x ≡ true → r ≡ TypeOf.Fault → ⊥
-not-refused s x r t h e = false≢true (sym (ap isSome (told-none s x r t e)) ∙ h)
 
 abbrev others : List ℕ
 others = 0 ∷ 1 ∷ 2 ∷ 3 ∷ 4 ∷ 6 ∷ 7 ∷ 8 ∷ 9 ∷ []

@@ -7,25 +7,24 @@ use mathlib.Core.List.{List, [], _∷_, map}
 use lib.ListN.{length, take, drop, getD, length-drop}
 use lib.Seq.{drop-cons}
 use Rattle.format.specs.Bytes.{Bytes, pick}
-use Rattle.format.specs.Lines.{Line}
 use Rattle.format.specs.Pieces.{Piece, readOf}
-use Rattle.format.specs.Records.{countOf, blocks}
+use Rattle.format.specs.Records.{countOf}
 use Rattle.format.specs.Calls.{lead, fromFirst}
 use Rattle.format.specs.declared.Entry.{Entry}
 use Rattle.lines.proofs.Cuts.{rest}
-use Rattle.records.specs.Places.{isReadable, Placed, sizeIn, placesIn, placesOf, isDescriptor, countBefore}
+use Rattle.records.specs.Places.{isReadable, Placed, sizeIn, placesOf}
 use Rattle.records.specs.Sets.{setEnd, leading, setAt, firstSet}
 use Rattle.records.specs.declared.MemberRun.{MemberRun}
 use Rattle.records.specs.declared.NextSet.{NextSet}
 use Rattle.records.specs.declared.RecordSet.{RecordSet}
 use Rattle.records.proofs.Shifts.{raise}
-use Rattle.records.proofs.Walks.{size-append, size-piece, size-none}
+use Rattle.records.proofs.Walks.{size-append, size-piece}
 use Rattle.records.proofs.Readings.{readable-reads, reads-length, places-read}
 use Rattle.records.proofs.FirstPlaces.{lead-first}
-use Rattle.records.proofs.Searches.{placesAt, places-all}
+use Rattle.records.proofs.Searches.{places-all}
 use Rattle.records.proofs.Members.{stands}
-use Rattle.directory.specs.Blocks.{blockFrom, noEntry, entryOn, nextEntry, raiseEntry, listIn, entryIn, startIn}
-use Rattle.directory.proofs.Walks.{headEntry, headOn, headsIn, directory-walk}
+use Rattle.directory.specs.Blocks.{blockFrom, noEntry, entryOn, nextEntry, listIn, entryIn, startIn}
+use Rattle.directory.proofs.Walks.{headEntry, headOn, directory-walk}
 use Rattle.directory.proofs.Blocks.{blockAt}
 use Rattle.directory.proofs.Heads.{headsAt, heads-met, HeadFirst, Begins, heads-past, Next, next-met}
 

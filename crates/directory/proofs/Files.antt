@@ -1,8 +1,7 @@
 -- The number of a file's sets, and an edit that is given a list, case by case: the file fails, the list is too short, and otherwise.
 use Prim.Native.Nat.{ℕ, zero, suc, _≤_, _<_}
 use mathlib.Core.Path.{_≡_, refl, sym, ap, _∙_, subst}
-use mathlib.Core.Bool.{Bool, true, false, and-eq-true-iff}
-use lib.Dec.{leb}
+use mathlib.Core.Bool.{Bool, true, and-eq-true-iff}
 use lib.ListN.{length, take}
 use borrow.Author.Tests.{le-leb, lt-leb}
 use Rattle.format.specs.Bytes.{Bytes, pick, isSome}

@@ -3,15 +3,15 @@ use Prim.Native.Nat.{ℕ, suc, _+_}
 use native.Mathlib.Omega.{arith}
 use mathlib.Core.Path.{_≡_, refl, sym, ap, _∙_}
 use mathlib.Core.Bool.{Bool, true, false, _&&_, _||_, not}
-use mathlib.Core.List.{List, [], _∷_, _++_}
+use mathlib.Core.List.{List, [], _∷_}
 use lib.ListN.{length}
 use Rattle.format.specs.Bytes.{Bytes, pick, any}
 use Rattle.format.specs.Lists.{isFilled, filter, flat, front, onto, cutAt, untilLast}
 use Rattle.format.specs.Lines.{Line}
 use Rattle.format.specs.Pieces.{Piece}
 use Rattle.format.specs.Records.{Record, Block, blocks, countOf, fieldsOf, isRecord, isBlankLine}
-use Rattle.format.specs.Sets.{Group, groups, recValues, isDescriptor, isMember}
-use Rattle.format.specs.Directory.{groupSize, entryFrom, entriesFrom, entriesIn, directoryOf}
+use Rattle.format.specs.Sets.{Group, recValues, isDescriptor, isMember}
+use Rattle.format.specs.Directory.{groupSize, entriesFrom, entriesIn, directoryOf}
 use Rattle.format.specs.declared.Entry.{Entry}
 use Rattle.format.specs.Calls.{lead, fromFirst}
 use Rattle.records.specs.Places.{Placed, sizeIn, placedAt, placeOn, placesIn, countBefore}

@@ -22,9 +22,6 @@ use Rattle.edits.specs.Splices.{madeBy, Sound, isWithin}
 
 -- a length by the two tests
 module _ (room n : ℕ) where
-  pub over-room : room < n → isWithin room n ≡ false
-  over-room h = ap (λ (t : Bool). t && leb n fileBytes) (lt-leb n room h)
-
   pub in-room : n ≤ room → isWithin room n ≡ leb n fileBytes
   in-room h = ap (λ (t : Bool). t && leb n fileBytes) (le-leb n room h)
 

@@ -3,7 +3,7 @@ use Prim.Native.Nat.{ℕ, zero, suc}
 use mathlib.Core.Path.{_≡_, refl}
 use lib.ListN.{length}
 use Rattle.format.specs.Bytes.{Bytes}
-use Rattle.format.specs.Plain.{Plain, Step, step}
+use Rattle.format.specs.Plain.{Plain, step}
 use Rattle.format.specs.Calls.{editAnswer, stepAnswer}
 use Rattle.format.specs.Directory.{listNo, refusedBy, listedStep, listedAnswer}
 use Rattle.format.specs.Runs.{Call, requestIn, callAnswer, callStep}

@@ -82,11 +82,6 @@ Has (x ∷ xs) zero = Unit {0}
 Has (x ∷ xs) (suc k) = Has xs k
 
 module _ {A : Type 0} where
-  pub has-append : (xs ys : List A) (k : ℕ) → Has xs k → Has (xs ++ ys) k
-  has-append [] ys k h = absurd h
-  has-append (x ∷ xs) ys zero h = tt
-  has-append (x ∷ xs) ys (suc k) h = has-append xs ys k h
-
   pub below-has : (xs : List A) (k : ℕ) → k < length xs → Has xs k
   below-has [] k h = omega arith
   below-has (x ∷ xs) zero h = tt

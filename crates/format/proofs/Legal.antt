@@ -13,7 +13,6 @@ use Rattle.format.specs.Words.{split}
 use Rattle.format.specs.Limits.{nameBytes, valueBytes}
 use Rattle.format.specs.Written.{written, Pair, writtenAll, newPiece, isLegalName, noneJoins, isLegalValue, isLegalPair}
 use Rattle.format.proofs.Elements.{Each, each-imp, each-map, all-each}
-use Rattle.format.proofs.Lines.{all-append}
 use Rattle.format.proofs.Whole.{Sound, sound-pieces}
 use Rattle.format.proofs.Names.{name-allowed}
 use Rattle.format.proofs.Writing.{writtenAll-bytes, written-sound, allowed-written}
@@ -65,11 +64,3 @@ pub written-allowed : (p : Pair) → isLegalPair p ≡ true → all isAllowed (w
 written-allowed p e =
     allowed-written (p .name) (p .value)
     ∙ and-eq-true-iff (all isAllowed (p .name)) (all isAllowed (p .value)) .1 (name-allowed (p .name) (legal-is-name (p .name) (legal-name p e)), legal-allowed (p .value) (legal-value p e))
-
-pub writtenAll-allowed : (ps : List Pair) → all isLegalPair ps ≡ true → all isAllowed (writtenAll ps) ≡ true
-writtenAll-allowed [] e = refl
-writtenAll-allowed (p ∷ ps) e =
-    let h = and-eq-true-iff (isLegalPair p) (all isLegalPair ps) .0 e in
-    let s : Bytes = written (p .name) (p .value) in
-    all-append isAllowed s (writtenAll ps)
-    ∙ and-eq-true-iff (all isAllowed s) (all isAllowed (writtenAll ps)) .1 (written-allowed p (h .0), writtenAll-allowed ps (h .1))

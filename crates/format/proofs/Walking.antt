@@ -4,7 +4,7 @@ use mathlib.Core.Path.{_≡_, refl, sym, ap, _∙_, subst}
 use mathlib.Core.Bool.{Bool, true, false, _&&_, _||_, not, and-eq-true-iff, and-assoc, or-false, false≢true}
 use mathlib.Core.List.{List, [], _∷_, map}
 use mathlib.Core.Option.{some}
-use lib.Dec.{leb, eqb, leb·zero, leb·suc-suc}
+use lib.Dec.{leb, eqb}
 use lib.ListN.{length}
 use borrow.Author.Tests.{not-true}
 use Rattle.format.specs.Lists.{isFilled, filter, front, behind}
@@ -17,7 +17,6 @@ use Rattle.format.specs.Sets.{valuesOf, recValues, RecSet}
 use Rattle.format.specs.Limits.{descriptors}
 use Rattle.format.specs.Numbers.{Bounds, intBounds}
 use Rattle.format.specs.Rules.{one, isShaped, isWellFormed, isTypedWell, distinct}
-use Rattle.format.specs.Plain.{membersAt}
 use Rattle.format.specs.Questions.{firstNo, fitsRecord, fitsRules, fitsLimits, hasRecOnce, describesOnce, nameOf, describesWell, typesWell, ruleRows}
 use Rattle.format.proofs.Parts.{words-gap}
 use Rattle.format.proofs.Elements.{Each, all-each, all-both, all-yes, all-alike, Filled}
@@ -64,13 +63,6 @@ enters-head (v ∷ vs) r ms ss = refl
 pub sets-heads : (rs : List Record) → sets rs ≡ default (before rs) ∷ headSets rs
 sets-heads [] = refl
 sets-heads (r ∷ rs) = ap (enters (recValues r) r) (sets-heads rs) ∙ enters-head (recValues r) r (before rs) (headSets rs)
-
-pub before-members : (rs : List Record) → membersAt 0 (sets rs) ≡ before rs
-before-members rs = ap (membersAt 0) (sets-heads rs)
-
-head-by : (vs : List Bytes) → isFilled vs ≡ leb 1 (length vs)
-head-by [] = refl
-head-by (v ∷ vs) = sym (leb·suc-suc 0 (length vs) ∙ leb·zero (length vs))
 
 -- a test of the rules of each set, of the members of each, and of both
 

@@ -6,7 +6,7 @@ use lib.ListN.{length, take, getD}
 use Rattle.format.specs.Bytes.{Bytes, pick}
 use Rattle.format.specs.Lists.{flat, filter, front, untilLast}
 use Rattle.format.specs.Pieces.{Piece, bytesOf, readOf}
-use Rattle.format.specs.Records.{Block, isBlankLine, isRecord}
+use Rattle.format.specs.Records.{isBlankLine, isRecord}
 use Rattle.format.specs.Sets.{Group, groups, isMember}
 use Rattle.format.specs.Questions.{verdict}
 use Rattle.format.specs.Plain.{Plain, Step, step}

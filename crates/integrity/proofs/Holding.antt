@@ -53,6 +53,3 @@ module _ (r : Record) (e : fitsRules r ≡ true) where
 
   pub few-typedefs : length (valuesOf (text "%typedef") r) ≤ 32
   few-typedefs = leb-true (length (valuesOf (text "%typedef") r)) typedefs (both .0)
-
-  pub few-types : length (valuesOf (text "%type") r) ≤ 32
-  few-types = leb-true (length (valuesOf (text "%type") r)) typeFields (both .1)

@@ -11,12 +11,7 @@ use lib.Seq.{getD-set-same, getD-set-other, take-suc-set, getD-take, getD-drop, 
 use Rattle.format.specs.Bytes.{Bytes}
 use Rattle.lines.specs.Value.{valueFrom}
 use Rattle.lines.proofs.Cuts.{rest}
-use Rattle.sorting.proofs.Texts.{mixed-below}
 use Rattle.keys.specs.Keys.{printOf, entryOf, keyAt, keysOf, IsEntry, Entries}
-
-pub print-below : (v : Bytes) → printOf v < 65536
-unfolding printOf
-print-below v = omega (arith, mixed-below v 2166136261 (omega arith))
 
 -- the entry of the key at a place
 module _ (s : Bytes) (at : ℕ) (low : at < 65536) where

@@ -15,7 +15,7 @@ use Rattle.lines.specs.Piece.{extentOf, fieldNext, nextOf, isFault}
 use Rattle.lines.specs.declared.Extent.{Extent}
 use Rattle.lines.specs.declared.Next.{Next}
 use Rattle.lines.proofs.Heads.{name-first, colon-inside, goes-empty, goes-value}
-use Rattle.lines.proofs.Nexts.{nextNamed, next-end, next-named, next-unnamed}
+use Rattle.lines.proofs.Nexts.{nextNamed, next-named, next-unnamed}
 
 -- no name begins with a byte up to 35, the number sign, and no other line that is no fault with one above it
 low-unnamed : (c : ℕ) → c ≤ 35 → isFirst c ≡ false
@@ -80,37 +80,3 @@ module _ (s : Bytes) (ended : isEnded s ≡ true) (some : 0 < nameLen s) (no : i
         go : (t : Bool) → isNewline (getD s (n + 1) 0) ≡ t → GoesOn s (pick t (n + 1) (n + 2))
         go true e = goes-empty s n ended some name colon e
         go false e = goes-value s n ended some name colon e (ap (λ (j : ℕ). isBlank (getD s (j + 1) 0)) name ∙ formed .1 (sym (ap (λ (j : ℕ). isNewline (getD s (j + 1) 0)) name) ∙ e))
-
--- a field's name is the one that its text begins with
-abbrev pub NameBy : ℕ → Next → Type 0
-NameBy m Next.End = Unit {0}
-NameBy m Next.Fault = Unit {0}
-NameBy m (Next.Blank k) = Unit {0}
-NameBy m (Next.Comment k) = Unit {0}
-NameBy m (Next.Field n v k) = n ≡ m
-
-field-name : (n v : ℕ) (x : Extent) → NameBy n (fieldNext n v x)
-field-name n v (Extent.Size k) = refl
-field-name n v Extent.Open = tt
-
-named-name : (a e k : Bool) (n : ℕ) (x : Extent) → NameBy n (nextNamed a e k n x)
-named-name false e k n x = tt
-named-name true true k n x = field-name n (n + 1) x
-named-name true false true n x = field-name n (n + 2) x
-named-name true false false n x = tt
-
-unnamed-name : (m : ℕ) (h b : Bool) (k : ℕ) → NameBy m (pick h (Next.Comment k) (pick b (Next.Blank k) Next.Fault))
-unnamed-name m true b k = tt
-unnamed-name m false true k = tt
-unnamed-name m false false k = tt
-
-some-name : (s : Bytes) → isEnded s ≡ true → 0 < length s → NameBy (nameLen s) (nextOf s)
-some-name s e h = go (isFirst (getD s 0 0)) refl
-  where
-    go : (t : Bool) → isFirst (getD s 0 0) ≡ t → NameBy (nameLen s) (nextOf s)
-    go true i = rw (next-named s e (omega (arith, name-first s h i))) (named-name (eqb (getD s (nameLen s) 0) 58) (isNewline (getD s (nameLen s + 1) 0)) (isBlank (getD s (nameLen s + 1) 0)) (nameLen s) (extentOf true 0 (lines s)))
-    go false i = rw (next-unnamed s h i) (unnamed-name (nameLen s) (eqb (getD s 0 0) 35) (all isBlank (firstLine s)) (lineLen s + 1))
-
-pub next-name : (s : Bytes) → isEnded s ≡ true → NameBy (nameLen s) (nextOf s)
-next-name [] e = rw (next-end [] refl) tt
-next-name (c ∷ s) e = some-name (c ∷ s) e (omega arith)

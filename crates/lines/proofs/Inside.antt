@@ -2,7 +2,6 @@
 use Prim.Native.Nat.{ℕ, suc, _+_, _≤_, _<_}
 use native.Mathlib.Omega.{arith}
 use mathlib.Core.Path.{_≡_, refl, sym, ap, _∙_, subst}
-use mathlib.Core.Logic.{_≢_}
 use mathlib.Core.Bool.{true}
 use mathlib.Core.List.{List, [], _∷_}
 use lib.ListN.{length, drop, length-append}
@@ -11,7 +10,7 @@ use Rattle.format.specs.Lines.{Line, lines, bytes, isEnded, Form, form, joins}
 use Rattle.format.proofs.Elements.{Each}
 use Rattle.format.proofs.Lines.{Clean}
 use Rattle.lines.specs.Line.{lineLen, firstLine}
-use Rattle.lines.specs.Piece.{lineSize, extentOf, valueAt, fieldNext, nextBy, nextOf, sizeOf}
+use Rattle.lines.specs.Piece.{lineSize, extentOf, valueAt, fieldNext, nextBy, nextOf}
 use Rattle.lines.specs.declared.Extent.{Extent}
 use Rattle.lines.specs.declared.Next.{Next}
 use Rattle.lines.proofs.Nexts.{next-first}
@@ -53,18 +52,3 @@ next-inside s e h =
     let l = firstLine s in
     let ls = lines (drop (suc (lineLen s)) s) in
     rw (next-first s h) (line-inside-by s l ls (first-clean s h) (first-bytes s e h) (form l) refl)
-
--- so its size
-inside-size : (len : ℕ) (x : Next) → Inside len x → sizeOf x ≤ len
-inside-size len Next.End h = absurd h
-inside-size len Next.Fault h = omega arith
-inside-size len (Next.Blank k) h = h .1
-inside-size len (Next.Comment k) h = h .1
-inside-size len (Next.Field n v k) h = h .3
-
-inside-some : (len : ℕ) (x : Next) → Inside len x → x ≢ Next.Fault → 0 < sizeOf x
-inside-some len Next.End h q = absurd h
-inside-some len Next.Fault h q = absurd (q refl)
-inside-some len (Next.Blank k) h q = h .0
-inside-some len (Next.Comment k) h q = h .0
-inside-some len (Next.Field n v k) h q = omega arith

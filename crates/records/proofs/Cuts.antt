@@ -96,19 +96,3 @@ module _ (s : Bytes) (i : ℕ) (q : Place) (m : Met s i q) where
       ap (λ (rs : List Record). length (heads rs)) records-met
       ∙ head-one (isHead (recordAt s i q)) (recordAt s i q) (heads (recordsFrom s (i + q .after)))
       ∙ ap (λ (b : Bool). pick b 1 0 + length (heads (recordsFrom s (i + q .after)))) head-met
-
-  -- the records before the next descriptor, which are the members of a set: a descriptor ends them, another record is the first of them
-  members-on : (b : Bool) → q .descriptor ≡ b → before (recordsFrom s i) ≡ pick b [] (m .here .fields ∷ before (recordsFrom s (i + q .after)))
-  members-on b e = ap before records-on ∙ ap (λ (d : Bool). pick d [] (m .here .fields ∷ before (recordsFrom s (i + q .after)))) (head-here ∙ e)
-
-  pub members-stop : q .descriptor ≡ true → before (recordsFrom s i) ≡ []
-  members-stop e = members-on true e
-
-  pub members-more : q .descriptor ≡ false → before (recordsFrom s i) ≡ m .here .fields ∷ before (recordsFrom s (i + q .after))
-  members-more e = members-on false e
-
-  -- the fields from a byte on are the record's, then the others'
-  pub fields-met : recordIn (drop i s) ≡ m .here .fields ++ recordIn (drop (i + q .after) s)
-  fields-met =
-      fields-records (readOf (drop i s)) ∙ ap (λ (rs : List Record). flat rs) records-on
-      ∙ ap (λ (r : Record). m .here .fields ++ r) (sym (fields-records (readOf (drop (i + q .after) s))))

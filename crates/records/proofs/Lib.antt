@@ -16,7 +16,6 @@ pub mod Going
 pub mod Members
 pub mod Views
 pub mod Parting
-pub mod Fronts
 pub mod Unfielding
 pub mod Splicing
 pub mod RecordEdits

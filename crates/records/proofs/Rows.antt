@@ -62,9 +62,6 @@ pub record MembersAt (s : Bytes) (n e : ℕ) : Type 0 where
   pub plain : heads (records (readOf (span n e s))) ≡ []
   pub all : records (readOf (span n e s)) ≡ before (recordsFrom s n)
 
-pub members-part : {s : Bytes} {n e : ℕ} → MembersAt s n e → before (records (readOf (span n e s))) ≡ before (recordsFrom s n)
-members-part {s} {n} {e} m = before-all (records (readOf (span n e s))) (m .plain) ∙ m .all
-
 -- the next descriptor behind a byte: it comes first of those from there on, and the members before it stand in the part up to it
 module _ (s : Bytes) (p a e n : ℕ) (h : HeadHere s p a e n) where
   plain : List Record

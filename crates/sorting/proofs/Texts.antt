@@ -1,6 +1,5 @@
 -- Texts, byte by byte.
-use Prim.Native.Nat.{ℕ, _+_, _*_, _%_, _<_, _≤_}
-use native.Mathlib.Omega.{arith}
+use Prim.Native.Nat.{ℕ, _<_, _≤_}
 use mathlib.Core.Path.{_≡_, refl, sym, ap, _∙_, subst}
 use mathlib.Core.Bool.{Bool, true, false, not, and-eq-true-iff}
 use mathlib.Core.List.{[], _∷_}
@@ -9,7 +8,7 @@ use Rattle.format.specs.Lists.{front, behind}
 use Rattle.format.specs.Bytes.{Bytes, pick, all}
 use Rattle.lines.specs.Value.{valueFrom}
 use Rattle.lines.specs.declared.Decoded.{Decoded}
-use Rattle.sorting.specs.Texts.{keeps, textAt, TextByte, mixed}
+use Rattle.sorting.specs.Texts.{keeps, textAt, TextByte}
 use Rattle.sorting.proofs.Tests.{by-bool}
 
 -- the longest front of a text that begins with a byte
@@ -83,8 +82,3 @@ module _ (words : Bool) (s : Bytes) (i : ℕ) where
 -- what an answer tells, once its form is known
 pub text-told : (words : Bool) (s : Bytes) (i : ℕ) (x : Decoded) {y : Decoded} → TextByte words s i x → x ≡ y → TextByte words s i y
 text-told words s i x h e = subst (TextByte words s i) e h
-
-pub mixed-below : (v : Bytes) (h : ℕ) → h < 4294967296 → mixed h v < 4294967296
-unfolding mixed
-mixed-below [] h l = l
-mixed-below (b ∷ v) h l = mixed-below v ((h + b) * 2654435761 % 4294967296) (omega arith)

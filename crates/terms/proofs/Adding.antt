@@ -1,5 +1,5 @@
 -- Terms put one after the other.
-use Prim.Native.Nat.{ℕ, _+_, _≤_, _<_}
+use Prim.Native.Nat.{ℕ, _+_, _<_}
 use native.Mathlib.Omega.{arith}
 use mathlib.Core.Path.{_≡_, refl, sym, ap, _∙_, subst}
 use mathlib.Core.List.{List, [], _∷_, _++_, append-assoc, append-nil}
@@ -15,10 +15,6 @@ adding-start d l n all = record { long = refl; count = refl; entries = λ h. h; 
 
 pub adding-rest : {d : Bytes} {l : List ℕ} {n : ℕ} {all : List Term} (rest more : List Term) {m : List ℕ} {k : ℕ} → rest ≡ more → Adding d l n all rest m k → Adding d l n all more m k
 adding-rest {d} {l} {n} {all} rest more {m} {k} e a = subst (λ (ts : List Term). Adding d l n all ts m k) e a
-
--- there is room for what is left
-pub adding-room : (d : Bytes) (l : List ℕ) (n : ℕ) (all rest : List Term) (m : List ℕ) (k : ℕ) → Adding d l n all rest m k → n + length all ≤ length l → k + length rest ≤ length m
-adding-room d l n all rest m k a h = omega (arith, a .count, a .long)
 
 -- one more
 pub adding-one : (d : Bytes) (l : List ℕ) (n : ℕ) (all rest : List Term) (t : Term) (m : List ℕ) (k e : ℕ) → Adding d l n all (t ∷ rest) m k → k < length m → IsEntry d e → termAt d e ≡ t → Adding d l n all rest (set m k e) (k + 1)

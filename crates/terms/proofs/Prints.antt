@@ -13,13 +13,8 @@ use lib.Seq.{getD-set-same, getD-set-other, getD-take, length-take-le, take-suc-
 use Rattle.format.specs.Bytes.{Bytes}
 use Rattle.sorting.specs.Texts.{textAt}
 use Rattle.sorting.proofs.Tests.{by-bool}
-use Rattle.sorting.proofs.Texts.{mixed-below}
 use Rattle.terms.specs.Sets.{termOf}
 use Rattle.terms.specs.Entries.{printOf, entryOf, wordAt, termAt, termsOf, IsEntry, Entries}
-
-pub print-below : (v : Bytes) → printOf v < 1024
-unfolding printOf
-print-below v = omega (arith, mixed-below v 2166136261 (omega arith))
 
 -- the entry of the word at a place
 module _ (s : Bytes) (at tag : ℕ) (low : at < 65536) (fits : tag < 64) where

@@ -1,43 +1,27 @@
 -- Typedefs by their numbers: the first of a name, the target of a type's text, and a chain of targets step by step.
-use Prim.Native.Nat.{ℕ, zero, suc, _+_, _-_, _≤_, _<_}
+use Prim.Native.Nat.{ℕ, zero, suc, _-_, _≤_, _<_}
 use native.Mathlib.Omega.{arith}
 use mathlib.Core.Path.{_≡_, refl, sym, ap, _∙_, subst}
-use mathlib.Core.Bool.{Bool, true, false}
+use mathlib.Core.Bool.{Bool}
 use mathlib.Core.List.{List, [], _∷_, map}
-use mathlib.Core.Option.{Option, none, some}
+use mathlib.Core.Option.{some}
 use denote.Enum.Declared.{tagOf}
 use lib.ListN.{length, take, drop, getD}
 use types.Run.{OneOf, miss}
-use Rattle.format.specs.Bytes.{Bytes, pick, same}
+use Rattle.format.specs.Bytes.{Bytes}
 use Rattle.format.specs.Words.{afterWord}
-use Rattle.format.specs.Types.{Typed}
-use Rattle.typing.specs.Meaning.{typedIn, typeAnswer, SoundType, Sound, Told}
+use Rattle.typing.specs.Meaning.{typedIn}
 use Rattle.typing.specs.declared.Shape.{Shape}
-use Rattle.typing.specs.declared.TypeOf.{TypeOf}
 use Rattle.typing.proofs.Shape.{the-type}
 use Rattle.lines.proofs.Cuts.{rest}
 use Rattle.words.specs.Spans.{nextWord}
 use Rattle.words.specs.declared.Word.{Word}
 use Rattle.words.proofs.Finding.{afterBy, Within, after-at, word-within}
-use Rattle.typedefs.specs.Targets.{indexFrom, targetBy, Bounded, targetsIn, onward, followOf}
+use Rattle.typedefs.specs.Targets.{targetBy, Bounded, targetsIn, onward, followOf}
 use Rattle.typedefs.specs.declared.Target.{Target}
 use Rattle.typedefs.specs.declared.Link.{Link}
 use Rattle.typedefs.specs.declared.Targets.{Targets}
 use Rattle.typedefs.specs.declared.Followed.{Followed}
-
--- the first of a name among none, at the head, and behind it
-module _ (at : ℕ) (n : Bytes) (ns : List Bytes) where
-  pub index-none : ns ≡ [] → indexFrom at n ns ≡ Target.Missing
-  unfolding indexFrom
-  index-none e = ap (indexFrom at n) e
-
-  pub index-here : (m : Bytes) (ms : List Bytes) → ns ≡ m ∷ ms → same n m ≡ true → indexFrom at n ns ≡ Target.Alias at
-  unfolding indexFrom
-  index-here m ms e q = ap (indexFrom at n) e ∙ ap (λ (t : Bool). pick t (Target.Alias at) (indexFrom (at + 1) n ms)) q
-
-  pub index-later : (m : Bytes) (ms : List Bytes) → ns ≡ m ∷ ms → same n m ≡ false → indexFrom at n ns ≡ indexFrom (at + 1) n ms
-  unfolding indexFrom
-  index-later m ms e q = ap (indexFrom at n) e ∙ ap (λ (t : Bool). pick t (Target.Alias at) (indexFrom (at + 1) n ms)) q
 
 -- the text behind a first word
 module _ (s : Bytes) (w : Word) (q : w ≡ nextWord s) where
@@ -49,16 +33,6 @@ module _ (s : Bytes) (w : Word) (q : w ≡ nextWord s) where
 
   pub no-word : w ≡ Word.Nothing → afterWord s ≡ []
   no-word p = after-at s ∙ ap (afterBy s) (sym q ∙ p)
-
--- what a type's text leads to, by its shape
-pub told-none : (s : Bytes) (x : Option Typed) (r : TypeOf) → Told s x r → r ≡ TypeOf.Fault → x ≡ none
-told-none s x r t e = sym (t .answers) ∙ ap (typeAnswer s) e
-
-pub told-some : (s : Bytes) (x : Option Typed) (r : TypeOf) (k : Shape) → Told s x r → r ≡ TypeOf.Is k → x ≡ some (typedIn s k)
-told-some s x r k t e = sym (t .answers) ∙ ap (typeAnswer s) e
-
-pub told-sound : (s : Bytes) (x : Option Typed) (r : TypeOf) (k : Shape) → Told s x r → r ≡ TypeOf.Is k → Sound s k
-told-sound s x r k t e = subst (SoundType s) e (t .sound)
 
 pub target-kind : (ns : List Bytes) (s : Bytes) (k : Shape) → OneOf (0 ∷ 1 ∷ 2 ∷ 3 ∷ 4 ∷ 5 ∷ 6 ∷ 7 ∷ 8 ∷ []) (tagOf the-type k) → targetBy ns (some (typedIn s k)) ≡ Target.Kind
 target-kind ns s Shape.Int h = refl

@@ -19,7 +19,7 @@ ghost use Rattle.records.specs.Named.{valuesFrom};
 ghost use Rattle.typing.specs.Meaning.{typeAnswer, SoundType};
 ghost use Rattle.typedefs.specs.Walks.{namesFrom, fitFrom};
 ghost use Rattle.typedefs.specs.Names.{numbered, ArePlaces, AreNames, tagFrom};
-ghost use Rattle.typedefs.specs.Targets.{indexFrom, targetBy, targetIn, Bounded, targetsIn, followOf, leads, wellBy};
+ghost use Rattle.typedefs.specs.Targets.{indexFrom, targetBy, Bounded, targetsIn, followOf, leads, wellBy};
 ghost use Rattle.typedefs.specs.Typedefs.{IsTypedef, AreTypedefs, endRow};
 use format::Descriptor;
 use records::FoundField;

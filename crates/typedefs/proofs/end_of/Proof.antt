@@ -1,6 +1,5 @@
 -- `typedefs::end_of` meets its contract.
 use native.Mathlib.Omega.{arith}
-use mathlib.Core.Path.{sym, _∙_}
 use Rattle.typedefs.proofs.Ending.{end-own, end-open, end-there, end-row}
 use borrow.Author.Needs.{needs}
 use Rattle.typedefs.proofs.end_of.Statement.{statement}

@@ -14,8 +14,6 @@ use Rattle.typedefs.specs.Targets.{targetIn, leads, wellBy}
 use Rattle.typedefs.specs.declared.Target.{Target}
 use Rattle.typedefs.proofs.Defined.{defined-by}
 use Rattle.typedefs.proofs.Deciding.{type-names, not-defined, well-types}
-use borrow.Author.Needs.{needs}
-use borrow.Author.Needs.{needs}
 use Rattle.typedefs.proofs.types_well.Statement.{statement}
 use Rattle.typedefs.proofs.types_well.Tie as tie
 use Rattle.typedefs.proofs.types_well.Reads as reads

@@ -2,7 +2,6 @@
 use borrow.Author.Needs.{needs}
 use Prim.Native.Nat.{_-_}
 use native.Mathlib.Omega.{arith}
-use mathlib.Core.Path.{sym}
 use lib.ListN.{length}
 use Rattle.directory.proofs.Entries.{part-readable, Counted, counted-first, counted-all, counted-inside, counted-moves, counted-on}
 use Rattle.directory.proofs.core.count_sets.Statement.{statement}

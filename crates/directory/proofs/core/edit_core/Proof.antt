@@ -1,7 +1,7 @@
 -- `directory::core::edit_core` meets its contract.
 use borrow.Author.Needs.{needs}
 use Prim.Native.Nat.{ℕ, _≤_, _<_}
-use mathlib.Core.Path.{_≡_, sym, ap, _∙_, subst}
+use mathlib.Core.Path.{sym, subst}
 use lib.Seq.{length-take-le}
 use Rattle.directory.specs.Rows.{Does}
 use Rattle.directory.proofs.Files.{passing-fits, passing-readable, checked-passes, does-fail, does-short, does-edit}
