@@ -26,7 +26,7 @@ use Rattle.records.proofs.Members.{stands}
 use Rattle.directory.specs.Blocks.{blockFrom, noEntry, entryOn, nextEntry, listIn, entryIn, startIn}
 use Rattle.directory.proofs.Walks.{headEntry, headOn, directory-walk}
 use Rattle.directory.proofs.Blocks.{blockAt}
-use Rattle.directory.proofs.Heads.{headsAt, heads-met, HeadFirst, Begins, heads-past, Next, next-met}
+use Rattle.directory.proofs.Heads.{headsAt, heads-met, HeadFirst, first-raised, Begins, heads-past, Next, next-met}
 
 -- the first entry, and those behind it
 module _ (s : Bytes) where
@@ -63,10 +63,6 @@ module _ (s : Bytes) where
 pub entry-begins : (s : Bytes) → isReadable s ≡ true → (k at : ℕ) → (k ≡ 0 → ⊥) → k < length (listIn s) → at ≡ startIn s k → Begins s at (drop k (listIn s))
 entry-begins s e k at n h a = subst (λ (i : ℕ). Begins s i (drop k (listIn s))) (sym a) (begins-at s e k n h)
 
--- the part from byte i on, as it is lent
-pub part-readable : (s : Bytes) (i : ℕ) → isReadable (drop i s) ≡ true → isReadable (take (length s - i) (drop i s)) ≡ true
-part-readable s i e = subst (λ (t : Bytes). isReadable t ≡ true) (sym (rest s i)) e
-
 -- a block begins not behind what stands before its first field
 block-within : (start at : ℕ) (ps : List Piece) → start ≤ at → blockFrom start at ps ≤ at + sizeIn (lead ps)
 unfolding blockFrom
@@ -95,10 +91,6 @@ place-inside s at h e = go (firstSet (placesOf t))
 
 -- what the search for the next set tells, once its form is known
 
-first-of : (at : ℕ) (xs : List Placed) → HeadFirst (map (raise at) xs) → HeadFirst xs
-first-of at [] h = tt
-first-of at (p ∷ ps) h = h
-
 isAt : NextSet → ℕ
 isAt NextSet.Nothing = 0
 isAt (NextSet.At q) = 1
@@ -122,12 +114,12 @@ module _ (s : Bytes) (at : ℕ) (es : List Entry) (b : Begins s at es) where
     found-is = sym (ap (λ (t : Bytes). firstSet (placesOf t)) (rest s at)) ∙ sym e
 
     pub set-none : x ≡ NextSet.Nothing → es ≡ []
-    set-none f = found-none (placesOf (drop at s)) refl (first-of at (placesOf (drop at s)) (b .first)) (found-is ∙ f)
+    set-none f = found-none (placesOf (drop at s)) refl (first-raised at (placesOf (drop at s)) (b .first)) (found-is ∙ f)
 
     pub set-some : (q : RecordSet) → x ≡ NextSet.At q → (y : Entry) × (later : List Entry) × (es ≡ y ∷ later) × (y .end ≡ at + q .after)
     unfolding nextEntry
     set-some q f =
-        let y = found-some (placesOf (drop at s)) refl (first-of at (placesOf (drop at s)) (b .first)) q (found-is ∙ f) in
+        let y = found-some (placesOf (drop at s)) refl (first-raised at (placesOf (drop at s)) (b .first)) q (found-is ∙ f) in
         let n : Next s at (y .0) (y .1) = next-met s at (y .0) (y .1) (subst (Begins s at) (y .2) b) in
         (y .0, y .1, y .2, ap (λ (z : Entry). z .end) (n .is) ∙ ap (λ (z : NextSet). at + entryOn (blockFrom 0 0 (readOf (drop at s))) z .end) (found-is ∙ f))
 

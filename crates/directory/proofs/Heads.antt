@@ -131,7 +131,7 @@ next-by s at (p ∷ ps) i r q d e es h =
       behind = subst (λ (n : ℕ). Begins s n es) end (subst (Begins s (setEnd (p′ .after) ps′)) rest (heads-past s (p′ .after) ps′ (st .2) (st .1) (st .0 .inside) (st .0 .readable)));
     }
 
-first-raised : (at : ℕ) (xs : List Placed) → HeadFirst (map (raise at) xs) → HeadFirst xs
+pub first-raised : (at : ℕ) (xs : List Placed) → HeadFirst (map (raise at) xs) → HeadFirst xs
 first-raised at [] h = tt
 first-raised at (p ∷ ps) h = h
 

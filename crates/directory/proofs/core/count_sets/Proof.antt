@@ -3,7 +3,8 @@ use borrow.Author.Needs.{needs}
 use Prim.Native.Nat.{_-_}
 use native.Mathlib.Omega.{arith}
 use lib.ListN.{length}
-use Rattle.directory.proofs.Entries.{part-readable, Counted, counted-first, counted-all, counted-inside, counted-moves, counted-on}
+use Rattle.records.proofs.Readings.{part-readable}
+use Rattle.directory.proofs.Entries.{Counted, counted-first, counted-all, counted-inside, counted-moves, counted-on}
 use Rattle.directory.proofs.core.count_sets.Statement.{statement}
 use Rattle.directory.proofs.core.count_sets.Tie as tie
 use Rattle.directory.proofs.core.count_sets.Reads as reads

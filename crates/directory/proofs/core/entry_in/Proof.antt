@@ -6,7 +6,8 @@ use lib.ListN.{drop}
 use Rattle.format.specs.declared.Entry.{Entry}
 use Rattle.lines.proofs.Cuts.{rest}
 use Rattle.directory.specs.Blocks.{nextEntry, raiseEntry, entryIn}
-use Rattle.directory.proofs.Entries.{part-readable, first-entry, entry-begins, next-entry, place-inside}
+use Rattle.records.proofs.Readings.{part-readable}
+use Rattle.directory.proofs.Entries.{first-entry, entry-begins, next-entry, place-inside}
 use Rattle.directory.proofs.core.entry_in.Statement.{statement}
 use Rattle.directory.proofs.core.entry_in.Tie as tie
 use Rattle.directory.proofs.core.entry_in.Reads as reads
