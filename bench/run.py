@@ -3,7 +3,7 @@
 
 Makes its files in target/bench, builds bench/time.c over target/staticlib/librecfile.a (made by `rt staticlib recfile`) and bench/librec.c
 over librec, and prints times and ratios, in processes and in memory; growth and instructions of the check and of each edit; instructions of
-a directory's calls; the peak stack of each call; and the check of every file of bench/shapes.py, the slowest last. Times are the best of several runs on both sides. Where a
+a directory's calls and of a run of requests; the peak stack of each call; and the check of every file of bench/shapes.py, the slowest last. Times are the best of several runs on both sides. Where a
 figure has a limit, it stands beside it.
 """
 import os
@@ -22,6 +22,7 @@ TIMER, LIBREC = os.path.join(OUT, 'time'), os.path.join(OUT, 'librec')
 EDITS = ('insert', 'delete', 'add', 'set', 'drop', 'rename')
 GROWTH, EDIT, STACK = 8.5, 2.2, 163840
 FILL, LISTED = 1.3, 1.15
+REQUESTS, RUN = 64, 0.6
 FASTER = {'book 1 KB': 150, 'book 8 KB': 250, 'book 64 KB': 700}
 
 
@@ -83,8 +84,10 @@ def theirs(path, *words):
 def instructions(path, call, more=10):
     """Those of one call, or None without valgrind: eleven calls, or so many more than one, less one, so that the start of the program is not counted."""
     def total(calls):
-        out = run('valgrind', '--tool=callgrind', '--callgrind-out-file=/dev/null', TIMER, path, call, str(calls)).stderr
-        return int(re.search(r'Collected : (\d+)', out).group(1))
+        done = run('valgrind', '--tool=callgrind', '--callgrind-out-file=/dev/null', TIMER, path, call, str(calls))
+        if done.stdout != '0\n':
+            sys.exit('%s of %s: refused with %s' % (call, path, done.stdout))
+        return int(re.search(r'Collected : (\d+)', done.stderr).group(1))
 
     return (total(1 + more) - total(1)) / more if shutil.which('valgrind') else None
 
@@ -166,6 +169,14 @@ def directories(files):
     print('instructions, count at a position: %s (the same of each): %s\n' % (', '.join('%s %d' % c for c in counts.items()), verdict(len(set(counts.values())) == 1)), flush=True)
 
 
+def sendings(path):
+    """Instructions of as many inserts as a run may have in one call as many times those of the same sent singly."""
+    if not shutil.which('valgrind'):
+        return
+    ratio = instructions(path, 'inserts-run', 1) / instructions(path, 'inserts-singly', 1)
+    print('instructions, %d inserts in one run: %.2f times those of as many single ones (at most %.1f): %s\n' % (REQUESTS, ratio, RUN, verdict(ratio <= RUN)), flush=True)
+
+
 def stack(paths):
     """The peak stack of each call on any of some files."""
     deepest = {}
@@ -174,7 +185,7 @@ def stack(paths):
             call, depth = line.split()
             deepest[call] = max(deepest.get(call, 0), int(depth))
     for call, depth in deepest.items():
-        print('stack, %-13s: %6d bytes (at most %d): %s' % (call, depth, STACK, verdict(depth <= STACK)))
+        print('stack, %-14s: %6d bytes (at most %d): %s' % (call, depth, STACK, verdict(depth <= STACK)))
     print()
 
 
@@ -210,6 +221,8 @@ def main():
     counted(files)
     text = shapes.sets()['64 sets of few records']
     directories({**files, 'sets 64 KB': (kept('sets', text), len(text), 64)})
+    room = REQUESTS * len(b'\nId: 999900\nPage: front\n')
+    sendings(kept('book with room', shapes.book(shapes.LIMIT - room)[0]))
     stack([files['book 64 KB'][0], kept('aliases', shapes.aliases())])
     slow_shapes(files['book 64 KB'][0])
 

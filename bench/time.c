@@ -1,7 +1,8 @@
 /* Times one call of the library on a file: `time FILE CALL`, where CALL is check, fetch, fill, count-at, one of the six edits
- * (insert, delete, add, set, drop, rename), or insert-listed or set-listed, the same with a directory. Prints nanoseconds a call,
- * the best of several rounds, and the number that the call gave. An edit is timed on a fresh copy of the file each time, the copy
- * not counted; count-at asks for the last set. `time FILE CALL N` makes N calls and prints nothing, for a counter of instructions.
+ * (insert, delete, add, set, drop, rename), insert-listed or set-listed, the same with a directory, or inserts-singly or
+ * inserts-run, 64 inserts in as many calls and in one. Prints nanoseconds a call, the best of several rounds, and the number that
+ * the call gave, of inserts the first that was not 0. An edit is timed on a fresh copy of the file each time, the copy not
+ * counted; count-at asks for the last set. `time FILE CALL N` makes N calls and prints the number, for a counter of instructions.
  * `time FILE stack` prints the peak stack of each call in bytes, `time FILE depth` that of the check. */
 #include <recfile.h>
 #include <stdio.h>
@@ -13,8 +14,10 @@
 
 #define ENTRIES (RECFILE_MAX_DESCRIPTORS + 1)
 
-static uint8_t file[ROOM], work[ROOM], request[512], out[4096];
+static uint8_t file[ROOM], work[ROOM], request[512], run[RECFILE_MAX_REQUESTS * 64], out[4096];
 static recfile_entry entries[ENTRIES];
+static uint32_t answers[RECFILE_MAX_REQUESTS];
+static size_t run_len;
 static size_t used, request_len, sets;
 static uint32_t number;
 
@@ -42,13 +45,31 @@ static void begin(const char *kind)
     field(2, "Scan", 4);
 }
 
-static void insert_request(void)
+static void insert_of(const char *id)
 {
     begin("\1");
     field(4, "Id", 2);
-    field(6, "999999", 6);
+    field(6, id, 6);
     field(4, "Page", 4);
     field(6, "front", 5);
+}
+
+static void insert_request(void) { insert_of("999999"); }
+
+/* As many inserts as a run may have, with keys of their own. */
+static void inserts_request(void)
+{
+    char id[] = "999900";
+    run_len = 0;
+    for (int i = 0; i < RECFILE_MAX_REQUESTS; i++) {
+        id[4] = (char)('0' + i / 10);
+        id[5] = (char)('0' + i % 10);
+        insert_of(id);
+        run[run_len] = (uint8_t)(request_len >> 8);
+        run[run_len + 1] = (uint8_t)request_len;
+        memcpy(run + run_len + 2, request, request_len);
+        run_len += 2 + request_len;
+    }
 }
 
 /* An edit of record 3 by its kind, and the name of a field where it has one. */
@@ -103,6 +124,29 @@ static void count(void) { recfile_count(file, sizeof file, used, (const uint8_t 
 static void write_record(void) { recfile_write(request, request_len, out, sizeof out, &number); }
 static void fill(void) { sets = recfile_fill(file, sizeof file, used, entries, ENTRIES, &number); }
 static void edit_listed(void) { recfile_edit_listed(work, 65536, used, request, request_len, entries, ENTRIES, &number); }
+static void first_refused(uint32_t answer)
+{
+    if (number == 0)
+        number = answer;
+}
+static void inserts_singly(void)
+{
+    size_t n = used;
+    number = 0;
+    for (size_t at = 0; at < run_len;) {
+        size_t len = run[at] * 256u + run[at + 1];
+        uint32_t answer;
+        n = recfile_edit(work, 65536, n, run + at + 2, len, &answer);
+        first_refused(answer);
+        at += 2 + len;
+    }
+}
+static void inserts_run(void)
+{
+    recfile_edit_run(work, 65536, used, run, run_len, answers, RECFILE_MAX_REQUESTS, &number);
+    for (int i = 0; i < RECFILE_MAX_REQUESTS; i++)
+        first_refused(answers[i]);
+}
 static void count_at(void) { recfile_count_at(entries, ENTRIES, sets - 1, &number); }
 
 /* The calls by name; an edit has a maker of its request. */
@@ -115,6 +159,7 @@ static const struct call {
     {"insert", insert_request, edit}, {"delete", delete_request, edit}, {"add", add_request, edit}, {"set", set_request, edit},
     {"drop", drop_request, edit}, {"rename", rename_request, edit},
     {"fill", NULL, fill}, {"count-at", NULL, count_at}, {"insert-listed", insert_request, edit_listed}, {"set-listed", set_request, edit_listed},
+    {"inserts-singly", inserts_request, inserts_singly}, {"inserts-run", inserts_request, inserts_run},
 };
 
 #define CALLS (sizeof calls / sizeof *calls)
@@ -189,6 +234,7 @@ int main(int argc, char **argv)
                 prepare(c);
                 c->call();
             }
+            printf("%u\n", (unsigned)number);
         } else if (strcmp(argv[2], c->name) == 0) {
             double took = best(c);
             printf("%.0f %u\n", took, (unsigned)number);

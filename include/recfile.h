@@ -10,11 +10,11 @@
  *
  * What the caller sees to:
  *
- * - A buffer is a pointer and a length: so many bytes, all readable, of `buf` in recfile_edit and recfile_edit_listed, of `out`
- *   and of the `request` of recfile_request_field also writable. They need no alignment. A length is at most PTRDIFF_MAX, as that
- *   of any object is.
- * - A list is a pointer and a number of entries, aligned and readable, in recfile_fill and recfile_edit_listed also writable; it
- *   has at most PTRDIFF_MAX bytes.
+ * - A buffer is a pointer and a length: so many bytes, all readable, of `buf` in recfile_edit, recfile_edit_run and
+ *   recfile_edit_listed, of `out` and of the `request` of recfile_request_field also writable. They need no alignment. A length is
+ *   at most PTRDIFF_MAX, as that of any object is.
+ * - A list is a pointer and a number of entries, aligned and readable, in recfile_fill, recfile_edit_listed and recfile_edit_run
+ *   also writable; it has at most PTRDIFF_MAX bytes.
  * - A pointer to bytes or to entries may be NULL where its length is 0. `number` and `start` are never NULL: they point to a
  *   uint32_t and a size_t, aligned, writable and readable.
  * - What a call writes overlaps nothing else that it is given: an `out` that lies over `buf` overwrites the file.
@@ -36,9 +36,9 @@
 
 /* The version of this header. An archive made of the same sources belongs to it. */
 #define RECFILE_VERSION_MAJOR 1
-#define RECFILE_VERSION_MINOR 1
+#define RECFILE_VERSION_MINOR 2
 #define RECFILE_VERSION_PATCH 0
-#define RECFILE_VERSION "1.1.0"
+#define RECFILE_VERSION "1.2.0"
 
 #ifdef __cplusplus
 extern "C" {
@@ -74,6 +74,8 @@ enum recfile_refusal {
     RECFILE_REFUSED_LARGE = 26,       /* the result is longer than the buffer or than RECFILE_MAX_FILE */
     RECFILE_REFUSED_ROOM = 27,        /* the text is longer than the buffer it is to be put into */
     RECFILE_REFUSED_LIST = 28,        /* the list has fewer entries than the file has sets */
+    RECFILE_REFUSED_RUN = 29,         /* the lengths of a run's requests do not add up to it, there are more than
+                                         RECFILE_MAX_REQUESTS of them, or its list of answers is too short */
 
     /* the questions of the result, raised by RECFILE_REFUSED_RESULT */
     RECFILE_REFUSED_RESULT = 100,
@@ -97,7 +99,8 @@ enum recfile_limit {
     RECFILE_MAX_TYPEDEFS = 32,        /* %typedef fields of a descriptor */
     RECFILE_MAX_TYPES = 32,           /* %type fields of a descriptor */
     RECFILE_MAX_WORDS = 64,           /* words in all %mandatory fields of a descriptor; %prohibit, %allowed and %unique likewise */
-    RECFILE_MAX_CONTENTS = 65535      /* bytes of the contents of a request's field */
+    RECFILE_MAX_CONTENTS = 65535,     /* bytes of the contents of a request's field */
+    RECFILE_MAX_REQUESTS = 64         /* requests of a run */
 };
 
 /* A request is tagged fields: a tag (1 byte), a length (2 bytes, high byte first), the contents. The first is the kind, and each
@@ -165,13 +168,24 @@ size_t recfile_write(const uint8_t *request, size_t request_len,
 size_t recfile_edit(uint8_t *buf, size_t len, size_t used,
                     const uint8_t *request, size_t request_len, uint32_t *number);
 
+/* Carries out a run of requests, each on what the one before left: a request stands in the run behind its length (2 bytes, high
+ * byte first), and the next one follows at once. Puts one number for each into `answers`, 0 where it was accepted, else that of
+ * recfile_edit; the entries behind them stay. Returns the file's length after the last, `used` where there is no request. The
+ * buffer is left as by recfile_edit with one request after another, refused ones included; the file is checked once.
+ *
+ * `*number` is 0 whatever the requests' own numbers. Refused (29): returns `used`, and neither the buffer nor `answers` is changed.
+ * The run is looked at before the file, so a run of no bytes is accepted on every file. */
+size_t recfile_edit_run(uint8_t *buf, size_t len, size_t used,
+                        const uint8_t *run, size_t run_len,
+                        uint32_t *answers, size_t answers_len, uint32_t *number);
+
 /* A directory of sets: a list of entries, one for each set in the order of recfile_set_name, the default set first. A list of
  * RECFILE_MAX_DESCRIPTORS + 1 entries is long enough for every file. It says how many records each set has without a look at the
  * file.
  *
  * The list is right after recfile_fill and after every recfile_edit_listed, accepted or refused, whatever it held before; 1 to 14
- * and 28 leave it as it is. So does recfile_edit: where that was accepted, the list is out of date until the next
- * recfile_edit_listed or recfile_fill. Entries behind the last set's are never changed. */
+ * and 28 leave it as it is. So do recfile_edit and recfile_edit_run: where they changed the file, the list is out of date until the
+ * next recfile_edit_listed or recfile_fill. Entries behind the last set's are never changed. */
 typedef struct {
     size_t place;                     /* the first byte of the descriptor's block; 0 for the default set */
     size_t count;                     /* how many records the set has */

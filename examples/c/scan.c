@@ -1,4 +1,5 @@
-/* Files a scan in the receipt book on standard input, looks it up and prints its record; a directory of the book's sets is kept beside it.
+/* Files a scan in the receipt book on standard input, looks it up and prints its record, and then sends two requests in one call; a directory of
+ * the book's sets is kept beside it.
  *
  *   rt staticlib recfile
  *   cc -O2 -Iinclude examples/c/scan.c target/staticlib/librecfile.a -o target/scan
@@ -17,6 +18,28 @@ static size_t text(uint8_t *request, size_t len, size_t at, uint8_t tag, const c
     return recfile_request_field(request, len, at, tag, (const uint8_t *)contents, strlen(contents));
 }
 
+/* An insert of a scan; its length, more than `len` where it does not fit. */
+static size_t scan(uint8_t *request, size_t len, const char *id, const char *page)
+{
+    const uint8_t insert = RECFILE_KIND_INSERT;
+    size_t at = recfile_request_field(request, len, 0, RECFILE_TAG_KIND, &insert, 1);
+
+    at = text(request, len, at, RECFILE_TAG_SET, "Scan");
+    at = text(request, len, at, RECFILE_TAG_NAME, "Id");
+    at = text(request, len, at, RECFILE_TAG_VALUE, id);
+    at = text(request, len, at, RECFILE_TAG_NAME, "Page");
+    return text(request, len, at, RECFILE_TAG_VALUE, page);
+}
+
+/* Appends a request to a run at `at`, behind its length in two bytes; returns the next place. */
+static size_t append(uint8_t *run, size_t at, const uint8_t *request, size_t len)
+{
+    run[at] = (uint8_t)(len >> 8);
+    run[at + 1] = (uint8_t)len;
+    memcpy(run + at + 2, request, len);
+    return at + 2 + len;
+}
+
 static int refused(const char *call, uint32_t number)
 {
     if (number != 0)
@@ -27,10 +50,9 @@ static int refused(const char *call, uint32_t number)
 int main(void)
 {
     const uint8_t *set = (const uint8_t *)"Scan";
-    const uint8_t insert = RECFILE_KIND_INSERT;
     size_t used = fread(book, 1, sizeof book, stdin);
-    uint8_t request[256], value[64];
-    uint32_t number;
+    uint8_t request[256], next[256], run[520], value[64];
+    uint32_t number, answers[2];
     size_t at, sets, count, start, len;
 
     if (refused("check", recfile_check(book, sizeof book, used)))
@@ -40,12 +62,7 @@ int main(void)
     if (refused("fill", number))
         return 1;
 
-    at = recfile_request_field(request, sizeof request, 0, RECFILE_TAG_KIND, &insert, 1);
-    at = text(request, sizeof request, at, RECFILE_TAG_SET, "Scan");
-    at = text(request, sizeof request, at, RECFILE_TAG_NAME, "Id");
-    at = text(request, sizeof request, at, RECFILE_TAG_VALUE, "2");
-    at = text(request, sizeof request, at, RECFILE_TAG_NAME, "Page");
-    at = text(request, sizeof request, at, RECFILE_TAG_VALUE, "front");
+    at = scan(request, sizeof request, "2", "front");
     if (at > sizeof request) {
         printf("the request is too long\n");
         return 1;
@@ -75,8 +92,17 @@ int main(void)
         return 1;
     fwrite(book + start, 1, len, stdout);
 
-    /* the same key again is refused: RECFILE_REFUSED_RESULT_KEY */
-    recfile_edit(book, sizeof book, used, request, at, &number);
-    printf("the same scan again: refused, %u\n", (unsigned)number);
+    /* two requests in one call: the same scan again, whose key is there (RECFILE_REFUSED_RESULT_KEY), and another */
+    len = append(run, 0, request, at);
+    at = scan(next, sizeof next, "3", "back");
+    if (at > sizeof next) {
+        printf("the request is too long\n");
+        return 1;
+    }
+    len = append(run, len, next, at);
+    used = recfile_edit_run(book, sizeof book, used, run, len, answers, 2, &number);
+    if (refused("edit_run", number))
+        return 1;
+    printf("the same scan again, and another: %u and %u, %zu bytes\n", (unsigned)answers[0], (unsigned)answers[1], used);
     return 0;
 }

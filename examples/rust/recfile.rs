@@ -25,6 +25,10 @@ mod c {
         pub fn recfile_edit(
             buf: *mut u8, len: usize, used: usize, request: *const u8, request_len: usize, number: *mut u32,
         ) -> usize;
+        pub fn recfile_edit_run(
+            buf: *mut u8, len: usize, used: usize, run: *const u8, run_len: usize,
+            answers: *mut u32, answers_len: usize, number: *mut u32,
+        ) -> usize;
         pub fn recfile_fill(
             buf: *const u8, len: usize, used: usize, entries: *mut Entry, entries_len: usize, number: *mut u32,
         ) -> usize;
@@ -46,6 +50,9 @@ fn accepted<T>(value: T, number: u32) -> Result<T, Refused> {
 
 /// The most sets that a file has, the default set included.
 pub const MAX_SETS: usize = 65;
+
+/// The most requests of a run.
+pub const MAX_REQUESTS: usize = 64;
 
 /// A set in a directory of sets.
 #[repr(C)]
@@ -129,6 +136,18 @@ impl<'a> File<'a> {
         accepted((), number)
     }
 
+    /// A run of requests, each on what the one before left. Their numbers, 0 where accepted, stand at the front of `answers`.
+    pub fn edit_run(&mut self, run: &[u8], answers: &mut [u32]) -> Result<(), Refused> {
+        let mut number = 0;
+        self.used = unsafe {
+            c::recfile_edit_run(
+                self.buf.as_mut_ptr(), self.buf.len(), self.used, run.as_ptr(), run.len(),
+                answers.as_mut_ptr(), answers.len(), &mut number,
+            )
+        };
+        accepted((), number)
+    }
+
     /// The number of sets, whose entries stand at the front of the list.
     pub fn fill(&self, entries: &mut [Entry]) -> Result<usize, Refused> {
         let mut number = 0;
@@ -202,6 +221,37 @@ impl<'a> Request<'a> {
     }
 
     /// The request; none where a field did not fit.
+    pub fn bytes(&self) -> Option<&[u8]> {
+        self.buf.get(..self.at)
+    }
+}
+
+/// A run of requests, built one request at a time at the front of a buffer.
+pub struct Run<'a> {
+    buf: &'a mut [u8],
+    at: usize,
+}
+
+impl<'a> Run<'a> {
+    pub fn new(buf: &'a mut [u8]) -> Self {
+        Run { buf, at: 0 }
+    }
+
+    /// The request behind its length. One that does not fit, or has more than 65,535 bytes, makes the run one that is not there.
+    pub fn request(mut self, request: &[u8]) -> Self {
+        let room = self.buf.get_mut(self.at..).and_then(|rest| rest.get_mut(..2 + request.len()));
+        match (room, u16::try_from(request.len())) {
+            (Some(room), Ok(len)) => {
+                room[..2].copy_from_slice(&len.to_be_bytes());
+                room[2..].copy_from_slice(request);
+                self.at += 2 + request.len();
+            }
+            _ => self.at = self.buf.len() + 1,
+        }
+        self
+    }
+
+    /// The run; none where a request did not fit.
     pub fn bytes(&self) -> Option<&[u8]> {
         self.buf.get(..self.at)
     }

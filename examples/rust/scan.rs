@@ -1,4 +1,5 @@
-//! Files a scan in the receipt book on standard input, looks it up and prints its record; a directory of the book's sets is kept beside it.
+//! Files a scan in the receipt book on standard input, looks it up and prints its record, and then sends two requests in one call; a directory of
+//! the book's sets is kept beside it.
 //!
 //!   rt staticlib recfile
 //!   rustc --edition 2021 -O examples/rust/scan.rs -L target/staticlib -l static=recfile -o target/scan-rust
@@ -6,7 +7,7 @@
 
 mod recfile;
 
-use recfile::{kind, Entry, File, Refused, Request};
+use recfile::{kind, Entry, File, Refused, Request, Run};
 use std::io::Read;
 
 fn main() -> Result<(), Refused> {
@@ -40,7 +41,14 @@ fn main() -> Result<(), Refused> {
     let n = recfile::write(insert, &mut line)?;
     println!("its text has {} bytes", n);
 
-    // the same key again is refused: 113, question 13 of the result
-    println!("the same scan again: {:?}", file.edit(insert));
+    // two requests in one call: the same scan again, whose key is there (113, question 13 of the result), and another
+    let mut next = [0u8; 256];
+    let request = Request::new(&mut next, kind::INSERT, "Scan").pair("Id", "3").pair("Page", "back");
+    let another = request.bytes().expect("a request of at most 256 bytes");
+    let mut space = [0u8; 520];
+    let run = Run::new(&mut space).request(insert).request(another);
+    let mut answers = [0u32; 2];
+    file.edit_run(run.bytes().expect("a run of at most 520 bytes"), &mut answers)?;
+    println!("the same scan again, and another: {} and {}, {} bytes", answers[0], answers[1], file.used());
     Ok(())
 }

@@ -2,7 +2,7 @@
  *
  * Each buffer that a call is given has exactly its size. It lies on the heap, where valgrind sees a byte read or written outside
  * it (and the address sanitizer one that the library's memcpy and memset touch); at the end of a page that another follows which
- * cannot be touched; or at the front of a page behind such a one. So has each list of entries. An empty buffer or list is NULL.
+ * cannot be touched; or at the front of a page behind such a one. So has each list of entries or answers. An empty buffer or list is NULL.
  * After a call each buffer that it may not change is compared with what it was.
  *
  * Usage: calls [heap]    (heap: only there)
@@ -272,6 +272,43 @@ static void edited(const char *file, size_t room, const uint8_t *request, size_t
     give_back(told, sizeof *told);
 }
 
+/* A run of requests, given a list of `room` answers of filler. The file fills its buffer but for `spare` bytes of filler, `used` is the length that is
+ * told of it, and `most` the largest length that it has between the requests. The first `count` answers are these numbers after the call, the others stay. */
+struct sending {
+    size_t spare, used, room, most;
+};
+
+static void sent(const char *file, struct sending s, const uint8_t *run, size_t run_len, uint32_t number, const uint32_t *numbers, size_t count, const char *after, size_t length)
+{
+    size_t held = strlen(file), len = held + s.spare, after_len = strlen(after), n, i;
+    uint8_t *before = malloc(len + 1), *buf, *asks = lend(run, run_len);
+    uint32_t *numbered = lend(NULL, s.room * sizeof *numbered), *told = lend(NULL, sizeof *told);
+
+    if (before == NULL)
+        exit(2);
+    memset(before, FILLER, len + 1);
+    memcpy(before, file, held);
+    buf = lend(before, len);
+    asked = "edit_run";
+    n = recfile_edit_run(buf, len, s.used, asks, run_len, numbered, s.room, told);
+    expect("number", *told, number);
+    expect("length", n, length);
+    same("the file after it", buf, after, after_len);
+    for (i = after_len; i < s.most; i++)
+        before[i] = 0;
+    if (len > after_len)
+        same("what is behind it", buf + after_len, before + after_len, len - after_len);
+    same("answers", numbered, numbers, count * sizeof *numbers);
+    if (s.room > count)
+        filler("answers behind them stay", (const uint8_t *)(numbered + count), (s.room - count) * sizeof *numbered);
+    same("the run stays", asks, run, run_len);
+    free(before);
+    give_back(buf, len);
+    give_back(asks, run_len);
+    give_back(numbered, s.room * sizeof *numbered);
+    give_back(told, sizeof *told);
+}
+
 /* A field at a place of a request of `len` bytes of filler. */
 static void put(size_t len, size_t at, uint8_t tag, const void *contents, size_t contents_len, size_t wanted)
 {
@@ -368,6 +405,19 @@ static void rename_field(const char *of, unsigned record, const char *name, unsi
 {
     field(RECFILE_KIND_RENAME, of, record, name, occurrence);
     text(RECFILE_TAG_NEW_NAME, new_name);
+}
+
+/* Runs of requests: the request that was built last is the next one. */
+
+static uint8_t run[2 * (RECFILE_MAX_CONTENTS + 2) + 8];
+static size_t run_end;
+
+static void next(void)
+{
+    run[run_end] = (uint8_t)(end >> 8);
+    run[run_end + 1] = (uint8_t)end;
+    memcpy(run + run_end + 2, request, end);
+    run_end += 2 + end;
 }
 
 /* Refused: the file stays. */
@@ -691,6 +741,138 @@ static void edits(void)
     free(almost);
 }
 
+/* A run that is refused changes nothing, whatever the file and the length that is told of it. */
+static void refused_run(size_t room)
+{
+    static const char *const files[] = { "", book, "Id: 1", "Page front\n" };
+    size_t i;
+
+    for (i = 0; i < sizeof files / sizeof *files; i++) {
+        size_t len = strlen(files[i]), used[] = { len, len + 9, len + 10, SIZE_MAX }, k;
+        for (k = 0; k < sizeof used / sizeof *used; k++)
+            sent(files[i], (struct sending){ 9, used[k], room, 0 }, run, run_end, RECFILE_REFUSED_RUN, NULL, 0, files[i], used[k]);
+    }
+}
+
+/* A run of `count` requests, each answered with this number, and nothing is changed. */
+static void each_refused(const char *file, size_t used, size_t count, uint32_t number)
+{
+    uint32_t numbers[RECFILE_MAX_REQUESTS];
+    size_t i;
+
+    for (i = 0; i < count; i++)
+        numbers[i] = number;
+    for (i = 0; i < 3; i++)
+        sent(file, (struct sending){ 9, used, count + i, 0 }, run, run_end, RECFILE_ACCEPTED, numbers, count, file, used);
+}
+
+static void runs(void)
+{
+    static const uint32_t mixed[] = { RECFILE_ACCEPTED, RECFILE_REFUSED_RESULT_KEY, RECFILE_REFUSED_FORM, RECFILE_REFUSED_NO_RECORD, RECFILE_ACCEPTED, RECFILE_ACCEPTED };
+    static const uint32_t filling[] = { RECFILE_ACCEPTED, RECFILE_REFUSED_LARGE, RECFILE_ACCEPTED };
+    static const char changed[] = "%rec: Scan\n%key: Id\n%type: Id int\n%mandatory: Page\n\n# folded\n\nId: 1\nPage: p\n";
+    static const char refilled[] = "%rec: Scan\n%key: Id\n%type: Id int\n%mandatory: Page\n\nId: 3\nPage: p\n\n# folded\n";
+    static const uint8_t cut_off[] = { 0, 2, 0 };
+    uint32_t accepted_all[RECFILE_MAX_REQUESTS] = { RECFILE_ACCEPTED };
+    char *all = numbered("A: 0\n", "\nA: @\n", RECFILE_MAX_REQUESTS), number_of[8];
+    size_t len = sizeof book - 1, i;
+
+    /* no request: the length that was told comes back, whatever the file */
+    for (i = 0; i < 3; i++) {
+        sent("", (struct sending){ 0, 0, i, 0 }, NULL, 0, RECFILE_ACCEPTED, NULL, 0, "", 0);
+        sent(book, (struct sending){ 0, len, i, 0 }, NULL, 0, RECFILE_ACCEPTED, NULL, 0, book, len);
+        sent("Id: 1", (struct sending){ 3, 5, i, 0 }, NULL, 0, RECFILE_ACCEPTED, NULL, 0, "Id: 1", 5);
+        sent("Id: 1", (struct sending){ 3, SIZE_MAX, i, 0 }, NULL, 0, RECFILE_ACCEPTED, NULL, 0, "Id: 1", SIZE_MAX);
+    }
+
+    /* accepted and refused ones, each on what the one before left */
+    run_end = 0;
+    insert("Scan", "Id", "2");
+    text(RECFILE_TAG_NAME, "Page");
+    text(RECFILE_TAG_VALUE, "p");
+    next();
+    next();
+    end = 0;
+    next();
+    delete("Scan", 2);
+    next();
+    delete("Scan", 0);
+    next();
+    set("Scan", 0, "Id", 0, "1");
+    next();
+    for (i = 0; i < 3; i++)
+        sent(book, (struct sending){ 30, len, 6 + i, len + 15 }, run, run_end, RECFILE_ACCEPTED, mixed, 6, changed, sizeof changed - 1);
+    refused_run(5);
+    refused_run(0);
+    run_end--;
+    refused_run(9);
+    run_end += 2;
+    refused_run(9);
+
+    /* a file that fails: each request has the file's number */
+    run_end--;
+    each_refused("Page front\n", 11, 6, RECFILE_REFUSED_LINE);
+    each_refused("Page front\n", 20, 6, RECFILE_REFUSED_BYTE);
+    each_refused(book, len + 10, 6, RECFILE_REFUSED_LENGTH);
+    each_refused("", SIZE_MAX, 6, RECFILE_REFUSED_LENGTH);
+
+    /* what an accepted one frees is there for the next */
+    run_end = 0;
+    delete("Scan", 0);
+    next();
+    insert("Scan", "Id", "12345678");
+    text(RECFILE_TAG_NAME, "Page");
+    text(RECFILE_TAG_VALUE, "of more bytes than a line of the book");
+    next();
+    insert("Scan", "Id", "3");
+    text(RECFILE_TAG_NAME, "Page");
+    text(RECFILE_TAG_VALUE, "p");
+    next();
+    sent(book, (struct sending){ 0, len, 3, len }, run, run_end, RECFILE_ACCEPTED, filling, 3, refilled, sizeof refilled - 1);
+
+    /* lengths that are cut off or reach past the end */
+    for (i = 1; i <= sizeof cut_off; i++) {
+        memcpy(run, cut_off, i);
+        run_end = i;
+        refused_run(9);
+    }
+    memset(run, 0xFF, 2);
+    run_end = RECFILE_MAX_CONTENTS + 1;
+    refused_run(9);
+    run_end = RECFILE_MAX_CONTENTS + 2;
+    each_refused("", 0, 1, RECFILE_REFUSED_FORM);
+
+    /* as many requests as a run may have, and one more */
+    memset(run, 0, sizeof run);
+    run_end = 2 * RECFILE_MAX_REQUESTS;
+    each_refused(book, len, RECFILE_MAX_REQUESTS, RECFILE_REFUSED_FORM);
+    refused_run(RECFILE_MAX_REQUESTS - 1);
+    run_end += 2;
+    refused_run(RECFILE_MAX_REQUESTS);
+    refused_run(RECFILE_MAX_REQUESTS + 1);
+    refused_run(RECFILE_MAX_REQUESTS + 9);
+    run_end = 0;
+    for (i = 0; i < RECFILE_MAX_REQUESTS; i++) {
+        sprintf(number_of, "%u", (unsigned)i);
+        insert("", "A", number_of);
+        next();
+    }
+    for (i = 0; i < 3; i++)
+        sent("A: 0\n", (struct sending){ strlen(all) - 5 + i, 5, RECFILE_MAX_REQUESTS + i, 0 }, run, run_end, RECFILE_ACCEPTED, accepted_all, RECFILE_MAX_REQUESTS, all, strlen(all));
+
+    /* a run of more bytes than a file may have */
+    run_end = 0;
+    begin(RECFILE_KIND_INSERT, "");
+    text(RECFILE_TAG_NAME, "A");
+    bytes(RECFILE_TAG_VALUE, run, RECFILE_MAX_CONTENTS - end - 3);
+    next();
+    next();
+    asked = "a long run";
+    expect("bytes", run_end, 2 * (RECFILE_MAX_CONTENTS + 2));
+    each_refused("", 0, 2, RECFILE_REFUSED_ILLEGAL);
+    free(all);
+}
+
 /* A list of any length below that of the sets is too short: no byte and no entry is changed, whatever the request. */
 static void short_lists(const char *file, size_t sets)
 {
@@ -827,6 +1009,7 @@ int main(int argc, char **argv)
         fields();
         writes();
         edits();
+        runs();
         directories();
         out_of_date();
     }

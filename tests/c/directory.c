@@ -6,10 +6,11 @@
  *   f   fill
  *   e   length, request: an edit without the list
  *   l   length, request: an edit with it
+ *   r   length, length of the list of answers, run, answers: a run of requests
  *   c   position: the count there
  *
- * A call's line of output is its number, what it returned, a digest of the buffer and every entry of the list. Buffer, list and request
- * have exactly their size, on the heap; where that is 0 they are NULL.
+ * A call's line of output is its number, what it returned, a digest of the buffer, every entry of the list and, of a run, every answer. Buffer,
+ * lists, request and run have exactly their size, on the heap; where that is 0 they are NULL. An answer is 4 bytes, low byte first.
  */
 #include <recfile.h>
 #include <stdio.h>
@@ -67,13 +68,18 @@ static unsigned long digest(void)
     return b << 16 | a;
 }
 
-static void tell(uint32_t number, size_t value)
+static void show(uint32_t number, size_t value)
 {
     size_t i;
 
     printf("%u %zu %lu", (unsigned)number, value, digest());
     for (i = 0; i < count; i++)
         printf(" %zu,%zu,%zu", entries[i].place, entries[i].count, entries[i].end);
+}
+
+static void tell(uint32_t number, size_t value)
+{
+    show(number, value);
     printf("\n");
 }
 
@@ -88,6 +94,21 @@ static void edit(int listed)
                   : recfile_edit(buf, room, used, request, len, &number);
     free(request);
     tell(number, used);
+}
+
+static void edit_run(void)
+{
+    size_t len = taken(), answers_len = taken(), i;
+    uint8_t *run = lent(len);
+    uint32_t *answers = lent(answers_len * sizeof *answers), number = 77;
+
+    used = recfile_edit_run(buf, room, used, run, len, answers, answers_len, &number);
+    show(number, used);
+    for (i = 0; i < answers_len; i++)
+        printf(" %u", (unsigned)answers[i]);
+    printf("\n");
+    free(run);
+    free(answers);
 }
 
 int main(void)
@@ -108,6 +129,9 @@ int main(void)
         case 'e':
         case 'l':
             edit(what == 'l');
+            break;
+        case 'r':
+            edit_run();
             break;
         case 'c':
             value = recfile_count_at(entries, count, taken(), &number);

@@ -4,7 +4,7 @@
 Usage: python3 tests/differential/run.py [SEED [ROUNDS]]     (after `rt staticlib recfile`; needs cc; recutils if it is installed)
 
 Random, damaged and limit-sized files, such with many types, names and symbols, such with runs of joints, and such of many sets with comments and blank lines anywhere; every call on each of them;
-requests built field by field; lists of edits with other bytes behind the file, some of them given a directory of its sets. It prints how many answers were compared and stops at the first that differs,
+requests built field by field; lists of edits with other bytes behind the file, some of them given a directory of its sets, and runs of requests among them. It prints how many answers were compared and stops at the first that differs,
 showing what was asked.
 """
 import ctypes
@@ -19,6 +19,7 @@ HERE = os.path.dirname(os.path.abspath(__file__))
 ROOT = os.path.dirname(os.path.dirname(HERE))
 sys.path.insert(0, os.path.join(ROOT, 'tests', 'model'))
 import crowds     # noqa: E402
+import edits      # noqa: E402
 import frames     # noqa: E402
 import recfile    # noqa: E402
 import samples    # noqa: E402
@@ -34,7 +35,7 @@ def load():
     subprocess.run(['cc', '-shared', '-o', shared, '-Wl,--whole-archive', archive, '-Wl,--no-whole-archive'], check=True)
     lib = ctypes.CDLL(shared)
     lib.recfile_check.restype = ctypes.c_uint32
-    for name in ('count', 'set_name', 'fetch', 'view', 'request_field', 'write', 'edit', 'fill', 'edit_listed', 'count_at'):
+    for name in ('count', 'set_name', 'fetch', 'view', 'request_field', 'write', 'edit', 'edit_run', 'fill', 'edit_listed', 'count_at'):
         getattr(lib, 'recfile_' + name).restype = size
     return lib
 
@@ -93,6 +94,11 @@ class Library:
         n = self.lib.recfile_edit(room, size(len(buf)), size(used), request, size(len(request)), ctypes.byref(number))
         return number.value, n, room.raw[:len(buf)]
 
+    def edit_run(self, buf, used, run, answers):
+        number, room, list_ = ctypes.c_uint32(77), ctypes.create_string_buffer(bytes(buf), max(1, len(buf))), (ctypes.c_uint32 * len(answers))(*answers)
+        n = self.lib.recfile_edit_run(room, size(len(buf)), size(used), run, size(len(run)), list_, size(len(answers)), ctypes.byref(number))
+        return number.value, n, room.raw[:len(buf)], list(list_)
+
     def fill(self, buf, used, entries):
         number, list_ = ctypes.c_uint32(77), lent(entries)
         n = self.lib.recfile_fill(bytes(buf), size(len(buf)), size(used), list_, size(len(entries)), ctypes.byref(number))
@@ -149,16 +155,32 @@ class Tests:
         entries = self.samples.entries(max(0, need + r.choice([-1, 0, 0, 0, 1, 5])))
         return self.compare('fill', buf, used, entries)[2]
 
+    def run(self, requests):
+        """The requests as a run, now and then one whose lengths do not add up, and a list of answers that is mostly long enough."""
+        r, run = self.random, edits.run(*requests)
+        turn = r.random()
+        if turn < .1:
+            run += bytes([r.randrange(256)])
+        elif turn < .2:
+            run = run[:-1]
+        elif turn < .25 and run:
+            at = r.randrange(len(run))
+            run = run[:at] + bytes([r.choice([0, 1, 255])]) + run[at + 1:]
+        return run, [r.choice([0, 7, 2 ** 32 - 1]) for _ in range(max(0, len(requests) + r.choice([-1, 0, 0, 0, 1, 9])))]
+
     def edits(self, buf, used, rounds):
-        """A list of edits, a longer one and of its own sets where the file passes; half of them are given its directory."""
+        """A list of edits, a longer one and of its own sets where the file passes; single ones, ones that are given its directory, and runs of requests."""
         r, sets, entries = self.random, [b'', b'S', b'T', b'Scan'], self.directory(buf, used)
         if recfile.check(buf, used) == 0:
             sets, rounds = [s.name for s in recfile.passed(buf, used)[1] if s.records] + [b''], 4 * rounds
         for _ in range(rounds):
-            request = self.samples.request(sets)
+            request, turn = self.samples.request(sets), r.random()
             self.compare('write', request, b'\xee' * r.choice([0, 5, 200]))
-            if r.random() < .5:
+            if turn < .35:
                 _, used, buf = self.compare('edit', buf, used, request)
+            elif turn < .6:
+                requests = [request] * r.randint(0, 1) + [r.choice([b'', self.samples.request(sets), self.samples.request(sets)]) for _ in range(r.choice([0, 1, 2, 3, 6]))]
+                _, used, buf, _ = self.compare('edit_run', buf, used, *self.run(requests))
             else:
                 _, used, buf, entries = self.compare('edit_listed', buf, used, request, entries)
                 self.compare('count_at', entries, r.choice([0, 1, 2, len(entries), 2 ** 64 - 1]))
@@ -234,6 +256,20 @@ class Tests:
             text = frames.whole(runs)
             self.compare('check', text, len(text))
             self.edits(text + bytes(90), len(text), 1)
+
+    def runs(self):
+        """Runs about the most requests that there may be, on files that pass, fail and are said to be longer than their buffer, and runs of more bytes than a file may have."""
+        inserts = [edits.insert(b'', (b'A', b'%d' % k)) for k in range(66)]
+        for buf, used in ((bytes(900), 0), (bytes(100), 0), (b'A\n', 2), (b'A\n', 3), (b'', 2 ** 64 - 1)):
+            for count in (0, 1, 63, 64, 65, 66):
+                for answers in {max(0, count - 1), count, count + 1, 64, 65}:
+                    for requests in (inserts[:count], [b''] * count):
+                        self.compare('edit_run', buf, used, edits.run(*requests), [9] * answers)
+        long = edits.insert(b'', *[(b'A', b'x' * 4096)] * 15)
+        for requests in ([long] * 2, [b'x' * 65535] * 3, [long, *inserts[:63]], [long, *inserts[:64]]):
+            for cut in (0, 1):
+                run = edits.run(*requests)
+                self.compare('edit_run', bytes(70000), 0, run[:len(run) - cut], [9] * 64)
 
     def limits(self):
         """Files about the size of every limit, and large ones."""
@@ -321,6 +357,7 @@ def main():
     tests.limits()
     tests.int_ends()
     tests.limit_crowds()
+    tests.runs()
     tests.builds(rounds)
     for _ in range(rounds):
         tests.file(tests.samples.file())

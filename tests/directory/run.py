@@ -1,5 +1,5 @@
 #!/usr/bin/env python3
-"""The calls of a directory of sets against tests/model/recfile.py: filling it, edits with it and without, the count at a position.
+"""The calls of a directory of sets against tests/model/recfile.py: filling it, edits with it and without, runs of requests between them, the count at a position.
 
 Usage: python3 tests/directory/run.py PROGRAM [SEED [ROUNDS]]       (PROGRAM: tests/c/directory.c, built over target/staticlib/librecfile.a)
 
@@ -18,7 +18,7 @@ sys.path.insert(0, os.path.join(ROOT, 'tests', 'model'))
 
 import recfile  # noqa: E402
 import samples  # noqa: E402
-from edits import add, delete, drop, insert, rename, setting  # noqa: E402
+from edits import add, delete, drop, insert, rename, run, setting  # noqa: E402
 
 RECEIPTS = open(os.path.join(ROOT, 'samples', 'receipts.rec'), 'rb').read()
 FAILING = (b'A: 1', b'A: \x01\n', b'A\n', b'A' * 65 + b': 1\n', b'%key: A\n', b'%rec: S\n%foo: 1\n', b'%rec: S\n%type: A foo\n', b'%rec: S\n%prohibit: A\n\nA: 1\n', b'%rec: S\n%allowed: B\n\nA: 1\n',
@@ -45,10 +45,10 @@ class Cases:
         self.input.append(b's' + numbers(len(self.buffer), self.used, entries) + self.buffer + b''.join(numbers(*e) for e in self.entries))
         self.case = (text, entries)
 
-    def tell(self, call, number, value, *asks):
+    def tell(self, call, number, value, *asks, answers=()):
         self.calls[call, number] += 1
         self.asked.append((self.case, call, asks))
-        self.lines.append('%d %d %d%s' % (number, value, zlib.adler32(self.buffer), ''.join(' %d,%d,%d' % e for e in self.entries)))
+        self.lines.append('%d %d %d%s%s' % (number, value, zlib.adler32(self.buffer), ''.join(' %d,%d,%d' % e for e in self.entries), ''.join(' %d' % n for n in answers)))
 
     def fill(self):
         self.input.append(b'f')
@@ -66,6 +66,12 @@ class Cases:
             self.input.append(b'l' + numbers(len(request)) + request)
             number, self.used, self.buffer, self.entries = recfile.edit_listed(self.buffer, self.used, request, self.entries)
             self.tell('listed', number, self.used, request)
+
+    def edit_run(self, text, answers):
+        """A run of requests, which leaves the list as it is; the answers are those of a list of so many."""
+        self.input.append(b'r' + numbers(len(text), answers) + text + struct.pack('<%dI' % answers, *[77] * answers))
+        number, self.used, self.buffer, told = recfile.edit_run(self.buffer, self.used, text, [77] * answers)
+        self.tell('run', number, self.used, text, answers=told)
 
     def count_at(self, *positions):
         for position in positions:
@@ -145,6 +151,7 @@ def many(c):
                 new = insert(name, (b'Id', b'900'), (b'A', b'7'))
                 c.listed(new, new)
                 c.edit(delete(name, 0))
+                c.edit_run(run(new, delete(name, 0), b''), 3)
                 c.count_at(sets - 1, len(names) // 2)
                 c.listed(b'', delete(name, 0))
             if entries == sets:
@@ -176,8 +183,11 @@ def random_calls(c, rounds):
                 c.fill()
             elif turn < .3:
                 c.edit(c.samples.request(names))
-            elif turn < .75:
+            elif turn < .65:
                 c.listed(c.samples.request(names))
+            elif turn < .8:
+                requests = [c.samples.request(names) for _ in range(r.randint(0, 4))]
+                c.edit_run(run(*requests) + r.choice([b'', b'', b'', b'\0']), max(0, len(requests) + r.choice([0, 0, 1, -1])))
             else:
                 c.count_at(r.randint(0, 75))
 
@@ -194,7 +204,7 @@ def main(program, seed=1, rounds=1000):
             sys.exit('call %d differs (seed %s): %r\nlibrary %s\nmodel   %s' % (i, seed, c.asked[i], got[i] if i < len(got) else 'nothing', want))
     if done.returncode != 0 or len(got) != len(c.lines):
         sys.exit('exit status %d, %d lines for %d calls\n%s' % (done.returncode, len(got), len(c.lines), done.stderr.decode()))
-    for call in ('fill', 'edit', 'listed', 'count_at'):
+    for call in ('fill', 'edit', 'listed', 'run', 'count_at'):
         print('%s, by number: %s' % (call, ' '.join('%d:%d' % (n, k) for (what, n), k in sorted(c.calls.items()) if what == call)))
     print('%d answers of a directory, seed %s: all the same' % (len(got), seed))
 

@@ -1,6 +1,6 @@
 #!/usr/bin/env python3
 """The examples of docs/FORMAT.md: each file, and each request on the receipt book, is refused with the number that stands there; a damaged file cut into parts shows the
-numbers that stand there; the directory of a file is the one that stands there; and where GNU recutils is there, recfix finds a fault in the files of which the page says so.
+numbers that stand there; the directory of a file is the one that stands there, and a run of requests answers what stands there; and where GNU recutils is there, recfix finds a fault in the files of which the page says so.
 
 Usage: python3 tests/format/examples.py     (after `rt staticlib recfile`; needs cc)
 """
@@ -70,11 +70,34 @@ def directory(lib, section):
         sys.exit('the directory of a file of %d bytes is %r, and the page says %r' % (len(text), got, entries))
 
 
+def run_of_requests(lib, section, book):
+    """The run of the section's table on the book leaves a file of the length that stands there, and these answers; and what is refused there is refused."""
+    rows = re.findall(r'^\| `([0-9A-F ]+)` \|.*\| (\d+) \|$', section, flags=re.M)
+    run, requests = b''.join(bytes.fromhex(row) for row, _ in rows), len(rows)
+    length, held = (int(re.search(said, section).group(1)) for said in (r'leaves a file of (\d+) bytes', r'five answers that all hold (\d+)'))
+    answers = [int(n) for n in re.search(r'these are then ([\d, ]+)\.', section).group(1).split(', ')]
+
+    def sent(text, file, list_):
+        buf, number, told = ctypes.create_string_buffer(file, 200), ctypes.c_uint32(77), (ctypes.c_uint32 * list_)(*[held] * list_)
+        n = lib.recfile_edit_run(buf, size(200), size(len(file)), text, size(len(text)), told, size(list_), ctypes.byref(number))
+        return number.value, n, list(told), buf.raw
+
+    got = sent(run, book, len(answers))
+    if len(run) != int(re.search(r'A run of (\d+) bytes', section).group(1)) or got[:3] != (0, length, answers) or answers[:requests] != [int(n) for _, n in rows]:
+        sys.exit('a run of %d bytes answers %r, and the page says %r' % (len(run), got[:3], (0, length, answers)))
+    for file in (book, b'Id: 1'):
+        for text, list_ in ((run[:-1], 5), (run + b'\0', 5), (run, 2), (b'\0\0' * 65, 65)):
+            if sent(text, file, list_) != (29, len(file), [held] * list_, file + bytes(200 - len(file))):
+                sys.exit('a run that the page says is refused is not: %r' % text)
+    if sent(b'', b'Id: 1', 1)[:3] != (0, 5, [held]) or sent(b'\0\0' * 64, b'Id: 1', 65)[:3] != (0, 5, [2] * 64 + [held]):
+        sys.exit('a run on a file that fails is not answered as the page says')
+
+
 def main():
     archive, shared = (os.path.join(ROOT, 'target', *p) for p in (('staticlib', 'librecfile.a'), ('librecfile.so',)))
     subprocess.run(['cc', '-shared', '-o', shared, '-Wl,--whole-archive', archive, '-Wl,--no-whole-archive'], check=True)
     lib = ctypes.CDLL(shared)
-    lib.recfile_edit.restype = lib.recfile_fill.restype = size
+    lib.recfile_edit.restype = lib.recfile_edit_run.restype = lib.recfile_fill.restype = size
     with open(os.path.join(ROOT, 'docs', 'FORMAT.md'), encoding='utf-8') as f:
         page = f.read()
 
@@ -100,6 +123,8 @@ def main():
         return number.value
 
     book, requests = indented(page[page.index('## Records and sets'):].split('\n')), 0
+    run_of_requests(lib, page[page.index('## Runs of requests'):page.index('## The directory of sets')], book)
+    page = page[page.index('## What a call is refused for'):]
     for request, answer in re.findall(r'^\| `([0-9A-F ]+)` \|.*\| (\d+)[^|]*\|$', page, flags=re.M):
         got = edit(book, 65536, bytes.fromhex(request))
         if got != int(answer):
@@ -117,7 +142,7 @@ def main():
     if (edit(book, 109, insert), number.value, filled(lib, book, 1)[0], edit(b'A: 1\n' * 256, 65536, add)) != (26, 27, 28, 104):
         sys.exit('26, 27, 28 and 104 are not as the page says')
     requests += 4
-    print('docs/FORMAT.md: %d files, a directory and %d requests are as the page says' % (files, requests))
+    print('docs/FORMAT.md: %d files, a directory, a run and %d requests are as the page says' % (files, requests))
 
 
 main()

@@ -20,6 +20,7 @@ HOMES = {
     'MAX_TYPES': ('format/src/lib.rt', 'Descriptor', 'TYPES'),
     'MAX_WORDS': ('format/src/lib.rt', 'Descriptor', 'WORDS'),
     'MAX_CONTENTS': ('requests/src/encoding.rt', 'Field', 'CONTENTS'),
+    'MAX_REQUESTS': ('editor/src/runs.rt', 'Run', 'REQUESTS'),
 }
 # refusals that have another name in the code
 LACKING = {'SET': 'NO_SET', 'RECORD': 'NO_RECORD', 'FIELD': 'NO_FIELD'}
@@ -78,6 +79,10 @@ def main():
     sets = int(re.search(r'^pub const MAX_SETS: usize = (\d+);', wrapper, flags=re.M).group(1))
     if sets != header['MAX_DESCRIPTORS'] + 1:
         sys.exit('MAX_SETS in examples/rust/recfile.rs is not one more than the header\'s descriptors')
+
+    requests = int(re.search(r'^pub const MAX_REQUESTS: usize = (\d+);', wrapper, flags=re.M).group(1))
+    if requests != header['MAX_REQUESTS']:
+        sys.exit('MAX_REQUESTS in examples/rust/recfile.rs is not the header\'s')
 
     text = read('include', 'recfile.h')
     entry = re.findall(r'size_t (\w+);', re.search(r'typedef struct \{\n(.*?)\} recfile_entry;', text, flags=re.S).group(1))

@@ -1,11 +1,11 @@
 #!/usr/bin/env python3
-"""The definitions of crates/format against the implementation in recfile.py, on random files, lists of edits and directories of sets.
+"""The definitions of crates/format against the implementation in recfile.py, on random files, lists of edits, runs of requests and directories of sets.
 
 Usage: tests/model/definitions.py [SEED [COUNT]]       (from the repository's root; needs rt)
 
 It states what recfile.py answers as equations about the definitions, which the checker must prove by computing both sides: the verdict of COUNT files and of those about the ends of int; the numbers,
-lengths and buffer of COUNT / 2 lists of edits; the directory of COUNT / 2 files, filled and after an edit that is given it; and COUNT / 4 lists of edits, some of them given
-the directory, run on the buffer and on the plain file. The equations go into a copy of the crate in a temporary folder.
+lengths and buffer of COUNT / 2 lists of edits, runs of requests among them; what COUNT / 2 runs of requests answer; the directory of COUNT / 2 files, filled and after an edit that is given it; and
+COUNT / 4 lists of edits, some of them given the directory and some of them runs of requests, run on the buffer and on the plain file. The equations go into a copy of the crate in a temporary folder.
 """
 import collections
 import os
@@ -14,11 +14,12 @@ import subprocess
 import sys
 import tempfile
 
+import edits
 import frames
 import recfile
 import samples
 
-HEAD = '''-- What the independent implementation answers, of random files, lists of edits and directories of sets.
+HEAD = '''-- What the independent implementation answers, of random files, lists of edits, runs of requests and directories of sets.
 use Prim.Native.Nat.{ℕ}
 use mathlib.Core.Path.{_≡_, refl}
 use mathlib.Core.Bool.{Bool, true, false, _&&_}
@@ -30,11 +31,11 @@ use Rattle.format.specs.Pieces.{pieces, readOf, bytesOf}
 use Rattle.format.specs.Sets.{setsOf}
 use Rattle.format.specs.Written.{written}
 use Rattle.format.specs.Questions.{fileOf, verdictIn, verdict}
-use Rattle.format.specs.Requests.{tagged, requestOf}
+use Rattle.format.specs.Requests.{tagged, requestOf, requestsIn}
 use Rattle.format.specs.Plain.{plainOf, lengthOf, apply, step}
 use Rattle.format.specs.Calls.{Answer, numberIn, valueOr, editAnswer}
 use Rattle.format.specs.Directory.{directoryOf, Listed, fillAnswer, listedStep, listedAnswer, Kept, keptAnswer, countAtAnswer}
-use Rattle.format.specs.Runs.{Call, run, Ran, plainRun, PlainRan, entriesAfter, Told}
+use Rattle.format.specs.Runs.{Single, singly, Call, singles, run, Ran, plainRun, PlainRan, entriesAfter, Told, Numbered, runAnswer}
 use Rattle.format.specs.declared.Entry.{Entry}
 
 abbrev judged : Bytes → ℕ → Bool
@@ -49,6 +50,12 @@ edited file spare calls told buffer =
     let r : Ran = run calls (file ++ replicate spare 170) (length file) in
     same (numbers (r .told)) told && same (r .buffer) buffer
 
+abbrev one : Bytes → Call
+one q = Call.one (Single.edit q)
+
+abbrev listed : ℕ → Bytes → Call
+listed n q = Call.one (Single.listed n q)
+
 abbrev entry : ℕ → ℕ → ℕ → Entry
 entry place count end = record { place = place; count = count; end = end }
 
@@ -60,6 +67,11 @@ holds (x ∷ xs) (y ∷ ys) = eqb (x .place) (y .place) && (eqb (x .count) (y .c
 
 abbrev answers : Answer → ℕ → ℕ → ℕ → Bool
 answers a other number value = eqb (numberIn a) number && eqb (valueOr other a) value
+
+abbrev sends : Bytes → ℕ → Bytes → List ℕ → ℕ → ℕ → Bytes → List ℕ → Bool
+sends buffer used sent old number value after new =
+    let a : Numbered = runAnswer buffer used sent old in
+    answers (a .result) used number value && (same (a .out) after && same (a .answers) new)
 
 abbrev lists : Bytes → ℕ → List Entry → ℕ → ℕ → List Entry → Bool
 lists buffer used old number value new =
@@ -77,11 +89,11 @@ counts entries i number value = answers (countAtAnswer entries i) 0 number value
 abbrev runs : Bytes → ℕ → List Call → List ℕ → Bytes → List Entry → List Entry → Bool
 runs file spare calls told buffer old new =
     let start : Bytes = file ++ replicate spare 170 in
-    let p : PlainRan = plainRun (length start) calls (plainOf (readOf file)) (length file) in
-    edited file spare calls told buffer && (same (numbers (p .told)) told && holds (entriesAfter calls start (length file) old) new)
+    let p : PlainRan = plainRun (length start) (singles calls) (plainOf (readOf file)) (length file) in
+    edited file spare calls told buffer && (same (numbers (p .told)) told && holds (entriesAfter (singles calls) start (length file) old) new)
 
 '''
-UNFOLDING = 'unfolding bytesOf pieces readOf setsOf written fileOf verdictIn verdict tagged requestOf plainOf lengthOf apply step editAnswer run ' \
+UNFOLDING = 'unfolding bytesOf pieces readOf setsOf written fileOf verdictIn verdict tagged requestOf plainOf lengthOf apply step editAnswer singly run requestsIn runAnswer ' \
     'directoryOf fillAnswer listedStep listedAnswer keptAnswer countAtAnswer plainRun entriesAfter\n'
 
 
@@ -108,7 +120,7 @@ class Equations:
     def __init__(self, seed):
         self.samples, self.text = samples.Samples(seed), HEAD
         self.random = self.samples.random
-        self.verdicts, self.edits, self.filled, self.kept = (collections.Counter() for _ in range(4))
+        self.verdicts, self.edits, self.sent, self.filled, self.kept = (collections.Counter() for _ in range(5))
 
     def files(self, count):
         """Equations of the verdict of files; those that pass."""
@@ -131,20 +143,58 @@ class Equations:
             self.text += equation('end-%d' % k, 'judged %s %d' % (literal(data), recfile.check(data, len(data))))
         return len(ends)
 
+    def run(self, sets):
+        """A run of requests, now and then one that is refused, and the length of its list of answers."""
+        r = self.random
+        requests = [r.choice([b'', self.samples.request(sets), self.samples.request(sets)]) for _ in range(r.choice([0, 1, 2, 3, 4]))]
+        sent, turn = edits.run(*requests), r.random()
+        if turn < .1:
+            sent += bytes([r.choice([0, 1, 65])])
+        elif turn < .2:
+            sent = sent[:-1]
+        return sent, max(0, len(requests) + r.choice([-1, 0, 0, 0, 1, 3]))
+
+    def call(self, buffer, used, sets, told):
+        """A single edit or a run, as a call of the definitions, and the buffer and length after it; each request's number and length is told."""
+        requests = [self.samples.request(sets)]
+        call = 'one ' + literal(requests[0])
+        if self.random.random() < .3:
+            sent, room = self.run(sets)
+            call = 'Call.many %d %s' % (room, literal(sent))
+            number, _, _, _ = recfile.edit_run(buffer, used, sent, [0] * room)
+            self.sent[number] += 1
+            requests = [] if number else recfile.requests_in(sent)
+        for request in requests:
+            number, used, buffer = recfile.edit(buffer, used, request)
+            told += [number, used]
+            self.edits[number] += 1
+        return call, buffer, used
+
+    def sendings(self, passing, count):
+        """What a run answers, of files that pass and that do not, and of a length that is beyond the buffer."""
+        r = self.random
+        for k in range(count):
+            data = r.choice([r.choice(passing), r.choice(passing), self.samples.file()])
+            buffer = data + bytes([170]) * r.choice([0, 20, 200])
+            used = len(data) if r.random() < .9 else len(buffer) + 1
+            sent, room = self.run(self.names(data)[0])
+            old = [r.choice([0, 7, 300]) for _ in range(room)]
+            number, value, after, new = recfile.edit_run(buffer, used, sent, old)
+            self.sent[number] += 1
+            self.text += equation('sent-%d' % k, 'sends %s %d %s %s %d %d %s %s' % (
+                literal(buffer), used, literal(sent), listed(map(str, old)), number, value, literal(after), listed(map(str, new))))
+
     def edit_lists(self, passing, count):
         r = self.random
         for k in range(count):
             data = r.choice(passing)
             sets = [s.name for s in recfile.read_sets(recfile.read_pieces(data))]
             spare = r.choice([0, 5, 20, 200, 200])
-            requests = [self.samples.request(sets) for _ in range(r.randint(2, 9))]
-            buffer, used, told = data + bytes([170]) * spare, len(data), []
-            for request in requests:
-                number, used, buffer = recfile.edit(buffer, used, request)
-                told += [number, used]
-                self.edits[number] += 1
-            self.text += equation('run-%d' % k, 'edited %s %d %s %s %s' % (
-                literal(data), spare, listed('Call.edit ' + literal(q) for q in requests), listed(str(n) for n in told), literal(buffer)))
+            buffer, used, told, calls = data + bytes([170]) * spare, len(data), [], []
+            for _ in range(r.randint(2, 9)):
+                call, buffer, used = self.call(buffer, used, sets, told)
+                calls.append(call)
+            self.text += equation('run-%d' % k, 'edited %s %d %s %s %s' % (literal(data), spare, listed(calls), listed(str(n) for n in told), literal(buffer)))
 
     def names(self, data):
         """The names of a file's sets, those with records several times."""
@@ -188,16 +238,16 @@ class Equations:
             if r.random() < .5:
                 old = recfile.fill(buffer, used, old)[2]
             new = old
-            for request in [self.samples.request(names) for _ in range(r.randint(1, 5))]:
-                if r.random() < .7:
-                    calls.append('Call.listed %d %s' % (len(old), literal(request)))
+            for _ in range(r.randint(1, 5)):
+                if r.random() < .6:
+                    request = self.samples.request(names)
+                    calls.append('listed %d %s' % (len(old), literal(request)))
                     number, used, buffer, new = recfile.edit_listed(buffer, used, request, new)
                     self.kept[number] += 1
+                    told += [number, used]
                 else:
-                    calls.append('Call.edit ' + literal(request))
-                    number, used, buffer = recfile.edit(buffer, used, request)
-                    self.edits[number] += 1
-                told += [number, used]
+                    call, buffer, used = self.call(buffer, used, names, told)
+                    calls.append(call)
             self.text += equation('listed-%d' % k, 'runs %s %d %s %s %s %s %s' % (
                 literal(data), spare, listed(calls), listed(str(n) for n in told), literal(buffer), entries(old), entries(new)))
 
@@ -207,6 +257,7 @@ def main(seed=1, count=300):
     passing = e.files(count)
     ends = e.int_ends()
     e.edit_lists(passing, count // 2)
+    e.sendings(passing, count // 2)
     e.directories(passing, count // 2)
     e.listed_runs(count // 4)
     with tempfile.TemporaryDirectory() as folder:
@@ -219,12 +270,12 @@ def main(seed=1, count=300):
             f.write(e.text)
         said = subprocess.run(['rt', 'dev', 'format'], cwd=folder, capture_output=True, text=True)
     errors = [line for line in (said.stdout + said.stderr).splitlines() if ': error' in line]
-    for what, numbers in (('files by verdict', e.verdicts), ('edits by number', e.edits), ('directories filled, by number', e.filled), ('edits with a directory, by number', e.kept)):
+    for what, numbers in (('files by verdict', e.verdicts), ('edits by number', e.edits), ('runs of requests, by number', e.sent), ('directories filled, by number', e.filled), ('edits with a directory, by number', e.kept)):
         print('%s: %s' % (what, dict(sorted(numbers.items()))))
     for line in errors[:10]:
         print(line[:300])
     agreed = said.returncode == 0 and not errors
-    print('%d files, %d lists of edits, %d directories, %d lists of edits with one: %s' % (count + ends, count // 2, count // 2, count // 4, 'agreed' if agreed else 'NOT agreed'))
+    print('%d files, %d lists of edits, %d runs of requests, %d directories, %d lists of edits with one: %s' % (count + ends, count // 2, count // 2, count // 2, count // 4, 'agreed' if agreed else 'NOT agreed'))
     sys.exit(0 if agreed else 1)
 
 

@@ -1,4 +1,4 @@
-"""Requests of the six kinds of edit, by what they ask for."""
+"""Requests of the six kinds of edit, by what they ask for, and runs of requests."""
 from samples import number, tagged
 
 
@@ -32,3 +32,7 @@ def drop(name, row, field, occurrence):
 
 def rename(name, row, field, occurrence, new):
     return head(6, name) + tagged(3, number(row)) + tagged(4, field) + tagged(5, number(occurrence)) + tagged(7, new)
+
+
+def run(*requests):
+    return b''.join(number(len(q)) + q for q in requests)

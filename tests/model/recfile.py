@@ -7,6 +7,7 @@ import re
 
 FILE, NAME, VALUE, FIELDS = 65536, 64, 4096, 256
 DESCRIPTORS, TYPEDEFS, TYPES, WORDS = 64, 32, 32, 64
+RUN = 64
 INT_MIN, INT_MAX = -9223372036854775808, 9223372036854775807
 
 ALLOWED = {9, 10} | set(range(32, 127)) | set(range(128, 256))
@@ -560,6 +561,33 @@ def edit(buf, used, req):
     except No as no:
         return no.number, used, buf
     return 0, len(new), new + bytes(max(0, used - len(new))) + buf[max(used, len(new)):]
+
+
+def requests_in(run):
+    """The requests of a run, each after its length (two bytes, high first), or No(29) where the lengths don't add up to it."""
+    out = []
+    while run:
+        end = 2 + int.from_bytes(run[:2], 'big')
+        if len(run) < 2 or len(run) < end:
+            raise No(29)
+        out.append(run[2:end])
+        run = run[end:]
+    return out
+
+
+def edit_run(buf, used, run, answers):
+    """(number, length, buffer after it, answers after it). The run is read before the file is looked at."""
+    try:
+        requests = requests_in(run)
+        if len(requests) > RUN or len(requests) > len(answers):
+            raise No(29)
+    except No as no:
+        return no.number, used, buf, answers
+    numbers = []
+    for request in requests:
+        number, used, buf = edit(buf, used, request)
+        numbers.append(number)
+    return 0, used, buf, numbers + answers[len(numbers):]
 
 
 def entries_of(pieces, sets):

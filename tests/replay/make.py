@@ -1,5 +1,5 @@
 #!/usr/bin/env python3
-"""The input and the expected output of the test program `test_replay`: what tests/model/recfile.py answers to edits, lists of edits and the other calls.
+"""The input and the expected output of the test program `test_replay`: what tests/model/recfile.py answers to edits, runs of requests and the other calls.
 
 Usage: tests/replay/make.py       (writes crates/test_replay/stdin and crates/test_replay/stdout)
 """
@@ -13,7 +13,7 @@ sys.path.insert(0, os.path.join(ROOT, 'tests', 'model'))
 
 import recfile  # noqa: E402
 import samples  # noqa: E402
-from edits import add, delete, drop, head, insert, pair, rename, setting  # noqa: E402
+from edits import add, delete, drop, head, insert, pair, rename, run, setting  # noqa: E402
 from frames import four, frame, packed, two, whole  # noqa: E402
 from samples import tagged  # noqa: E402
 
@@ -53,20 +53,15 @@ class Replay:
             self.frames.append(frame(b'\1', packed(runs)))
             self.tell('edit', no, self.used, self.buffer)
 
-    def edit_list(self, requests, sizes=None):
-        """All requests in one call; a size that runs past the end has what is left."""
-        sizes = [len(q) for q in requests] if sizes is None else sizes
-        text, at = b''.join(requests), 0
-        assert len(sizes) <= 16
-        told = []
-        for size in sizes + [0] * (16 - len(sizes)):
-            no, self.used, self.buffer = recfile.edit(self.buffer, self.used, text[at:at + size])
-            at = min(at + size, len(text))
-            told.append((no, self.used))
-        self.frames.append(frame(b'\2', two(len(sizes)), b''.join(four(n) for n in sizes + [0] * (16 - len(sizes))), packed([(1, text)])))
-        for no, length in told[:len(sizes)]:
-            self.tell('list', no, length, b'')
-        self.tell('end', 0, self.used, self.buffer)
+    def edit_run(self, runs, answers=70, held=77):
+        """A run of requests in one call, given a list of so many answers that all are `held` before."""
+        if isinstance(runs, bytes):
+            runs = [(1, runs)]
+        no, self.used, self.buffer, told = recfile.edit_run(self.buffer, self.used, whole(runs), [held] * answers)
+        self.frames.append(frame(b'\2', bytes([answers, held]), packed(runs)))
+        self.tell('run', no, self.used, self.buffer)
+        self.lines.append(''.join('%d ' % n for n in told) + '\n')
+        self.calls.update(('sent', n) for n in told if n != held)
 
     def call(self, kind, name=b'', row=0, field=b'', occurrence=0, room=0, runs=None):
         tail = name + field if runs is None else packed(runs)
@@ -156,7 +151,9 @@ def numbers(r):
                  b'%rec: S\n%unique: A\n\nA: 1\nA: 1\n', b'%rec: S\n%type: A int\n\nA: x\n', b'%rec: S\n%key: A\n\nA: 1\n\nA: 1\n', b'%rec: S\n%size: 0\n\nA: 1\n'):
         r.start(text)
         r.edit(setting(b'S', 0, b'A', 0, b'2'), b'')
-        r.edit_list([insert(b'', (b'A', b'1')), b'x'])
+        r.edit_run(run(insert(b'', (b'A', b'1')), b'x', b''), 4)
+        r.edit_run(b'', 4)
+        r.edit_run(run(insert(b'', (b'A', b'1'))) + b'x', 4)
         r.look_around()
     r.start(RECEIPTS, room=108 + 1, used=110)
     r.edit(page)
@@ -256,11 +253,35 @@ def names(r):
     r.fetch(b'Scanner', 0, b'A', 0, 1)
 
 
-def lists(r):
-    a, b = insert(b'Scan', (b'Id', b'2'), (b'Page', b'p')), setting(b'Scan', 1, b'Page', 0, b'q')
-    for sizes in (None, [], [len(a)], [len(a) + 1, len(b)], [len(a), len(b) + 9], [len(a), len(b), 5], [65536, 1], [4294967295]):
-        r.start(RECEIPTS)
-        r.edit_list([a, b], sizes)
+def runs(r):
+    """Runs of requests between other edits, runs that are refused among them, and what is refused at both sides of each bound."""
+    a, b, c = insert(b'Scan', (b'Id', b'2'), (b'Page', b'p')), setting(b'Scan', 1, b'Page', 0, b'q'), delete(b'Scan', 0)
+    r.start(RECEIPTS, behind=b'left behind')
+    r.edit(b, a)
+    r.edit_run(run(b, a, b'', c, drop(b'Scan', 0, b'Page', 0), insert(b'Scan', (b'Id', b'3'), (b'Page', b'longer'))))
+    r.edit(delete(b'Scan', 7), rename(b'Scan', 1, b'Page', 0, b'Pages'))
+    r.edit_run(run(a, c) + b'\0')
+    r.edit(c)
+    r.edit_run(run(insert(b'', (b'A', b'x'))))
+    r.look_around()
+    # whatever the file: it passes, fails, or has a length that is beyond the buffer
+    for start in ({'runs': RECEIPTS}, {'runs': RECEIPTS, 'room': 109}, {'runs': b'A\n'}, {'runs': b'A: 1'}, {'runs': b''}, {'runs': RECEIPTS, 'room': 109, 'used': 110}, {'runs': b'', 'room': 0, 'used': 1}):
+        for text in (b'', run(b''), run(a), run(a, b, c), run(a, b, c, b''), run(b'', a), run(a) + b'\0', run(a) + b'\1', b'\0', b'\1', b'\0\1', b'\1\0', b'\xff\xff', run(a)[:-1], run(a, b)[:-1], run(a, b)[:-len(b)], run(a, b)[:-len(b) - 1],
+                     run(a, b)[:-len(b) - 2], b'\0' + run(a), run(a)[1:], run(b'\0'), run(b'x' * 255), run(b'x' * 256), run(b'x' * 256)[:-1], run(b'x' * 257, a)):
+            for answers in range(6):
+                r.start(**start)
+                r.edit_run(text, answers)
+        for count in (64, 65):
+            for answers in (count - 1, count, 255):
+                r.start(**start)
+                r.edit_run(run(*[b''] * count), answers)
+                r.start(**start)
+                r.edit_run(run(*[insert(b'Scan', (b'Id', b'%d' % i), (b'Page', b'p')) for i in range(count)]), answers, held=0)
+    # more bytes than a file may have
+    long = [(1, run(b'x' * 65535)[:2] + head(1, b'')), (15, pair(b'A', b'x' * 4096)), (1, pair(b'A', b'x' * (65535 - 7 - 15 * 4103 - 7)))]
+    for text in (long, long + long, [(1, run(a))] + long, long + [(1, run(a, b''))], long + [(1, b'\0')], long[:-1]):
+        r.start(b'', room=65600)
+        r.edit_run(text)
 
 
 def passing(g):
@@ -284,14 +305,20 @@ def random_lists(r, count):
         r.start(text, room, behind=behind)
         r.edit(*requests)
         r.look_around()
-        r.start(text, room, behind=behind)
-        r.edit_list(requests)
         for q in requests:
             r.write(q, g.random.choice([0, 6, 12, 40]))
+        r.start(text, room, behind=behind)
+        r.edit_run(run(*requests), g.random.choice([8, 8, 9, 7]))
+        r.start(text, room, behind=behind)
+        while requests:
+            n = g.random.randint(0, len(requests))
+            r.edit(*requests[:1])
+            r.edit_run(run(*requests[1:n]) + g.random.choice([b'', b'', b'', b'\0']), g.random.randint(max(0, n - 2), 9))
+            requests = requests[max(1, n):]
 
 
 r = Replay()
-for make in (marked, numbers, comments, writing, names, lists):
+for make in (marked, numbers, comments, writing, names, runs):
     make(r)
 random_lists(r, 200)
 

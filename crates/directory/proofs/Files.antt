@@ -10,7 +10,7 @@ use Rattle.format.specs.Pieces.{pieces, readOf}
 use Rattle.format.specs.Questions.{verdict}
 use Rattle.format.specs.Calls.{Answer, answer, answered, thenNo, valueOr, Filled, checkAnswer, editAnswer, filledBy}
 use Rattle.format.specs.Directory.{listNo}
-use Rattle.format.specs.Runs.{Call}
+use Rattle.format.specs.Runs.{Single}
 use Rattle.format.specs.declared.Answer.{Answer as Reply}
 use Rattle.format.proofs.Passing.{verdict-read, verdict-passes}
 use Rattle.format.proofs.Directory.{left-passes, left-sets, listed-fails, listed-short, listed-edits}
@@ -68,6 +68,6 @@ module _ (b : Bytes) (u : ℕ) (q : Bytes) (m : ℕ) where
         → Does b u q m after (record { answer = r; used = valueOr u (answered r); sets = length (listOf b u) })
     does-edit h r after e =
         let n : ℕ = valueOr u (answered r) in
-        let passes : verdict after n ≡ 0 = subst (λ (f : Filled). verdict (f .out) (valueOr u (f .result)) ≡ 0) (sym e) (left-passes b u v (Call.edit q)) in
-        let many : length (listOf after n) ≡ length (listOf b u) = subst (λ (f : Filled). length (listOf (f .out) (valueOr u (f .result))) ≡ length (listOf b u)) (sym e) (left-sets b u v (Call.edit q)) in
+        let passes : verdict after n ≡ 0 = subst (λ (f : Filled). verdict (f .out) (valueOr u (f .result)) ≡ 0) (sym e) (left-passes b u v (Single.edit q)) in
+        let many : length (listOf after n) ≡ length (listOf b u) = subst (λ (f : Filled). length (listOf (f .out) (valueOr u (f .result))) ≡ length (listOf b u)) (sym e) (left-sets b u v (Single.edit q)) in
         (e ∙ sym (listed-edits m b u q h), refl, sym many ∙ ap (valueOr 0) (counted-fits after n m passes (subst (λ (k : ℕ). k ≤ m) (sym many) h)))

@@ -1,4 +1,4 @@
--- Laws of one edit and of lists of edits.
+-- Laws of one edit and of runs of requests.
 pub mod Making
 pub mod Editing
 pub mod Running

@@ -1,21 +1,143 @@
--- A list of edits goes on by one: its requests, what it leaves, and the slices that hold what it told.
-use Prim.Native.Nat.{ℕ, zero, suc, _+_, _-_, _≤_, _<_, min}
+-- A run of requests goes on by one: what is read of it, what it leaves, and the list that holds its numbers.
+use Prim.Native.Nat.{ℕ, zero, suc, _+_, _-_, _≤_, _<_}
 use native.Mathlib.Omega.{arith}
-use native.Mathlib.Numerals.{add-one}
 use mathlib.Core.Path.{_≡_, refl, sym, ap, _∙_, subst}
-use mathlib.Core.List.{List, [], _∷_, _++_, map, map-append}
-use lib.ListN.{length, take, drop, getD, set, length-append, length-drop, length-map}
-use lib.Seq.{take-suc, take-at, drop-at, drop-drop, drop-cons, set-at, append-snoc, length-take-le}
+use mathlib.Core.Bool.{Bool, true, false, _&&_, true≢false}
+use mathlib.Core.List.{List, [], _∷_, _++_, map, map-append, append-assoc, append-nil}
+use mathlib.Core.Option.{Option, none, some}
+use lib.Dec.{leb}
+use lib.ListN.{length, take, drop, getD, set, length-append, length-map, length-drop}
+use lib.Seq.{drop-cons, set-at, append-snoc, take-length}
+use borrow.Author.Tests.{leb-true, leb-false, le-leb, lt-leb}
 use Rattle.format.specs.Bytes.{Bytes}
+use Rattle.format.specs.Lists.{onward, onlyIf}
+use Rattle.format.specs.Limits.{runRequests}
 use Rattle.format.specs.Questions.{verdict}
-use Rattle.format.specs.Calls.{numberIn, valueOr, Filled, over, checkAnswer, editAnswer}
-use Rattle.format.specs.Runs.{Call, callAnswer, Told, Ran, ranOn, run, plainRun}
-use Rattle.format.specs.Plain.{Plain, plainOf}
-use Rattle.format.specs.Pieces.{readOf}
-use Rattle.format.specs.Demand.{Demand}
+use Rattle.format.specs.Requests.{shortAt, requestsIn}
+use Rattle.format.specs.Calls.{Answer, numberIn, valueOr, Filled, over, checkAnswer, editAnswer}
+use Rattle.format.specs.Runs.{Single, Told, Ran, singly, taken, fewEnough, editsOf, numbersTold, Numbered, runAnswer, thenRan}
 use Rattle.format.proofs.Answers.{answer-file}
-use Rattle.format.proofs.Demand.{calls-meet-demand, run-told}
-use Rattle.editor.specs.Lists.{editsIn, toldBy, ranBy, Leaves}
+use Rattle.format.proofs.Demand.{edits-meet-demand}
+use Rattle.format.proofs.Sending.{before, requests-none, requests-first, requests-past, run-taken, run-refused}
+use Rattle.editor.specs.Runs.{FirstIn, isRun, isTaken, Sends}
+use Rattle.editor.specs.declared.runs.First.{First}
+
+-- What is read
+
+-- the first request is cut off, or reaches past the end
+pub first-cut : (s : Bytes) → 0 < length s → length s < 2 → FirstIn s First.Fault
+first-cut [] h l = absurd (omega arith)
+first-cut (c ∷ s) h l = requests-past c s (omega arith)
+
+pub first-past : (s : Bytes) → 2 ≤ length s → length s < 2 + shortAt s → FirstIn s First.Fault
+first-past [] h l = absurd (omega arith)
+first-past (c ∷ s) h l = requests-past c s l
+
+pub first-ends : (s : Bytes) → 2 + shortAt s ≤ length s → FirstIn s (First.Ends (2 + shortAt s))
+first-ends s h =
+    let e : (2 + shortAt s) - 2 ≡ shortAt s = omega arith in
+    (omega arith, h, rw (e) (requests-first s h))
+
+-- what the code found: the request, and the rest from its end on
+pub first-found : (s : Bytes) {r : First} → FirstIn s r → {e : ℕ} → r ≡ First.Ends e → (2 ≤ e) × (e ≤ length s) × (requestsIn s ≡ before (take (e - 2) (drop 2 s)) (requestsIn (take (length s - e) (drop e s))))
+first-found s h {e} is =
+    let f : FirstIn s (First.Ends e) = subst (FirstIn s) is h in
+    let rest : take (length s - e) (drop e s) ≡ drop e s = ap (λ (k : ℕ). take k (drop e s)) (sym (length-drop e s)) ∙ take-length (drop e s) in
+    (f .0, f .1, f .2 ∙ ap (λ (t : Bytes). before (take (e - 2) (drop 2 s)) (requestsIn t)) (sym rest))
+
+pub first-fault : (s : Bytes) {r : First} → FirstIn s r → r ≡ First.Fault → requestsIn s ≡ none
+first-fault s h is = subst (FirstIn s) is h
+
+run-more : (n : ℕ) (q : Bytes) (y : Option (List Bytes)) → isRun (suc n) (before q y) ≡ isRun n y
+run-more n q none = refl
+run-more n q (some qs) = go (leb (length qs) n) refl
+  where
+    go : (t : Bool) → leb (length qs) n ≡ t → leb (length (q ∷ qs)) (suc n) ≡ leb (length qs) n
+    go true e = le-leb (length (q ∷ qs)) (suc n) (omega (arith, leb-true (length qs) n e)) ∙ sym e
+    go false e = lt-leb (length (q ∷ qs)) (suc n) (omega (arith, leb-false (length qs) n e)) ∙ sym e
+
+run-full : (q : Bytes) (y : Option (List Bytes)) → isRun 0 (before q y) ≡ false
+run-full q none = refl
+run-full q (some qs) = lt-leb (length (q ∷ qs)) 0 (omega arith)
+
+-- one request is passed; there is one more than may be; there is none left
+pub run-goes : (n : ℕ) → 0 < n → (x : Option (List Bytes)) (q : Bytes) (y : Option (List Bytes)) → x ≡ before q y → isRun n x ≡ isRun (n - 1) y
+run-goes zero h x q y e = absurd (omega arith)
+run-goes (suc n) h x q y e =
+    let k : n ≡ suc n - 1 = omega arith in
+    ap (isRun (suc n)) e ∙ run-more n q y ∙ ap (λ (m : ℕ). isRun m y) k
+
+pub run-stops : (s : Bytes) (n : ℕ) → 0 < length s → n ≡ 0 → isRun n (requestsIn s) ≡ false
+run-stops [] n h e = absurd (omega arith)
+run-stops (c ∷ s) n h e = ap (λ (m : ℕ). isRun m (requestsIn (c ∷ s))) e ∙ go (leb (2 + shortAt (c ∷ s)) (length (c ∷ s))) refl
+  where
+    go : (t : Bool) → leb (2 + shortAt (c ∷ s)) (length (c ∷ s)) ≡ t → isRun 0 (requestsIn (c ∷ s)) ≡ false
+    go true t =
+        let n : ℕ = shortAt (c ∷ s) in
+        ap (isRun 0) (requests-first (c ∷ s) (leb-true (2 + n) (length (c ∷ s)) t)) ∙ run-full (take n (drop 2 (c ∷ s))) (requestsIn (drop (2 + n) (c ∷ s)))
+    go false t = ap (isRun 0) (requests-past c s (leb-false (2 + shortAt (c ∷ s)) (length (c ∷ s)) t))
+
+pub run-ends : (s : Bytes) (n : ℕ) → length s ≤ 0 → isRun n (requestsIn s) ≡ true
+run-ends [] n h = ap (isRun n) requests-none ∙ le-leb 0 n (omega arith)
+run-ends (c ∷ s) n h = absurd (omega arith)
+
+-- one that goes on has room for an answer
+pub run-room : (n : ℕ) (x : Option (List Bytes)) (q : Bytes) (y : Option (List Bytes)) → x ≡ before q y → isRun n x ≡ true → 0 < n
+run-room zero x q y e h = absurd (true≢false (sym h ∙ ap (isRun 0) e ∙ run-full q y))
+run-room (suc n) x q y e h = omega arith
+
+-- one that is none is not run
+pub no-run : (n : ℕ) (x : Option (List Bytes)) → x ≡ none → isRun n x ≡ true → ⊥
+no-run n x e h = true≢false (sym h ∙ ap (isRun n) e)
+
+pub sub-none : (n : ℕ) → n ≡ n - 0
+sub-none n = omega arith
+
+-- at most 64 and no more than there are answers: the lesser of the two is asked
+both-least : (a m n : ℕ) → m ≤ n → (t : Bool) → leb a m ≡ t → (leb a n && t) ≡ t
+both-least a m n h true e = ap (λ (b : Bool). b && true) (le-leb a n (omega (arith, leb-true a m e)))
+both-least a m n h false e = and-false (leb a n)
+  where
+    and-false : (b : Bool) → (b && false) ≡ false
+    and-false true = refl
+    and-false false = refl
+
+first-least : (a m n : ℕ) → m ≤ n → (t : Bool) → leb a m ≡ t → (t && leb a n) ≡ t
+first-least a m n h true e = le-leb a n (omega (arith, leb-true a m e))
+first-least a m n h false e = refl
+
+taken-by : (b : Bool) (qs : List Bytes) → isTaken (onlyIf b qs) ≡ b
+taken-by true qs = refl
+taken-by false qs = refl
+
+pub taken-short : (n : ℕ) (s : Bytes) → n < runRequests → isRun n (requestsIn s) ≡ isTaken (taken n s)
+taken-short n s h = go (requestsIn s)
+  where
+    go : (x : Option (List Bytes)) → isRun n x ≡ isTaken (onward (fewEnough n) x)
+    go none = refl
+    go (some qs) = sym (taken-by (leb (length qs) runRequests && leb (length qs) n) qs ∙ both-least (length qs) n runRequests (omega arith) (leb (length qs) n) refl)
+
+pub taken-long : (n : ℕ) (s : Bytes) → runRequests ≤ n → isRun runRequests (requestsIn s) ≡ isTaken (taken n s)
+taken-long n s h = go (requestsIn s)
+  where
+    go : (x : Option (List Bytes)) → isRun runRequests x ≡ isTaken (onward (fewEnough n) x)
+    go none = refl
+    go (some qs) = sym (taken-by (leb (length qs) runRequests && leb (length qs) n) qs ∙ first-least (length qs) runRequests n h (leb (length qs) runRequests) refl)
+
+-- one that is taken has its requests, no more than there are answers
+taken-requests : (n : ℕ) (x : Option (List Bytes)) → isTaken (onward (fewEnough n) x) ≡ true → (isRun n x ≡ true) × (onward (fewEnough n) x ≡ x)
+taken-requests n none h = absurd (true≢false (sym h))
+taken-requests n (some qs) h = go (leb (length qs) runRequests) (leb (length qs) n) refl h
+  where
+    go : (a b : Bool) → leb (length qs) n ≡ b → isTaken (onlyIf (a && b) qs) ≡ true → (leb (length qs) n ≡ true) × (onlyIf (a && b) qs ≡ some qs)
+    go true true e t = (e, refl)
+    go true false e t = absurd (true≢false (sym t))
+    go false b e t = absurd (true≢false (sym t))
+
+pub taken-run : (n : ℕ) (s : Bytes) → isTaken (taken n s) ≡ true → isRun n (requestsIn s) ≡ true
+taken-run n s h = taken-requests n (requestsIn s) h .0
+
+-- What is sent
 
 -- what an edit of a file of `used` bytes tells, and the buffer after it
 pub record Edited : Type 0 where
@@ -29,186 +151,84 @@ editedOf used a = record { number = numberIn (a .result); length = valueOr used 
 abbrev pub editOf : Bytes → ℕ → Bytes → Edited
 editOf buffer used q = editedOf used (editAnswer buffer used q)
 
-abbrev toldOf : Edited → Told
-toldOf e = record { number = e .number; length = e .length }
-
-abbrev thenEdit : Bytes → Ran → Ran
-thenEdit q r =
-    let e : Edited = editOf (r .buffer) (r .length) q in
-    record { told = r .told ++ (toldOf e ∷ []); length = e .length; buffer = e .buffer }
-
--- one more request
-run-more : (cs : List Call) (q : Bytes) (buffer : Bytes) (used : ℕ) → run (cs ++ (Call.edit q ∷ [])) buffer used ≡ thenEdit q (run cs buffer used)
-unfolding run
-run-more [] q buffer used = refl
-run-more (c ∷ cs) q buffer used = let e : Edited = editedOf used (callAnswer c buffer used) in ap (ranOn (toldOf e)) (run-more cs q (e .buffer) (e .length))
-
 -- the check's number stays: an edit that is accepted leaves a file that passes, and any other leaves all as it was
 verdict-on : (buffer : Bytes) (used : ℕ) (q : Bytes) (k : ℕ) → verdict buffer used ≡ k → verdict (editOf buffer used q .buffer) (editOf buffer used q .length) ≡ k
-unfolding run
-verdict-on buffer used q zero v = calls-meet-demand buffer used (Call.edit q ∷ []) v .passes
+unfolding singly
+verdict-on buffer used q zero v = edits-meet-demand buffer used (Single.edit q ∷ []) v .passes
 verdict-on buffer used q (suc k) v = ap (λ (a : Filled). verdict (a .out) (valueOr used (a .result))) (answer-file buffer used q (suc k) (omega arith) v) ∙ v
 
 pub number-stays : (buffer : Bytes) (used : ℕ) (q : Bytes) (k : ℕ) → checkAnswer buffer used ≡ k → (e : Edited) → e ≡ editOf buffer used q → checkAnswer (e .buffer) (e .length) ≡ k
 unfolding checkAnswer
 number-stays buffer used q k v e h = ap (λ (x : Edited). verdict (x .buffer) (x .length)) h ∙ verdict-on buffer used q k v
 
--- one more size
+-- numbers over the front of a list, one more
+over-more : (ns d : List ℕ) (i n : ℕ) → length ns ≡ i → i < length d → set (over ns d) i n ≡ over (ns ++ (n ∷ [])) d
+over-more ns d i n e h =
+    let k : length (ns ++ (n ∷ [])) ≡ suc i = omega (arith, length-append ns (n ∷ []), e) in
+    rw (e, k, drop-cons d i 0 h) (set-at ns (getD d i 0) (drop (suc i) d) n i e ∙ sym (append-snoc ns n (drop (suc i) d)))
 
--- what is left behind the requests of some sizes
-abbrev behind : List ℕ → Bytes → Bytes
-behind [] s = s
-behind (n ∷ ns) s = behind ns (drop n s)
+-- requests to a buffer, and the list of answers as it was
+module _ (start : Bytes) (used : ℕ) (all : Option (List Bytes)) (old : List ℕ) where
+  -- i of them are sent, and these are left
+  pub record Reached (rest : Option (List Bytes)) (i n : ℕ) (buffer : Bytes) (answers : List ℕ) : Type 0 where
+    pub told : List Told
+    pub many : length told ≡ i
+    pub goes : singly (editsOf all) start used ≡ thenRan (record { told = told; length = n; buffer = buffer }) (singly (editsOf rest) buffer n)
+    pub tells : answers ≡ over (numbersTold told) old
 
-requests-snoc : (ns : List ℕ) (n : ℕ) (s : Bytes) → editsIn (ns ++ (n ∷ [])) s ≡ editsIn ns s ++ (Call.edit (take n (behind ns s)) ∷ [])
-requests-snoc [] n s = refl
-requests-snoc (k ∷ ns) n s = ap {B = List Call} (λ qs. Call.edit (take k s) ∷ qs) (requests-snoc ns n (drop k s))
+  pub reached-start : Reached all 0 used start old
+  reached-start = record { told = []; many = refl; goes = refl; tells = refl }
 
-behind-snoc : (ns : List ℕ) (n : ℕ) (s : Bytes) → behind (ns ++ (n ∷ [])) s ≡ drop n (behind ns s)
-behind-snoc [] n s = refl
-behind-snoc (k ∷ ns) n s = behind-snoc ns n (drop k s)
+  pub reached-more : (q : Bytes) (x : Option (List Bytes)) (m i n : ℕ) (buffer : Bytes) (answers : List ℕ) → Reached (before q x) i n buffer answers → isRun m (before q x) ≡ true → i < length old
+      → (e : Edited) → e ≡ editOf buffer n q → Reached x (i + 1) (e .length) (e .buffer) (set answers i (e .number))
+  unfolding singly
+  reached-more q none m i n buffer answers r t h e a = absurd (true≢false (sym t))
+  reached-more q (some qs) m i n buffer answers r t h e a =
+      let ts : List Told = r .told in
+      let f : Edited = editOf buffer n q in
+      let w : Told = record { number = f .number; length = f .length } in
+      let next : Ran = singly (map Single.edit qs) (f .buffer) (f .length) in
+      let z : length (numbersTold ts) ≡ i = length-map ts (λ (x : Told). x .number) ∙ r .many in
+      let there : Reached (some qs) (i + 1) (f .length) (f .buffer) (set answers i (f .number)) = record {
+        told = ts ++ (w ∷ []);
+        many = omega (arith, length-append ts (w ∷ []), r .many);
+        goes = r .goes ∙ sym (λ j. record { told = append-snoc ts w (next .told) j; length = next .length; buffer = next .buffer });
+        tells = ap (λ (d : List ℕ). set d i (f .number)) (r .tells) ∙ over-more (numbersTold ts) old i (f .number) z h ∙ ap (λ (d : List ℕ). over d old) (sym (map-append (λ (x : Told). x .number) ts (w ∷ [])));
+      } in
+      subst (λ (x : Edited). Reached (some qs) (i + 1) (x .length) (x .buffer) (set answers i (x .number))) (sym a) there
 
--- a size past the end
-take-min : (n m : ℕ) (s : Bytes) → m ≡ min n (length s) → take m s ≡ take n s
-take-min zero zero s e = refl
-take-min zero (suc m) s e = absurd (omega arith)
-take-min (suc n) zero [] e = refl
-take-min (suc n) (suc m) [] e = refl
-take-min (suc n) zero (c ∷ s) e = absurd (omega arith)
-take-min (suc n) (suc m) (c ∷ s) e = ap {B = Bytes} (λ x. c ∷ x) (take-min n m s (omega arith))
+  pub reached-end : (rest : Bytes) (i n : ℕ) (buffer : Bytes) (answers : List ℕ) → Reached (requestsIn rest) i n buffer answers → length rest ≡ 0 → Sends start used all old n buffer answers
+  unfolding singly
+  reached-end (c ∷ rest) i n buffer answers r h = absurd (omega arith)
+  reached-end [] i n buffer answers r h =
+      let ts : List Told = r .told in
+      let e : singly (editsOf all) start used ≡ record { told = ts; length = n; buffer = buffer } =
+      r .goes ∙ ap (λ (x : Option (List Bytes)). thenRan (record { told = ts; length = n; buffer = buffer }) (singly (editsOf x) buffer n)) requests-none
+      ∙ (λ j. record { told = append-nil ts j; length = n; buffer = buffer }) in
+      (sym (ap (λ (x : Ran). x .length) e), sym (ap (λ (x : Ran). x .buffer) e), r .tells ∙ sym (ap (λ (x : Ran). over (numbersTold (x .told)) old) e))
 
-drop-min : (n m : ℕ) (s : Bytes) → m ≡ min n (length s) → drop m s ≡ drop n s
-drop-min zero zero s e = refl
-drop-min zero (suc m) s e = absurd (omega arith)
-drop-min (suc n) zero [] e = refl
-drop-min (suc n) (suc m) [] e = refl
-drop-min (suc n) zero (c ∷ s) e = absurd (omega arith)
-drop-min (suc n) (suc m) (c ∷ s) e = drop-min n m s (omega arith)
+-- What is answered
 
-requests-length : (ns : List ℕ) (s : Bytes) → length (editsIn ns s) ≡ length ns
-requests-length [] s = refl
-requests-length (n ∷ ns) s = ap suc (requests-length ns (drop n s))
+taken-none : (x : Option (List Bytes)) → isTaken x ≡ false → x ≡ none
+taken-none none h = refl
+taken-none (some qs) h = absurd (true≢false h)
 
--- what edits told, its numbers or its lengths over the front of a slice
+abbrev pub answers29 : Bytes → List ℕ → Numbered
+answers29 buffer old = record { result = Answer.refusal 29; out = buffer; answers = old }
 
-abbrev numberTold : Told → ℕ
-numberTold t = t .number
+pub answer-refused : (buffer : Bytes) (used : ℕ) (s : Bytes) (old : List ℕ) → isTaken (taken (length old) s) ≡ false → answers29 buffer old ≡ runAnswer buffer used s old
+answer-refused buffer used s old h = sym (run-refused buffer used s old (taken-none (taken (length old) s) h))
 
-abbrev lengthTold : Told → ℕ
-lengthTold t = t .length
+pub answer-sent : (buffer : Bytes) (used : ℕ) (s : Bytes) (old : List ℕ) (n : ℕ) (after : Bytes) (answers : List ℕ) → isTaken (taken (length old) s) ≡ true → Sends buffer used (requestsIn s) old n after answers
+    → _≡_ {A = Numbered} (record { result = Answer.value n; out = after; answers = answers }) (runAnswer buffer used s old)
+answer-sent buffer used s old n after answers t h = go (requestsIn s) refl (taken-requests (length old) (requestsIn s) t .1)
+  where
+    go : (x : Option (List Bytes)) → requestsIn s ≡ x → taken (length old) s ≡ requestsIn s → _≡_ {A = Numbered} (record { result = Answer.value n; out = after; answers = answers }) (runAnswer buffer used s old)
+    go none e k = absurd (true≢false (sym t ∙ ap isTaken (k ∙ e)))
+    go (some qs) e k =
+        let g : Sends buffer used (some qs) old n after answers = subst (λ (x : Option (List Bytes)). Sends buffer used x old n after answers) e h in
+        (λ j. record { result = Answer.value (g .0 j); out = g .1 j; answers = g .2 j }) ∙ sym (run-taken buffer used s old qs (k ∙ e))
 
-told-by : (ts : List Told) → toldBy (map numberTold ts) (map lengthTold ts) ≡ ts
-told-by [] = refl
-told-by (t ∷ ts) = ap {B = List Told} (λ us. t ∷ us) (told-by ts)
-
-module _ (f : Told → ℕ) (ts : List Told) (d : List ℕ) (i : ℕ) (e : length ts ≡ i) where
-  filled : length (map f ts) ≡ i
-  filled = length-map ts f ∙ e
-
-  over-more : (t : Told) → i < length d → set (over (map f ts) d) i (f t) ≡ over (map f (ts ++ (t ∷ []))) d
-  over-more t h =
-      let k : length (map f ts ++ (f t ∷ [])) ≡ suc i = omega (arith, length-append (map f ts) (f t ∷ []), filled) in
-      rw (map-append f ts (t ∷ []), filled, k, drop-cons d i 0 h) (set-at (map f ts) (getD d i 0) (drop (suc i) d) (f t) i filled ∙ sym (append-snoc (map f ts) (f t) (drop (suc i) d)))
-
-  over-front : take i (over (map f ts) d) ≡ map f ts
-  over-front = take-at (map f ts) (drop (length (map f ts)) d) i filled
-
-  over-rest : drop i (over (map f ts) d) ≡ drop i d
-  over-rest = drop-at (map f ts) (drop (length (map f ts)) d) i filled ∙ ap (λ (k : ℕ). drop k d) filled
-
--- a list on a buffer, its requests' bytes and sizes, and the two slices as they were
-module _ (start : Bytes) (used : ℕ) (s : Bytes) (sizes numbers₀ lengths₀ : List ℕ) where
-  -- what its first i edits leave
-  abbrev first : ℕ → Ran
-  first i = run (editsIn (take i sizes) s) start used
-
-  -- it has come to the i-th size, its next request stands at `at`, and the rest is what the first i edits leave
-  pub record Reached (i : ℕ) (buffer : Bytes) (n at : ℕ) (numbers lengths : List ℕ) : Type 0 where
-    pub behinds : behind (take i sizes) s ≡ drop at s
-    pub buffers : buffer ≡ first i .buffer
-    pub uses : n ≡ first i .length
-    pub tells : numbers ≡ over (map numberTold (first i .told)) numbers₀
-    pub sized : lengths ≡ over (map lengthTold (first i .told)) lengths₀
-
-  pub reached-start : Reached 0 start used 0 numbers₀ lengths₀
-  unfolding run
-  reached-start = record { behinds = refl; buffers = refl; uses = refl; tells = refl; sized = refl }
-
-  told-length : (i : ℕ) → i ≤ length sizes → length (first i .told) ≡ i
-  told-length i h = run-told (editsIn (take i sizes) s) start used ∙ requests-length (take i sizes) s ∙ length-take-le i sizes h
-
-  module _ (i : ℕ) (buffer : Bytes) (n at : ℕ) (numbers lengths : List ℕ) (r : Reached i buffer n at numbers lengths) where
-    -- one more edit, of the request of `size` bytes
-    module _ (more : i < length sizes) (size : ℕ) (cut : size ≡ min (getD sizes i 0) (length s - at)) (e : Edited) (answers : e ≡ editOf buffer n (take size (drop at s))) where
-      abbrev q : Bytes
-      q = take size (drop at s)
-
-      upto : take (i + 1) sizes ≡ take i sizes ++ (getD sizes i 0 ∷ [])
-      upto = ap (λ (k : ℕ). take k sizes) (add-one i) ∙ take-suc sizes i 0 more
-
-      clamp : size ≡ min (getD sizes i 0) (length (drop at s))
-      clamp = cut ∙ ap (min (getD sizes i 0)) (sym (length-drop at s))
-
-      requests : editsIn (take (i + 1) sizes) s ≡ editsIn (take i sizes) s ++ (Call.edit q ∷ [])
-      requests =
-          ap (λ (ns : List ℕ). editsIn ns s) upto
-          ∙ requests-snoc (take i sizes) (getD sizes i 0) s
-          ∙ ap {B = List Call} (λ (x : Bytes). editsIn (take i sizes) s ++ (Call.edit x ∷ [])) (ap (take (getD sizes i 0)) (r .behinds) ∙ sym (take-min (getD sizes i 0) size (drop at s) clamp))
-
-      rest : behind (take (i + 1) sizes) s ≡ drop (at + size) s
-      rest =
-          ap (λ (ns : List ℕ). behind ns s) upto
-          ∙ behind-snoc (take i sizes) (getD sizes i 0) s
-          ∙ ap (drop (getD sizes i 0)) (r .behinds)
-          ∙ sym (drop-min (getD sizes i 0) size (drop at s) clamp)
-          ∙ drop-drop size at s
-
-      goes : first (i + 1) ≡ record { told = first i .told ++ (toldOf e ∷ []); length = e .length; buffer = e .buffer }
-      goes =
-          let a : editOf (first i .buffer) (first i .length) q ≡ e = (λ j. editOf (sym (r .buffers) j) (sym (r .uses) j) q) ∙ sym answers in
-          ap (λ (cs : List Call). run cs start used) requests
-          ∙ run-more (editsIn (take i sizes) s) q start used
-          ∙ ap (λ (x : Edited). record { told = first i .told ++ (toldOf x ∷ []); length = x .length; buffer = x .buffer }) a
-
-      pub reached-more : i < length numbers₀ → i < length lengths₀ → Reached (i + 1) (e .buffer) (e .length) (at + size) (set numbers i (e .number)) (set lengths i (e .length))
-      reached-more k l =
-          let ts : List Told = first i .told in
-          let t : first (i + 1) .told ≡ ts ++ (toldOf e ∷ []) = ap (λ (x : Ran). x .told) goes in
-          let z : length ts ≡ i = told-length i (omega arith) in
-          record {
-            behinds = rest;
-            buffers = sym (ap (λ (x : Ran). x .buffer) goes);
-            uses = sym (ap (λ (x : Ran). x .length) goes);
-            tells = ap (λ (d : List ℕ). set d i (e .number)) (r .tells) ∙ over-more numberTold ts numbers₀ i z (toldOf e) k ∙ ap (λ (x : List Told). over (map numberTold x) numbers₀) (sym t);
-            sized = ap (λ (d : List ℕ). set d i (e .length)) (r .sized) ∙ over-more lengthTold ts lengths₀ i z (toldOf e) l ∙ ap (λ (x : List Told). over (map lengthTold x) lengths₀) (sym t);
-          }
-
-    -- at the end
-    module _ (h : i ≤ length sizes) where
-      abbrev ts : List Told
-      ts = first i .told
-
-      left : ranBy i buffer n numbers lengths ≡ first i
-      left =
-          let a : take i numbers ≡ map numberTold ts = ap (take i) (r .tells) ∙ over-front numberTold ts numbers₀ i (told-length i h) in
-          let b : take i lengths ≡ map lengthTold ts = ap (take i) (r .sized) ∙ over-front lengthTold ts lengths₀ i (told-length i h) in
-          let t : toldBy (take i numbers) (take i lengths) ≡ ts = (λ j. toldBy (a j) (b j)) ∙ told-by ts in
-          λ j. record { told = t j; length = r .uses j; buffer = r .buffers j }
-
-      ran : Leaves start used (editsIn (take i sizes) s) (ranBy i buffer n numbers lengths)
-      ran =
-          let cs : List Call = editsIn (take i sizes) s in
-          let p : Plain = plainOf (readOf (take used start)) in
-          record { runs = left; demand = λ v. subst (λ (x : Ran). Demand start used p cs x (plainRun (length start) cs p used)) (sym left) (calls-meet-demand start used cs v) }
-
-      numbers-stay : drop i numbers ≡ drop i numbers₀
-      numbers-stay = ap (drop i) (r .tells) ∙ over-rest numberTold ts numbers₀ i (told-length i h)
-
-      lengths-stay : drop i lengths ≡ drop i lengths₀
-      lengths-stay = ap (drop i) (r .sized) ∙ over-rest lengthTold ts lengths₀ i (told-length i h)
-
-  -- all of them, count being how many
-  pub reached-end : (i count : ℕ) (buffer : Bytes) (n at : ℕ) (numbers lengths : List ℕ) → Reached i buffer n at numbers lengths → i ≡ count → count ≤ length sizes → Leaves start used (editsIn (take count sizes) s) (ranBy count buffer n numbers lengths) × (drop count numbers ≡ drop count numbers₀) × (drop count lengths ≡ drop count lengths₀)
-  reached-end i count buffer n at numbers lengths r e h =
-      let z : Reached count buffer n at numbers lengths = subst (λ (k : ℕ). Reached k buffer n at numbers lengths) e r in
-      (ran count buffer n at numbers lengths z h, numbers-stay count buffer n at numbers lengths z h, lengths-stay count buffer n at numbers lengths z h)
+-- a run of no bytes
+pub answer-none : (buffer : Bytes) (used : ℕ) (s : Bytes) (old : List ℕ) → isTaken (taken (length old) s) ≡ true → length s ≡ 0 → _≡_ {A = Numbered} (record { result = Answer.value used; out = buffer; answers = old }) (runAnswer buffer used s old)
+answer-none buffer used s old t h = answer-sent buffer used s old used buffer old t (reached-end buffer used (requestsIn s) old s 0 used buffer old (reached-start buffer used (requestsIn s) old) h)

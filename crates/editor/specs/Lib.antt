@@ -1,2 +1,2 @@
--- What one edit and a list of them answer.
-pub mod Lists
+-- What a run of requests is to the code.
+pub mod Runs

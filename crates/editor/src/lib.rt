@@ -1,19 +1,25 @@
-// Edits of a file in a lent buffer: one request, and a list of them.
+// Edits of a file in a lent buffer: one request, and a run of them.
 ghost use mathlib.Core.Path.{_≡_};
-ghost use Prim.Native.Nat.{ℕ, _≤_, min};
-ghost use lib.ListN.{length, take, drop};
+ghost use mathlib.Core.Bool.{true};
+ghost use Prim.Native.Nat.{_≤_};
+ghost use lib.ListN.{length};
 ghost use Rattle.format.specs.Limits.{fileBytes};
-ghost use Rattle.format.specs.Calls.{checkAnswer, editAnswer, filledBy};
+ghost use Rattle.format.specs.Requests.{requestsIn};
+ghost use Rattle.format.specs.Calls.{answered, checkAnswer, editAnswer, filledBy};
+ghost use Rattle.format.specs.Runs.{runAnswer};
 ghost use Rattle.format.proofs.Judging.{textNo};
 ghost use Rattle.format.proofs.Results.{editNo};
 ghost use Rattle.edits.specs.Splices.{madeBy, Sound};
-ghost use Rattle.editor.specs.Lists.{fewest, editsIn, ranBy, Leaves};
+ghost use Rattle.editor.specs.Runs.{isRun, Sends};
 use edits::Located;
 use edits::Splice;
 use format::Answer;
 use format::File;
 use format::Refusal;
 use requests::RequestOf;
+use runs::First;
+
+mod runs;
 
 // The number of the text that a splice makes of s, questions 2 to 14. It is made in a copy.
 fn result_no(x: Splice, s: &[u8], req: &[u8], copy: &mut [u8]) -> u32
@@ -93,47 +99,51 @@ pub fn edit(buf: &mut [u8], used: usize, req: &[u8]) -> Answer
     edit_judged(buf, used, req, k, &mut copy)
 }
 
-// The lesser of two numbers.
-fn least(a: usize, b: usize) -> usize
-    ensures { λ r. ⌜ r ≡ min a b ⌝ }
-{
-    if a < b {
-        return a;
-    }
-    b
-}
-
-// Requests one after another, each on what the one before left. They stand one behind another in `requests`, and sizes says how many bytes each has;
-// one that runs past the end has what is left. As many are run as there are sizes, numbers and lengths. Numbers and lengths say what each edit told;
-// the result is the file's length at the end. The file is checked once: an accepted edit leaves one that passes, and a refused one leaves it as it was.
-pub fn edit_all(
+// Each request of a run on what the one before left, and its number into answers; k is the check's number, which stays: an accepted edit leaves a file that passes,
+// and a refused one leaves all as it was. The result is the file's length after the last.
+fn edit_each(
     buf: &mut [u8],
     used: usize,
-    requests: &[u8],
-    sizes: &[usize],
-    numbers: &mut [u32],
-    lengths: &mut [usize],
+    run: &[u8],
+    answers: &mut [u32],
+    k: u32,
+    copy: &mut [u8],
 ) -> usize
-    ensures { λ r. ⌜ (let count : ℕ = fewest (now (sizes .entry)) (now (numbers .entry)) (now (lengths .entry)) in
-        Leaves (now (buf .entry)) used (editsIn (take count (now (sizes .entry))) (now (requests .entry))) (ranBy count (now (buf .exit)) r (now (numbers .exit)) (now (lengths .exit)))
-        × (drop count (now (numbers .exit)) ≡ drop count (now (numbers .entry)))
-        × (drop count (now (lengths .exit)) ≡ drop count (now (lengths .entry)))) ⌝ }
+    requires { ⌜ checkAnswer (now buf) used ≡ k ⌝ }
+    requires { ⌜ fileBytes ≤ length (now copy) ⌝ }
+    requires { ⌜ isRun (length (now answers)) (requestsIn (now run)) ≡ true ⌝ }
+    ensures { λ r. ⌜ Sends (now (buf .entry)) used (requestsIn (now (run .entry))) (now (answers .entry)) r (now (buf .exit)) (now (answers .exit)) ⌝ }
 {
-    let count = least(sizes.len(), least(numbers.len(), lengths.len()));
-    let mut copy = [0u8; File::BYTES];
-    let k = integrity::check_with(buf, used, &mut copy);
+    let mut rest = run;
     let mut n = used;
-    let mut at = 0;
     let mut i = 0;
-    while i < count {
-        let size = least(sizes[i], requests.len() - at);
-        let end = at + size;
-        let e = edit_judged(buf, n, &requests[at..end], k, &mut copy);
+    while 0 < rest.len() {
+        let f = runs::first_request(rest);
+        let First::Ends(end) = f else {
+            return n;
+        };
+        let e = edit_judged(buf, n, &rest[2..end], k, &mut *copy);
         n = e.value_or(n);
-        numbers[i] = e.number();
-        lengths[i] = n;
-        at = end;
+        answers[i] = e.number();
+        rest = &rest[end..];
         i += 1;
     }
     n
+}
+
+// The requests of a run, each an edit of what the one before left. The file is checked once, and not at all where there is no request. The answer is the file's
+// length after the last, whatever the requests' own numbers, or that the run is refused, and then nothing is written.
+pub fn edit_run(buf: &mut [u8], used: usize, run: &[u8], answers: &mut [u32]) -> Answer
+    ensures { λ r. ⌜ record { result = answered r; out = now (buf .exit); answers = now (answers .exit) } ≡ runAnswer (now (buf .entry)) used (now (run .entry)) (now (answers .entry)) ⌝ }
+{
+    if !runs::is_taken(run, answers.len()) {
+        return Answer::Refused(Refusal::RUN);
+    }
+    if run.len() == 0 {
+        return Answer::Value(used);
+    }
+    let mut copy = [0u8; File::BYTES];
+    let k = integrity::check_with(buf, used, &mut copy);
+    let n = edit_each(buf, used, run, answers, k, &mut copy);
+    Answer::Value(n)
 }

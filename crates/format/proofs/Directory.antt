@@ -20,13 +20,13 @@ use Rattle.format.specs.Questions.{nameOf, verdict}
 use Rattle.format.specs.Plain.{Plain, plainOf, lengthOf, indexOf, membersAt, membersIn, Step, step}
 use Rattle.format.specs.Calls.{Answer, answer, valueOr, thenNo, Filled, leaves, over, edited, setsIn, countAnswer, editAnswer}
 use Rattle.format.specs.Directory.{groupSize, entriesFrom, entriesIn, directoryOf, listNo, Listed, fillAnswer, refusedBy, listedStep, listedAnswer, keptAnswer, countAtAnswer}
-use Rattle.format.specs.Runs.{Call, callAnswer, callStep, Ran, run, entriesBy, entriesAfter}
+use Rattle.format.specs.Runs.{Single, singleAnswer, singleStep, Ran, singly, entriesBy, entriesAfter}
 use Rattle.format.specs.declared.Entry.{Entry}
 use Rattle.format.proofs.Listing.{same-true}
 use Rattle.format.proofs.Applying.{agrees-sets}
 use Rattle.format.proofs.Passing.{verdict-read, verdict-passes, reads-as, holds-start, holds-agrees}
-use Rattle.format.proofs.Running.{Stands, stands-start, call-stands}
-use Rattle.format.proofs.Demand.{call-names}
+use Rattle.format.proofs.Running.{Stands, stands-start, single-stands}
+use Rattle.format.proofs.Demand.{single-names}
 
 -- one entry a set, with its count
 
@@ -105,22 +105,22 @@ module _ (n : ℕ) (buffer : Bytes) (used : ℕ) (request : Bytes) where
   unfolding editAnswer
   listed-edits h = listed-by true (le-leb (length (listIn buffer used)) n h)
 
--- a call on a file that passes, accepted or refused, leaves one that passes and has as many sets
-module _ (buffer : Bytes) (used : ℕ) (v : verdict buffer used ≡ 0) (c : Call) where
+-- an edit of a file that passes, accepted or refused, leaves one that passes and has as many sets
+module _ (buffer : Bytes) (used : ℕ) (v : verdict buffer used ≡ 0) (c : Single) where
   abbrev first : Plain
   first = plainOf (readOf (take used buffer))
 
   abbrev after : Step
-  after = callStep (length buffer) first c
+  after = singleStep (length buffer) first c
 
   abbrev left : Filled
-  left = callAnswer c buffer used
+  left = singleAnswer c buffer used
 
   abbrev leftLength : ℕ
   leftLength = valueOr used (left .result)
 
   left-stands : Stands buffer (max used (lengthOf (after .file))) (left .out) leftLength (after .file)
-  left-stands = call-stands buffer used buffer used first (stands-start buffer used first (holds-start buffer used (readOf (take used buffer)) v (verdict-read buffer used v))) c
+  left-stands = single-stands buffer used buffer used first (stands-start buffer used first (holds-start buffer used (readOf (take used buffer)) v (verdict-read buffer used v))) c
 
   pub left-passes : verdict (left .out) leftLength ≡ 0
   left-passes = left-stands .holds .passes
@@ -129,44 +129,44 @@ module _ (buffer : Bytes) (used : ℕ) (v : verdict buffer used ≡ 0) (c : Call
   unfolding plainOf
   left-sets =
       let h = left-stands .holds in
-      let names : length (after .file .sets) ≡ length (first .sets) = sym (length-map (after .file .sets) nameOf) ∙ ap length (call-names (length buffer) first c) ∙ length-map (first .sets) nameOf in
+      let names : length (after .file .sets) ≡ length (first .sets) = sym (length-map (after .file .sets) nameOf) ∙ ap length (single-names (length buffer) first c) ∙ length-map (first .sets) nameOf in
       directory-length (readOf (take leftLength (left .out)))
       ∙ ap (λ (ps : List Piece). length (setsOf ps)) (reads-as (take leftLength (left .out)) (after .file .pieces) (h .reads))
       ∙ ap length (agrees-sets (after .file) (holds-agrees (left .out) leftLength (after .file) h))
       ∙ names ∙ sym (directory-length (readOf (take used buffer)))
 
--- a call that is given a list is given its length
-entries-given : (n : ℕ) (q buffer : Bytes) (used : ℕ) (es : List Entry) → n ≡ length es → entriesBy (Call.listed n q) buffer used es ≡ fillAnswer buffer used es .entries
+-- an edit that is given a list is given its length
+entries-given : (n : ℕ) (q buffer : Bytes) (used : ℕ) (es : List Entry) → n ≡ length es → entriesBy (Single.listed n q) buffer used es ≡ fillAnswer buffer used es .entries
 entries-given n q buffer used es e = ap (λ (b : Bool). pick b (fillAnswer buffer used es .entries) es) (eq-eqb n (length es) e)
 
--- An edit given the list answers as a call of a list does, and leaves the entries that a list of that call leaves.
-pub kept-listed : (buffer : Bytes) (used : ℕ) (q : Bytes) (old : List Entry) → let c : Call = Call.listed (length old) q in let a : Filled = callAnswer c buffer used in
+-- An edit given the list answers as one of a list of edits does, and leaves the entries that a list of it alone leaves.
+pub kept-listed : (buffer : Bytes) (used : ℕ) (q : Bytes) (old : List Entry) → let c : Single = Single.listed (length old) q in let a : Filled = singleAnswer c buffer used in
     keptAnswer buffer used q old ≡ record { result = a .result; out = a .out; entries = entriesAfter (c ∷ []) buffer used old }
 unfolding keptAnswer entriesAfter
 kept-listed buffer used q old =
-    let a : Filled = callAnswer (Call.listed (length old) q) buffer used in
+    let a : Filled = singleAnswer (Single.listed (length old) q) buffer used in
     sym (λ i. record { result = a .result; out = a .out; entries = entries-given (length old) q (a .out) (valueOr used (a .result)) old refl i })
 
 -- "An edit given the list, on a file that passes, accepted or refused (28 aside), leaves there what filling would put", whatever stood in the list.
 pub listed-fills : (buffer : Bytes) (used : ℕ) (q : Bytes) (old : List Entry) → verdict buffer used ≡ 0 → length (listIn buffer used) ≤ length old
-    → let c : Call = Call.listed (length old) q in let a : Filled = callAnswer c buffer used in
+    → let c : Single = Single.listed (length old) q in let a : Filled = singleAnswer c buffer used in
     entriesAfter (c ∷ []) buffer used old ≡ over (listIn (a .out) (valueOr used (a .result))) old
 unfolding entriesAfter
 listed-fills buffer used q old v h =
-    let c : Call = Call.listed (length old) q in
-    let a : Filled = callAnswer c buffer used in
+    let c : Single = Single.listed (length old) q in
+    let a : Filled = singleAnswer c buffer used in
     entries-given (length old) q (a .out) (valueOr used (a .result)) old refl
     ∙ ap (λ (x : Listed). x .entries) (fill-passes (a .out) (valueOr used (a .result)) old (left-passes buffer used v c) (subst (λ (k : ℕ). k ≤ length old) (sym (left-sets buffer used v c)) h))
 
 entries-on : (qs : List Bytes) (buffer : Bytes) (used : ℕ) (old : List Entry) → verdict buffer used ≡ 0 → length (listIn buffer used) ≤ length old
-    → let cs : List Call = map (Call.listed (length old)) qs in let r : Ran = run cs buffer used in
+    → let cs : List Single = map (Single.listed (length old)) qs in let r : Ran = singly cs buffer used in
     (verdict (r .buffer) (r .length) ≡ 0) × ((length (listIn (r .buffer) (r .length)) ≡ length (listIn buffer used))
     × (entriesAfter cs buffer used (over (listIn buffer used) old) ≡ over (listIn (r .buffer) (r .length)) old))
-unfolding run entriesAfter
+unfolding singly entriesAfter
 entries-on [] buffer used old v h = (v, (refl, refl))
 entries-on (q ∷ qs) buffer used old v h =
-    let c : Call = Call.listed (length old) q in
-    let a : Filled = callAnswer c buffer used in
+    let c : Single = Single.listed (length old) q in
+    let a : Filled = singleAnswer c buffer used in
     let m : ℕ = valueOr used (a .result) in
     let new : List Entry = listIn (a .out) m in
     let es : List Entry = over (listIn buffer used) old in
@@ -177,15 +177,15 @@ entries-on (q ∷ qs) buffer used old v h =
     let there = entries-on qs (a .out) m old w g in
     let fresh : entriesBy c (a .out) m es ≡ over new old =
     entries-given (length old) q (a .out) m es (sym l) ∙ ap (λ (x : Listed). x .entries) (fill-passes (a .out) m es w (subst (λ (k : ℕ). length new ≤ k) (sym l) g)) ∙ over-over new (listIn buffer used) old e in
-    (there .0, (there .1 .0 ∙ e, ap (entriesAfter (map (Call.listed (length old)) qs) (a .out) m) fresh ∙ there .1 .1))
+    (there .0, (there .1 .0 ∙ e, ap (entriesAfter (map (Single.listed (length old)) qs) (a .out) m) fresh ∙ there .1 .1))
 
 -- After every list of edits, each given the directory, from a freshly filled one, its entries are those of a fresh filling.
 pub entries-fresh : (buffer : Bytes) (used : ℕ) (old : List Entry) (qs : List Bytes) → verdict buffer used ≡ 0 → length (listIn buffer used) ≤ length old
-    → let cs : List Call = map (Call.listed (length old)) qs in let r : Ran = run cs buffer used in
+    → let cs : List Single = map (Single.listed (length old)) qs in let r : Ran = singly cs buffer used in
     entriesAfter cs buffer used (fillAnswer buffer used old .entries) ≡ fillAnswer (r .buffer) (r .length) old .entries
 entries-fresh buffer used old qs v h =
-    let cs : List Call = map (Call.listed (length old)) qs in
-    let r : Ran = run cs buffer used in
+    let cs : List Single = map (Single.listed (length old)) qs in
+    let r : Ran = singly cs buffer used in
     let there = entries-on qs buffer used old v h in
     ap (λ (x : Listed). entriesAfter cs buffer used (x .entries)) (fill-passes buffer used old v h) ∙ there .1 .1
     ∙ sym (ap (λ (x : Listed). x .entries) (fill-passes (r .buffer) (r .length) old (there .0) (subst (λ (k : ℕ). k ≤ length old) (sym (there .1 .0)) h)))

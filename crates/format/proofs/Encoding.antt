@@ -30,7 +30,7 @@ tagged-cut-off (suc k) [] h = refl
 tagged-cut-off (suc k) (c ∷ s) h = tagged-cut-off k s (omega arith)
 
 -- two bytes hold a number
-short-back : (n : ℕ) → shortAt (short n) ≡ n
+pub short-back : (n : ℕ) → shortAt (short n) ≡ n
 short-back n = div-add-mod' n 256
 
 -- fields

@@ -19,7 +19,7 @@ pub mod Requested
 pub mod Encoding
 pub mod Applying
 pub mod Questions
-pub mod CallSteps
+pub mod SingleSteps
 pub mod Describing
 pub mod Judging
 pub mod Passing
@@ -28,6 +28,7 @@ pub mod Filling
 pub mod Running
 pub mod Origins
 pub mod Demand
+pub mod Sending
 pub mod Directory
 pub mod Results
 pub mod Answers
@@ -44,4 +45,5 @@ pub mod Table
 pub mod Cases
 pub mod Lookups
 pub mod Directories
+pub mod Sendings
 pub mod Traps

@@ -1,4 +1,4 @@
--- Where each piece comes from under a list of calls: the clause of demand 3 on the lines that no edit named.
+-- Where each piece comes from under a list of edits: the clause of demand 3 on the lines that no edit named.
 use Prim.Native.Nat.{ℕ, zero, suc, _≤_, _<_, max}
 use native.Mathlib.Omega.{arith}
 use mathlib.Core.Path.{_≡_, refl, sym, ap, _∙_, subst}
@@ -14,10 +14,10 @@ use Rattle.format.specs.Pieces.{Piece}
 use Rattle.format.specs.Edits.{Edit}
 use Rattle.format.specs.Requests.{Request}
 use Rattle.format.specs.Plain.{Plain, indexOf, applyIn, apply, lengthOf}
-use Rattle.format.specs.Runs.{Call, callStep, plainRun}
-use Rattle.format.specs.Origins.{Fate, setFates, requestFates, callFates, ifAccepted, fates, Origin, pieceOf, numberOf, Trace, carried, namedOf, startFrom, traced, Stays}
+use Rattle.format.specs.Runs.{Single, singleStep, plainRun}
+use Rattle.format.specs.Origins.{Fate, setFates, requestFates, singleFates, ifAccepted, fates, Origin, pieceOf, numberOf, Trace, carried, namedOf, startFrom, traced, Stays}
 use Rattle.format.proofs.Fates.{Goes, goes-edit}
-use Rattle.format.proofs.CallSteps.{call-accepted, call-refused}
+use Rattle.format.proofs.SingleSteps.{single-accepted, single-refused}
 
 -- a request, on the plain file
 
@@ -29,17 +29,17 @@ goes-apply : (q : Request) (p : Plain) → Goes (requestFates (some q) p) (p .pi
 unfolding apply
 goes-apply q p = goes-in (indexOf (q .set) (p .sets)) (q .edit) p
 
--- a call, accepted or refused
+-- an edit, accepted or refused
 
-goes-step : (room : ℕ) (p : Plain) (c : Call) (n : ℕ) → callStep room p c .number ≡ n → Goes (ifAccepted n (callFates c p) []) (p .pieces) (callStep room p c .file .pieces)
+goes-step : (room : ℕ) (p : Plain) (c : Single) (n : ℕ) → singleStep room p c .number ≡ n → Goes (ifAccepted n (singleFates c p) []) (p .pieces) (singleStep room p c .file .pieces)
 goes-step room p c zero e =
-    let a = call-accepted room p c e in
-    subst (λ (x : Option Request). Goes (requestFates x p) (p .pieces) (callStep room p c .file .pieces)) (sym (a .reads)) (subst (λ (x : Plain). Goes (requestFates (some (a .asks)) p) (p .pieces) (x .pieces)) (sym (a .makes)) (goes-apply (a .asks) p))
-goes-step room p c (suc k) e = ap (λ (x : Plain). x .pieces) (sym (call-refused room p c k e))
+    let a = single-accepted room p c e in
+    subst (λ (x : Option Request). Goes (requestFates x p) (p .pieces) (singleStep room p c .file .pieces)) (sym (a .reads)) (subst (λ (x : Plain). Goes (requestFates (some (a .asks)) p) (p .pieces) (x .pieces)) (sym (a .makes)) (goes-apply (a .asks) p))
+goes-step room p c (suc k) e = ap (λ (x : Plain). x .pieces) (sym (single-refused room p c k e))
 
-call-goes : (room : ℕ) (p : Plain) (c : Call) → Goes (fates room p c) (p .pieces) (callStep room p c .file .pieces)
+single-goes : (room : ℕ) (p : Plain) (c : Single) → Goes (fates room p c) (p .pieces) (singleStep room p c .file .pieces)
 unfolding fates
-call-goes room p c = goes-step room p c (callStep room p c .number) refl
+single-goes room p c = goes-step room p c (singleStep room p c .number) refl
 
 -- the pieces of origins, carried
 
@@ -160,25 +160,25 @@ start-traced ps =
 
 -- the list
 
-call-traced : (first : List Piece) (room : ℕ) (c : Call) (p : Plain) (t : Trace) → Traced first t (p .pieces)
-    → Traced first (record { standing = carried (fates room p c) (t .standing); named = namedOf (fates room p c) (t .standing) ++ t .named }) (callStep room p c .file .pieces)
-call-traced first room c p t h =
+single-traced : (first : List Piece) (room : ℕ) (c : Single) (p : Plain) (t : Trace) → Traced first t (p .pieces)
+    → Traced first (record { standing = carried (fates room p c) (t .standing); named = namedOf (fates room p c) (t .standing) ++ t .named }) (singleStep room p c .file .pieces)
+single-traced first room c p t h =
     let fs : List Fate = fates room p c in
     let os : List Origin = t .standing in
     record {
       stays = record {
-        pieces = pieces-carried fs os (callStep room p c .file .pieces) (subst (λ (x : List Piece). Goes fs x (callStep room p c .file .pieces)) (sym (h .stays .pieces)) (call-goes room p c));
+        pieces = pieces-carried fs os (singleStep room p c .file .pieces) (subst (λ (x : List Piece). Goes fs x (singleStep room p c .file .pieces)) (sym (h .stays .pieces)) (single-goes room p c));
         order = numbers-carried fs os 0 (h .rises) ∙ ap (filter (isLeft (namedOf fs os))) (h .stays .order) ∙ left-both (namedOf fs os) (t .named) (upFrom (length first) 0);
       };
       rises = rises-carried fs os 0 (h .rises) .0;
     }
 
-run-traced : (first : List Piece) (room : ℕ) (cs : List Call) (p : Plain) (most : ℕ) (t : Trace) → Traced first t (p .pieces) → Traced first (traced room cs p t) (plainRun room cs p most .file .pieces)
+run-traced : (first : List Piece) (room : ℕ) (cs : List Single) (p : Plain) (most : ℕ) (t : Trace) → Traced first t (p .pieces) → Traced first (traced room cs p t) (plainRun room cs p most .file .pieces)
 unfolding traced plainRun
 run-traced first room [] p most t h = h
 run-traced first room (c ∷ cs) p most t h =
-    let s : Plain = callStep room p c .file in
-    run-traced first room cs s (max most (lengthOf s)) (record { standing = carried (fates room p c) (t .standing); named = namedOf (fates room p c) (t .standing) ++ t .named }) (call-traced first room c p t h)
+    let s : Plain = singleStep room p c .file in
+    run-traced first room cs s (max most (lengthOf s)) (record { standing = carried (fates room p c) (t .standing); named = namedOf (fates room p c) (t .standing) ++ t .named }) (single-traced first room c p t h)
 
-pub list-stays : (room : ℕ) (cs : List Call) (p : Plain) (most : ℕ) → Stays (p .pieces) (traced room cs p (record { standing = startFrom 0 (p .pieces); named = [] })) (plainRun room cs p most .file .pieces)
+pub list-stays : (room : ℕ) (cs : List Single) (p : Plain) (most : ℕ) → Stays (p .pieces) (traced room cs p (record { standing = startFrom 0 (p .pieces); named = [] })) (plainRun room cs p most .file .pieces)
 list-stays room cs p most = run-traced (p .pieces) room cs p most (record { standing = startFrom 0 (p .pieces); named = [] }) (start-traced (p .pieces)) .stays

@@ -1,4 +1,4 @@
--- One call of a list: the buffer goes on as the plain file does.
+-- One edit of a list: the buffer goes on as the plain file does.
 use Prim.Native.Nat.{ℕ, zero, suc, _≤_, max}
 use native.Mathlib.Omega.{arith}
 use mathlib.Core.Path.{_≡_, refl, sym, ap, _∙_, subst}
@@ -8,10 +8,10 @@ use Rattle.format.specs.Bytes.{Bytes}
 use Rattle.format.specs.Pieces.{bytesOf, readOf}
 use Rattle.format.specs.Plain.{Plain, plainOf, lengthOf, Step}
 use Rattle.format.specs.Calls.{numberIn, valueOr, thenNo, Filled, placed, edited}
-use Rattle.format.specs.Runs.{Call, requestIn, callAnswer, callStep}
+use Rattle.format.specs.Runs.{Single, requestIn, singleAnswer, singleStep}
 use Rattle.format.proofs.Applying.{agrees-length}
 use Rattle.format.proofs.Questions.{Accepted, accepted-fits}
-use Rattle.format.proofs.CallSteps.{call-answers, call-accepted, call-refused}
+use Rattle.format.proofs.SingleSteps.{single-answers, single-accepted, single-refused}
 use Rattle.format.proofs.Passing.{reads-as, Holds, holds-passes, holds-bytes, holds-agrees, edit-holds}
 use Rattle.format.proofs.Filling.{padded, padded-length, padded-self, placed-padded}
 
@@ -29,7 +29,7 @@ stands-start buffer used p h =
     let b : bytesOf (p .pieces) ≡ take used buffer = holds-bytes buffer used p h in
     record { holds = h; bytes = sym (ap (λ (s : Bytes). padded s used buffer) b ∙ padded-self used buffer f); uses = sym (ap length b ∙ length-take-le used buffer f); least = omega arith; fits = f }
 
--- the answer of a call by what it makes of the plain file
+-- the answer of an edit by what it makes of the plain file
 abbrev editedStep : Step → Bytes → ℕ → Filled
 editedStep s buffer used = edited (s .number) (bytesOf (s .file .pieces)) buffer used
 
@@ -44,11 +44,11 @@ module _ (start : Bytes) (most : ℕ) (buffer : Bytes) (used : ℕ) (p : Plain) 
   pub stands-length : used ≡ lengthOf p
   stands-length = st .uses ∙ sym (agrees-length p (holds-agrees buffer used p (st .holds)))
 
-  -- the answer of a call is the plain file's step
-  call-answer : (c : Call) → callAnswer c buffer used ≡ editedStep (callStep (length start) p c) buffer used
-  call-answer c =
+  -- the answer of an edit is the plain file's step
+  single-answer : (c : Single) → singleAnswer c buffer used ≡ editedStep (singleStep (length start) p c) buffer used
+  single-answer c =
       let read : plainOf (readOf (take used buffer)) ≡ p = ap plainOf (reads-as (take used buffer) (p .pieces) (st .holds .reads)) ∙ st .holds .plain in
-      call-answers c buffer used ∙ (λ i. let s : Step = callStep (stands-room i) (read i) c in edited (thenNo (st .holds .passes i) (s .number)) (bytesOf (s .file .pieces)) buffer used)
+      single-answers c buffer used ∙ (λ i. let s : Step = singleStep (stands-room i) (read i) c in edited (thenNo (st .holds .passes i) (s .number)) (bytesOf (s .file .pieces)) buffer used)
 
   stands-accepted : (request : Bytes) (p′ : Plain) → Accepted (length buffer) p request p′ → Stands start (max most (lengthOf p′)) (placed (bytesOf (p′ .pieces)) used buffer) (length (bytesOf (p′ .pieces))) p′
   stands-accepted request p′ a =
@@ -65,17 +65,17 @@ module _ (start : Bytes) (most : ℕ) (buffer : Bytes) (used : ℕ) (p : Plain) 
       let m : most ≡ max most (lengthOf p) = omega (arith, stands-length, st .least) in
       subst (λ (x : Plain). Stands start (max most (lengthOf x)) buffer used x) (sym e) (subst (λ (n : ℕ). Stands start n buffer used p) m st)
 
-  step-stands : (c : Call) (s : Step) → callStep (length buffer) p c ≡ s → (n : ℕ) → s .number ≡ n
+  step-stands : (c : Single) (s : Step) → singleStep (length buffer) p c ≡ s → (n : ℕ) → s .number ≡ n
       → Stands start (max most (lengthOf (s .file))) (edited n (bytesOf (s .file .pieces)) buffer used .out) (valueOr used (edited n (bytesOf (s .file .pieces)) buffer used .result)) (s .file)
-  step-stands c s e zero z = stands-accepted (requestIn c) (s .file) (subst (λ (x : Step). x .number ≡ 0 → Accepted (length buffer) p (requestIn c) (x .file)) e (call-accepted (length buffer) p c) z)
-  step-stands c s e (suc k) z = stands-refused (s .file) (subst (λ (x : Step). x .number ≡ suc k → x .file ≡ p) e (call-refused (length buffer) p c k) z)
+  step-stands c s e zero z = stands-accepted (requestIn c) (s .file) (subst (λ (x : Step). x .number ≡ 0 → Accepted (length buffer) p (requestIn c) (x .file)) e (single-accepted (length buffer) p c) z)
+  step-stands c s e (suc k) z = stands-refused (s .file) (subst (λ (x : Step). x .number ≡ suc k → x .file ≡ p) e (single-refused (length buffer) p c k) z)
 
-  pub call-stands : (c : Call) → let s : Step = callStep (length start) p c in Stands start (max most (lengthOf (s .file))) (callAnswer c buffer used .out) (valueOr used (callAnswer c buffer used .result)) (s .file)
-  call-stands c =
-      let s : Step = callStep (length start) p c in
-      subst (λ (x : Filled). Stands start (max most (lengthOf (s .file))) (x .out) (valueOr used (x .result)) (s .file)) (sym (call-answer c)) (step-stands c s (ap (λ (n : ℕ). callStep n p c) stands-room) (s .number) refl)
+  pub single-stands : (c : Single) → let s : Step = singleStep (length start) p c in Stands start (max most (lengthOf (s .file))) (singleAnswer c buffer used .out) (valueOr used (singleAnswer c buffer used .result)) (s .file)
+  single-stands c =
+      let s : Step = singleStep (length start) p c in
+      subst (λ (x : Filled). Stands start (max most (lengthOf (s .file))) (x .out) (valueOr used (x .result)) (s .file)) (sym (single-answer c)) (step-stands c s (ap (λ (n : ℕ). singleStep n p c) stands-room) (s .number) refl)
 
-  pub call-told : (c : Call) → numberIn (callAnswer c buffer used .result) ≡ callStep (length start) p c .number
-  call-told c =
-      let s : Step = callStep (length start) p c in
-      ap (λ (x : Filled). numberIn (x .result)) (call-answer c) ∙ edited-number (s .number) (bytesOf (s .file .pieces)) buffer used
+  pub single-told : (c : Single) → numberIn (singleAnswer c buffer used .result) ≡ singleStep (length start) p c .number
+  single-told c =
+      let s : Step = singleStep (length start) p c in
+      ap (λ (x : Filled). numberIn (x .result)) (single-answer c) ∙ edited-number (s .number) (bytesOf (s .file .pieces)) buffer used

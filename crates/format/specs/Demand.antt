@@ -1,4 +1,4 @@
--- Demand 3: what a list of calls leaves of a buffer, by the plain file under the same list.
+-- Demand 3: what a list of edits leaves of a buffer, by the plain file under the same list. A list of calls stands for a list of edits (`Runs.singles`).
 use Prim.Native.Nat.{ℕ, _+_, _-_}
 use mathlib.Core.Path.{_≡_}
 use mathlib.Core.List.{List, [], _∷_, _++_}
@@ -12,7 +12,7 @@ use Rattle.format.specs.Edits.{Act, Edit}
 use Rattle.format.specs.Questions.{verdict}
 use Rattle.format.specs.Requests.{Request, requestOf}
 use Rattle.format.specs.Plain.{Plain, plainOf, lengthOf, indexOf, membersAt}
-use Rattle.format.specs.Runs.{Call, requestIn, Told, Ran, PlainRan}
+use Rattle.format.specs.Runs.{Single, requestIn, Told, Ran, PlainRan}
 use Rattle.format.specs.Origins.{ifAccepted, startFrom, traced, Stays}
 
 -- how many records an edit inserts, and how many it deletes
@@ -35,17 +35,17 @@ abbrev pub toSet : (Edit → ℕ) → List RecSet → ℕ → Option Request →
 toSet f ss i none = 0
 toSet f ss i (some q) = ifSet i (indexOf (q .set) ss) (f (q .edit))
 
--- what the accepted calls do to set i, in all
-abbrev pub tally : (Edit → ℕ) → List RecSet → ℕ → List Call → List Told → ℕ
+-- what the accepted edits do to set i, in all
+abbrev pub tally : (Edit → ℕ) → List RecSet → ℕ → List Single → List Told → ℕ
 tally f ss i [] ts = 0
 tally f ss i (c ∷ cs) [] = 0
 tally f ss i (c ∷ cs) (t ∷ ts) = ifAccepted (t .number) (toSet f ss i (requestOf (requestIn c))) 0 + tally f ss i cs ts
 
--- What a list of calls leaves, given the buffer, the file's length in it and the plain file at its start.
-pub record Demand (start : Bytes) (used : ℕ) (first : Plain) (calls : List Call) (r : Ran) (p : PlainRan) : Type 0 where
+-- What a list of edits leaves, given the buffer, the file's length in it and the plain file at its start.
+pub record Demand (start : Bytes) (used : ℕ) (first : Plain) (edits : List Single) (r : Ran) (p : PlainRan) : Type 0 where
   -- the plain file starts as what the file reads as
   pub starts : pieces (take used start) ≡ some (first .pieces)
-  -- each call's number and length is the plain file's
+  -- each edit's number and length is the plain file's
   pub told : r .told ≡ p .told
   -- the buffer has as many bytes as at the start
   pub room : length (r .buffer) ≡ length start
@@ -58,8 +58,8 @@ pub record Demand (start : Bytes) (used : ℕ) (first : Plain) (calls : List Cal
   -- which read as the plain file
   pub plain : plainOf (p .file .pieces) ≡ p .file
   -- "Every line that no accepted edit named or added has its bytes and its order."
-  pub stays : Stays (first .pieces) (traced (length start) calls first (record { standing = startFrom 0 (first .pieces); named = [] })) (p .file .pieces)
+  pub stays : Stays (first .pieces) (traced (length start) edits first (record { standing = startFrom 0 (first .pieces); named = [] })) (p .file .pieces)
   -- each set has as many records as at the start, more by the accepted inserts and less by the accepted deletes
-  pub counts : (i : ℕ) → length (membersAt i (p .file .sets)) + tally deleted (first .sets) i calls (r .told) ≡ length (membersAt i (first .sets)) + tally inserted (first .sets) i calls (r .told)
+  pub counts : (i : ℕ) → length (membersAt i (p .file .sets)) + tally deleted (first .sets) i edits (r .told) ≡ length (membersAt i (first .sets)) + tally inserted (first .sets) i edits (r .told)
   -- the length at the end is the plain file's
   pub length : r .length ≡ lengthOf (p .file)

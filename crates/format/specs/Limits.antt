@@ -31,3 +31,7 @@ typeFields = 32
 
 abbrev pub listWords : ℕ
 listWords = 64
+
+-- "up to 64 edits" in a run of requests
+abbrev pub runRequests : ℕ
+runRequests = 64

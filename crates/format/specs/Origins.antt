@@ -1,4 +1,4 @@
--- Which pieces an edit names and which it adds, and where each piece comes from under a list of calls.
+-- Which pieces an edit names and which it adds, and where each piece comes from under a list of edits.
 use Prim.Native.Nat.{ℕ, zero, suc}
 use mathlib.Core.Path.{_≡_}
 use mathlib.Core.Bool.{Bool, not}
@@ -15,7 +15,7 @@ use Rattle.format.specs.Written.{newPiece}
 use Rattle.format.specs.Edits.{Act, Edit, isOf, changePiece, newline, newlineIf}
 use Rattle.format.specs.Requests.{Request, requestOf}
 use Rattle.format.specs.Plain.{Plain, indexOf}
-use Rattle.format.specs.Runs.{Call, requestIn, callStep}
+use Rattle.format.specs.Runs.{Single, requestIn, singleStep}
 
 -- What an accepted edit does to the pieces, one after another: it leaves a piece, it names one, it adds one. Where no more is said, the rest is left.
 pub data Fate : Type 0 where
@@ -67,16 +67,16 @@ abbrev pub requestFates : Option Request → Plain → List Fate
 requestFates none p = []
 requestFates (some q) p = setFates (indexOf (q .set) (p .sets)) (q .edit) (p .pieces)
 
--- of a call; a refused one names nothing and adds nothing
-abbrev pub callFates : Call → Plain → List Fate
-callFates c p = requestFates (requestOf (requestIn c)) p
+-- of a single edit; a refused one names nothing and adds nothing
+abbrev pub singleFates : Single → Plain → List Fate
+singleFates c p = requestFates (requestOf (requestIn c)) p
 
 abbrev pub ifAccepted : {A : Type 0} → ℕ → A → A → A
 ifAccepted zero a b = a
 ifAccepted (suc k) a b = b
 
-unfoldable pub fates : ℕ → Plain → Call → List Fate
-fates room p c = ifAccepted (callStep room p c .number) (callFates c p) []
+unfoldable pub fates : ℕ → Plain → Single → List Fate
+fates room p c = ifAccepted (singleStep room p c .number) (singleFates c p) []
 
 -- Where a piece comes from: it is the start's k-th, or an accepted edit added it.
 pub data Origin : Type 0 where
@@ -116,11 +116,11 @@ abbrev pub startFrom : ℕ → List Piece → List Origin
 startFrom k [] = []
 startFrom k (p ∷ ps) = start k p ∷ startFrom (suc k) ps
 
-unfoldable pub traced : ℕ → List Call → Plain → Trace → Trace
+unfoldable pub traced : ℕ → List Single → Plain → Trace → Trace
 traced room [] p t = t
 traced room (c ∷ cs) p t =
     let fs : List Fate = fates room p c in
-    traced room cs (callStep room p c .file) (record { standing = carried fs (t .standing); named = namedOf fs (t .standing) ++ t .named })
+    traced room cs (singleStep room p c .file) (record { standing = carried fs (t .standing); named = namedOf fs (t .standing) ++ t .named })
 
 -- "Every line that no accepted edit named or added has its bytes and its order."
 pub record Stays (first : List Piece) (t : Trace) (last : List Piece) : Type 0 where

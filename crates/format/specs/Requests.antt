@@ -82,6 +82,16 @@ unfoldable pub requestOf : Bytes → Option Request
 unfolding tagged
 requestOf s = pick (leb (length s) fileBytes) (onward asksFor (tagged s)) none
 
+-- "A run of requests, each after its length (two bytes, high first)": the requests of a text, behind so many bytes that a request before it has
+abbrev pub requestsFrom : ℕ → Bytes → Option (List Bytes)
+requestsFrom zero [] = some []
+requestsFrom (suc k) [] = none
+requestsFrom zero (c ∷ s) = let n : ℕ = shortAt (c ∷ s) in onward (λ (qs : List Bytes). some (take n (drop 1 s) ∷ qs)) (requestsFrom (suc n) s)
+requestsFrom (suc k) (c ∷ s) = requestsFrom k s
+
+unfoldable pub requestsIn : Bytes → Option (List Bytes)
+requestsIn s = requestsFrom zero s
+
 -- The same the other way: the fields of a request, and their bytes.
 
 abbrev pub short : ℕ → Bytes
@@ -117,3 +127,6 @@ taggedBytes f = f .tag ∷ (short (length (f .contents)) ++ f .contents)
 
 unfoldable pub encoded : Request → Bytes
 encoded q = flat (map taggedBytes (tag 1 (kindOf (q .edit) ∷ []) ∷ tag 2 (q .set) ∷ editFields (q .edit)))
+
+abbrev pub runBytes : List Bytes → Bytes
+runBytes qs = flat (map (λ (q : Bytes). short (length q) ++ q) qs)

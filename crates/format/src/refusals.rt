@@ -48,6 +48,8 @@ impl Refusal {
     pub const ROOM: u32 = 27;
     // The list has fewer entries than the file has sets.
     pub const LIST: u32 = 28;
+    // A run is not made of requests, has too many, or its list of answers is too short.
+    pub const RUN: u32 = 29;
     // What the questions of a result are raised by, and the one about the fields of a record.
     pub const RESULT: u32 = 100;
 

@@ -1,4 +1,4 @@
--- What C is told of the directory's answers, and what a caller of `tell` brings: the answer, and the pointer for its number, which it gives up.
+-- What C is told of the answers that come with a list, and what a caller of `tell` brings: the answer, and the pointer for its number, which it gives up.
 use mathlib.Core.Path.{_≡_, ap, _∙_}
 use Prim.Native.Nat.{ℕ, _<_, _^_}
 use mathlib.Core.List.{List, [], _∷_}
@@ -23,6 +23,7 @@ use denote.Triple.Spec.{tripleOf}
 use Rattle.format.specs.Bytes.{Bytes}
 use Rattle.format.specs.Calls.{answered, numberIn, valueOr}
 use Rattle.format.specs.Directory.{Listed, Kept}
+use Rattle.format.specs.Runs.{Numbered}
 use Rattle.format.specs.declared.Answer.{Answer}
 use Rattle.format.specs.declared.Entry.{Entry}
 use Rattle.format.proofs.Answer as F
@@ -33,6 +34,9 @@ use Rattle.recfile.proofs.tell as fun
 module _ (r : Answer) (other m k : ℕ) (em : m ≡ valueOr other (answered r)) (ek : k ≡ numberIn (answered r)) where
   pub listed-told : (es : List Entry) (l : Listed) → record { result = answered r; entries = es } ≡ l → (m ≡ valueOr other (l .result)) × (k ≡ numberIn (l .result)) × (es ≡ l .entries)
   listed-told es l e = (em ∙ ap (λ (x : Listed). valueOr other (x .result)) e, ek ∙ ap (λ (x : Listed). numberIn (x .result)) e, ap (λ (x : Listed). x .entries) e)
+
+  pub numbered-told : (out : Bytes) (ns : List ℕ) (l : Numbered) → record { result = answered r; out = out; answers = ns } ≡ l → (m ≡ valueOr other (l .result)) × (k ≡ numberIn (l .result)) × (out ≡ l .out) × (ns ≡ l .answers)
+  numbered-told out ns l e = (em ∙ ap (λ (x : Numbered). valueOr other (x .result)) e, ek ∙ ap (λ (x : Numbered). numberIn (x .result)) e, ap (λ (x : Numbered). x .out) e, ap (λ (x : Numbered). x .answers) e)
 
   pub kept-told : (out : Bytes) (es : List Entry) (l : Kept) → record { result = answered r; out = out; entries = es } ≡ l → (m ≡ valueOr other (l .result)) × (k ≡ numberIn (l .result)) × (out ≡ l .out) × (es ≡ l .entries)
   kept-told out es l e = (em ∙ ap (λ (x : Kept). valueOr other (x .result)) e, ek ∙ ap (λ (x : Kept). numberIn (x .result)) e, ap (λ (x : Kept). x .out) e, ap (λ (x : Kept). x .entries) e)

@@ -4,6 +4,7 @@ ghost use lib.ListN.{length};
 ghost use Rattle.format.specs.Requests.{tag as tagOf};
 ghost use Rattle.format.specs.Calls.{answered, numberIn, valueOr, checkAnswer, countAnswer, fetchAnswer, viewAnswer, writeAnswer, editAnswer, nameAnswer, fieldAnswer};
 ghost use Rattle.format.specs.Directory.{fillAnswer, keptAnswer, countAtAnswer};
+ghost use Rattle.format.specs.Runs.{runAnswer};
 use format::Answer;
 use format::Entry;
 use lookup::Seen;
@@ -129,6 +130,24 @@ fn tell(a: Answer, other: usize, number: &mut u32) -> usize
 {
     *number = a.number();
     a.value_or(other)
+}
+
+// A run of requests, each an edit of what the one before left: the file's length after the last. A number for each goes into the front of answers; `*number` says whether the run was refused.
+#[no_mangle]
+pub extern "C" fn recfile_edit_run(
+    buf: &mut [u8],
+    used: usize,
+    run: &[u8],
+    answers: &mut [u32],
+    number: &mut u32,
+) -> usize
+    ensures { λ r. ⌜ (r ≡ valueOr used (runAnswer (now (buf .entry)) used (now (run .entry)) (now (answers .entry)) .result))
+        × (now (number .exit) ≡ numberIn (runAnswer (now (buf .entry)) used (now (run .entry)) (now (answers .entry)) .result))
+        × (now (buf .exit) ≡ runAnswer (now (buf .entry)) used (now (run .entry)) (now (answers .entry)) .out)
+        × (now (answers .exit) ≡ runAnswer (now (buf .entry)) used (now (run .entry)) (now (answers .entry)) .answers) ⌝ }
+{
+    let sent = editor::edit_run(buf, used, run, answers);
+    tell(sent, used, number)
 }
 
 // The number of sets, of which a list of entries is filled with the directory, 0 where it is refused.

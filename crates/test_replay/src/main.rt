@@ -1,12 +1,12 @@
 // Replays edits and other calls on the file in a buffer. A frame begins with its kind:
 // 0, a buffer, its length and the used length at 1 and 5 (four bytes each), and its runs from 9 on;
 // 1, an edit, the request's runs from 1 on;
-// 2, a list of edits, their number at 1 (two bytes), the size of each from 3 on (four bytes each, 16 of them), and the requests' runs from 67 on;
+// 2, a run of requests, how many answers its list has at 1 and what each of them is before at 2 (one byte each), and the run's own runs from 3 on;
 // 3 to 7, a count, fetch, view, writing or name of a set, the number of the record or set at 1 and the occurrence at 3 (two bytes each), the second
 // buffer's length at 5 (four bytes), the sizes of set and name at 9 and 11 (two bytes each), the two from 13 on, or there the runs of a request.
-// Each call prints its number, a length or count, and the checksum of the buffer that it may write, or of the part that it shows.
-ghost use mathlib.Core.Path.{_≡_};
-ghost use lib.ListN.{length};
+// Each call prints its number, a length or count, and the checksum of the buffer that it may write, or of the part that it shows; a run of requests also its
+// list of answers, on a line.
+ghost use Rattle.io.specs.Counts.{Counts};
 use format::Answer;
 
 // What the buffer holds; more says that there was a frame.
@@ -72,15 +72,19 @@ fn call(buf: &mut [u8], used: usize, kind: usize, frame: &[u8]) -> usize {
         return edit(buf, used, frame);
     }
     if kind == 2 {
-        return edit_list(buf, used, frame);
+        return edit_run(buf, used, frame);
     }
     look(buf, used, kind, frame);
     used
 }
 
-fn tell(number: u32, length: usize, digest: usize) {
-    io::print_decimal(1, number as u64);
+fn tell_number(n: u32) {
+    io::print_decimal(1, n as u64);
     io::write_all(1, b" ");
+}
+
+fn tell(number: u32, length: usize, digest: usize) {
+    tell_number(number);
     io::print_decimal(1, length as u64);
     io::write_all(1, b" ");
     io::print_decimal(1, digest as u64);
@@ -103,45 +107,38 @@ fn edit(buf: &mut [u8], used: usize, frame: &[u8]) -> usize {
     }
 }
 
-fn edit_list(buf: &mut [u8], used: usize, frame: &[u8]) -> usize {
-    let mut requests = [0u8; 65600];
-    let mut sizes = [0usize; 16];
-    let mut numbers = [0u32; 16];
-    let mut lengths = [0usize; 16];
-    read_sizes(frame, &mut sizes);
-    let n = test_frames::expand(frame, 67, &mut requests);
-    let length = editor::edit_all(
-        buf,
-        used,
-        &requests[..n],
-        &sizes,
-        &mut numbers,
-        &mut lengths,
-    );
-    tell_list(&numbers, &lengths, test_frames::two(frame, 1));
-    tell(0, length, test_frames::digest(buf));
+fn edit_run(buf: &mut [u8], used: usize, frame: &[u8]) -> usize {
+    let mut run = [0u8; 131200];
+    let n = test_frames::expand(frame, 3, &mut run);
+    let held = test_frames::two(frame, 1) % 256;
+    let mut space = [held as u32; 256];
+    let count = within(test_frames::two(frame, 1) / 256, &space);
+    let answers: &mut [u32] = &mut space;
+    send(buf, used, &run[..n], &mut answers[..count])
+}
+
+// A number of answers, all where it is larger.
+fn within(n: usize, answers: &[u32]) -> usize
+    ensures { λ r. ⌜ Counts r (now (answers .entry)) ⌝ }
+{
+    test_frames::least(n, answers.len())
+}
+
+fn send(buf: &mut [u8], used: usize, run: &[u8], answers: &mut [u32]) -> usize {
+    let e = editor::edit_run(buf, used, run, answers);
+    let length = e.value_or(used);
+    tell(e.number(), length, test_frames::digest(buf));
+    tell_answers(answers);
     length
 }
 
-fn read_sizes(frame: &[u8], sizes: &mut [usize; 16])
-    ensures { λ _. ⌜ length (now (sizes .exit)) ≡ length (now (sizes .entry)) ⌝ }
-{
+fn tell_answers(answers: &[u32]) {
     let mut i = 0;
-    while i < 16 {
-        sizes[i] = test_frames::four(frame, 3 + 4 * i);
+    while i < answers.len() {
+        tell_number(answers[i]);
         i += 1;
     }
-}
-
-// The first so many of the numbers, each with its length and the checksum of nothing.
-fn tell_list(numbers: &[u32; 16], lengths: &[usize; 16], count: usize) {
-    let mut i = 0;
-    while i < 16 {
-        if i < count {
-            tell(numbers[i], lengths[i], 1);
-        }
-        i += 1;
-    }
+    io::write_all(1, b"\n");
 }
 
 fn look(buf: &[u8], used: usize, kind: usize, frame: &[u8]) {
