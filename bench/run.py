@@ -20,9 +20,10 @@ OUT = os.path.join(ROOT, 'target', 'bench')
 TIMER, LIBREC = os.path.join(OUT, 'time'), os.path.join(OUT, 'librec')
 
 EDITS = ('insert', 'delete', 'add', 'set', 'drop', 'rename')
-GROWTH, EDIT, STACK = 8.5, 2.2, 163840
+GROWTH, EDIT, KEYS, STACK, WORST = 8.5, 2.2, 1.5, 163840, 25
 FILL, LISTED = 1.3, 1.15
 REQUESTS, RUN = 64, 0.6
+LONG_KEYS = {'keys with a common front': True, 'keys with a common end': False}
 FASTER = {'book 1 KB': 150, 'book 8 KB': 250, 'book 64 KB': 700}
 
 
@@ -138,13 +139,16 @@ def growth(files):
 
 
 def counted(files):
-    """Instructions a byte of a check, and of an insert and a set as many times those of the check."""
+    """Instructions a byte of a check, of long keys as many times those of the book, and of an insert and a set as many times those of the check."""
     if not shutil.which('valgrind'):
         print('instructions: valgrind is not here\n')
         return
+    a_byte = {name: instructions(files[name][0], 'check') / files[name][1] for name in ('book 64 KB', 'keys 64 KB', *LONG_KEYS)}
     for name in ('book 64 KB', 'keys 64 KB'):
-        path, size, _ = files[name]
-        print('instructions, check, %s: %.1f a byte' % (name, instructions(path, 'check') / size))
+        print('instructions, check, %s: %.1f a byte' % (name, a_byte[name]))
+    for name in LONG_KEYS:
+        ratio = a_byte[name] / a_byte['book 64 KB']
+        print('instructions, check, %s: %.1f a byte, %.2f times the book (at most %.1f): %s' % (name, a_byte[name], ratio, KEYS, verdict(ratio <= KEYS)), flush=True)
     path = files['book 64 KB'][0]
     check = instructions(path, 'check')
     for call in ('insert', 'set'):
@@ -204,7 +208,7 @@ def slow_shapes(book):
         print('again, %-57s %s %9.2f times the book' % (name + ':', ' ' * 26, ratios[name]), flush=True)
     print('\nstack, check of any shape: %d bytes (at most %d): %s' % (deepest, STACK, verdict(deepest <= STACK)))
     worst = max(ratios, key=ratios.get)
-    print('worst: %.2f times the check of the 64 KB book (%s)' % (ratios[worst], worst))
+    print('worst: %.2f times the check of the 64 KB book (%s) (at most %d): %s' % (ratios[worst], worst, WORST, verdict(ratios[worst] <= WORST)))
 
 
 def main():
@@ -213,6 +217,7 @@ def main():
     files = {}
     for name, (text, count) in {
         'book 1 KB': shapes.book(1024), 'book 8 KB': shapes.book(8192), 'book 64 KB': shapes.book(65000), 'keys 64 KB': shapes.only_keys(65536),
+        **{name: shapes.long_keys(65536, last) for name, last in LONG_KEYS.items()},
     }.items():
         files[name] = (kept(name, text), len(text), count)
     against_recutils(files)

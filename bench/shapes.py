@@ -31,6 +31,16 @@ def only_keys(limit):
     return filled(HEAD + b'%key: K\n\n', lambda n: b'K: %d\n\n' % n, limit)
 
 
+def four(n):
+    """Four letters by number."""
+    return bytes(LETTERS[n // 52 ** i % 52] for i in (3, 2, 1, 0))
+
+
+def long_keys(limit, last):
+    """Keys of 64 bytes that differ in four, the last or the first."""
+    return filled(HEAD + b'%key: K\n\n', lambda n: b'K: %s%s\n\n' % ((b'k' * 60, four(n)) if last else (four(n), b'k' * 60)), limit)
+
+
 def keyed(keys, head=HEAD + b'%key: K\n'):
     """Records of one field, the key."""
     return filled(head + b'\n', lambda n: b'K: ' + keys[n - 1] + b'\n\n' if n <= len(keys) else bytes(LIMIT))[0]
@@ -53,23 +63,24 @@ def mixed(text):
 
 
 @functools.lru_cache
-def endings():
-    """What three last bytes add to a mix, whatever stands before them, in order; and the bytes."""
-    triples = [bytes((a, b, c)) for a in LETTERS_DIGITS for b in LETTERS_DIGITS for c in LETTERS_DIGITS]
-    ends = sorted(((t[0] * M ** 3 + t[1] * M ** 2 + t[2] * M) % SIZE, t) for t in triples)
-    return [add for add, _ in ends], [t for _, t in ends]
+def triples(behind):
+    """What three bytes add to a mix with so many bytes behind them, whatever stands before them, in order; and the bytes."""
+    texts = [bytes((a, b, c)) for a in LETTERS_DIGITS for b in LETTERS_DIGITS for c in LETTERS_DIGITS]
+    power = pow(M, behind, SIZE)
+    adds = sorted(((t[0] * M ** 3 + t[1] * M ** 2 + t[2] * M) * power % SIZE, t) for t in texts)
+    return [add for add, _ in adds], [t for _, t in adds]
 
 
-def alike(count, bits, front=b'', width=1):
-    """Texts of one fingerprint, which is the upper bits of the mix: front, width letters, and three letters or digits that make it 0."""
-    (adds, ends), texts, number = endings(), [], 0
+def alike(count, bits, front=b'', width=1, end=b''):
+    """Texts of one fingerprint, which is the upper bits of the mix: front, width letters, three letters or digits that make it 0, and end."""
+    (adds, threes), texts, number = triples(len(end)), [], 0
     while len(texts) < count:
         begin = front + bytes(LETTERS[number // 52 ** i % 52] for i in range(width))
         number += 1
-        low = -mixed(begin) * M ** 3 % SIZE
+        low = -mixed(begin + bytes(3) + end) % SIZE
         at = bisect.bisect_left(adds, low)
         while at < len(adds) and adds[at] < low + (SIZE >> bits):
-            texts.append(begin + ends[at])
+            texts.append(begin + threes[at] + end)
             at += 1
     return texts[:count]
 
@@ -230,6 +241,9 @@ def keys():
         'crafted keys': keyed(alike(6000, 16, width=3)),
         'crafted keys with a common front of 60': keyed(alike(900, 16, b'k' * 60, 3)),
         'crafted keys with a common front of 500': keyed(alike(130, 16, b'k' * 500, 3)),
+        'crafted keys with a common end of 60': keyed(alike(900, 16, width=3, end=b'k' * 60)),
+        'crafted keys with a common end of 500': keyed(alike(130, 16, width=3, end=b'k' * 500)),
+        'crafted keys with a common end of 30 plus lines': keyed([k.replace(b'\n', b'\n+ ') for k in alike(600, 16, width=3, end=b'\n' * 30)]),
         'crafted keys of 4,000 bytes': keyed(alike(16, 16, b'k' * 4000, 3)),
         'keys that differ in the last byte': keyed([b'k' * 4000 + bytes((a,)) for a in LETTERS]),
         'keys of 60 bytes with a common front': keyed([b'k' * 60 + b'%d' % n for n in range(1000, 2000)]),

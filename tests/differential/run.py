@@ -3,7 +3,7 @@
 
 Usage: python3 tests/differential/run.py [SEED [ROUNDS]]     (after `rt staticlib recfile`; needs cc; recutils if it is installed)
 
-Random, damaged and limit-sized files, such with many types, names and symbols, such with runs of joints, and such of many sets with comments and blank lines anywhere; every call on each of them;
+Random, damaged and limit-sized files, such with many types, names and symbols, such with runs of joints, such with keys of one fingerprint in several lines, and such of many sets with comments and blank lines anywhere; every call on each of them;
 requests built field by field; lists of edits with other bytes behind the file, some of them given a directory of its sets, and runs of requests among them. It prints how many answers were compared and stops at the first that differs,
 showing what was asked.
 """
@@ -368,6 +368,8 @@ def main():
         tests.file(tests.samples.arranged(tests.random.choice([1, 2, 3, 8])))
         tests.file(tests.jointed(tests.passing()), rounds=2)
         tests.file(tests.jointed(tests.crowds.file()), rounds=1)
+        tests.file(tests.samples.alike(), rounds=2)
+        tests.file(tests.damaged(tests.samples.alike()), rounds=1)
     print('%d answers compared with tests/model/recfile.py, seed %d: all the same' % (tests.done, seed))
     print('by number: ' + ' '.join('%d:%d' % x for x in sorted(tests.numbers.items())))
     if shutil.which('recsel'):

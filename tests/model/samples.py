@@ -1,4 +1,5 @@
 """Random recfiles and requests, near enough to valid ones that every question is reached. Seeded: the same numbers give the same samples."""
+import functools
 import random
 
 NAMES = ['A', 'B', 'Id', 'Page', 'C']
@@ -32,6 +33,30 @@ def int_ends():
         for digit in (b'0', b'1', b'9'):
             for end in (b'', b'1' + b'0' * 21, b'7' + b'f' * 15, b'8' + b'0' * 15):
                 yield from (described(b'%type: A int', (1, front), (n - len(front + end), digit), (1, end)) for n in (4096, 4097))
+
+
+def fingerprint(text):
+    """Keys that differ here are told apart by the library without a look at their bytes (`sorting::mix`)."""
+    h = 2166136261
+    for b in text:
+        h = (h + b) * 2654435761 % 2 ** 32
+    return h >> 16
+
+
+@functools.lru_cache
+def twins():
+    """Lists of keys of one fingerprint: of one length, with a common front and a common end; of unlike lengths, one a front of the other; and any, with all that a key in several lines is made of."""
+    r, lists = random.Random(1), []
+    fronts, ends = [b'', b'0077', b'k' * 60, b'a\n\n', b'\\', b'+ '], [b'', b'z', b'z' * 60, b'\n', b'\n\n + ', b'\\\\', b' \n+']
+    texts = [(front + bytes(r.choices(b'abcdefghij', k=4)) + end for _ in range(900)) for front in fronts for end in ends]
+    texts += [(b * n for n in range(600)) for b in (b'a', b'\n', b'\\', b'+\n ')]
+    texts += [(bytes(r.choices(b'ab+ \\\n', k=r.randint(1, 9))) for _ in range(2500)) for _ in range(6)]
+    for some in texts:
+        groups = {}
+        for text in dict.fromkeys(some):
+            groups.setdefault(fingerprint(text), []).append(text)
+        lists.append([group for group in groups.values() if len(group) > 1])
+    return [kind for kind in lists if kind]
 
 
 class Samples:
@@ -137,6 +162,28 @@ class Samples:
             while text.endswith(('\n\n', ' \n')) and not text.endswith(('\\\n\n', '\\\n \t\n')):
                 text = text[:-1].rstrip(' \t')
         return text.encode()
+
+    def laid(self, value):
+        """A value as it may stand in a file: joints anywhere, plus lines with a space and without."""
+        r, out = self.random, b''
+        joints = r.choice([0, 0, .1, .4])
+        for i, c in enumerate(value):
+            later = value[i + 1:i + 2]
+            while r.random() < joints:
+                out += b'\\\n'
+            out += bytes([c]) if c != 10 else b'\n+ ' if later == b' ' or r.random() < .5 else b'\n+'
+            if c == 92 and later in (b'', b'\n'):
+                out += b'\\\n'
+        return out + b'\\\n' * (r.random() < joints)
+
+    def alike(self):
+        """A file of a few keys of one fingerprint, or of two; now and then one comes twice, in other lines."""
+        r = self.random
+        kind = r.choice(twins())
+        keys = [k for _ in range(r.choice([1, 1, 2])) for k in r.choice(kind)[:5]]
+        keys = list(dict.fromkeys(keys)) + [r.choice(keys)] * (r.random() < .3)
+        r.shuffle(keys)
+        return b'%rec: S\n%key: K\n\n' + b''.join(b'K: ' + self.laid(k) + b'\n' + b'A: 1\n' * (r.random() < .3) + b'\n' for k in keys)
 
     def entries(self, count):
         """So many entries that hold anything."""

@@ -221,6 +221,11 @@ def ends():
         case(runs)
 
 
+def alike_keys(count):
+    for seed in range(count):
+        case(samples.Samples(seed).alike())
+
+
 def random_files(count):
     for seed in range(count):
         case(samples.Samples(seed).file())
@@ -229,6 +234,7 @@ def random_files(count):
 for make in (lengths, bytes_and_lines, limits, descriptors, types, values, ends, rules, marked):
     make()
 random_files(800)
+alike_keys(120)
 
 numbers, stdin = [], b''
 for runs, room, used in cases:

@@ -4,16 +4,15 @@ use Prim.Native.Nat.{ℕ, zero, suc, _-_, _<_, suc-le-suc}
 use native.Mathlib.Nat.{le-of-suc-le-suc, zero-lt-suc}
 use native.Mathlib.Omega.{arith}
 use mathlib.Core.Path.{_≡_, refl, sym, ap, _∙_, subst}
-use mathlib.Core.Bool.{Bool, true, false, false≢true, and-eq-true-iff}
+use mathlib.Core.Bool.{Bool, true, false, false≢true}
 use mathlib.Core.List.{List, [], _∷_, map}
-use borrow.Author.Tests.{eqb-true, eq-eqb}
-use lib.Dec.{eqb}
 use lib.ListN.{length, getD}
 use Rattle.format.specs.Bytes.{Bytes, same, among}
 use Rattle.format.specs.Rules.{distinct}
 use Rattle.keys.specs.Order.{ranked}
 use Rattle.sorting.specs.declared.Compared.{Compared}
-use Rattle.sorting.proofs.Tests.{by-bool, dec-lt}
+use Rattle.format.proofs.Listing.{same-true}
+use Rattle.sorting.proofs.Tests.{by-bool, dec-lt, same-self}
 use Rattle.keys.proofs.Order.{ranked-trans, ranked-apart}
 
 pub bool-same : (a b : Bool) → (a ≡ true → b ≡ true) → (b ≡ true → a ≡ true) → a ≡ b
@@ -21,31 +20,17 @@ bool-same true b f g = sym (f refl)
 bool-same false true f g = g refl
 bool-same false false f g = refl
 
-same-eq : (x y : Bytes) → same x y ≡ true → x ≡ y
-same-eq [] [] e = refl
-same-eq [] (y ∷ t) e = absurd (false≢true e)
-same-eq (x ∷ s) [] e = absurd (false≢true e)
-same-eq (x ∷ s) (y ∷ t) e =
-    let h = and-eq-true-iff (eqb x y) (same s t) .0 e in
-    let p = eqb-true x y (h .0) in
-    let q = same-eq s t (h .1) in
-    cc
-
-eq-same : (x : Bytes) → same x x ≡ true
-eq-same [] = refl
-eq-same (x ∷ s) = rw (eq-eqb x x refl) (eq-same s)
-
 module _ (f : ℕ → Bytes) where
   among-none : (x : Bytes) (l : List ℕ) → ((j : ℕ) → j < length l → x ≡ f (getD l j 0) → ⊥) → among x (map f l) ≡ false
   among-none x [] h = refl
   among-none x (y ∷ l) h =
-      by-bool (same x (f y)) (λ e. absurd (h 0 (zero-lt-suc (length l)) (same-eq x (f y) e)))
+      by-bool (same x (f y)) (λ e. absurd (h 0 (zero-lt-suc (length l)) (same-true x (f y) e)))
       (λ e. rw e (among-none x l (λ j g. h (suc j) (suc-le-suc g))))
 
   among-not : (x : Bytes) (l : List ℕ) → among x (map f l) ≡ false → (j : ℕ) → j < length l → x ≡ f (getD l j 0) → ⊥
   among-not x [] e j g q = omega arith
   among-not x (y ∷ l) e zero g q =
-      by-bool (same x (f y)) (λ p. false≢true (sym (rw p at e))) (λ p. false≢true (sym (rw (← q) at p) ∙ eq-same x))
+      by-bool (same x (f y)) (λ p. false≢true (sym (rw p at e))) (λ p. false≢true (sym (rw (← q) at p) ∙ same-self x))
   among-not x (y ∷ l) e (suc j) g q =
       by-bool (same x (f y)) (λ p. absurd (false≢true (sym (rw p at e)))) (λ p. among-not x l (rw p at e) j (le-of-suc-le-suc g) q)
 

@@ -1,15 +1,16 @@
--- The order of keys: by fingerprint, then by their bytes.
+-- The order of keys: by fingerprint, then as values.
 use mathlib.Core.Path.{_≡_}
 use mathlib.Core.Bool.{Bool, true, false}
-use mathlib.Core.List.{_∷_}
-use Rattle.format.specs.Bytes.{Bytes}
-use Rattle.sorting.specs.Order.{comparedOf}
+use lib.Dec.{ltb}
+use Rattle.format.specs.Bytes.{Bytes, pick}
+use Rattle.sorting.specs.Likeness.{likenessOf}
+use Rattle.sorting.specs.Order.{orderOf}
 use Rattle.sorting.specs.declared.Compared.{Compared}
 use Rattle.keys.specs.Keys.{printOf}
 
--- keys with their fingerprints in front
-abbrev pub ranked : Bytes → Bytes → Compared
-ranked a b = comparedOf (printOf a ∷ a) (printOf b ∷ b)
+-- keys of one fingerprint are compared as values are, by their lengths and from their last bytes to the first
+unfoldable pub ranked : Bytes → Bytes → Compared
+ranked a b = pick (ltb (printOf a) (printOf b)) Compared.Before (pick (ltb (printOf b) (printOf a)) Compared.Behind (orderOf (likenessOf a b)))
 
 -- what a look at neighbours says of whether keys are distinct: they are where each is before the next, and not where two are equal
 abbrev pub Tells : Compared → Bool → Type 0

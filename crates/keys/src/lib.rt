@@ -17,6 +17,7 @@ ghost use Rattle.keys.specs.Gathered.{Gathered};
 use records::FoundField;
 use sorting::Compared;
 use sorting::Entry;
+use sorting::ends;
 
 fn narrow(x: usize) -> u32
     requires { ⌜ x < 4294967296 ⌝ }
@@ -34,7 +35,7 @@ fn entry(s: &[u8], at: usize) -> u32
     narrow(at) + Entry::PLACES * p
 }
 
-// The keys of two entries compared, by their bytes only where the fingerprints are equal.
+// The keys of two entries compared, as values only where the fingerprints are equal.
 fn compare_entries(s: &[u8], x: u32, y: u32) -> Compared
     requires { ⌜ (IsEntry (now s) x) × (IsEntry (now s) y) ⌝ }
     ensures { λ r. ⌜ r ≡ ranked (keyAt (now (s .entry)) x) (keyAt (now (s .entry)) y) ⌝ }
@@ -47,7 +48,9 @@ fn compare_entries(s: &[u8], x: u32, y: u32) -> Compared
     if q < p {
         return Compared::Behind;
     }
-    sorting::compare(s, sorting::place(x), sorting::place(y), false)
+    let a = sorting::place(x);
+    let b = sorting::place(y);
+    ends::order(ends::compare(&s[a..], &s[b..]))
 }
 
 // Is each key before the next? The first neighbours that are not decide.
@@ -83,7 +86,7 @@ fn key_among(s: &[u8], x: u32, entries: &[u32]) -> bool
     let mut i = 0;
     while i < entries.len() {
         let b = sorting::place(entries[i]);
-        if lines::same_value(&s[a..], &s[b..]) {
+        if ends::are_equal(&s[a..], &s[b..]) {
             return true;
         }
         i += 1;

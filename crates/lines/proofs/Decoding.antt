@@ -10,7 +10,7 @@ use lib.ListN.{length, getD, drop, drop-of-length-le}
 use lib.Seq.{getD-drop}
 use borrow.Author.Tests.{eqb-true, ne-eqb}
 use Rattle.format.specs.Bytes.{Bytes, pick}
-use Rattle.lines.specs.Value.{decode, valueFrom, Unfolds}
+use Rattle.lines.specs.Value.{decode, valueFrom, Plain, Reaches, here, further, plain, Unfolds}
 use Rattle.lines.specs.declared.Decoded.{Decoded}
 use Rattle.lines.proofs.Cuts.{at-cons}
 
@@ -79,10 +79,26 @@ module _ (s : Bytes) (i : ℕ) where
   pub plus-at : getD s i 0 ≡ 10 → getD s (i + 1) 0 ≡ 43 → (getD s (i + 2) 0 ≡ 32 → ⊥) → valueFrom (drop i s) ≡ 10 ∷ valueFrom (drop (i + 2) s)
   plus-at a b c = rw (at-two s i 9 42 a b) (value-plus (drop (i + 2) s) (λ q. c (sym (head-drop s (i + 2)) ∙ q)))
 
+-- Decoding comes from a place to what it comes to from there.
+pub reaches-on : {s : Bytes} {i j k : ℕ} → Reaches s i j → Reaches s j k → Reaches s i k
+reaches-on r here = r
+reaches-on r (further q t) = further (reaches-on r q) t
+
+-- Bytes that stand for themselves, one more at a time.
+pub plain-here : (s : Bytes) (i : ℕ) → Plain s i i
+plain-here s i = record { on = omega arith; reached = here; counted = omega arith }
+
+pub plain-more : (s : Bytes) (i k : ℕ) → Plain s i k → k < length s → (getD s k 0 ≡ 10 → ⊥) → (getD s k 0 ≡ 92 → ⊥) → Plain s i (k + 1)
+plain-more s i k p h a b =
+    let o = p .on in
+    let c = p .counted in
+    let e = plain-at s k h a (λ q r. b q) in
+    record { on = omega arith; reached = further (p .reached) (plain refl h a (λ q r. b q)); counted = omega (arith, ap length e) }
+
 -- The next byte of the value may be looked for further on.
-pub unfolds-from : (s : Bytes) (i j : ℕ) (d : Decoded) → i ≤ j → valueFrom (drop i s) ≡ valueFrom (drop j s) → Unfolds s j d → Unfolds s i d
-unfolds-from s i j Decoded.End h e u = e ∙ u
-unfolds-from s i j (Decoded.Byte b k) h e u = (e ∙ u .0, omega arith, u .2)
+pub unfolds-from : (s : Bytes) (i j : ℕ) (d : Decoded) → i ≤ j → Reaches s i j → valueFrom (drop i s) ≡ valueFrom (drop j s) → Unfolds s j d → Unfolds s i d
+unfolds-from s i j Decoded.End h r e u = e ∙ u
+unfolds-from s i j (Decoded.Byte b k) h r e u = (e ∙ u .0, omega arith, u .2, reaches-on r (u .3))
 
 -- What an answer says of the value, once its form is known.
 pub ended : (s : Bytes) (i : ℕ) (d : Decoded) → Unfolds s i d → d ≡ Decoded.End → valueFrom (drop i s) ≡ []

@@ -8,6 +8,7 @@ pub mod Owned
 pub mod Shapes
 pub mod Over
 pub mod Decoding
+pub mod Backwards
 pub mod Values
 pub mod Pieces
 pub mod Inside

@@ -1,14 +1,14 @@
 // Reading lines: each reader is given the part of the file that starts at the byte reached.
 ghost use mathlib.Core.Path.{_≡_};
 ghost use mathlib.Core.Bool.{true, false};
-ghost use Prim.Native.Nat.{_+_, _<_, _≤_};
+ghost use Prim.Native.Nat.{_+_, _-_, _<_, _≤_};
 ghost use lib.ListN.{length, drop, getD};
 ghost use Rattle.format.specs.Bytes.{classTable, same, isBlank, all};
 ghost use Rattle.format.specs.Lines.{lines, isEnded, isSpecial};
 ghost use Rattle.format.specs.Calls.{over};
 ghost use Rattle.lines.specs.Line.{lineLen, firstLine, GoesOn, nameLen};
 ghost use Rattle.lines.specs.Piece.{extentOf, nextOf, isFault};
-ghost use Rattle.lines.specs.Value.{valueFrom, Unfolds};
+ghost use Rattle.lines.specs.Value.{valueFrom, Plain, Reaches, Unfolds, Precedes, isPlus, isPlusSpace};
 use format::Class;
 
 // The byte at i, 0 past the end.
@@ -338,6 +338,24 @@ pub fn value_byte(s: &[u8], i: usize) -> Decoded
     Decoded::End
 }
 
+// The first place from i on where a byte may not stand for itself: a backslash, a newline or the end.
+pub fn plain_end(s: &[u8], i: usize) -> usize
+    ensures { λ r. ⌜ Plain (now (s .entry)) i r ⌝ }
+{
+    let mut at = i;
+    while at < s.len() {
+        let b = s[at];
+        if b == b'\n' {
+            return at;
+        }
+        if b == b'\\' {
+            return at;
+        }
+        at += 1;
+    }
+    at
+}
+
 // The length of the value that begins where s does.
 pub fn value_len(s: &[u8]) -> usize
     ensures { λ r. ⌜ r ≡ length (valueFrom (now (s .entry))) ⌝ }
@@ -372,28 +390,81 @@ pub fn copy_value(s: &[u8], out: &mut [u8]) -> usize
     }
 }
 
-// Are two values the same, without decoding them to anywhere?
-pub fn same_value(a: &[u8], b: &[u8]) -> bool
-    ensures { λ r. ⌜ r ≡ same (valueFrom (now (a .entry))) (valueFrom (now (b .entry))) ⌝ }
+// Does a plus stand at i that vanishes from the value, since the newline before it is no joint's?
+fn is_plus(s: &[u8], i: usize) -> bool
+    ensures { λ r. ⌜ r ≡ isPlus (now (s .entry)) i ⌝ }
 {
-    let mut i = 0;
-    let mut j = 0;
-    loop {
-        let x = value_byte(a, i);
-        let y = value_byte(b, j);
-        let Decoded::Byte { byte: c, next: k } = x else {
-            let Decoded::Byte { byte: _, next: _ } = y else {
-                return true;
-            };
-            return false;
-        };
-        let Decoded::Byte { byte: d, next: l } = y else {
-            return false;
-        };
-        if c != d {
-            return false;
-        }
-        i = k;
-        j = l;
+    if byte(s, i) != b'+' {
+        return false;
     }
+    if i == 0 {
+        return false;
+    }
+    if byte(s, i - 1) != b'\n' {
+        return false;
+    }
+    if i == 1 {
+        return true;
+    }
+    byte(s, i - 2) != b'\\'
+}
+
+// Does a space stand at i that vanishes with such a plus?
+fn is_plus_space(s: &[u8], i: usize) -> bool
+    ensures { λ r. ⌜ r ≡ isPlusSpace (now (s .entry)) i ⌝ }
+{
+    if byte(s, i) != b' ' {
+        return false;
+    }
+    if i == 0 {
+        return false;
+    }
+    is_plus(s, i - 1)
+}
+
+// The byte of the value before k, which ends no joint.
+fn last_byte(s: &[u8], k: usize) -> Decoded
+    requires { ⌜ Reaches (now s) 0 k ⌝ }
+    requires { ⌜ (0 < k) × (getD (now s) (k - 1) 0 ≡ 10 → ⊥) ⌝ }
+    ensures { λ r. ⌜ Precedes (now (s .entry)) k r ⌝ }
+{
+    let i = k - 1;
+    if is_plus(s, i) {
+        return Decoded::Byte {
+            byte: b'\n',
+            next: i - 1,
+        };
+    }
+    if is_plus_space(s, i) {
+        return Decoded::Byte {
+            byte: b'\n',
+            next: i - 2,
+        };
+    }
+    Decoded::Byte {
+        byte: s[i],
+        next: i,
+    }
+}
+
+// The byte of the value before k, and the place that it is decoded at: the other way than `value_byte`, from a place that decoding comes to. Nothing above a plus is part of a joint or of a plus line.
+pub fn byte_before(s: &[u8], k: usize) -> Decoded
+    requires { ⌜ Reaches (now s) 0 k ⌝ }
+    ensures { λ r. ⌜ Precedes (now (s .entry)) k r ⌝ }
+{
+    let mut at = k;
+    while 0 < at {
+        let b = s[at - 1];
+        if b'+' < b {
+            return Decoded::Byte {
+                byte: b,
+                next: at - 1,
+            };
+        }
+        if b != b'\n' {
+            return last_byte(s, at);
+        }
+        at -= 2;
+    }
+    Decoded::End
 }

@@ -2,8 +2,11 @@
 use Prim.Native.Nat.{ℕ, _<_, _≤_}
 use mathlib.Core.Path.{_≡_, refl, sym}
 use mathlib.Core.Bool.{Bool, true, false, _||_}
-use borrow.Author.Tests.{ltb-true, ltb-false}
+use mathlib.Core.List.{[], _∷_}
+use borrow.Author.Tests.{ltb-true, ltb-false, eq-eqb}
 use lib.Dec.{ltb}
+use Rattle.format.specs.Bytes.{Bytes, same}
+use Rattle.format.proofs.Listing.{same-true}
 
 pub by-bool : {P : Type 0} (t : Bool) → (t ≡ true → P) → (t ≡ false → P) → P
 by-bool true f g = f refl
@@ -11,6 +14,14 @@ by-bool false f g = g refl
 
 pub dec-lt : {P : Type 0} (a b : ℕ) → (a < b → P) → (b ≤ a → P) → P
 dec-lt a b f g = by-bool (ltb a b) (λ e. f (ltb-true a b e)) (λ e. g (ltb-false a b e))
+
+-- texts that are the same, and that are not
+pub same-self : (x : Bytes) → same x x ≡ true
+same-self [] = refl
+same-self (x ∷ s) = rw (eq-eqb x x refl) (same-self s)
+
+pub same-apart : (a b : Bytes) → (a ≡ b → ⊥) → same a b ≡ false
+same-apart a b n = by-bool (same a b) (λ e. absurd (n (same-true a b e))) (λ e. e)
 
 -- two tests of which each says no where the other does
 pub same-false : (a b : Bool) → (a ≡ false → b ≡ false) → (b ≡ false → a ≡ false) → a ≡ b

@@ -1,4 +1,5 @@
--- Texts at places of a file, their order, and entries that a sort moves.
+-- Texts at places of a file, how they compare and their order, and entries that a sort moves.
 pub mod Texts
+pub mod Likeness
 pub mod Order
 pub mod Moves

@@ -1,7 +1,7 @@
 // Entries of texts, sorted in place. A text stands at a place of a file: a value from there to its end, or the word that it begins with. An entry is a
 // number whose lower 16 bits are the place of its text. Nothing is promised of the order that the sort makes: whoever needs it looks whether the entries rise.
 ghost use mathlib.Core.Path.{_≡_};
-ghost use mathlib.Core.Bool.{not};
+ghost use mathlib.Core.Bool.{true, not};
 ghost use mathlib.Core.List.{[], _∷_};
 ghost use Prim.Native.Nat.{_<_, _≤_, _%_};
 ghost use lib.ListN.{length};
@@ -9,6 +9,8 @@ ghost use Rattle.sorting.specs.Texts.{isWordByte, keeps, textAt, TextByt
 ghost use Rattle.sorting.specs.Order.{comparedOf};
 ghost use Rattle.sorting.specs.Moves.{swapped, Moved};
 use lines::Decoded;
+
+pub mod ends;
 
 fn wide(x: u32) -> usize
     ensures { λ r. ⌜ r ≡ x ⌝ }
@@ -109,15 +111,15 @@ pub enum Compared {
     Behind,
 }
 
-// Two texts compared, without decoding them to anywhere.
-pub fn compare(s: &[u8], i: usize, j: usize, words: bool) -> Compared
-    ensures { λ r. ⌜ r ≡ comparedOf (textAt words (now (s .entry)) i) (textAt words (now (s .entry)) j) ⌝ }
+// Two words compared, without decoding them to anywhere.
+pub fn compare_words(s: &[u8], i: usize, j: usize) -> Compared
+    ensures { λ r. ⌜ r ≡ comparedOf (textAt true (now (s .entry)) i) (textAt true (now (s .entry)) j) ⌝ }
 {
     let mut a = i;
     let mut b = j;
     loop {
-        let x = text_byte(s, a, words);
-        let y = text_byte(s, b, words);
+        let x = text_byte(s, a, true);
+        let y = text_byte(s, b, true);
         let Decoded::Byte { byte: c, next: k } = x else {
             let Decoded::Byte { byte: _, next: _ } = y else {
                 return Compared::Equal;
@@ -145,25 +147,34 @@ pub fn place(x: u32) -> usize
     wide(x % Entry::PLACES)
 }
 
-// What the order looks at first: above the place, for words above 6 more bits.
-fn rank(x: u32, words: bool) -> u32 {
+// What the order looks at first are the bits from here up: above the place, for words above 6 more bits.
+fn lowest(words: bool) -> u32 {
     if words {
-        return x / Entry::TAGGED;
+        return Entry::TAGGED;
     }
-    x / Entry::PLACES
+    Entry::PLACES
 }
 
-// For the sort alone: by rank, then by text, then by all that stands above the place. Nothing is said of the answer.
+// For the sort alone: two texts, which stand in the file. Nothing is said of the answer.
+fn compare_texts(s: &[u8], i: usize, j: usize, words: bool) -> Compared {
+    if words {
+        return compare_words(s, i, j);
+    }
+    if s.len() < i {
+        return Compared::Equal;
+    }
+    if s.len() < j {
+        return Compared::Equal;
+    }
+    ends::order(ends::compare(&s[i..], &s[j..]))
+}
+
+// For the sort alone: by these bits, then by text, then by all that stands above the place. Nothing is said of the answer.
 fn is_before(s: &[u8], x: u32, y: u32, words: bool) -> bool {
-    let p = rank(x, words);
-    let q = rank(y, words);
-    if p < q {
-        return true;
+    if lowest(words) <= x ^ y {
+        return x < y;
     }
-    if q < p {
-        return false;
-    }
-    let c = compare(s, place(x), place(y), words);
+    let c = compare_texts(s, place(x), place(y), words);
     match c {
         Compared::Equal => x / Entry::PLACES < y / Entry::PLACES,
         Compared::Before => true,

@@ -4,13 +4,11 @@ use native.Mathlib.Nat.{zero-lt-suc}
 use mathlib.Core.Path.{_≡_, refl, sym, ap, ap₂, _∙_}
 use mathlib.Core.Bool.{Bool, true, false, _&&_, _||_, false≢true}
 use mathlib.Core.List.{List, [], _∷_, _++_, map-append}
-use borrow.Author.Tests.{eq-eqb}
 use lib.Dec.{eqb}
 use lib.ListN.{length, getD, take, drop, take-append-drop}
 use Rattle.format.specs.Bytes.{Bytes, any, same}
-use Rattle.format.proofs.Listing.{same-true}
 use Rattle.lines.proofs.Cuts.{at-cons}
-use Rattle.sorting.proofs.Tests.{by-bool}
+use Rattle.sorting.proofs.Tests.{same-self, same-apart}
 use Rattle.terms.specs.Sets.{Term, says, tagged}
 use Rattle.terms.specs.Entries.{wordAt, termAt, termsOf}
 
@@ -21,13 +19,6 @@ or-assoc false b c = refl
 pub or-none : (a : Bool) → a || false ≡ a
 or-none true = refl
 or-none false = refl
-
-pub same-self : (x : Bytes) → same x x ≡ true
-same-self [] = refl
-same-self (x ∷ s) = rw (eq-eqb x x refl) (same-self s)
-
-pub same-apart : (a b : Bytes) → (a ≡ b → ⊥) → same a b ≡ false
-same-apart a b n = by-bool (same a b) (λ e. absurd (n (same-true a b e))) (λ e. e)
 
 pub same-false : (a b : Bytes) → same a b ≡ false → a ≡ b → ⊥
 same-false a b e q = false≢true (sym e ∙ ap (same a) (sym q) ∙ same-self a)

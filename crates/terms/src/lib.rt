@@ -132,7 +132,7 @@ fn compare_entries(s: &[u8], x: u32, y: u32) -> Compared
     if q < p {
         return Compared::Behind;
     }
-    sorting::compare(s, sorting::place(x), sorting::place(y), true)
+    sorting::compare_words(s, sorting::place(x), sorting::place(y))
 }
 
 // The tag of an entry.

@@ -1,36 +1,31 @@
 -- `keys::compare_entries` meets its contract: the fingerprints of entries are those of their keys.
-use Prim.Native.Nat.{_%_}
 use native.Mathlib.Omega.{arith}
 use mathlib.Core.Path.{sym, ap, ap₂, _∙_}
-use mathlib.Core.Bool.{false}
-use Rattle.sorting.specs.Texts.{textAt}
-use Rattle.sorting.specs.Order.{comparedOf}
-use Rattle.sorting.proofs.Texts.{text-whole}
-use Rattle.sorting.proofs.Order.{compared-lt, compared-gt, compared-on}
-use Rattle.keys.specs.Keys.{printOf, keyAt}
+use Rattle.sorting.specs.Likeness.{likenessOf}
+use Rattle.sorting.specs.Order.{orderOf}
+use Rattle.keys.specs.Keys.{keyAt}
+use Rattle.keys.proofs.Prints.{key-part}
+use Rattle.keys.proofs.Order.{ranked-lt, ranked-gt, ranked-on}
 use borrow.Author.Needs.{needs}
 use Rattle.keys.proofs.compare_entries.Statement.{statement}
 use Rattle.keys.proofs.compare_entries.Tie as tie
 use Rattle.keys.proofs.compare_entries.Reads as reads
 use Rattle.keys.proofs.compare_entries.Lts as lts
-use Rattle.sorting.proofs.compare.Reads as compare-reads
+use Rattle.sorting.proofs.ends.compare.Reads as compare-reads
+use Rattle.sorting.proofs.ends.order.Reads as order-reads
 use Rattle.sorting.proofs.place.Reads as place-reads
 
 returns : tie.Need-returns
 returns c =
     let at-args = c .before .before .args in
     let at-pre = c .before .before .pre in
-    let a = keyAt (at-args .s .now) (at-args .x) in
-    let b = keyAt (at-args .s .now) (at-args .y) in
-    sym (compared-lt (printOf a) (printOf b) a b (omega (arith, at-pre .0 .print, at-pre .1 .print)))
+    sym (ranked-lt (keyAt (at-args .s .now) (at-args .x)) (keyAt (at-args .s .now) (at-args .y)) (omega (arith, at-pre .0 .print, at-pre .1 .print)))
 
 returns-2 : tie.Need-returns-2
 returns-2 c =
     let at-args = c .before .before .before .args in
     let at-pre = c .before .before .before .pre in
-    let a = keyAt (at-args .s .now) (at-args .x) in
-    let b = keyAt (at-args .s .now) (at-args .y) in
-    sym (compared-gt (printOf a) (printOf b) a b (omega (arith, at-pre .0 .print, at-pre .1 .print)))
+    sym (ranked-gt (keyAt (at-args .s .now) (at-args .x)) (keyAt (at-args .s .now) (at-args .y)) (omega (arith, at-pre .0 .print, at-pre .1 .print)))
 
 place-requires : tie.Need-place-requires
 place-requires c κs = search needs
@@ -38,23 +33,56 @@ place-requires c κs = search needs
 place-requires-2 : tie.Need-place-requires-2
 place-requires-2 c κs = search needs
 
+sub-compare : tie.Need-sub-compare
+sub-compare c = search needs
+
+part-compare-start : tie.Need-part-compare-start
+part-compare-start c = search needs
+
+part-compare-end : tie.Need-part-compare-end
+part-compare-end c = search needs
+
+sub-compare-2 : tie.Need-sub-compare-2
+sub-compare-2 c = search needs
+
+part-compare-start-2 : tie.Need-part-compare-start-2
+part-compare-start-2 c = search needs
+
+part-compare-end-2 : tie.Need-part-compare-end-2
+part-compare-end-2 c = search needs
+
 compare-requires : tie.Need-compare-requires
 compare-requires c κs = search needs
 
+order-requires : tie.Need-order-requires
+order-requires c κs = search needs
+
 returns-3 : tie.Need-returns-3
 returns-3 c =
-    let at-args = c .before .before .before .before .before .before .args in
-    let at-place = c .before .before .place in
-    let at-place2 = c .before .place2 in
-    let at-compare = c .compare in
-    let at-pre = c .before .before .before .before .before .before .pre in
+    let at-args = c .before .before .before .before .before .before .before .before .before .args in
+    let at-place = c .before .before .before .before .before .place in
+    let at-place2 = c .before .before .before .before .place2 in
+    let at-order = c .order in
+    let at-compare = c .before .compare in
+    let at-pre = c .before .before .before .before .before .before .before .before .before .pre in
     let s = at-args .s .now in
-    let a = keyAt s (at-args .x) in
-    let b = keyAt s (at-args .y) in
-    let e = ap₂ comparedOf (ap (textAt false s) (at-place .ensures) ∙ text-whole s (at-args .x % 65536)) (ap (textAt false s) (at-place2 .ensures) ∙ text-whole s (at-args .y % 65536)) in
-    at-compare .ensures ∙ e ∙ sym (compared-on (printOf a) (printOf b) a b (omega (arith, at-pre .0 .print, at-pre .1 .print)) (omega (arith, at-pre .0 .print, at-pre .1 .print)))
+    let e = ap₂ likenessOf (key-part s (at-place .result) (at-args .x) (at-place .ensures)) (key-part s (at-place2 .result) (at-args .y) (at-place2 .ensures)) in
+    at-order .ensures ∙ ap orderOf (at-compare .ensures ∙ e) ∙ sym (ranked-on (keyAt s (at-args .x)) (keyAt s (at-args .y)) (omega (arith, at-pre .0 .print, at-pre .1 .print)))
 
 pub compare-entries-spec : {M : Type 1} → statement M
 compare-entries-spec =
     tie.close
-    (tie.spec returns returns-2 place-requires place-requires-2 compare-requires returns-3)
+    (tie.spec
+    returns
+    returns-2
+    place-requires
+    place-requires-2
+    sub-compare
+    part-compare-start
+    part-compare-end
+    sub-compare-2
+    part-compare-start-2
+    part-compare-end-2
+    compare-requires
+    order-requires
+    returns-3)

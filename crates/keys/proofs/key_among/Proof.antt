@@ -13,7 +13,7 @@ use Rattle.keys.proofs.key_among.Tie as tie
 use Rattle.keys.proofs.key_among.Reads as reads
 use Rattle.keys.proofs.key_among.Lts as lts
 use Rattle.sorting.proofs.place.Reads as place-reads
-use Rattle.lines.proofs.same_value.Reads as same-value-reads
+use Rattle.sorting.proofs.ends.are_equal.Reads as are-equal-reads
 
 abbrev Inv-loop : tie.InvT-loop
 Inv-loop s x entries a i₀ i = (i ≤ length entries) × (among (keyAt s x) (keysOf s (drop i entries)) ≡ among (keyAt s x) (keysOf s entries))
@@ -36,34 +36,34 @@ shared-slice-read-place c = search needs
 place-requires-2 : tie.Need-place-requires-2 Inv-loop μ-loop
 place-requires-2 c κs = search needs
 
-sub-same-value : tie.Need-sub-same-value Inv-loop μ-loop
-sub-same-value c = search needs
+sub-are-equal : tie.Need-sub-are-equal Inv-loop μ-loop
+sub-are-equal c = search needs
 
-part-same-value-start : tie.Need-part-same-value-start Inv-loop μ-loop
-part-same-value-start c = search needs
+part-are-equal-start : tie.Need-part-are-equal-start Inv-loop μ-loop
+part-are-equal-start c = search needs
 
-part-same-value-end : tie.Need-part-same-value-end Inv-loop μ-loop
-part-same-value-end c = search needs
+part-are-equal-end : tie.Need-part-are-equal-end Inv-loop μ-loop
+part-are-equal-end c = search needs
 
-sub-same-value-2 : tie.Need-sub-same-value-2 Inv-loop μ-loop
-sub-same-value-2 c =
+sub-are-equal-2 : tie.Need-sub-are-equal-2 Inv-loop μ-loop
+sub-are-equal-2 c =
     let at-pre = c .before .before .before .before .before .before .before .before .pre in
     let at-loop = c .before .before .before .before .loop in
     let at-loop-test = c .before .before .before .loop-test in
     omega (arith, at-pre .1 (at-loop .i) (at-loop-test .taken) .inside)
 
-part-same-value-start-2 : tie.Need-part-same-value-start-2 Inv-loop μ-loop
-part-same-value-start-2 c =
+part-are-equal-start-2 : tie.Need-part-are-equal-start-2 Inv-loop μ-loop
+part-are-equal-start-2 c =
     let at-pre = c .before .before .before .before .before .before .before .before .pre in
     let at-loop = c .before .before .before .before .loop in
     let at-loop-test = c .before .before .before .loop-test in
     omega (arith, at-pre .1 (at-loop .i) (at-loop-test .taken) .inside)
 
-part-same-value-end-2 : tie.Need-part-same-value-end-2 Inv-loop μ-loop
-part-same-value-end-2 c = search needs
+part-are-equal-end-2 : tie.Need-part-are-equal-end-2 Inv-loop μ-loop
+part-are-equal-end-2 c = search needs
 
-same-value-requires : tie.Need-same-value-requires Inv-loop μ-loop
-same-value-requires c κs = search needs
+are-equal-requires : tie.Need-are-equal-requires Inv-loop μ-loop
+are-equal-requires c κs = search needs
 
 returns : tie.Need-returns Inv-loop μ-loop
 returns c =
@@ -71,13 +71,13 @@ returns c =
     let at-loop = c .before .before .before .before .before .before .before .loop in
     let at-place = c .before .before .before .before .before .before .before .before .place in
     let at-place2 = c .before .before .before .before .place2 in
-    let at-same-value = c .before .same-value in
+    let at-are-equal = c .before .are-equal in
     let at-loop-test = c .before .before .before .before .before .before .loop-test in
     let at-if1 = c .if1 in
     let s = at-args .s .now in
     let l = at-args .entries .now in
     let y = getD l (at-loop .i) 0 in
-    let e = rw (key-part s (at-place .result) (at-args .x) (at-place .ensures), key-part s (at-place2 .result) y (at-place2 .ensures)) at (at-same-value .ensures) in
+    let e = rw (key-part s (at-place .result) (at-args .x) (at-place .ensures), key-part s (at-place2 .result) y (at-place2 .ensures)) at (at-are-equal .ensures) in
     sym (among-hit s l (at-loop .i) (at-loop-test .taken) (keyAt s (at-args .x)) (sym e ∙ at-if1 .taken)) ∙ at-loop .inv .1
 
 add-i : tie.Need-add-i Inv-loop μ-loop
@@ -92,13 +92,13 @@ loop-again c =
     let at-loop = c .before .before .before .before .before .before .before .loop in
     let at-place = c .before .before .before .before .before .before .before .before .place in
     let at-place2 = c .before .before .before .before .place2 in
-    let at-same-value = c .before .same-value in
+    let at-are-equal = c .before .are-equal in
     let at-loop-test = c .before .before .before .before .before .before .loop-test in
     let at-if1 = c .if1 in
     let s = at-args .s .now in
     let l = at-args .entries .now in
     let y = getD l (at-loop .i) 0 in
-    let e = rw (key-part s (at-place .result) (at-args .x) (at-place .ensures), key-part s (at-place2 .result) y (at-place2 .ensures)) at (at-same-value .ensures) in
+    let e = rw (key-part s (at-place .result) (at-args .x) (at-place .ensures), key-part s (at-place2 .result) y (at-place2 .ensures)) at (at-are-equal .ensures) in
     (omega arith, sym (among-miss s l (at-loop .i) (at-loop-test .taken) (keyAt s (at-args .x)) (sym e ∙ at-if1 .left)) ∙ at-loop .inv .1)
 
 returns-2 : tie.Need-returns-2 Inv-loop μ-loop
@@ -119,13 +119,13 @@ key-among-spec =
     mul-place
     shared-slice-read-place
     place-requires-2
-    sub-same-value
-    part-same-value-start
-    part-same-value-end
-    sub-same-value-2
-    part-same-value-start-2
-    part-same-value-end-2
-    same-value-requires
+    sub-are-equal
+    part-are-equal-start
+    part-are-equal-end
+    sub-are-equal-2
+    part-are-equal-start-2
+    part-are-equal-end-2
+    are-equal-requires
     returns
     add-i
     loop-less

@@ -1,6 +1,8 @@
 -- `lines::plain_byte` meets its contract: the tests that led to a return say which byte the text stands for there.
 use native.Mathlib.Omega.{arith}
-use mathlib.Core.Path.{sym, _∙_}
+use mathlib.Core.Path.{_≡_, refl, sym, _∙_}
+use lib.ListN.{getD}
+use Rattle.lines.specs.Value.{here, further, plain, space, plus}
 use Prim.Native.Nat.{_+_}
 use Rattle.lines.proofs.Decoding.{byte-inside, plain-at, end-at, space-at, plus-at}
 use borrow.Author.Needs.{needs}
@@ -23,7 +25,7 @@ returns c =
     let at-if1 = c .if1 in
     let s = at-args .s .now in
     let i = at-args .i in
-    (plain-at s i (at-pre .0) (at-if1 .taken) (at-pre .1), omega arith, omega arith)
+    (plain-at s i (at-pre .0) (at-if1 .taken) (at-pre .1), omega arith, omega arith, further here (plain refl (at-pre .0) (at-if1 .taken) (at-pre .1)))
 
 add-byte : tie.Need-add-byte
 add-byte c = search needs
@@ -60,7 +62,7 @@ returns-3 c =
     let i = at-args .i in
     let p = sym (at-byte .ensures) ∙ at-if2 .left in
     let q = sym (at-byte2 .ensures) ∙ at-if3 .taken in
-    (space-at s i (at-if1 .left) p q, omega arith, omega (arith, byte-inside s (i + 2) 31 q))
+    (space-at s i (at-if1 .left) p q, omega arith, omega (arith, byte-inside s (i + 2) 31 q), further here (space refl (at-if1 .left) p q))
 
 add-t8 : tie.Need-add-t8
 add-t8 c = search needs
@@ -76,7 +78,8 @@ returns-4 c =
     let s = at-args .s .now in
     let i = at-args .i in
     let p = sym (at-byte .ensures) ∙ at-if2 .left in
-    (plus-at s i (at-if1 .left) p (λ q. at-if3 .left (at-byte2 .ensures ∙ q)), omega arith, omega (arith, byte-inside s (i + 1) 42 p))
+    let n : getD s (i + 2) 0 ≡ 32 → ⊥ = λ q. at-if3 .left (at-byte2 .ensures ∙ q) in
+    (plus-at s i (at-if1 .left) p n, omega arith, omega (arith, byte-inside s (i + 1) 42 p), further here (plus refl (at-if1 .left) p n))
 
 pub plain-byte-spec : {M : Type 1} → statement M
 plain-byte-spec =

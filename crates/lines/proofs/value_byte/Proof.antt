@@ -1,11 +1,11 @@
--- `lines::value_byte` meets its contract. The invariant: the value from i on is the value from at on, which is not before i.
+-- `lines::value_byte` meets its contract. The invariant: the value from i on is the value from at on, which is not before i and which decoding comes to from there.
 -- The measure is what is left of the text.
 use borrow.Author.Needs.{needs}
 use Prim.Native.Nat.{_+_, _-_, _≤_}
 use native.Mathlib.Omega.{arith}
 use mathlib.Core.Path.{_≡_, refl, sym, _∙_}
 use lib.ListN.{length, drop}
-use Rattle.lines.specs.Value.{valueFrom}
+use Rattle.lines.specs.Value.{valueFrom, Reaches, here, further, joint}
 use Rattle.lines.proofs.Decoding.{byte-inside, nothing-at, joined-at, unfolds-from}
 use Rattle.lines.proofs.value_byte.Statement.{statement}
 use Rattle.lines.proofs.value_byte.Tie as tie
@@ -15,13 +15,13 @@ use Rattle.lines.proofs.byte.Reads as byte-reads
 use Rattle.lines.proofs.plain_byte.Reads as plain-byte-reads
 
 abbrev Inv-loop : tie.InvT-loop
-Inv-loop s i at₀ at = (i ≤ at) × (valueFrom (drop i s) ≡ valueFrom (drop at s))
+Inv-loop s i at₀ at = (i ≤ at) × (valueFrom (drop i s) ≡ valueFrom (drop at s)) × Reaches s i at
 
 abbrev μ-loop : tie.MeasureT-loop
 μ-loop s i at₀ at = length s - at
 
 loop-holds : tie.Need-loop-holds Inv-loop μ-loop
-loop-holds c = (omega arith, refl)
+loop-holds c = (omega arith, refl, here)
 
 shared-slice-read-if1 : tie.Need-shared-slice-read-if1 Inv-loop μ-loop
 shared-slice-read-if1 c = search needs
@@ -37,7 +37,7 @@ returns c =
     let at-args = c .before .before .before .before .before .before .args in
     let at-loop = c .before .before .before .before .loop in
     let at-plain-byte = c .plain-byte in
-    unfolds-from (at-args .s .now) (at-args .i) (at-loop .at) (at-plain-byte .result) (at-loop .inv .0) (at-loop .inv .1) (at-plain-byte .ensures)
+    unfolds-from (at-args .s .now) (at-args .i) (at-loop .at) (at-plain-byte .result) (at-loop .inv .0) (at-loop .inv .2) (at-loop .inv .1) (at-plain-byte .ensures)
 
 add-byte : tie.Need-add-byte Inv-loop μ-loop
 add-byte c = search needs
@@ -57,7 +57,7 @@ returns-2 c =
     let at-args = c .before .before .before .before .before .before .before .before .args in
     let at-loop = c .before .before .before .before .before .before .loop in
     let at-plain-byte2 = c .plain-byte2 in
-    unfolds-from (at-args .s .now) (at-args .i) (at-loop .at) (at-plain-byte2 .result) (at-loop .inv .0) (at-loop .inv .1) (at-plain-byte2 .ensures)
+    unfolds-from (at-args .s .now) (at-args .i) (at-loop .at) (at-plain-byte2 .result) (at-loop .inv .0) (at-loop .inv .2) (at-loop .inv .1) (at-plain-byte2 .ensures)
 
 add-at : tie.Need-add-at Inv-loop μ-loop
 add-at c =
@@ -79,7 +79,7 @@ loop-again c =
     let at-args = c .before .before .before .before .before .before .before .args in
     let at-if1 = c .before .before .if1 in
     let q = sym (at-byte .ensures) ∙ at-if2 .left in
-    (omega arith, at-loop .inv .1 ∙ joined-at (at-args .s .now) (at-loop .at) (at-if1 .left) q)
+    (omega arith, at-loop .inv .1 ∙ joined-at (at-args .s .now) (at-loop .at) (at-if1 .left) q, further (at-loop .inv .2) (joint refl (at-if1 .left) q))
 
 returns-3 : tie.Need-returns-3 Inv-loop μ-loop
 returns-3 c =
