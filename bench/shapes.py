@@ -257,6 +257,33 @@ def keys():
     }
 
 
+def singular(names, values, head=b'', each=250):
+    """Fields of singular names, one of each name and value, some of them a record."""
+    lines = [n + b': ' + v + b'\n' for v in values for n in names]
+    return filled(HEAD + head + b'%singular: ' + b' '.join(names) + b'\n\n', lambda n: b''.join(lines[each * (n - 1):each * n]) + b'\n' if each * (n - 1) < len(lines) else bytes(LIMIT))[0]
+
+
+def singulars():
+    """Shapes of singular names."""
+    letters, one = [b'%c' % c for c in LETTERS], [b'S']
+    bytes_ = [bytes((c,)) for c in (*range(33, 92), *range(93, 127), *range(160, 256))]
+    return {
+        'singular values of two bytes': singular(one, [a + b for a in bytes_ for b in bytes_]),
+        'singular names with one-byte values': singular(letters, bytes_),
+        '64 singular names with one-byte values': singular(PAIRS[:64], bytes_),
+        'the last of 64 singular names': singular(one, [b'%d' % n for n in range(9000)], b'%singular: ' + b' '.join(PAIRS[:63]) + b'\n'),
+        'crafted singular values': singular(one, alike(9000, 10)),
+        'crafted singular values of 52 names': singular(letters, alike(200, 10)),
+        'crafted singular values with a common front of 60': singular(one, alike(1000, 10, b'k' * 60)),
+        'crafted singular values with a common tail of 60': singular(one, alike(1000, 10, end=b'k' * 60)),
+        'crafted singular values with a common tail of 500': singular(one, alike(130, 10, end=b'k' * 500), each=10),
+        'crafted singular values in joined lines': singular(one, [b'\\\n'.join(v[i:i + 1] for i in range(len(v))) for v in alike(7000, 10)]),
+        'crafted singular values in plus lines': singular(one, [v.replace(b'\n', b'\n+ ') for v in alike(6000, 10, b'x\n')]),
+        'crafted singular values behind 50 joints': singular(one, [joints(100) + v for v in alike(600, 10)]),
+        'singular values of 4,000 bytes': singular(one, [b'%c' % c + b'k' * 4000 for c in LETTERS], each=1),
+    }
+
+
 def sets():
     """Shapes of many descriptors."""
     def each(descriptor, records, count=64):
@@ -342,4 +369,4 @@ def joined():
 
 def shapes():
     """All of them by name."""
-    return {**keys(), **enums(), **names(), **listed(), **kinds(), **sets(), **lines(), **joined()}
+    return {**keys(), **singulars(), **enums(), **names(), **listed(), **kinds(), **sets(), **lines(), **joined()}

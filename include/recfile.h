@@ -36,9 +36,9 @@
 
 /* The version of this header. An archive made of the same sources belongs to it. */
 #define RECFILE_VERSION_MAJOR 1
-#define RECFILE_VERSION_MINOR 2
+#define RECFILE_VERSION_MINOR 3
 #define RECFILE_VERSION_PATCH 0
-#define RECFILE_VERSION "1.2.0"
+#define RECFILE_VERSION "1.3.0"
 
 #ifdef __cplusplus
 extern "C" {
@@ -48,7 +48,7 @@ extern "C" {
 enum recfile_refusal {
     RECFILE_ACCEPTED = 0,
 
-    /* the fourteen questions of a file */
+    /* the questions of a file */
     RECFILE_REFUSED_LENGTH = 1,       /* the used length is more than the buffer's or than RECFILE_MAX_FILE */
     RECFILE_REFUSED_BYTE = 2,         /* a byte is not allowed (allowed: 9, 10, 32 to 126, 128 to 255), or the last is no newline */
     RECFILE_REFUSED_LINE = 3,         /* a line is no blank line, comment, field or continuation */
@@ -63,6 +63,7 @@ enum recfile_refusal {
     RECFILE_REFUSED_VALUE = 12,       /* a value does not meet its type */
     RECFILE_REFUSED_KEY = 13,         /* two records of a set have the same key */
     RECFILE_REFUSED_SIZE = 14,        /* a set's size is not met */
+    RECFILE_REFUSED_SINGULAR = 30,    /* two fields of a singular name have the same value in a set; asked behind 14 */
 
     /* what is asked for */
     RECFILE_REFUSED_FORM = 20,        /* the request is malformed */
@@ -86,7 +87,8 @@ enum recfile_refusal {
     RECFILE_REFUSED_RESULT_REPEATED = 111,
     RECFILE_REFUSED_RESULT_VALUE = 112,
     RECFILE_REFUSED_RESULT_KEY = 113,
-    RECFILE_REFUSED_RESULT_SIZE = 114
+    RECFILE_REFUSED_RESULT_SIZE = 114,
+    RECFILE_REFUSED_RESULT_SINGULAR = 130
 };
 
 /* The most that there may be, in bytes or in number. */
@@ -98,7 +100,7 @@ enum recfile_limit {
     RECFILE_MAX_DESCRIPTORS = 64,     /* descriptors of a file */
     RECFILE_MAX_TYPEDEFS = 32,        /* %typedef fields of a descriptor */
     RECFILE_MAX_TYPES = 32,           /* %type fields of a descriptor */
-    RECFILE_MAX_WORDS = 64,           /* words in all %mandatory fields of a descriptor; %prohibit, %allowed and %unique likewise */
+    RECFILE_MAX_WORDS = 64,           /* words in all %mandatory fields of a descriptor; %prohibit, %allowed, %unique and %singular likewise */
     RECFILE_MAX_CONTENTS = 65535,     /* bytes of the contents of a request's field */
     RECFILE_MAX_REQUESTS = 64         /* requests of a run */
 };
@@ -124,28 +126,28 @@ enum recfile_kind {
     RECFILE_KIND_RENAME = 6           /* KIND SET RECORD NAME OCCURRENCE NEW_NAME */
 };
 
-/* The number of the first question, 1 to 14, that says no of the file; 0 if it passes. */
+/* The number of the first question, 1 to 14 and 30, that says no of the file; 0 if it passes. */
 uint32_t recfile_check(const uint8_t *buf, size_t len, size_t used);
 
-/* The number of records of a set. Refused (1 to 14, 21): returns 0. Here and below `*number` is the refusal's, 0 if accepted. */
+/* The number of records of a set. Refused (1 to 14, 30, 21): returns 0. Here and below `*number` is the refusal's, 0 if accepted. */
 size_t recfile_count(const uint8_t *buf, size_t len, size_t used,
                      const uint8_t *set, size_t set_len, uint32_t *number);
 
 /* Puts the name of the file's set of a number at the front of `out` and returns its length; the bytes of `out` behind it stay.
  * Set 0 is the default set, whose name is empty and which every file has; the others follow in the order of the file. Refused
- * (1 to 14, 21, 27): returns 0, and `out` stays as it is. */
+ * (1 to 14, 30, 21, 27): returns 0, and `out` stays as it is. */
 size_t recfile_set_name(const uint8_t *buf, size_t len, size_t used, size_t set,
                         uint8_t *out, size_t out_len, uint32_t *number);
 
 /* Puts the value of an occurrence of a name in a record of a set at the front of `out` and returns its length; the bytes of
- * `out` behind it stay. Refused (1 to 14, 21, 22, 23, 27): returns 0, and `out` stays as it is. */
+ * `out` behind it stay. Refused (1 to 14, 30, 21, 22, 23, 27): returns 0, and `out` stays as it is. */
 size_t recfile_fetch(const uint8_t *buf, size_t len, size_t used,
                      const uint8_t *set, size_t set_len, size_t record,
                      const uint8_t *name, size_t name_len, size_t occurrence,
                      uint8_t *out, size_t out_len, uint32_t *number);
 
 /* Finds the part of the file from a record's first field line to the newline that ends its last field: puts the place of its
- * first byte in `*start` and returns its length. Refused (1 to 14, 21, 22): returns 0, and `*start` is 0. */
+ * first byte in `*start` and returns its length. Refused (1 to 14, 30, 21, 22): returns 0, and `*start` is 0. */
 size_t recfile_view(const uint8_t *buf, size_t len, size_t used,
                     const uint8_t *set, size_t set_len, size_t record,
                     size_t *start, uint32_t *number);
@@ -164,7 +166,7 @@ size_t recfile_write(const uint8_t *request, size_t request_len,
                      uint8_t *out, size_t out_len, uint32_t *number);
 
 /* Carries out one request on the file and returns the file's new length; the bytes from there to the old length become 0, the
- * ones behind stay. Refused (1 to 14, 20 to 26, 104, 108 to 114): returns `used`, and the buffer stays as it is. */
+ * ones behind stay. Refused (1 to 14, 30, 20 to 26, 104, 108 to 114, 130): returns `used`, and the buffer stays as it is. */
 size_t recfile_edit(uint8_t *buf, size_t len, size_t used,
                     const uint8_t *request, size_t request_len, uint32_t *number);
 
@@ -183,8 +185,8 @@ size_t recfile_edit_run(uint8_t *buf, size_t len, size_t used,
  * RECFILE_MAX_DESCRIPTORS + 1 entries is long enough for every file. It says how many records each set has without a look at the
  * file.
  *
- * The list is right after recfile_fill and after every recfile_edit_listed, accepted or refused, whatever it held before; 1 to 14
- * and 28 leave it as it is. So do recfile_edit and recfile_edit_run: where they changed the file, the list is out of date until the
+ * The list is right after recfile_fill and after every recfile_edit_listed, accepted or refused, whatever it held before; 1 to 14,
+ * 30 and 28 leave it as it is. So do recfile_edit and recfile_edit_run: where they changed the file, the list is out of date until the
  * next recfile_edit_listed or recfile_fill. Entries behind the last set's are never changed. */
 typedef struct {
     size_t place;                     /* the first byte of the descriptor's block; 0 for the default set */
@@ -194,13 +196,13 @@ typedef struct {
 } recfile_entry;
 
 /* Puts the entries of the file's sets at the front of the list and returns how many they are, the default set's included; the
- * entries behind them stay. Refused (1 to 14, 28): returns 0, and the list stays as it is. */
+ * entries behind them stay. Refused (1 to 14, 30, 28): returns 0, and the list stays as it is. */
 size_t recfile_fill(const uint8_t *buf, size_t len, size_t used,
                     recfile_entry *entries, size_t entries_len, uint32_t *number);
 
-/* recfile_edit, with a directory. Refused (1 to 14, 28): returns `used`, and neither the buffer nor the list is changed. Else it
+/* recfile_edit, with a directory. Refused (1 to 14, 30, 28): returns `used`, and neither the buffer nor the list is changed. Else it
  * does and returns what recfile_edit does, refusals included, and then puts the entries of the file as it stands at the front of
- * the list, as recfile_fill would: after a refusal (20 to 26, 104, 108 to 114) those of the file that was there. */
+ * the list, as recfile_fill would: after a refusal (20 to 26, 104, 108 to 114, 130) those of the file that was there. */
 size_t recfile_edit_listed(uint8_t *buf, size_t len, size_t used,
                            const uint8_t *request, size_t request_len,
                            recfile_entry *entries, size_t entries_len, uint32_t *number);

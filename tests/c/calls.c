@@ -491,8 +491,9 @@ static void files(void)
         { RECFILE_REFUSED_VALUE, "%rec: Scan\n%type: Id int\n\nId: 08\n" },
         { RECFILE_REFUSED_KEY, "%rec: Scan\n%key: Id\n\nId: 1\n\nId: 1\n" },
         { RECFILE_REFUSED_SIZE, "%rec: Scan\n%size: 1\n" },
+        { RECFILE_REFUSED_SINGULAR, "%rec: Scan\n%singular: Id\n\nId: 1\nId: 1\n" },
     };
-    static const char *const lists[] = { "%rec: S\n%mandatory:", "%rec: S\n%prohibit:", "%rec: S\n%allowed:", "%rec: S\n%unique:" };
+    static const char *const lists[] = { "%rec: S\n%mandatory:", "%rec: S\n%prohibit:", "%rec: S\n%allowed:", "%rec: S\n%unique:", "%rec: S\n%singular:" };
     struct list list = { 0, 0, NULL };
     size_t i;
     char *text;
@@ -735,6 +736,8 @@ static void edits(void)
     refused(rules, sizeof rules + 99, RECFILE_REFUSED_RESULT_KEY);
     delete("S", 1);
     refused(rules, sizeof rules + 99, RECFILE_REFUSED_RESULT_SIZE);
+    add("T", 0, "A", "1");
+    refused("%rec: T\n%singular: A\n\nA: 1\n", 99, RECFILE_REFUSED_RESULT_SINGULAR);
     asked = "the result's questions";
     expect("are raised", RECFILE_REFUSED_RESULT_SIZE - RECFILE_REFUSED_SIZE, RECFILE_REFUSED_RESULT);
     free(full);

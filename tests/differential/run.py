@@ -250,9 +250,9 @@ class Tests:
             self.compare('check', text, len(text))
             self.edits(text + bytes(90), len(text), 1)
 
-    def int_ends(self):
-        """Numbers about the ends of int, and an edit of each file."""
-        for runs in samples.int_ends():
+    def chosen(self):
+        """Files about the ends of int and about singular names, and an edit of each."""
+        for runs in (*samples.int_ends(), *samples.singulars()):
             text = frames.whole(runs)
             self.compare('check', text, len(text))
             self.edits(text + bytes(90), len(text), 1)
@@ -285,8 +285,8 @@ class Tests:
             b'A: ' + b'x' * 4000 + b'\\\n' + b'y' * 96 + b'\n', b'A: ' + b'x' * 4000 + b'\n+ ' + b'y' * 96 + b'\n', b'N' * 64 + b': 1\n', b'N' * 65 + b': 1\n',
             b'\n'.join(b'%%rec: S%d\n' % i for i in range(64)), b'\n'.join(b'%%rec: S%d\n' % i for i in range(65)),
             *(b'%rec: S\n' + (b'%%typedef: T%d int\n' * n % tuple(range(n))) for n in (32, 33)), *(b'%rec: S\n' + b'%type: A int\n' * n for n in (32, 33)),
-            *(b'%rec: S\n%' + f + b':' + b' A' * n + b'\n' for n in (64, 65) for f in (b'mandatory', b'prohibit', b'allowed', b'unique')),
-            *(b'%rec: S\n%' + f + b': A\n' + b'%' + f + b':' + b' A' * n + b'\n' for n in (63, 64) for f in (b'mandatory', b'prohibit', b'allowed', b'unique')),
+            *(b'%rec: S\n%' + f + b':' + b' A' * n + b'\n' for n in (64, 65) for f in (b'mandatory', b'prohibit', b'allowed', b'unique', b'singular')),
+            *(b'%rec: S\n%' + f + b': A\n' + b'%' + f + b':' + b' A' * n + b'\n' for n in (63, 64) for f in (b'mandatory', b'prohibit', b'allowed', b'unique', b'singular')),
             chain(32, b'int'), chain(32, b'T0'), chain(33, b'int'), chain(32, b'T31'),
             book(1800), book(1800).replace(b'Id: 1799', b'Id: 77'), book(2400), b'%rec: S\n%key: K\n\n' + b''.join(b'K: %d\n\n' % i for i in range(7000)),
             b'%rec: S\n%size: <= 3\n%key: A\n\nA: 1\n', b'%rec: S\n%mandatory: ' + b'N' * 65 + b'\n\nA: 1\n', b'%rec: S\n%type: ' + b'A,' * 2000 + b'A int\n\nA: 5\nA: x\n',
@@ -355,7 +355,7 @@ def main():
     library = Library(load())
     tests = Tests(library, seed)
     tests.limits()
-    tests.int_ends()
+    tests.chosen()
     tests.limit_crowds()
     tests.runs()
     tests.builds(rounds)

@@ -28,7 +28,7 @@ LACKING = {'SET': 'NO_SET', 'RECORD': 'NO_RECORD', 'FIELD': 'NO_FIELD'}
 ASKS = {
     'LENGTH': 'leb (f .used) (f .room)', 'BYTE': 'all isAllowed', 'LINE': 'isSome (f .reads)', 'LIMIT': 'fitsLimits', 'REC': 'describesOnce',
     'DESCRIPTOR': 'describesWell', 'TYPE': 'typesWell', 'PROHIBITED': 'noneProhibited', 'NOT_ALLOWED': 'allAllowed', 'MISSING': 'allPresent',
-    'REPEATED': 'noneRepeated', 'VALUE': 'allTyped', 'KEY': 'keysDistinct', 'SIZE': 'sizeMet',
+    'REPEATED': 'noneRepeated', 'VALUE': 'allTyped', 'KEY': 'keysDistinct', 'SIZE': 'sizeMet', 'SINGULAR': 'singularMet',
 }
 
 

@@ -3,7 +3,7 @@
 
 Usage: tests/model/definitions.py [SEED [COUNT]]       (from the repository's root; needs rt)
 
-It states what recfile.py answers as equations about the definitions, which the checker must prove by computing both sides: the verdict of COUNT files and of those about the ends of int; the numbers,
+It states what recfile.py answers as equations about the definitions, which the checker must prove by computing both sides: the verdict of COUNT files and of those about the ends of int and about singular names; the numbers,
 lengths and buffer of COUNT / 2 lists of edits, runs of requests among them; what COUNT / 2 runs of requests answer; the directory of COUNT / 2 files, filled and after an edit that is given it; and
 COUNT / 4 lists of edits, some of them given the directory and some of them runs of requests, run on the buffer and on the plain file. The equations go into a copy of the crate in a temporary folder.
 """
@@ -136,12 +136,12 @@ class Equations:
                 self.text += equation('file-%d' % files, 'judged %s %d' % (literal(data), number))
         return passing
 
-    def int_ends(self):
-        """Equations of the verdict of the files about the ends of int; how many."""
-        ends = [data for data in map(frames.whole, samples.int_ends()) if len(data) < 200]
-        for k, data in enumerate(ends):
-            self.text += equation('end-%d' % k, 'judged %s %d' % (literal(data), recfile.check(data, len(data))))
-        return len(ends)
+    def chosen(self, name, files):
+        """Equations of the verdict of those of some files that are short; how many."""
+        short = [data for data in map(frames.whole, files) if len(data) < 200]
+        for k, data in enumerate(short):
+            self.text += equation('%s-%d' % (name, k), 'judged %s %d' % (literal(data), recfile.check(data, len(data))))
+        return len(short)
 
     def run(self, sets):
         """A run of requests, now and then one that is refused, and the length of its list of answers."""
@@ -255,7 +255,7 @@ class Equations:
 def main(seed=1, count=300):
     e = Equations(seed)
     passing = e.files(count)
-    ends = e.int_ends()
+    chosen = e.chosen('end', samples.int_ends()) + e.chosen('singular', samples.singulars())
     e.edit_lists(passing, count // 2)
     e.sendings(passing, count // 2)
     e.directories(passing, count // 2)
@@ -275,7 +275,7 @@ def main(seed=1, count=300):
     for line in errors[:10]:
         print(line[:300])
     agreed = said.returncode == 0 and not errors
-    print('%d files, %d lists of edits, %d runs of requests, %d directories, %d lists of edits with one: %s' % (count + ends, count // 2, count // 2, count // 2, count // 4, 'agreed' if agreed else 'NOT agreed'))
+    print('%d files, %d lists of edits, %d runs of requests, %d directories, %d lists of edits with one: %s' % (count + chosen, count // 2, count // 2, count // 2, count // 4, 'agreed' if agreed else 'NOT agreed'))
     sys.exit(0 if agreed else 1)
 
 

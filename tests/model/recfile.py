@@ -15,6 +15,7 @@ NAME_RE = re.compile(rb'[A-Za-z%][A-Za-z0-9_]*\Z')
 TYPE_NAME_RE = re.compile(rb'[A-Za-z][A-Za-z0-9_]*\Z')
 FIELD_LINE_RE = re.compile(rb'([A-Za-z%][A-Za-z0-9_]*):(?:[ \t](.*)|)\Z', re.S)
 KINDS = {b'int', b'range', b'real', b'line', b'size', b'enum', b'bool', b'field', b'uuid'}
+LISTS = (b'%mandatory', b'%prohibit', b'%allowed', b'%unique', b'%singular')
 RESERVED = KINDS | {b'email', b'date', b'regexp', b'rec'}
 
 
@@ -248,7 +249,7 @@ def ask_limits(pieces, sets, number=4):
         if s.descriptor:
             if len(values(pieces, s.descriptor, b'%typedef')) > TYPEDEFS or len(values(pieces, s.descriptor, b'%type')) > TYPES:
                 raise No(number)
-            if any(len(listed(pieces, s.descriptor, n)) > WORDS for n in (b'%mandatory', b'%prohibit', b'%allowed', b'%unique')):
+            if any(len(listed(pieces, s.descriptor, n)) > WORDS for n in LISTS):
                 raise No(number)
     if len(sets) - 1 > DESCRIPTORS:
         raise No(number)
@@ -266,7 +267,7 @@ def ask_descriptors(pieces, sets):
             words = gaps_split(f.value)
             if f.name == b'%rec':
                 good = len(words) == 1 and TYPE_NAME_RE.match(words[0])
-            elif f.name in (b'%mandatory', b'%prohibit', b'%allowed', b'%unique'):
+            elif f.name in LISTS:
                 good = words and all(NAME_RE.match(w) for w in words)
             elif f.name == b'%key':
                 good = len(words) == 1 and NAME_RE.match(words[0])
@@ -307,7 +308,7 @@ def read_types(pieces, descriptor):
 
 def ask_rules(pieces, sets, raised=0):
     described = [s for s in sets if s.descriptor]
-    rules = {id(s): {n: listed(pieces, s.descriptor, b'%' + n.encode()) for n in ('mandatory', 'prohibit', 'allowed', 'unique', 'key')} for s in described}
+    rules = {id(s): {n: listed(pieces, s.descriptor, b'%' + n.encode()) for n in ('mandatory', 'prohibit', 'allowed', 'unique', 'singular', 'key')} for s in described}
 
     def no(number):
         raise No(raised + number)
@@ -345,6 +346,11 @@ def ask_rules(pieces, sets, raised=0):
             have = len(s.records)
             if not {'==': have == n, '<': have < n, '<=': have <= n, '>': have > n, '>=': have >= n}[order]:
                 no(14)
+    for s in described:
+        for n in rules[id(s)]['singular']:
+            have = [v for r in s.records for v in values(pieces, r, n)]
+            if len(set(have)) != len(have):
+                no(30)
 
 
 def passed(buf, used):

@@ -35,6 +35,40 @@ def int_ends():
                 yield from (described(b'%type: A int', (1, front), (n - len(front + end), digit), (1, end)) for n in (4096, 4097))
 
 
+def singulars():
+    """Files, as runs, about singular names: few and many fields, at both sides of being alike, in one record and in two, however the values are written."""
+    def described(rules, records):
+        return b'%rec: S\n' + rules + b'\n' + records
+
+    for rules in (b'%singular: A\n', b'%singular: A B\n', b'%singular: B A\n', b'%singular: A A\n', b'%singular: B\n%singular: A\n', b'%singular: B\n', b'%singular: %A a\n', b'%singular: A\n%key: A\n', b'%singular: A\n%size: 1\n', b'%singular: A\n%unique: A\n'):
+        for gap in (b'', b'\n', b'# c\n', b'B: x\n', b'\nB: x\n\n'):
+            yield from ([(1, described(rules, b'A: x\n' + gap + b'A: ' + other + b'\n'))] for other in (b'x', b'y'))
+    for one, other in ((b' x', b'\tx'), (b' x', b'  x'), (b' x', b' x '), (b' x', b' X'), (b' 1', b' 01'), (b'', b''), (b'', b' '), (b'', b'  '), (b'', b'\n+'), (b'\n+', b' \n+ '), (b' x', b' \\\nx'), (b' xy', b' x\\\ny'), (b' x\n+ y', b' x\n+y'),
+                       (b' x\n+ y', b' x\n+  y'), (b' x\n+\\\n y', b' x\n+  y'), (b' x', b' xx'), (b' xx', b' yx')):
+        yield from ([(1, described(b'%singular: A\n', b'A:' + one + b'\n' + gap + b'A:' + other + b'\n'))] for gap in (b'', b'\n'))
+    for n in (60, 61, 255, 256):
+        texts = [b'%d' % k for k in range(n)]
+        for last in (b'', texts[0], texts[-1], b'x'):
+            yield [(1, described(b'%singular: A\n', b''.join(b'A: ' + t + b'\n\n' for t in texts) + b'A: ' + last + b'\n'))]
+    # each name of a full list has one value, once more in the last name or in one that is not listed
+    names = [b'N%d' % k for k in range(64)]
+    for last in (names[0], names[63], b'M'):
+        yield [(1, described(b'%singular: ' + b' '.join(names[:40]) + b'\n%singular: ' + b' '.join(names[40:]) + b'\n', b''.join(n + b': x\n' for n in names) + b'\n' + last + b': x\n'))]
+        yield [(1, described(b'%singular: ' + b' '.join(names) + b'\n', b''.join(n + b':\n' for n in names) + b'\n' + last + b':\n'))]
+    # as many fields as a file holds: empty ones, and short ones that are all unlike
+    yield [(1, described(b'%singular: A\n', b'')), (85, b'A:\n' * 256 + b'\n')]
+    yield [(1, described(b'%singular: B\n', b'')), (85, b'A:\n' * 255 + b'B:\n\n')]
+    letters = [bytes([c]) for c in range(33, 127) if c != 92] + [bytes([c]) for c in range(160, 256)]
+    short = b'%singular: ' + b' '.join(b'%c' % c for c in range(65, 91)) + b' ' + b' '.join(b'%c' % c for c in range(97, 123)) + b'\n'
+    fields = [b'%c: ' % c + v + b'\n' for c in [*range(65, 91), *range(97, 123)] for v in letters]
+
+    def records(lines):
+        return b''.join(b''.join(lines[k:k + 256]) + b'\n' for k in range(0, len(lines), 256))
+
+    for lines in (fields + [b'A:\n', b'z:\n'], fields + fields[-1:], [b'A: ' + x + y + b'\n' for x in letters for y in letters][:10800]):
+        yield [(1, described(short, records(lines)))]
+
+
 def fingerprint(text):
     """Keys that differ here are told apart by the library without a look at their bytes (`sorting::mix`)."""
     h = 2166136261
@@ -73,6 +107,7 @@ class Samples:
             lambda: '%prohibit: ' + r.choice(['Zz', 'C', 'Q R']),
             lambda: '%allowed: ' + r.choice(['A B Id Page C', 'A B Id', 'A Page Id']),
             lambda: '%unique: ' + r.choice(words),
+            lambda: '%singular: ' + r.choice(words),
             lambda: '%size: ' + r.choice(['<= 3', '< 9', '>= 0', '<= 2'] if good else ['1', '< 2', '> 0', '0', '-0', '<1', 'x']),
             lambda: '%typedef: T1 ' + r.choice(KINDS[:8] if good else KINDS),
             lambda: '%typedef: ' + r.choice(['U', 'W']) + ' ' + r.choice(['T1', 'int', 'U', 'W', 'enum a x 1']),
@@ -140,7 +175,7 @@ class Samples:
             return out
 
         def descriptor(k):
-            rules = ['%key: Id', '%mandatory: A', '%size: <= 3', '%type: A int', '%unique: B', '%prohibit: C', '%doc: d' + r.choice(endings), 'Foo:' + r.choice(endings).replace('\\', ' \\', 1)]
+            rules = ['%key: Id', '%mandatory: A', '%size: <= 3', '%type: A int', '%unique: B', '%singular: B', '%prohibit: C', '%doc: d' + r.choice(endings), 'Foo:' + r.choice(endings).replace('\\', ' \\', 1)]
             fields = ['%rec: ' + r.choice(['S%d', 'S%d\\\n', '\n+ S%d', ' S%d\n+', 'S\\\n%d']) % k] + r.sample(rules, r.choice([0, 0, 1, 2]))
             r.shuffle(fields)
             return block(fields)

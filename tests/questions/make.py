@@ -127,7 +127,7 @@ def limits():
     at_limit(lambda n: described(''.join('%%typedef: T%d int\n' % k for k in range(n))), 32)
     at_limit(lambda n: described('%type: A int\n' * n), 32)
     at_limit(lambda n: described(''.join('%%typedef: T%d int\n' % k for k in range(n)) + '%type: A int\n' * n), 32)
-    for name in ('mandatory', 'prohibit', 'allowed', 'unique'):
+    for name in ('mandatory', 'prohibit', 'allowed', 'unique', 'singular'):
         at_limit(lambda n: described('%' + name + ':' + ' B' * n + '\n', ''), 64)
         at_limit(lambda n: described('%' + name + ':' + ' B' * n + '\n', 'B: 1\n'), 64)
         at_limit(lambda n: described(('%' + name + ': B\n') * n, 'B: 1\n'), 64)
@@ -139,14 +139,14 @@ def descriptors():
     each('%key: A\n', '%rec: S\n%rec: T\n', '%rec: S\n%rec: S\n', 'A: 1\n%key: A\n', '%: 1\n', '%doc: x\n', 'A: 1\n\n%type: A int\n\n%rec: S\n', '%rec: S\n\n%rec: T\n', '%rec: S\n\nA: 1\n%key: A\n')
     each('%rec:\n', '%rec: \n', '%rec: S T\n', '%rec: S\n+ T\n', '%rec: \n+ S\n', '%rec:  S \n', '%rec:\tS\t\n', '%rec: S\\\nT\n', '%rec: S\\\n T\n', '%rec: %S\n', '%rec: 1\n', '%rec: S-T\n', '%rec: S_1\n', '%rec: S:\n',
          '%rec: S\n\n%rec: S\n', '%rec: S\n\n%rec: s\n', '%rec: S\n\n%rec:  S \n', '%rec: S\\\nT\n\n%rec: ST\n', 'A: 1\n%rec: S\n', '# c\n%rec: S\n# d\n', '%rec: rec\n', '%rec: int\n')
-    for name in ('mandatory', 'prohibit', 'allowed', 'unique'):
+    for name in ('mandatory', 'prohibit', 'allowed', 'unique', 'singular'):
         each(*(described('%' + name + ':' + v + '\n', 'A: 1\nB: 2\n') for v in ('', ' ', ' A', ' A B', ' A\n+ B', ' A A', ' A,B', ' 1', ' %A', ' %', ' A:', '\tA\tB', ' A B C', ' \n+ ', ' A\\\nB', ' _A', ' C')))
     each(*(described('%key:' + v + '\n') for v in ('', ' ', ' A', ' A B', ' 1', ' %A', ' A:', '  A ', '\tA', ' A\n+ ', ' A\n+ B', ' B')))
     each(described('%key: A\n%key: A\n'), described('%key: A\n%key: B\n'), described('%size: 1\n%size: 1\n'))
     each(*(described('%size:' + v + '\n') for v in ('', ' ', ' 1', ' 0', ' 2', ' 01', ' 0x1', ' 0X1', ' 00', ' -0', ' -1', ' +1', ' 1 1', ' <1', ' < 1', ' < 2', ' <= 1', ' <= 0', ' > 0', ' > 1', ' >= 1', ' >= 2', ' >= 0',
                                                     ' = 1', ' == 1', ' != 1', ' <\n+ 2', ' 08', ' 9223372036854775807', ' < 9223372036854775807', ' < 9223372036854775808', ' <', ' < <', ' < 2 3', ' a', ' 1.0', ' >= -0', ' >= 0x0', '  <=  1 ')))
     each(*(described('%size: ' + v + '\n', '') for v in ('0', '1', '< 1', '<= 0', '> 0', '>= 0', '< 0')))
-    each(described('%foo: x\n'), described('%Rec: x\n'), described('%keys: A\n'), described('%confidential: A\n'), described('%sort: A\n'), described('%auto: A\n'), described('%singular: A\n'), described('%constraint: A\n'),
+    each(described('%foo: x\n'), described('%Rec: x\n'), described('%keys: A\n'), described('%confidential: A\n'), described('%sort: A\n'), described('%auto: A\n'), described('%singulars: A\n'), described('%constraint: A\n'),
          described('%doc:\n'), described('%doc: a\n+ b\n%doc: c\n'), described('Foo: x\n'), described('Foo: x\n%key: A\n'))
 
 
@@ -204,7 +204,7 @@ def rules():
          described('%key: A\n', 'A: a\\\nb\n\nA: ab\n'), described('%key: A\n', 'A: a\n+ b\n\nA: a\n+b\n'), described('%key: A\n', 'A:\n\nA: \n'), described('%key: A\n', 'A:\n\nA:  \n'))
     # two that say no: the first in order wins, wherever it stands
     noes = {5: '%key: A\n', 6: '%rec: X\n%foo: x\n', 7: '%rec: Y\n%type: A foo\n', 8: '%rec: P\n%prohibit: A\n\nA: 1\n', 9: '%rec: Q\n%allowed: B\n\nA: 1\n', 10: '%rec: M\n%mandatory: B\n\nA: 1\n', 11: '%rec: U\n%unique: A\n\nA: 1\nA: 1\n',
-            12: '%rec: T\n%type: A int\n\nA: x\n', 13: '%rec: K\n%key: A\n\nA: 1\n\nA: 1\n', 14: '%rec: Z\n%size: 0\n\nA: 1\n', 3: 'x\n', 2: '\x01\n', 4: 'A' * 65 + ': 1\n'}
+            12: '%rec: T\n%type: A int\n\nA: x\n', 13: '%rec: K\n%key: A\n\nA: 1\n\nA: 1\n', 14: '%rec: Z\n%size: 0\n\nA: 1\n', 30: '%rec: W\n%singular: A\n\nA: 1\n\nA: 1\n', 3: 'x\n', 2: '\x01\n', 4: 'A' * 65 + ': 1\n'}
     for a in noes:
         for b in noes:
             case(noes[a] + '\n' + noes[b])
@@ -221,6 +221,11 @@ def ends():
         case(runs)
 
 
+def singulars():
+    for runs in samples.singulars():
+        case(runs)
+
+
 def alike_keys(count):
     for seed in range(count):
         case(samples.Samples(seed).alike())
@@ -231,7 +236,7 @@ def random_files(count):
         case(samples.Samples(seed).file())
 
 
-for make in (lengths, bytes_and_lines, limits, descriptors, types, values, ends, rules, marked):
+for make in (lengths, bytes_and_lines, limits, descriptors, types, values, ends, rules, singulars, marked):
     make()
 random_files(800)
 alike_keys(120)

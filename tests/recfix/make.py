@@ -38,6 +38,9 @@ COINCIDE = [
     described('%prohibit: B\n'), described('%prohibit: A\n'), described('%prohibit: B C\n', 'A: 1\n\nC: 1\n'), described('%prohibit: B\n%prohibit: A\n'),
     described('%allowed: A\n'), described('%allowed: B\n'), described('%allowed: A B\n', 'A: 1\nB: 2\n'), described('%allowed: A\n', 'A: 1\nB: 2\n'), described('%allowed: A\n%allowed: B\n', 'A: 1\nB: 2\n'),
     described('%unique: A\n', 'A: 1\n\nA: 1\n'), described('%unique: A\n', 'A: 1\nA: 2\n'), described('%unique: B\n', 'A: 1\nA: 2\n'), described('%unique: A B\n', 'A: 1\nB: 1\nB: 1\n'),
+    # %singular
+    *(described('%singular: ' + rules + '\n', records) for rules in ('A', 'A\n%singular: B', 'B\n%singular: A', 'B') for records in ('A: 1\n', 'A: 1\n\nA: 1\n', 'A: 1\n\nA: 2\n', 'A: 1\n\nA: 01\n', 'A: 1\nA: 2\n\nA: 3\n\nA: 2\n', 'A: 1\n\nB: 1\n', 'A: 1\nB: 1\n\nA: 2\nB: 1\n', 'A: a\n+ b\n\nA: a\n+b\n')),
+    described('%singular: A\n', 'A: 1\n') + '\n%rec: T\n%singular: A\n\nA: 1\n', described('%singular: A\n', 'A: 1\n\nA:  1\n'), described('%singular: A\n', 'A: x\\\ny\n\nA: xy\n'), described('%singular: A\n', 'A:\n\nA:\n'), described('%singular: A\n', ''), described('%singular: A\n%key: A\n', 'A: 1\n\nA: 1\n'),
     # %key
     described('%key: A\n'), described('%key: A\n', 'A: 1\n\nA: 2\n'), described('%key: A\n', 'A: 1\n\nA: 1\n'), described('%key: A\n', 'A: 1\n\nA: 01\n'), described('%key: A\n', 'A: 1\n\nA:  1\n'), described('%key:\n'), described('%key: A\n', 'A: 1\nA: 2\n'), described('%key: A\n', 'B: 1\n'), described('%key: A\n%key: B\n', 'A: 1\nB: 2\n'),
     described('%key: A\n', 'A: 1\n') + '\n%rec: T\n%key: A\n\nA: 1\n',
@@ -65,6 +68,8 @@ DIFFER = {
     'fields of a descriptor that are left to others': [described('%sort: A\n'), described('%auto: A\n'), described('%constraint: A > 0\n')],
     'types that are left to others': [*typed('date', 'x'), *typed('regexp /x/', 'x')],
     'recfix takes the first of several keys': [described('%key: A B\n', 'A: 1\nB: 2\n')],
+    'of a %singular field recfix takes one name, not several, in any form, and no two fields of one record': [
+        described('%singular: A B\n', 'A: 1\n\nA: 1\n'), described('%singular: B A\n', 'A: 1\n\nA: 1\n'), described('%singular:\n'), described('%singular: 1\n'), described('%singular: A\n', 'A: 1\nA: 1\n')],
     'recfix takes a size without a blank behind the sign': [described('%size: <1\n', '')],
     'recfix takes the key and the mandatory names as allowed': [described('%allowed: B\n%key: A\n'), described('%allowed: B\n%mandatory: A\n')],
     'of several types of one field recfix takes the last': [described('%type: A range 5\n%type: A int\n', 'A: 7\n')],
@@ -74,7 +79,7 @@ DIFFER = {
     'a real without digits, or with none before the dot': typed('real', '.5', '-', ''),
     'blanks around a uuid': typed('uuid', ' 01234567-89ab-cdef-0123-456789abcdef'),
 }
-# They agree, but for unlike reasons, on %confidential (recfix asks for encrypted values), %singular, and the types email and rec: these are left out too.
+# They agree, but for unlike reasons, on %confidential (recfix asks for encrypted values) and the types email and rec: these are left out too.
 
 
 def recfix(text):

@@ -146,9 +146,9 @@ def marked(r):
 def numbers(r):
     """Every number of a refusal, and accepted edits beside them."""
     page = setting(b'Scan', 0, b'Page', 0, b'x')
-    # 1 to 14: of the file itself
+    # 1 to 14 and 30: of the file itself
     for text in (b'A: 1', b'A: \x01\n', b'A\n', b'A' * 65 + b': 1\n', b'%key: A\n', b'%rec: S\n%foo: 1\n', b'%rec: S\n%type: A foo\n', b'%rec: S\n%prohibit: A\n\nA: 1\n', b'%rec: S\n%allowed: B\n\nA: 1\n', b'%rec: S\n%mandatory: B\n\nA: 1\n',
-                 b'%rec: S\n%unique: A\n\nA: 1\nA: 1\n', b'%rec: S\n%type: A int\n\nA: x\n', b'%rec: S\n%key: A\n\nA: 1\n\nA: 1\n', b'%rec: S\n%size: 0\n\nA: 1\n'):
+                 b'%rec: S\n%unique: A\n\nA: 1\nA: 1\n', b'%rec: S\n%type: A int\n\nA: x\n', b'%rec: S\n%key: A\n\nA: 1\n\nA: 1\n', b'%rec: S\n%size: 0\n\nA: 1\n', b'%rec: S\n%singular: A\n\nA: 1\nA: 1\n'):
         r.start(text)
         r.edit(setting(b'S', 0, b'A', 0, b'2'), b'')
         r.edit_run(run(insert(b'', (b'A', b'1')), b'x', b''), 4)
@@ -197,6 +197,18 @@ def numbers(r):
     r.edit(add(b'S', 0, b'P', b'1'), rename(b'S', 0, b'U', 0, b'P'), add(b'S', 0, b'Q', b'1'), rename(b'S', 0, b'U', 0, b'Q'), rename(b'S', 0, b'A', 0, b'B'), drop(b'S', 0, b'A', 0), drop(b'S', 0, b'K', 0), add(b'S', 0, b'U', b'1'),
            add(b'S', 0, b'K', b'1'), setting(b'S', 0, b'A', 0, b'x'), insert(b'S', (b'K', b'1'), (b'A', b'1')), insert(b'S', (b'K', b'2'), (b'A', b'1')), insert(b'S', (b'K', b'3'), (b'A', b'1')), setting(b'S', 1, b'K', 0, b'1'),
            delete(b'S', 0), setting(b'S', 0, b'K', 0, b'1'), insert(b'S', (b'K', b'1'), (b'A', b'1')), insert(b'S', (b'K', b'3'), (b'A', b'1')), delete(b'S', 1), delete(b'S', 0), delete(b'S', 0))
+    r.look_around()
+    # 130: a second value by each of the edits that can make one, in another record and in the same; accepted ones beside them
+    stamps = b'%rec: S\n%key: K\n%singular: A R\n%singular: A\n%size: <= 3\n\nK: 1\nA: a\nA: b\nR:\n\nK: 2\nA: c\nO: b\nQ: a\n\n%rec: T\n%singular: A\n\nA: a\n'
+    for request in (insert(b'S', (b'K', b'3'), (b'A', b'a')), insert(b'S', (b'K', b'3'), (b'R', b'')), insert(b'S', (b'K', b'3'), (b'A', b'd'), (b'A', b'd')), insert(b'S', (b'K', b'2'), (b'A', b'a')), insert(b'S', (b'K', b'3'), (b'A', b'd'), (b'R', b'a')),
+                    add(b'S', 1, b'A', b'b'), add(b'S', 0, b'A', b'b'), add(b'S', 0, b'A', b'b '), add(b'S', 1, b'R', b''), add(b'S', 1, b'R', b'a'), add(b'S', 0, b'K', b'1'), setting(b'S', 1, b'A', 0, b'a'), setting(b'S', 0, b'A', 1, b'a'), setting(b'S', 0, b'A', 1, b'b'),
+                    setting(b'S', 1, b'O', 0, b'a'), rename(b'S', 1, b'O', 0, b'A'), rename(b'S', 1, b'O', 0, b'R'), rename(b'S', 1, b'Q', 0, b'A'), rename(b'S', 1, b'Q', 0, b'R'), rename(b'S', 1, b'A', 0, b'O'), rename(b'S', 0, b'R', 0, b'A'), insert(b'T', (b'A', b'a')), insert(b'T', (b'A', b'b'))):
+        r.start(stamps, room=400, behind=b'behind')
+        r.edit(request, request)
+        r.look_around()
+    r.start(stamps, room=400)
+    r.edit(drop(b'S', 0, b'A', 0), add(b'S', 1, b'A', b'a'), add(b'S', 0, b'A', b'a'), delete(b'S', 1), insert(b'S', (b'K', b'2'), (b'A', b'c'), (b'A', b'a')), insert(b'S', (b'K', b'3'), (b'A', b'c')), rename(b'S', 1, b'A', 0, b'B'), insert(b'S', (b'K', b'3'), (b'A', b'c')))
+    r.edit_run(run(rename(b'S', 1, b'B', 0, b'A'), setting(b'S', 1, b'B', 0, b'd'), rename(b'S', 1, b'B', 0, b'A'), setting(b'S', 1, b'A', 0, b'b'), delete(b'S', 0), setting(b'S', 0, b'A', 0, b'b')))
     r.look_around()
     # 112 and 0 at both sides of the ends of int
     r.start(b'%rec: S\n%type: A int\n%type: B range MIN MAX\n%type: C range MAX MAX\n%type: D range MIN MIN\n\nA: 0\nB: 0\nC: 9223372036854775807\nD: -9223372036854775808\n', room=400)

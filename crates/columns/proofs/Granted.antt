@@ -1,8 +1,8 @@
 -- What the limits and the questions passed grant of a descriptor's types and typedefs.
 use Prim.Native.Nat.{ℕ, zero, suc, _≤_, _<_}
 use native.Mathlib.Omega.{arith}
-use mathlib.Core.Path.{_≡_, refl, sym, ap, _∙_}
-use mathlib.Core.Bool.{Bool, true, false, _&&_, and-eq-true-iff, false≢true}
+use mathlib.Core.Path.{_≡_, refl, sym, _∙_}
+use mathlib.Core.Bool.{Bool, true, false, _&&_, and-eq-true-iff}
 use mathlib.Core.List.{List, [], _∷_, map}
 use borrow.Author.Tests.{leb-true, le-leb}
 use lib.Dec.{leb}
@@ -12,11 +12,11 @@ use Rattle.format.specs.Lines.{isName}
 use Rattle.format.specs.Words.{firstWord, isTypeName}
 use Rattle.format.specs.Records.{Record}
 use Rattle.format.specs.Sets.{valuesOf}
-use Rattle.format.specs.Limits.{nameBytes, valueBytes, recordFields, typedefs, typeFields, listWords}
-use Rattle.format.specs.Rules.{mandatory, prohibited, allowed, unique, typedNames, isTypedefName, distinct}
+use Rattle.format.specs.Limits.{nameBytes, valueBytes, recordFields, typedefs}
+use Rattle.format.specs.Rules.{typedNames, isTypedefName, distinct}
 use Rattle.format.specs.Questions.{fitsField}
+use Rattle.format.proofs.Limits.{rules-few}
 use Rattle.records.specs.Walk.{recordIn}
-use Rattle.sorting.proofs.Tests.{by-bool}
 use Rattle.records.specs.Named.{valuesFrom}
 use Rattle.typedefs.specs.Walks.{namesFrom, fits, fitFrom}
 use Rattle.typedefs.proofs.Deciding.{all-words, type-names}
@@ -66,10 +66,7 @@ module _ (d : Bytes) (h : Described d) where
   typedefs-fit m l = all-by (fits m) defs (λ k. le-leb (length (getD defs k [])) m (omega (arith, fits-at (text "%typedef") k)))
 
   pub typedefs-few : length defs ≤ 32
-  typedefs-few =
-      let with : Bool → Bool = λ (t : Bool). t && leb (length types) typeFields && leb (length (mandatory rules)) listWords && leb (length (prohibited rules)) listWords
-      && leb (length (allowed rules)) listWords && leb (length (unique rules)) listWords in
-      by-bool (leb (length defs) typedefs) (λ e. leb-true (length defs) 32 e) (λ e. absurd (false≢true (sym (ap with e) ∙ h .few)))
+  typedefs-few = rules-few rules (h .few) .typedefs-few
 
   -- all have good names and end in a kind
   abbrev good : Bool

@@ -47,6 +47,9 @@ typedef-asks v k = refl
 pub type-asks : Asks (text "%type") Content.Free
 type-asks v k = refl
 
+pub singular-asks : Asks (text "%singular") Content.Names
+singular-asks v k = or-false (holds Content.Names v)
+
 -- a name that has the place of one of them
 pub asks-at : (n m : Bytes) (c : Content) (r k : ℕ) → r ≡ placeIn n ruleNames → getD ruleNames k [] ≡ m → k < length ruleNames → same m m ≡ true → Asks m c → r ≡ k → Asks n c
 asks-at n m c r k e f h s a q = subst (λ (x : Bytes). Asks x c) (same-true m n (is-placed n m ruleNames r k e f h s q)) a

@@ -124,6 +124,7 @@ fn special_content(name: &[u8]) -> Content
         Rule::SIZE => Content::Size,
         Rule::TYPEDEF => Content::Free,
         Rule::TYPE => Content::Free,
+        Rule::SINGULAR => Content::Names,
         _ => Content::Fault,
     }
 }

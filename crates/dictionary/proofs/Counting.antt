@@ -12,9 +12,9 @@ use Rattle.format.specs.Lines.{isName}
 use Rattle.format.specs.Words.{words}
 use Rattle.format.specs.Records.{Field, Record}
 use Rattle.format.specs.Sets.{valuesOf}
-use Rattle.format.specs.Limits.{typedefs, typeFields, listWords}
 use Rattle.format.specs.Numbers.{intBounds}
 use Rattle.format.specs.Rules.{listed, mandatory, prohibited, allowed, unique, key, one, isShaped}
+use Rattle.format.proofs.Limits.{rules-few}
 use Rattle.format.proofs.Listing.{listed-cons}
 use Rattle.records.specs.Walk.{recordIn}
 use Rattle.terms.specs.Sets.{termOf}
@@ -82,25 +82,17 @@ key-length (f ∷ r) e =
 pub lists-few : (d : Bytes) → Described d → length (listTerms (recordIn d)) ≤ 257
 lists-few d h =
     let rules : Record = recordIn d in
-    let t : Bool = leb (length (valuesOf (text "%typedef") rules)) typedefs && leb (length (valuesOf (text "%type") rules)) typeFields in
-    let m : Bool = leb (length (mandatory rules)) listWords in
-    let p : Bool = leb (length (prohibited rules)) listWords in
-    let a : Bool = leb (length (allowed rules)) listWords in
-    let u : Bool = leb (length (unique rules)) listWords in
     let k : Bool = leb (length (valuesOf (text "%key") rules)) 1 in
     let z : Bool = leb (length (valuesOf (text "%size") rules)) 1 in
-    let hu = and-eq-true-iff (t && m && p && a) u .0 (h .few) in
-    let ha = and-eq-true-iff (t && m && p) a .0 (hu .0) in
-    let hp = and-eq-true-iff (t && m) p .0 (ha .0) in
-    let hm = and-eq-true-iff t m .0 (hp .0) in
+    let few = rules-few rules (h .few) in
     let hk = and-eq-true-iff (all (isShaped intBounds) rules) k .0 (and-eq-true-iff (all (isShaped intBounds) rules && k) z .0 (h .well) .0) in
     omega (
       arith,
       list-length rules,
-      leb-true (length (mandatory rules)) listWords (hm .1),
-      leb-true (length (prohibited rules)) listWords (hp .1),
-      leb-true (length (allowed rules)) listWords (ha .1),
-      leb-true (length (unique rules)) listWords (hu .1),
+      few .mandatory-few,
+      few .prohibited-few,
+      few .allowed-few,
+      few .unique-few,
       key-length rules (all-shaped d h),
       leb-true (length (valuesOf (text "%key") rules)) 1 (hk .1),
     )

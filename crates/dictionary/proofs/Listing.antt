@@ -1,8 +1,8 @@
 -- The terms of a descriptor's lists: those with a list's tag are the words that the rules list there, and all words are names.
-use Prim.Native.Nat.{ℕ, _+_, _≤_, _<_}
+use Prim.Native.Nat.{ℕ, _≤_, _<_}
 use native.Mathlib.Omega.{arith}
 use mathlib.Core.Path.{_≡_, refl, sym, ap, ap₂, _∙_}
-use mathlib.Core.Bool.{Bool, true, false, _||_, and-eq-true-iff, or-false, false≢true}
+use mathlib.Core.Bool.{Bool, true, false, _&&_, _||_, and-eq-true-iff, or-false, false≢true}
 use mathlib.Core.List.{List, [], _∷_, _++_, map}
 use borrow.Author.Tests.{eqb-true, eq-eqb, ne-eqb}
 use lib.Dec.{eqb}
@@ -12,6 +12,7 @@ use Rattle.format.specs.Records.{Field, Record}
 use Rattle.format.specs.Lines.{isName}
 use Rattle.format.specs.Numbers.{Bounds}
 use Rattle.format.specs.Rules.{listed, mandatory, prohibited, allowed, unique, key, one, several, nameList, isShaped}
+use Rattle.format.proofs.Lines.{all-append}
 use Rattle.format.proofs.Listing.{same-true, listed-cons}
 use Rattle.sorting.proofs.Tests.{by-bool}
 use Rattle.terms.specs.Sets.{termOf, tagged}
@@ -182,8 +183,8 @@ module _ (bounds : Bounds) (f : Field) where
   names-one (w ∷ []) s = and-eq-true-iff (isName w) true .1 (s, refl)
   names-one (w ∷ v ∷ ws) s = absurd (false≢true s)
 
-  listed-names : (n : Bytes) → same n (f .name) ≡ true → (isShaped bounds (record { name = n; value = f .value; count = f .count }) ≡ true → nameList (f .value) ≡ true) → isShaped bounds f ≡ true → areNames f ≡ true
-  listed-names n q g s = or-right (eqb (listTag (f .name)) 64) (all isName (words (f .value))) (names-several (words (f .value)) (g (shaped-as n q s)))
+  field-names : (n : Bytes) → same n (f .name) ≡ true → (isShaped bounds (record { name = n; value = f .value; count = f .count }) ≡ true → nameList (f .value) ≡ true) → isShaped bounds f ≡ true → areNames f ≡ true
+  field-names n q g s = or-right (eqb (listTag (f .name)) 64) (all isName (words (f .value))) (names-several (words (f .value)) (g (shaped-as n q s)))
     where
       or-right : (x y : Bool) → y ≡ true → x || y ≡ true
       or-right true y z = refl
@@ -204,7 +205,20 @@ module _ (bounds : Bounds) (f : Field) where
       (λ q₅. rw (q₁, q₂, q₃, q₄, q₅))))))
     where
       list : (n : Bytes) → same n (f .name) ≡ true → (isShaped bounds (record { name = n; value = f .value; count = f .count }) ≡ true → nameList (f .value) ≡ true) → areNames f ≡ true
-      list n q g = listed-names n q g s
+      list n q g = field-names n q g s
+
+-- those of a list of any name whose shape asks for names
+pub listed-names : (bounds : Bounds) (n : Bytes) → ((v : Bytes) (k : ℕ) → isShaped bounds (record { name = n; value = v; count = k }) ≡ true → nameList v ≡ true) → (r : Record) → all (isShaped bounds) r ≡ true → all isName (listed n r) ≡ true
+listed-names bounds n g [] e = refl
+listed-names bounds n g (f ∷ r) e =
+    let h = and-eq-true-iff (isShaped bounds f) (all (isShaped bounds) r) .0 e in
+    ap (all isName) (listed-cons n f r)
+    ∙ all-append isName (pick (same n (f .name)) (words (f .value)) []) (listed n r)
+    ∙ (λ i. here (same n (f .name)) refl (h .0) i && listed-names bounds n g r (h .1) i)
+  where
+    here : (t : Bool) → same n (f .name) ≡ t → isShaped bounds f ≡ true → all isName (pick t (words (f .value)) []) ≡ true
+    here true q s = names-several bounds f (words (f .value)) (g (f .value) (f .count) (shaped-as bounds f n q s))
+    here false q s = refl
 
 pub lists-names : (bounds : Bounds) (r : Record) → all (isShaped bounds) r ≡ true → all areNames r ≡ true
 lists-names bounds [] s = refl

@@ -13,11 +13,12 @@ use Rattle.format.specs.Lines.{isName}
 use Rattle.format.specs.Words.{firstWord}
 use Rattle.format.specs.Records.{Record}
 use Rattle.format.specs.Sets.{valuesOf}
-use Rattle.format.specs.Limits.{nameBytes, valueBytes, recordFields, typedefs, typeFields, listWords}
+use Rattle.format.specs.Limits.{nameBytes, valueBytes, recordFields}
 use Rattle.format.specs.Numbers.{intBounds}
 use Rattle.format.specs.Types.{Typedef}
-use Rattle.format.specs.Rules.{mandatory, prohibited, allowed, unique, typedNames, typedefsOf, endKind, isTypedefName, distinct, isShaped}
+use Rattle.format.specs.Rules.{typedNames, typedefsOf, endKind, isTypedefName, distinct, isShaped}
 use Rattle.format.specs.Questions.{fitsField}
+use Rattle.format.proofs.Limits.{rules-few}
 use Rattle.lines.specs.Value.{valueFrom}
 use Rattle.words.specs.Spans.{span}
 use Rattle.records.specs.Walk.{recordIn}
@@ -79,18 +80,7 @@ module _ (d : Bytes) (h : Described d) where
   all-good = both-all (λ (v : Bytes). all isName (typedNames v)) (λ (v : Bytes). leb (length v) valueBytes) vs all-named all-fit
 
   pub rows-few : length vs ≤ 32
-  rows-few =
-      let t : Bool = leb (length tds) typedefs in
-      let y : Bool = leb (length vs) typeFields in
-      let m : Bool = leb (length (mandatory rules)) listWords in
-      let p : Bool = leb (length (prohibited rules)) listWords in
-      let a : Bool = leb (length (allowed rules)) listWords in
-      let u : Bool = leb (length (unique rules)) listWords in
-      let hu = and-eq-true-iff (t && y && m && p && a) u .0 (h .few) in
-      let ha = and-eq-true-iff (t && y && m && p) a .0 (hu .0) in
-      let hp = and-eq-true-iff (t && y && m) p .0 (ha .0) in
-      let hm = and-eq-true-iff (t && y) m .0 (hp .0) in
-      leb-true (length vs) 32 (and-eq-true-iff t y .0 (hm .0) .1)
+  rows-few = rules-few rules (h .few) .types-few
 
   pub all-shaped : all (isShaped intBounds) rules ≡ true
   all-shaped =

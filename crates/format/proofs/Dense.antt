@@ -136,7 +136,7 @@ records-unlined ps = ap recordsIn (blocks-unlined ps) ∙ records-in (cutAt isBl
 number-unlined : (ps : List Piece) → recordsNo intBounds (records (map unlined ps)) ≡ recordsNo intBounds (records ps)
 number-unlined ps = ap (recordsNo intBounds) (records-unlined ps) ∙ number-bare intBounds (records ps)
 
--- questions 2 to 14 of a text that reads are those of the dense one
+-- questions 2 to 14 and 30 of a text that reads are those of the dense one
 dense-allowed : (s : Bytes) → all isAllowed s ≡ true → isEnded s ≡ true → all isAllowed (dense s) ≡ true
 unfolding dense
 dense-allowed s a e =

@@ -15,10 +15,10 @@ use Rattle.format.specs.Sets.{RecSet, setsOf}
 use Rattle.format.specs.Limits.{fileBytes}
 use Rattle.format.specs.Numbers.{Bounds, intBounds}
 use Rattle.format.specs.Rules.{distinct}
-use Rattle.format.specs.Questions.{Row, firstNo, askOf, File, fileOf, noneProhibited, allAllowed, allPresent, noneRepeated, allTyped, keysOf, sizeMet, limitRows, descriptorRows, ruleRows, verdictIn, verdict}
+use Rattle.format.specs.Questions.{Row, firstNo, askOf, File, fileOf, noneProhibited, allAllowed, allPresent, noneRepeated, allTyped, keysOf, sizeMet, singularMet, limitRows, descriptorRows, ruleRows, verdictIn, verdict}
 use Rattle.format.proofs.Least.{leasts, Rise, first-leasts, first-append}
 
--- questions 4 to 14, of the sets
+-- questions 4 to 14 and 30, of the sets
 abbrev pub setQuestions : Bounds → List (Row (List RecSet))
 setQuestions b = limitRows ++ descriptorRows b ++ ruleRows b
 
@@ -58,11 +58,12 @@ recordRows b rules =
     record { number = 11; asks = noneRepeated rules } ∷
     record { number = 12; asks = allTyped b rules } ∷ []
 
--- questions 13 and 14 of one set
+-- questions 13, 14 and 30 of one set
 abbrev pub wholeRows : Bounds → List (Row RecSet)
 wholeRows b =
     record { number = 13; asks = λ (s : RecSet). distinct (keysOf s) } ∷
-    record { number = 14; asks = sizeMet b } ∷ []
+    record { number = 14; asks = sizeMet b } ∷
+    record { number = 30; asks = singularMet } ∷ []
 
 abbrev memberRows : Bounds → List (Row RecSet)
 memberRows b =
@@ -100,6 +101,6 @@ sets-no : (b : Bounds) (ss : List RecSet) → map (firstNo (setRows b)) ss ≡ m
 sets-no b [] = refl
 sets-no b (s ∷ ss) = (λ i. set-no b s i ∷ sets-no b ss i)
 
--- questions 8 to 14 of the sets: the least number of a set
+-- questions 8 to 14 and 30 of the sets: the least number of a set
 pub rules-no : (b : Bounds) (ss : List RecSet) → firstNo (ruleRows b) ss ≡ leasts (map (setNo b) ss)
 rules-no b ss = first-leasts (setRows b) (rise-set b) ss ∙ ap leasts (sets-no b ss)

@@ -10,6 +10,7 @@ pub mod Names
 pub mod Writing
 pub mod Legal
 pub mod Renaming
+pub mod Sizes
 pub mod Named
 pub mod Grouping
 pub mod Regrouping
@@ -18,6 +19,7 @@ pub mod Keeping
 pub mod Requested
 pub mod Encoding
 pub mod Applying
+pub mod Limits
 pub mod Questions
 pub mod SingleSteps
 pub mod Describing
@@ -46,4 +48,5 @@ pub mod Cases
 pub mod Lookups
 pub mod Directories
 pub mod Sendings
+pub mod Singulars
 pub mod Traps

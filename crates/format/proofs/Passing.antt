@@ -27,7 +27,7 @@ use Rattle.format.proofs.Applying.{Agrees, agrees-length, agrees-sets, 
 use Rattle.format.proofs.Questions.{Yes, verdict-yes, yes-verdict, yes-granted, yes-fits, asked, Accepted, accepted-pairs}
 use Rattle.format.proofs.Describing.{describes-once, describes-well, types-well}
 
--- questions 4 to 14 say yes of sets
+-- questions 4 to 14 and 30 say yes of sets
 abbrev pub SetsPass : List RecSet → Type 0
 SetsPass ss = Each (Yes ss) (limitRows ++ descriptorRows intBounds ++ ruleRows intBounds)
 

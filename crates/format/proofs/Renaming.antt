@@ -115,6 +115,14 @@ pub sound-starts : (n v : Bytes) (ls : List Line) → Sound (Piece.field n v ls)
 sound-starts n v [] s = absurd (no-lines n v (s .1))
 sound-starts n v (l ∷ ls) s = let h = first-starts n v l ls (s .1) in (l, ls, h .0, refl, h .2)
 
+-- and its value is what follows the dropped blank, without a backslash at its end, and what the other lines add
+pub sound-reads : (n v : Bytes) (l : Line) (ls : List Line) → Sound (Piece.field n v (l ∷ ls)) → (t w : Bytes) × (l ≡ n ++ (58 ∷ t)) × (afterColon n t ≡ Form.field n w) × (onward (takeLine (Form.field n w) l) (readFrom (after (Form.field n w)) ls) ≡ some (alone (Piece.field n v (l ∷ ls) ∷ [])))
+sound-reads n v l ls s =
+    let f = first-line n v l ls (s .1) in
+    let h = first-starts n v l ls (s .1) in
+    let q : readFrom (after (unopened (form l))) ls ≡ readFrom (after (Form.field n (f .0))) ls = ap (λ (F : Form). readFrom (after (unopened F)) ls) (f .1) in
+    (h .0, f .0, h .2, h .3, ap (onward (takeLine (Form.field n (f .0)) l)) (sym q) ∙ f .2 n l)
+
 -- a renamed field is sound
 drop-clean : (k : ℕ) (l : Line) → Clean l → Clean (drop k l)
 drop-clean zero l x = x

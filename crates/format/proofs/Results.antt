@@ -30,7 +30,7 @@ use Rattle.format.proofs.Judging.{setQuestions, first-ask, readNo, text
 abbrev pub placeRows : List (Row Asked)
 placeRows = take 5 (drop 1 (editQuestions intBounds))
 
--- "numbered 104 and 108 to 114"
+-- "numbered 104 and 108 to 114", and 130
 abbrev pub raisedNo : ℕ → ℕ
 raisedNo zero = 0
 raisedNo (suc k) = 100 + suc k
@@ -73,7 +73,7 @@ place-granted a e =
     let y = first-yes placeRows a refl e in
     record { found = (y .0, (y .1 .0, (y .1 .1 .0, tt))); left = y .1 .1 .1 .0; legal = y .1 .1 .1 .1 .0 }
 
--- of sets whose descriptors pass, questions 4 to 14 are 4 and 8 to 14
+-- of sets whose descriptors pass, questions 4 to 14 and 30 are 4, 8 to 14 and 30
 skip-descriptors : (ss : List RecSet) → describesOnce ss ≡ true → describesWell intBounds ss ≡ true → typesWell intBounds ss ≡ true → firstNo (setQuestions intBounds) ss ≡ firstNo (limitRows ++ ruleRows intBounds) ss
 skip-descriptors ss a b c =
     let n : ℕ = firstNo (ruleRows intBounds) ss in
@@ -91,7 +91,7 @@ module _ (buffer : Bytes) (used : ℕ) (p : Plain) (h : Holds buffer used p) (ro
   result-length : lengthOf (apply q p) ≡ length (bytesOf (apply q p .pieces))
   result-length = agrees-length (apply q p) agrees
 
-  -- the number of its bytes is that of questions 4 and 8 to 14
+  -- the number of its bytes is that of questions 4, 8 to 14 and 30
   result-text : textNo (bytesOf (apply q p .pieces)) ≡ firstNo (limitRows ++ ruleRows intBounds) (apply q p .sets)
   unfolding textNo
   result-text =
@@ -122,7 +122,7 @@ pub edit-number : (buffer : Bytes) (used : ℕ) (p : Plain) → Holds buffer use
 edit-number buffer used p h room q f zero e = made-number buffer used p h room q f e
 edit-number buffer used p h room q f (suc k) e = refused-number (asked room p q) k refl e
 
--- no number of a text is above 14
+-- no number of a text is above 30
 
 below-by : (b : Bool) (n k m : ℕ) → n ≤ m → leb k m ≡ true → pick b n k ≤ m
 below-by true n k m h e = h
@@ -134,10 +134,10 @@ first-below (r ∷ rs) m a h =
     let k = and-eq-true-iff (leb (r .number) m) (all (λ (x : Row _). leb (x .number) m) rs) .0 h in
     below-by (r .asks a) (firstNo rs a) (r .number) m (first-below rs m a (k .1)) (k .0)
 
-read-below : (x : Option (List Piece)) → readNo x ≤ 14
+read-below : (x : Option (List Piece)) → readNo x ≤ 30
 read-below none = omega arith
-read-below (some ps) = first-below (setQuestions intBounds) 14 (setsOf ps) refl
+read-below (some ps) = first-below (setQuestions intBounds) 30 (setsOf ps) refl
 
-pub text-below : (s : Bytes) → textNo s ≤ 14
+pub text-below : (s : Bytes) → textNo s ≤ 30
 unfolding textNo
-text-below s = below-by (all isAllowed s && isEnded s) (readNo (pieces s)) 2 14 (read-below (pieces s)) refl
+text-below s = below-by (all isAllowed s && isEnded s) (readNo (pieces s)) 2 30 (read-below (pieces s)) refl

@@ -111,6 +111,24 @@ rules-told : meeting (
 unfolding pieces setsOf fileOf verdictIn verdict
 rules-told = refl
 
+-- singular names: in two records and in one; a union, whose last word counts too; values told apart by their bytes alone, however they are written; and which question comes first
+singular-told : meeting (
+    these 30 (("%singular: A\n" has "A: b\n\nA: b\n") ∷ ("%singular: A\n" has "A: b\nA: b\n") ∷ ("%singular: A\n" has "A: b\nB: c\n# x\nA: b\n") ∷ ("%singular: B A\n" has "A: b\n\nA: b\n") ∷ ("%singular: B\n%singular: C\n+ A\n" has "A: b\n\nB: b\n\nA: b\n") ∷ ("%singular: A A\n" has "A: b\n\nA: b\n") ∷ ("%singular: A\n" has "A: b\n\nA:\tb\n") ∷ ("%singular: A\n" has "A: b\n\nA: \\\nb\n") ∷ ("%singular: A\n" has "A: b\n+ c\n\nA: b\n+c\n") ∷ ("%singular: A\n" has "A:\n\nA: \n") ∷ ("%singular: A\n" has "A: c\n\nA: b\n\nA: d\n\nA: b\n") ∷ ("%singular: A\n%size: 2\n" has "A: b\n\nA: b\n") ∷ ("%singular: A\n" has "A: b\n\nA: b\n\n%rec: U\n%size: 0\n") ∷ []) ∷
+    these 13 (("%key: A\n%singular: A\n" has "A: b\n\nA: b\n") ∷ ("%singular: A\n" has "A: b\n\nA: b\n\n%rec: U\n%key: A\n\nA: b\n\nA: b\n") ∷ []) ∷
+    these 14 (("%singular: A\n%size: 1\n" has "A: b\n\nA: b\n") ∷ ("%singular: A\n" has "A: b\n\nA: b\n\n%rec: U\n%size: 1\n") ∷ []) ∷
+    these 6 (("%singular:\n" has "") ∷ ("%singular: a 1\n" has "") ∷ ("%singular: a,b\n" has "") ∷ []) ∷
+    these 5 (("" has "%singular: A\n") ∷ []) ∷
+    these 0 (("%singular: A\n" has "A: 1\n\nA: 01\n") ∷ ("%singular: A\n%type: A int\n" has "A: 1\n\nA: 0x1\n\nA: 01\n") ∷ ("%singular: A\n" has "A: b\n\nA: b \n\nA:  b\n\nA: B\n") ∷ ("%singular: A\n" has "A:\n\nA: \n+\n") ∷ ("%singular: A\n" has "A: b\nB: c\n\nB: c\na: b\n") ∷ ("%singular: A B\n" has "A: b\n\nB: b\n") ∷ ("%singular: A\n" has "A: b\n\n%rec: U\n%singular: A\n\nA: b\n") ∷ ("%singular: %A A_\n%singular: A\n" has "") ∷ ("%singular: B\n%unique: A\n" has "A: b\n\nA: b\n") ∷ []) ∷ []) ≡ true
+unfolding pieces setsOf fileOf verdictIn verdict
+singular-told = refl
+
+-- in the default set nothing is singular, and a name that is longer than a field's may be listed
+default-told : meeting (
+    each 0 ("A: b\n\nA: b\n\n%rec: T\n%singular: A\n\nA: b\n" ∷ []) ∷
+    these 0 ((text "%rec: T\n%singular: A " ++ replicate 65 78 ++ text "\n\nA: b\n") ∷ []) ∷ []) ≡ true
+unfolding pieces setsOf fileOf verdictIn verdict
+default-told = refl
+
 -- values and types
 types-told : meeting (
     these 0 (typed "int" ("0" ∷ "-0" ∷ "00" ∷ "010" ∷ "-0x0" ∷ "0x1F" ∷ "0xff" ∷ " 7\n+ " ∷ []) ∷ typed "range 2" ("0" ∷ "1" ∷ "2" ∷ []) ∷ typed "range -1 1" ("-1" ∷ "0" ∷ "1" ∷ "-0" ∷ []) ∷ typed "range 1 MAX" ("1" ∷ []) ∷ typed "real" ("1" ∷ "-1.5" ∷ "00.10" ∷ "0" ∷ "12345678901234567890.5" ∷ " 1.5 " ∷ []) ∷ typed "line" ("" ∷ "a b" ∷ "x\\\n+ y" ∷ []) ∷ typed "size 3" ("" ∷ "abc" ∷ " a " ∷ "a\n+ b" ∷ []) ∷ typed "size 0" ("" ∷ []) ∷ typed "enum a b-c 1_ (x)" ("a" ∷ "b-c" ∷ "1_" ∷ " a\n+ " ∷ []) ∷ typed "bool" ("yes" ∷ "no" ∷ "0" ∷ "1" ∷ "true" ∷ "false" ∷ " yes" ∷ []) ∷ typed "field" ("A" ∷ "%" ∷ "a_1" ∷ " %rec " ∷ []) ∷ typed "uuid" ("550e8400-e29b-41d4-a716-446655440000" ∷ "550E8400-E29B-41D4-A716-446655440000" ∷ []) ∷ []) ∷

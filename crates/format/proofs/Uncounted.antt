@@ -14,7 +14,7 @@ use Rattle.format.specs.Sets.{valuesOf}
 use Rattle.format.specs.Limits.{recordFields, descriptors, typedefs, typeFields, listWords}
 use Rattle.format.specs.Numbers.{Bounds}
 use Rattle.format.specs.Rules.{listed, typedNames, endKind, typedefOf, typeRuleOf, typedefsOf, typeRules, isTyped, isShaped, isWellFormed, isTypedefName, isTypedWell, distinct, sizeRule, meetsSize}
-use Rattle.format.specs.Questions.{fitsField, fitsRecord, fitsRules, hasRecOnce, noneProhibited, allAllowed, allPresent, noneRepeated, allTyped, keysOf, sizeMet}
+use Rattle.format.specs.Questions.{fitsField, fitsRecord, fitsRules, hasRecOnce, noneProhibited, allAllowed, allPresent, noneRepeated, allTyped, keysOf, sizeMet, singularMet}
 use Rattle.format.proofs.Least.{least, leasts}
 use Rattle.format.proofs.Judging.{recordNo, setNo}
 use Rattle.format.proofs.Walking.{isHead, nameIn, headName, heads, headNames, before, walkFits, walkWell, walkTypes, ruled, walkNo, recordsNo}
@@ -59,6 +59,7 @@ rules-bare r =
     && leb (length (listed-bare (text "%prohibit") r i)) listWords
     && leb (length (listed-bare (text "%allowed") r i)) listWords
     && leb (length (listed-bare (text "%unique") r i)) listWords
+    && leb (length (listed-bare (text "%singular") r i)) listWords
 
 head-bare : (r : Record) → isHead (bare r) ≡ isHead r
 head-bare r = ap isFilled (values-bare (text "%rec") r)
@@ -148,7 +149,7 @@ module _ (b : Bounds) (rules : Record) where
   records-bare [] = refl
   records-bare (m ∷ ms) = λ i. record-bare m i ∷ records-bare ms i
 
-  -- 13 and 14
+  -- 13, 14 and 30
   module _ (ms : List Record) where
     keys-bare : keysOf (ruled (bare rules) (map bare ms)) ≡ keysOf (ruled rules ms)
     keys-bare = λ i. flat (map (λ (n : Bytes). flat (map-through bare (valuesOf n) (values-bare n) ms i)) (listed-bare (text "%key") rules i))
@@ -156,11 +157,14 @@ module _ (b : Bounds) (rules : Record) where
     size-bare : sizeMet b (ruled (bare rules) (map bare ms)) ≡ sizeMet b (ruled rules ms)
     size-bare = λ i. all (λ (v : Bytes). meetsSize (sizeRule b (words v)) (length-map ms bare i)) (values-bare (text "%size") rules i)
 
+    singular-bare : singularMet (ruled (bare rules) (map bare ms)) ≡ singularMet (ruled rules ms)
+    singular-bare = λ i. all (λ (n : Bytes). distinct (flat (map-through bare (valuesOf n) (values-bare n) ms i))) (listed-bare (text "%singular") rules i)
+
     set-bare : setNo b (ruled (bare rules) (map bare ms)) ≡ setNo b (ruled rules ms)
     unfolding setNo
     set-bare =
         λ i. let k : ℕ = leasts (records-bare ms i) in
-        pick (eqb k 0) (pick (distinct (keys-bare i)) (pick (size-bare i) 0 14) 13) k
+        pick (eqb k 0) (pick (distinct (keys-bare i)) (pick (size-bare i) (pick (singular-bare i) 0 30) 14) 13) k
 
 before-by : (t : Bool) (r : Record) (ms : List Record) (rs : List Record) → ms ≡ map bare rs → pick t [] (bare r ∷ ms) ≡ map bare (pick t [] (r ∷ rs))
 before-by true r ms rs e = refl

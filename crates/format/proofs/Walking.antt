@@ -215,7 +215,7 @@ walkTypes b rs = all (λ (r : Record). not (isHead r) || isTypedWell b r) rs
 pub types-walk : (b : Bounds) (rs : List Record) → typesWell b (sets rs) ≡ walkTypes b rs
 types-walk b rs = rules-all (isTypedWell b) refl rs
 
--- questions 8 to 14: a set without rules fails none, and a set's name does not matter
+-- questions 8 to 14 and 30: a set without rules fails none, and a set's name does not matter
 
 no-record : (b : Bounds) (r : Record) → recordNo b [] r ≡ 0
 unfolding recordNo
@@ -252,7 +252,7 @@ heads-walk b (r ∷ rs) = heads-by b (isHead r) (headSet r rs) (headSets rs) (wa
 pub sets-walk : (b : Bounds) (rs : List Record) → leasts (map (setNo b) (sets rs)) ≡ walkNo b rs
 sets-walk b rs = ap (λ (ss : List RecSet). leasts (map (setNo b) ss)) (sets-heads rs) ∙ (λ i. least (no-rules b (before rs) i) (heads-walk b rs i))
 
--- the number of a file's records, questions 4 to 14, and of a text that reads as them
+-- the number of a file's records, questions 4 to 14 and 30, and of a text that reads as them
 unfoldable pub recordsNo : Bounds → List Record → ℕ
 recordsNo b rs =
     pick (walkFits rs)

@@ -21,7 +21,7 @@ use Rattle.format.specs.Words.{isGap, words, trim, firstWord, afterWord,
 use Rattle.format.specs.Numbers.{Int, plus, minus, Bounds, intBounds, unsigned, upTo, intOf, isAtMost, notBelow0, numberOf}
 use Rattle.format.specs.Types.{Kind, Typed, Typedef, bare, endOf, ranged, rangeOf, sizeOf, plainKind, isSymbol, enumIn, uncomment, beforeComment, typeOf, lookup, follow, kindOf, isInRange, meets}
 use Rattle.format.specs.Rules.{orderOf, sizeBy, sizeRule, meetsSize, typedefOf, typedefsOf, TypeRule, typedNames, endKind, typeRuleOf, typeRules, isTyped, Shape, shapes, isShaped, isWellFormed, isTypedefName, distinct, isTypedWell}
-use Rattle.format.specs.Questions.{Row, firstNo, File, fileOf, fitsLimits, describesOnce, nameOf, describesWell, typesWell, eachRecord, noneProhibited, allAllowed, allPresent, noneRepeated, allTyped, keysDistinct, sizeMet, descriptorRows, ruleRows, verdictIn, verdict}
+use Rattle.format.specs.Questions.{Row, firstNo, File, fileOf, fitsLimits, describesOnce, nameOf, describesWell, typesWell, eachRecord, noneProhibited, allAllowed, allPresent, noneRepeated, allTyped, keysDistinct, sizeMet, singularMet, descriptorRows, ruleRows, verdictIn, verdict}
 use Rattle.format.proofs.Elements.{Each, each-imp, each-both, all-each, each-all, all-both}
 use Rattle.format.proofs.Listing.{same-true}
 use Rattle.format.proofs.Least.{Above, Rise, first-above}
@@ -447,7 +447,7 @@ module _ (n w : Bounds) (wide : Wider n w) where
   shapes-pair : (v : Bytes) → Pairs (CoversShape v) (shapes n) (shapes w)
   shapes-pair v =
       let sized = again-some (sizeRule n (words v)) (sizeRule w (words v)) (size-rule-again (words v)) in
-      ((refl, λ e. e), ((refl, λ e. e), ((refl, λ e. e), ((refl, λ e. e), ((refl, λ e. e), ((refl, λ e. e), ((refl, λ e. e), ((refl, sized), ((refl, λ e. e), ((refl, λ e. e), tt))))))))))
+      ((refl, λ e. e), ((refl, λ e. e), ((refl, λ e. e), ((refl, λ e. e), ((refl, λ e. e), ((refl, λ e. e), ((refl, λ e. e), ((refl, sized), ((refl, λ e. e), ((refl, λ e. e), ((refl, λ e. e), tt)))))))))))
 
   shaped-again : (f : Field) → isShaped n f ≡ true → isShaped w f ≡ true
   shaped-again f e =
@@ -534,7 +534,7 @@ eased-asked true false k i j q l g h = absurd (false≢true (g refl))
 eased-asked false true k i j q l g h = inr (q, l)
 eased-asked false false k i j q l g h = inl refl
 
--- questions 5 to 14, and the number of the first no from the j-th of them on
+-- questions 5 to 14 and 30, and the number of the first no from the j-th of them on
 abbrev rowsFrom : ℕ → Bounds → List (Row (List RecSet))
 rowsFrom j b = drop j (descriptorRows b ++ ruleRows b)
 
@@ -547,7 +547,7 @@ unfolding verdictIn
 wider-number n w wide buffer used widen =
     let f : File = fileOf buffer used in
     let ss : List RecSet = f .sets in
-    let rise : Rise 6 (rowsFrom 2 w) = (omega arith, (omega arith, (omega arith, (omega arith, (omega arith, (omega arith, (omega arith, (omega arith, tt)))))))) in
+    let rise : Rise 6 (rowsFrom 2 w) = (omega arith, (omega arith, (omega arith, (omega arith, (omega arith, (omega arith, (omega arith, (omega arith, (omega arith, tt))))))))) in
     eased-alike (leb (f .used) (f .room) && leb (f .used) fileBytes) 1 _ _ (λ q1.
     eased-alike (all isAllowed (f .content) && isEnded (f .content)) 2 _ _ (λ q2.
     eased-alike (isSome (f .reads)) 3 _ _ (λ q3.
@@ -561,7 +561,7 @@ wider-number n w wide buffer used widen =
     eased-alike (eachRecord noneRepeated ss) 11 (numberFrom 7 n ss) (numberFrom 7 w ss) (λ q11.
     eased-asked (eachRecord (allTyped n) ss) (eachRecord (allTyped w) ss) 12 (numberFrom 8 n ss) (numberFrom 8 w ss) refl (first-above (rowsFrom 8 w) 12 (rise .1 .1 .1 .1 .1 .1) ss) (records-again n w wide ss widen q7) (λ q12.
     eased-alike (keysDistinct ss) 13 (numberFrom 9 n ss) (numberFrom 9 w ss) (λ q13.
-    inl (sym (ap (λ (b : Bool). pick b 0 14) (sizes-alike n w wide ss widen q6))))))))))))))))
+    inl (sym (ap (λ (b : Bool). pick b (pick (all singularMet ss) 0 30) 14) (sizes-alike n w wide ss widen q6))))))))))))))))
 
 eased-pass : (k m : ℕ) → k ≡ 0 → Eased k m → m ≡ 0
 eased-pass k m e (inl h) = h ∙ e

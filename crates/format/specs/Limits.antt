@@ -19,7 +19,8 @@ valueBytes = 4096
 abbrev pub recordFields : ℕ
 recordFields = 256
 
--- "64 descriptors; per descriptor 32 typedefs, 32 `%type` fields, and 64 words each in all mandatory, prohibit, allowed and unique fields"
+-- "64 descriptors; per descriptor 32 typedefs, 32 `%type` fields, and 64 words each in all mandatory, prohibit, allowed and unique fields";
+-- document 02 has as many for singular fields
 abbrev pub descriptors : ℕ
 descriptors = 64
 

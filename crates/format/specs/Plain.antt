@@ -147,11 +147,11 @@ isLegalEdit (Edit.on j (Act.change n o (Change.value w))) = isLegalValue w
 isLegalEdit (Edit.on j (Act.change n o Change.dropped)) = true
 isLegalEdit (Edit.on j (Act.change n o (Change.name m))) = isLegalName m
 
--- "numbered 104 and 108 to 114"
+-- "numbered 104 and 108 to 114", and "130 for an edit, after 114" (document 02, order 5)
 abbrev pub raised : {A : Type 0} → Row A → Row A
 raised r = record { number = 100 + r .number; asks = r .asks }
 
--- "An edit then asks: request of the form above, at most 65,536 bytes? 20. .. Result at most the buffer and 65,536? 26. Then 4 and 8 to 14 of the result"
+-- "An edit then asks: request of the form above, at most 65,536 bytes? 20. .. Result at most the buffer and 65,536? 26. Then 4 and 8 to 14 of the result", and 30 behind them
 abbrev pub editQuestions : Bounds → List (Row Asked)
 editQuestions b =
     record { number = 20; asks = λ (a : Asked). a .formed } ∷

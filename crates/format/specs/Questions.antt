@@ -1,4 +1,4 @@
--- The fourteen questions of a file, in order.
+-- The questions of a file, in order.
 use Prim.Native.Nat.{ℕ}
 use mathlib.Core.Bool.{Bool, _&&_, _||_, not}
 use mathlib.Core.List.{List, [], _∷_, _++_, map}
@@ -14,7 +14,7 @@ use Rattle.format.specs.Sets.{RecSet, valuesOf, setsOf}
 use Rattle.format.specs.Limits.{fileBytes, nameBytes, valueBytes, recordFields, descriptors, typedefs, typeFields, listWords}
 use Rattle.format.specs.Words.{words}
 use Rattle.format.specs.Numbers.{Bounds, intBounds}
-use Rattle.format.specs.Rules.{mandatory, prohibited, allowed, unique, key, sizeRule, meetsSize, typeRules, isTyped, isWellFormed, isTypedWell, distinct}
+use Rattle.format.specs.Rules.{mandatory, prohibited, allowed, unique, singular, key, sizeRule, meetsSize, typeRules, isTyped, isWellFormed, isTypedWell, distinct}
 
 -- a question and the number of its no
 pub record Row (A : Type 0) : Type 0 where
@@ -59,6 +59,7 @@ fitsRules r =
     && leb (length (prohibited r)) listWords
     && leb (length (allowed r)) listWords
     && leb (length (unique r)) listWords
+    && leb (length (singular r)) listWords
 
 abbrev pub fitsLimits : List RecSet → Bool
 fitsLimits ss =
@@ -83,7 +84,7 @@ describesWell b ss = all (λ (s : RecSet). isWellFormed b (s .rules)) ss && dist
 abbrev pub typesWell : Bounds → List RecSet → Bool
 typesWell b ss = all (λ (s : RecSet). isTypedWell b (s .rules)) ss
 
--- Questions 8 to 14 are asked of the records of sets: a test of the rules and of each record.
+-- Questions 8 to 14 and 30 are asked of the records of sets: a test of the rules and of each record.
 abbrev pub eachRecord : (Record → Record → Bool) → List RecSet → Bool
 eachRecord p ss = all (λ (s : RecSet). all (p (s .rules)) (s .members)) ss
 
@@ -130,6 +131,10 @@ keysDistinct ss = all (λ (s : RecSet). distinct (keysOf s)) ss
 abbrev pub sizeMet : Bounds → RecSet → Bool
 sizeMet b s = all (λ (v : Bytes). meetsSize (sizeRule b (words v)) (length (s .members))) (valuesOf (text "%size") (s .rules))
 
+-- "For each of these names, no two fields of the set with that name have values of the same bytes, in one record or two." (document 02, order 5)
+abbrev pub singularMet : RecSet → Bool
+singularMet s = all (λ (n : Bytes). distinct (valuesIn n (s .members))) (singular (s .rules))
+
 -- the questions about sets: 4, those about descriptors, those about the records of a set
 abbrev pub limitRows : List (Row (List RecSet))
 limitRows = record { number = 4; asks = fitsLimits } ∷ []
@@ -148,7 +153,8 @@ ruleRows b =
     record { number = 11; asks = eachRecord noneRepeated } ∷
     record { number = 12; asks = eachRecord (allTyped b) } ∷
     record { number = 13; asks = keysDistinct } ∷
-    record { number = 14; asks = λ (ss : List RecSet). all (sizeMet b) ss } ∷ []
+    record { number = 14; asks = λ (ss : List RecSet). all (sizeMet b) ss } ∷
+    record { number = 30; asks = λ (ss : List RecSet). all singularMet ss } ∷ []
 
 -- "1. Is the used length at most the buffer's and 65,536? 2. Allowed bytes, final newline? 3. Every line of a form above?", then those about the sets
 abbrev pub questions : Bounds → List (Row File)

@@ -30,6 +30,10 @@ allowed r = listed (text "%allowed") r
 abbrev pub unique : Record → List Bytes
 unique r = listed (text "%unique") r
 
+-- "Its names .. form a union like the others" (document 02, order 5)
+abbrev pub singular : Record → List Bytes
+singular r = listed (text "%singular") r
+
 -- one name or none
 abbrev pub key : Record → List Bytes
 key r = listed (text "%key") r
@@ -116,7 +120,8 @@ shapes b =
     record { name = text "%key"; fits = λ (v : Bytes). one isName (words v) } ∷
     record { name = text "%size"; fits = λ (v : Bytes). isSome (sizeRule b (words v)) } ∷
     record { name = text "%typedef"; fits = always } ∷
-    record { name = text "%type"; fits = always } ∷ []
+    record { name = text "%type"; fits = always } ∷
+    record { name = text "%singular"; fits = nameList } ∷ []
 
 -- "Other `%` names are faults. Names without `%` have no effect."
 abbrev pub isShaped : Bounds → Field → Bool

@@ -192,6 +192,7 @@ pub struct Descriptor {
     pub prohibited: usize,
     pub allowed: usize,
     pub unique: usize,
+    pub singular: usize,
 }
 
 impl Descriptor {
@@ -204,7 +205,7 @@ impl Descriptor {
     pub const WORDS: usize = 64;
 
     pub fn new() -> Self
-        ensures { λ r. ⌜ (r .typedefs ≡ 0) × (r .types ≡ 0) × (r .mandatory ≡ 0) × (r .prohibited ≡ 0) × (r .allowed ≡ 0) × (r .unique ≡ 0) ⌝ }
+        ensures { λ r. ⌜ (r .typedefs ≡ 0) × (r .types ≡ 0) × (r .mandatory ≡ 0) × (r .prohibited ≡ 0) × (r .allowed ≡ 0) × (r .unique ≡ 0) × (r .singular ≡ 0) ⌝ }
     {
         Self {
             typedefs: 0,
@@ -213,11 +214,12 @@ impl Descriptor {
             prohibited: 0,
             allowed: 0,
             unique: 0,
+            singular: 0,
         }
     }
 
     pub fn fits(self) -> bool
-        ensures { λ r. ⌜ r ≡ (leb (self .typedefs) typedefs && leb (self .types) typeFields && leb (self .mandatory) listWords && leb (self .prohibited) listWords && leb (self .allowed) listWords && leb (self .unique) listWords) ⌝ }
+        ensures { λ r. ⌜ r ≡ (leb (self .typedefs) typedefs && leb (self .types) typeFields && leb (self .mandatory) listWords && leb (self .prohibited) listWords && leb (self .allowed) listWords && leb (self .unique) listWords && leb (self .singular) listWords) ⌝ }
     {
         if self.typedefs > Descriptor::TYPEDEFS {
             return false;
@@ -234,6 +236,9 @@ impl Descriptor {
         if self.allowed > Descriptor::WORDS {
             return false;
         }
-        self.unique <= Descriptor::WORDS
+        if self.unique > Descriptor::WORDS {
+            return false;
+        }
+        self.singular <= Descriptor::WORDS
     }
 }

@@ -30,6 +30,8 @@ impl Refusal {
     pub const KEY: u32 = 13;
     // A set's size is not met.
     pub const SIZE: u32 = 14;
+    // Two fields of a singular name have the same value in a set; asked behind the one above.
+    pub const SINGULAR: u32 = 30;
     // The questions of a request. It is not of the form of one.
     pub const FORM: u32 = 20;
     // There is no such set, no such record in it, no such field in that.

@@ -1,4 +1,4 @@
-// The fourteen questions of a file, in order.
+// The questions of a file, in order: 1 to 14 and 30.
 ghost use mathlib.Core.Path.{_≡_};
 ghost use mathlib.Core.Bool.{true, _&&_};
 ghost use Prim.Native.Nat.{_≤_};
@@ -105,7 +105,7 @@ fn members_end(starts: &[usize], k: usize, count: usize, len: usize) -> usize
     len
 }
 
-// Questions 8 to 14 of all sets: the least number of a descriptor's set, else 0. count descriptors stand in s, from each start to the end beside it, and the members of
+// Questions 8 to 14 and 30 of all sets: the least number of a descriptor's set, else 0. count descriptors stand in s, from each start to the end beside it, and the members of
 // each behind its block.
 fn judge_sets(
     s: &[u8],
@@ -136,7 +136,7 @@ fn judge_sets(
     worst
 }
 
-// Questions 6 to 14 of a readable text of which 4 and 5 say yes, with count descriptors.
+// Questions 6 to 14 and 30 of a readable text of which 4 and 5 say yes, with count descriptors.
 fn judge_described(
     s: &[u8],
     starts: &[usize],
@@ -159,7 +159,7 @@ fn judge_described(
     judge_sets(s, starts, ends, afters, count, &mut scratch)
 }
 
-// Questions 3 to 14 of a text of which 2 says yes.
+// Questions 3 to 14 and 30 of a text of which 2 says yes.
 fn judge_lines(s: &[u8]) -> u32
     requires { ⌜ (all isAllowed (now s) && isEnded (now s)) ≡ true ⌝ }
     requires { ⌜ length (now s) ≤ fileBytes ⌝ }
@@ -177,7 +177,7 @@ fn judge_lines(s: &[u8]) -> u32
     }
 }
 
-// Questions 2 to 14 of a text: the number of the first that says no, else 0.
+// Questions 2 to 14 and 30 of a text: the number of the first that says no, else 0.
 fn judge(s: &[u8]) -> u32
     requires { ⌜ length (now s) ≤ fileBytes ⌝ }
     ensures { λ r. ⌜ r ≡ textNo (now (s .entry)) ⌝ }

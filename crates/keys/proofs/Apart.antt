@@ -1,5 +1,5 @@
--- Keys are distinct exactly if no two places of the list have the same one; so where each is before the next they are, where two neighbours are
--- the same they are not, and places may be exchanged.
+-- What entries stand for is distinct exactly if no two places of the list have the same; so it is where each is before the next, it is not where two
+-- neighbours are the same, and places may be exchanged.
 use Prim.Native.Nat.{ℕ, zero, suc, _-_, _<_, suc-le-suc}
 use native.Mathlib.Nat.{le-of-suc-le-suc, zero-lt-suc}
 use native.Mathlib.Omega.{arith}
@@ -34,7 +34,7 @@ module _ (f : ℕ → Bytes) where
   among-not x (y ∷ l) e (suc j) g q =
       by-bool (same x (f y)) (λ p. absurd (false≢true (sym (rw p at e)))) (λ p. among-not x l (rw p at e) j (le-of-suc-le-suc g) q)
 
-  -- no two places have the same key
+  -- no two places have the same
   abbrev pub Apart : List ℕ → Type 0
   Apart l = (j : ℕ) → j < length l → (i : ℕ) → i < j → f (getD l i 0) ≡ f (getD l j 0) → ⊥
 
@@ -57,7 +57,7 @@ module _ (f : ℕ → Bytes) where
   apart-both : (l : List ℕ) → Apart l → (i j : ℕ) → i < length l → j < length l → (i ≡ j → ⊥) → f (getD l i 0) ≡ f (getD l j 0) → ⊥
   apart-both l h i j a b n q = dec-lt i j (λ g. h j b i g q) (λ g. h i a j (omega arith) (sym q))
 
-  -- the same keys at places that are renamed
+  -- the same at places that are renamed
   pub apart-renamed : (l m : List ℕ) (σ : ℕ → ℕ) → length m ≡ length l → ((i : ℕ) → i < length m → σ i < length l) → ((i j : ℕ) → σ i ≡ σ j → i ≡ j) → ((i : ℕ) → getD m i 0 ≡ getD l (σ i) 0) → Apart l → Apart m
   apart-renamed l m σ n b u at h j g i k q =
       apart-both l h (σ i) (σ j) (b i (omega arith)) (b j g) (λ e. omega (arith, u i j e)) (ap f (sym (at i)) ∙ q ∙ ap f (at j))

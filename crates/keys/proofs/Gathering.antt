@@ -6,12 +6,16 @@ use mathlib.Core.Bool.{true}
 use mathlib.Core.List.{List, [], _∷_, _++_, append-assoc, append-nil}
 use lib.ListN.{length, take, drop, set, length-set}
 use Rattle.format.specs.Bytes.{Bytes}
+use Rattle.format.specs.Rules.{distinct}
+use Rattle.format.specs.Sets.{valuesOf}
 use Rattle.lines.specs.Value.{valueFrom}
 use Rattle.words.specs.Spans.{span}
 use Rattle.records.specs.Places.{isReadable}
+use Rattle.records.specs.Walk.{recordIn}
 use Rattle.records.specs.Named.{valuesFrom, ValueHere}
+use Rattle.keys.specs.Marks.{marksOf, Inside}
 use Rattle.keys.specs.Keys.{entryOf, keyAt, keysOf, IsEntry, Entries}
-use Rattle.keys.proofs.Prints.{entry-key, entry-is, entries-none, entries-more, keys-more}
+use Rattle.keys.proofs.Prints.{entry-key, entry-is, entries-inside, entries-front, entries-none, entries-more, keys-more, marks-keys}
 use Rattle.keys.specs.Gathered.{Gathered}
 
 pub record Enters (w s : Bytes) (entries : List ℕ) (n i : ℕ) : Type 0 where
@@ -55,3 +59,10 @@ module _ (w s : Bytes) (entries : List ℕ) (n i : ℕ) (g : Enters w s entries 
               ∙ ap (λ (ks : List Bytes). keysOf s (take n entries) ++ ks) (sym (f .values))
               ∙ g .all;
         }
+
+-- what was gathered is inside, and distinct where the values are
+pub gathered-inside : {w s : Bytes} {l : List ℕ} {n : ℕ} → Gathered w s l n → Inside s n l
+gathered-inside {w} {s} {l} {n} h = entries-inside s n l (h .entered)
+
+pub gathered-distinct : {w s : Bytes} {l : List ℕ} {n : ℕ} → Gathered w s l n → distinct (marksOf s (take n l)) ≡ distinct (valuesOf w (recordIn s))
+gathered-distinct {w} {s} {l} {n} h = marks-keys s (take n l) (entries-front s l n (h .room) (h .entered)) ∙ ap distinct (h .all)

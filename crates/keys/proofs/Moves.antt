@@ -1,5 +1,5 @@
--- Entries that were moved. Exchanging two renames places, so distinct keys stay distinct.
-use Prim.Native.Nat.{ℕ, _<_}
+-- Entries that were moved. Exchanging two renames places, so what was distinct stays so.
+use Prim.Native.Nat.{ℕ, _%_, _<_, _≤_}
 use mathlib.Core.Path.{_≡_, refl, sym, ap, _∙_, subst}
 use mathlib.Core.List.{List, map}
 use borrow.Author.Tests.{eqb-true, eqb-false, eq-eqb, ne-eqb}
@@ -11,7 +11,7 @@ use Rattle.format.specs.Rules.{distinct}
 use Rattle.sorting.specs.Moves.{swapped, Moved}
 use Rattle.sorting.proofs.Tests.{by-bool}
 use Rattle.sorting.proofs.Moves.{moved-keeps, moved-each}
-use Rattle.keys.specs.Keys.{IsEntry, Entries}
+use Rattle.keys.specs.Marks.{Inside}
 use Rattle.keys.proofs.Apart.{bool-same, apart-distinct, distinct-apart, apart-renamed}
 
 -- i and j change their places
@@ -92,5 +92,5 @@ module _ (l : List ℕ) (i j : ℕ) (h : i < length l) (g : j < length l) where
 pub moved-distinct : (f : ℕ → Bytes) {l m : List ℕ} → Moved l m → distinct (map f m) ≡ distinct (map f l)
 moved-distinct f {l} v = moved-keeps (λ (k : List ℕ). distinct (map f k) ≡ distinct (map f l)) (λ k i j h g e. swapped-distinct k i j h g f ∙ e) v refl
 
-pub moved-entries : (s : Bytes) {l m : List ℕ} → Moved l m → Entries s (length l) l → Entries s (length m) m
-moved-entries s v e = moved-each (IsEntry s) v e
+pub moved-inside : (s : Bytes) {l m : List ℕ} → Moved l m → Inside s (length l) l → Inside s (length m) m
+moved-inside s v e = moved-each (λ (x : ℕ). x % 65536 ≤ length s) v e

@@ -9,9 +9,13 @@ use borrow.Author.Count.{below-more}
 use lib.ListN.{length, getD, set, take, drop, length-drop}
 use lib.Seq.{getD-set-same, getD-set-other, take-suc-set, getD-take, getD-drop, length-take-le}
 use Rattle.format.specs.Bytes.{Bytes}
+use Rattle.format.specs.Rules.{distinct}
 use Rattle.lines.specs.Value.{valueFrom}
 use Rattle.lines.proofs.Cuts.{rest}
+use Rattle.keys.specs.Marks.{markAt, marksOf, Inside}
 use Rattle.keys.specs.Keys.{printOf, entryOf, keyAt, keysOf, IsEntry, Entries}
+use Rattle.keys.specs.Order.{valueIn}
+use Rattle.keys.proofs.Apart.{bool-same, apart-distinct, distinct-apart}
 
 -- the entry of the key at a place
 module _ (s : Bytes) (at : ℕ) (low : at < 65536) where
@@ -27,16 +31,34 @@ module _ (s : Bytes) (at : ℕ) (low : at < 65536) where
     print = (let p : entryOf at (valueFrom (drop at s)) / 65536 ≡ printOf (valueFrom (drop at s)) = omega arith in p) ∙ ap printOf (sym entry-key);
   }
 
--- what a part that begins at an entry's place holds
-pub key-part : (s : Bytes) (a e : ℕ) → a ≡ e % 65536 → valueFrom (take (length s - a) (drop a s)) ≡ keyAt s e
-key-part s a e q = ap valueFrom (rest s a) ∙ ap (λ (k : ℕ). valueFrom (drop k s)) q
+-- the value at an entry's place, in the part that begins there
+pub value-part : (s : Bytes) (a e : ℕ) → a ≡ e % 65536 → valueFrom (take (length s - a) (drop a s)) ≡ valueIn (markAt s e)
+value-part s a e q = ap valueFrom (rest s a) ∙ ap (λ (k : ℕ). valueFrom (drop k s)) q
 
--- entries up to a place, and from a place on
+-- places of entries up to one, and from one on
+pub inside-front : (s : Bytes) (l : List ℕ) (n : ℕ) → n ≤ length l → Inside s n l → Inside s (length (take n l)) (take n l)
+inside-front s l n h e = rw (length-take-le n l h) (λ i g. rw getD-take (e i g))
+
+pub inside-rest : (s : Bytes) (l : List ℕ) (i : ℕ) → Inside s (length l) l → Inside s (length (take (length l - i) (drop i l))) (take (length l - i) (drop i l))
+inside-rest s l i h = rw (rest l i) (λ p g. rw getD-drop (h (i + p) (omega (arith, length-drop i l))))
+
+-- entries of keys stand for their keys: two of one key have one fingerprint
+pub entries-inside : (s : Bytes) (n : ℕ) (l : List ℕ) → Entries s n l → Inside s n l
+entries-inside s n l e i h = e i h .inside
+
+pub marks-keys : (s : Bytes) (l : List ℕ) → Entries s (length l) l → distinct (marksOf s l) ≡ distinct (keysOf s l)
+marks-keys s l e =
+    bool-same (distinct (marksOf s l)) (distinct (keysOf s l))
+    (λ q. apart-distinct (keyAt s) l (λ j g i k same. distinct-apart (markAt s) l q j g i k (one i j (omega arith) g same)))
+    (λ q. apart-distinct (markAt s) l (λ j g i k same. distinct-apart (keyAt s) l q j g i k (ap valueIn same)))
+  where
+    one : (i j : ℕ) → i < length l → j < length l → keyAt s (getD l i 0) ≡ keyAt s (getD l j 0) → markAt s (getD l i 0) ≡ markAt s (getD l j 0)
+    one i j h g same =
+        let p : getD l i 0 / 65536 ≡ getD l j 0 / 65536 = e i h .print ∙ ap printOf same ∙ sym (e j g .print) in
+        λ k. p k ∷ same k
+
 pub entries-front : (s : Bytes) (l : List ℕ) (n : ℕ) → n ≤ length l → Entries s n l → Entries s (length (take n l)) (take n l)
 entries-front s l n h e = rw (length-take-le n l h) (λ i g. rw getD-take (e i g))
-
-pub entries-rest : (s : Bytes) (l : List ℕ) (i : ℕ) → Entries s (length l) l → Entries s (length (take (length l - i) (drop i l))) (take (length l - i) (drop i l))
-entries-rest s l i h = rw (rest l i) (λ p g. rw getD-drop (h (i + p) (omega (arith, length-drop i l))))
 
 -- no entries yet, and one more, stored behind the first n
 pub entries-none : (s : Bytes) (l : List ℕ) → Entries s 0 l

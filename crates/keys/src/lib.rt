@@ -1,17 +1,18 @@
 // Question 13: are the keys of a set distinct? The values of the fields that its key names are gathered as entries, the entries are sorted and neighbours compared, so no file takes
-// quadratic time.
+// quadratic time. An entry has the place of its value and a number above it: of a key, a fingerprint of the value. Entries with any numbers are told apart here (`distinct_marks`).
 ghost use mathlib.Core.Path.{_≡_};
 ghost use mathlib.Core.Bool.{true};
-ghost use Prim.Native.Nat.{_<_, _≤_};
+ghost use Prim.Native.Nat.{_%_, _<_, _≤_};
 ghost use lib.ListN.{length, take, drop};
-ghost use Rattle.format.specs.Bytes.{among};
+ghost use Rattle.format.specs.Bytes.{same, among};
 ghost use Rattle.format.specs.Limits.{fileBytes};
 ghost use Rattle.format.specs.Rules.{distinct};
 ghost use Rattle.format.specs.Sets.{valuesOf};
 ghost use Rattle.lines.specs.Value.{valueFrom};
 ghost use Rattle.records.specs.Places.{isReadable};
 ghost use Rattle.records.specs.Walk.{recordIn};
-ghost use Rattle.keys.specs.Keys.{entryOf, keyAt, keysOf, IsEntry, Entries};
+ghost use Rattle.keys.specs.Marks.{markAt, marksOf, Inside};
+ghost use Rattle.keys.specs.Keys.{entryOf};
 ghost use Rattle.keys.specs.Order.{ranked, Tells};
 ghost use Rattle.keys.specs.Gathered.{Gathered};
 use records::FoundField;
@@ -35,10 +36,10 @@ fn entry(s: &[u8], at: usize) -> u32
     narrow(at) + Entry::PLACES * p
 }
 
-// The keys of two entries compared, as values only where the fingerprints are equal.
+// What two entries stand for, compared: as values only where the numbers are equal.
 fn compare_entries(s: &[u8], x: u32, y: u32) -> Compared
-    requires { ⌜ (IsEntry (now s) x) × (IsEntry (now s) y) ⌝ }
-    ensures { λ r. ⌜ r ≡ ranked (keyAt (now (s .entry)) x) (keyAt (now (s .entry)) y) ⌝ }
+    requires { ⌜ (x % 65536 ≤ length (now s)) × (y % 65536 ≤ length (now s)) ⌝ }
+    ensures { λ r. ⌜ r ≡ ranked (markAt (now (s .entry)) x) (markAt (now (s .entry)) y) ⌝ }
 {
     let p = x / Entry::PLACES;
     let q = y / Entry::PLACES;
@@ -53,10 +54,10 @@ fn compare_entries(s: &[u8], x: u32, y: u32) -> Compared
     ends::order(ends::compare(&s[a..], &s[b..]))
 }
 
-// Is each key before the next? The first neighbours that are not decide.
+// Is each before the next? The first neighbours that are not decide.
 fn neighbours(s: &[u8], entries: &[u32]) -> Compared
-    requires { ⌜ Entries (now s) (length (now entries)) (now entries) ⌝ }
-    ensures { λ r. ⌜ Tells r (distinct (keysOf (now (s .entry)) (now (entries .entry)))) ⌝ }
+    requires { ⌜ Inside (now s) (length (now entries)) (now entries) ⌝ }
+    ensures { λ r. ⌜ Tells r (distinct (marksOf (now (s .entry)) (now (entries .entry)))) ⌝ }
 {
     let mut i = 1;
     while i < entries.len() {
@@ -76,17 +77,28 @@ fn neighbours(s: &[u8], entries: &[u32]) -> Compared
     Compared::Before
 }
 
-// Is the key of x among those of entries?
-fn key_among(s: &[u8], x: u32, entries: &[u32]) -> bool
-    requires { ⌜ IsEntry (now s) x ⌝ }
-    requires { ⌜ Entries (now s) (length (now entries)) (now entries) ⌝ }
-    ensures { λ r. ⌜ r ≡ among (keyAt (now (s .entry)) x) (keysOf (now (s .entry)) (now (entries .entry))) ⌝ }
+// Do two entries stand for the same?
+fn alike(s: &[u8], x: u32, y: u32) -> bool
+    requires { ⌜ (x % 65536 ≤ length (now s)) × (y % 65536 ≤ length (now s)) ⌝ }
+    ensures { λ r. ⌜ r ≡ same (markAt (now (s .entry)) x) (markAt (now (s .entry)) y) ⌝ }
 {
+    if x / Entry::PLACES != y / Entry::PLACES {
+        return false;
+    }
     let a = sorting::place(x);
+    let b = sorting::place(y);
+    ends::are_equal(&s[a..], &s[b..])
+}
+
+// Is what x stands for among what entries do?
+fn mark_among(s: &[u8], x: u32, entries: &[u32]) -> bool
+    requires { ⌜ x % 65536 ≤ length (now s) ⌝ }
+    requires { ⌜ Inside (now s) (length (now entries)) (now entries) ⌝ }
+    ensures { λ r. ⌜ r ≡ among (markAt (now (s .entry)) x) (marksOf (now (s .entry)) (now (entries .entry))) ⌝ }
+{
     let mut i = 0;
     while i < entries.len() {
-        let b = sorting::place(entries[i]);
-        if ends::are_equal(&s[a..], &s[b..]) {
+        if alike(s, x, entries[i]) {
             return true;
         }
         i += 1;
@@ -96,13 +108,13 @@ fn key_among(s: &[u8], x: u32, entries: &[u32]) -> bool
 
 // All pairs, in any order of the entries.
 fn distinct_pairs(s: &[u8], entries: &[u32]) -> bool
-    requires { ⌜ Entries (now s) (length (now entries)) (now entries) ⌝ }
-    ensures { λ r. ⌜ r ≡ distinct (keysOf (now (s .entry)) (now (entries .entry))) ⌝ }
+    requires { ⌜ Inside (now s) (length (now entries)) (now entries) ⌝ }
+    ensures { λ r. ⌜ r ≡ distinct (marksOf (now (s .entry)) (now (entries .entry))) ⌝ }
 {
     let mut i = 0;
     while i < entries.len() {
         let next = i + 1;
-        if key_among(s, entries[i], &entries[next..]) {
+        if mark_among(s, entries[i], &entries[next..]) {
             return false;
         }
         i = next;
@@ -112,8 +124,8 @@ fn distinct_pairs(s: &[u8], entries: &[u32]) -> bool
 
 // Sorted entries answer by their neighbours; were the sort wrong and these said nothing, all pairs would answer.
 fn distinct_entries(s: &[u8], entries: &mut [u32]) -> bool
-    requires { ⌜ Entries (now s) (length (now entries)) (now entries) ⌝ }
-    ensures { λ r. ⌜ r ≡ distinct (keysOf (now (s .entry)) (now (entries .entry))) ⌝ }
+    requires { ⌜ Inside (now s) (length (now entries)) (now entries) ⌝ }
+    ensures { λ r. ⌜ r ≡ distinct (marksOf (now (s .entry)) (now (entries .entry))) ⌝ }
 {
     sorting::sort(s, &mut *entries, false);
     let c = neighbours(s, &*entries);
@@ -124,11 +136,11 @@ fn distinct_entries(s: &[u8], entries: &mut [u32]) -> bool
     }
 }
 
-// Are the keys of the first n entries distinct? The entries' order afterwards is free.
-fn distinct_keys(s: &[u8], entries: &mut [u32], n: usize) -> bool
+// Do the first n entries stand for distinct things? The entries' order afterwards is free.
+pub fn distinct_marks(s: &[u8], entries: &mut [u32], n: usize) -> bool
     requires { ⌜ n ≤ length (now entries) ⌝ }
-    requires { ⌜ Entries (now s) n (now entries) ⌝ }
-    ensures { λ r. ⌜ r ≡ distinct (keysOf (now (s .entry)) (take n (now (entries .entry)))) ⌝ }
+    requires { ⌜ Inside (now s) n (now entries) ⌝ }
+    ensures { λ r. ⌜ r ≡ distinct (marksOf (now (s .entry)) (take n (now (entries .entry)))) ⌝ }
 {
     distinct_entries(s, &mut entries[..n])
 }
@@ -164,5 +176,5 @@ pub fn keys_distinct(name: &[u8], s: &[u8], entries: &mut [u32]) -> bool
     ensures { λ r. ⌜ r ≡ distinct (valuesOf (now (name .entry)) (recordIn (now (s .entry)))) ⌝ }
 {
     let n = gather(name, s, &mut *entries);
-    distinct_keys(s, &mut *entries, n)
+    distinct_marks(s, &mut *entries, n)
 }

@@ -170,6 +170,10 @@ fn counted(d: Descriptor, name: &[u8], value: &[u8]) -> Descriptor
             c.unique += count_words(value);
             return c;
         }
+        Rule::SINGULAR => {
+            c.singular += count_words(value);
+            return c;
+        }
         _ => {
             return c;
         }

@@ -4,9 +4,9 @@ use native.Mathlib.Omega.{arith}
 use mathlib.Core.Path.{_≡_, refl, sym, ap, _∙_}
 use mathlib.Core.Bool.{Bool, true, false, _&&_, _||_, not, and-eq-true-iff}
 use mathlib.Core.List.{List, [], _∷_}
-use lib.Dec.{leb, eqb}
+use lib.Dec.{eqb}
 use lib.ListN.{length}
-use borrow.Author.Tests.{leb-true, le-leb, ne-eqb}
+use borrow.Author.Tests.{le-leb, ne-eqb}
 use Rattle.format.specs.Lists.{isFilled}
 use Rattle.format.specs.Bytes.{Bytes, text, pick, all, same}
 use Rattle.format.specs.Lines.{isName}
@@ -14,11 +14,12 @@ use Rattle.format.specs.Words.{words}
 use Rattle.format.specs.Pieces.{readOf}
 use Rattle.format.specs.Records.{Field, Record}
 use Rattle.format.specs.Sets.{valuesOf}
-use Rattle.format.specs.Limits.{valueBytes, typedefs, typeFields, listWords}
+use Rattle.format.specs.Limits.{valueBytes}
 use Rattle.format.specs.Numbers.{intBounds}
-use Rattle.format.specs.Rules.{listed, mandatory, prohibited, allowed, unique, key}
+use Rattle.format.specs.Rules.{listed, mandatory, unique, key}
 use Rattle.format.specs.Questions.{fitsField, fitsRecord}
 use Rattle.format.proofs.Elements.{each-all, each-imp, all-each}
+use Rattle.format.proofs.Limits.{rules-few}
 use Rattle.format.proofs.Lines.{all-append}
 use Rattle.format.proofs.Listing.{same-true, listed-cons}
 use Rattle.format.proofs.Records.{records}
@@ -81,24 +82,11 @@ module _ (d : Bytes) (h : Described d) where
   unfolding listTag
   unique-names = names-of (text "%unique") refl rules lists-are
 
-  lists-held : (length (mandatory rules) ≤ 64) × (length (unique rules) ≤ 64)
-  lists-held =
-      let t : Bool = leb (length (valuesOf (text "%typedef") rules)) typedefs && leb (length (valuesOf (text "%type") rules)) typeFields in
-      let m : Bool = leb (length (mandatory rules)) listWords in
-      let p : Bool = leb (length (prohibited rules)) listWords in
-      let a : Bool = leb (length (allowed rules)) listWords in
-      let u : Bool = leb (length (unique rules)) listWords in
-      let hu = and-eq-true-iff (t && m && p && a) u .0 (h .few) in
-      let ha = and-eq-true-iff (t && m && p) a .0 (hu .0) in
-      let hp = and-eq-true-iff (t && m) p .0 (ha .0) in
-      let hm = and-eq-true-iff t m .0 (hp .0) in
-      (leb-true (length (mandatory rules)) listWords (hm .1), leb-true (length (unique rules)) listWords (hu .1))
-
   pub mandatory-few : length (mandatory rules) ≤ 64
-  mandatory-few = lists-held .0
+  mandatory-few = rules-few rules (h .few) .mandatory-few
 
   pub unique-few : length (unique rules) ≤ 64
-  unique-few = lists-held .1
+  unique-few = rules-few rules (h .few) .unique-few
 
   -- a key is named where there is a field that names it
   filled-by : (ws : List Bytes) → not (eqb (length ws) 0) ≡ isFilled ws

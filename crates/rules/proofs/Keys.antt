@@ -1,5 +1,5 @@
--- The key of a set, its values in the records, and that each record has it once where questions 10 and 11 say so.
-use Prim.Native.Nat.{ℕ, zero, suc, _+_, _-_, _≤_}
+-- The values of a name in a set's records: those of the singular names, and of the key; and that each record has it once where questions 10 and 11 say so.
+use Prim.Native.Nat.{ℕ, zero, suc, _≤_}
 use native.Mathlib.Omega.{arith}
 use mathlib.Core.Path.{_≡_, refl, sym, ap, _∙_, subst}
 use mathlib.Core.Bool.{Bool, true, false, _&&_, and-eq-true-iff}
@@ -14,9 +14,9 @@ use Rattle.format.specs.Pieces.{readOf}
 use Rattle.format.specs.Records.{Record}
 use Rattle.format.specs.Sets.{valuesOf}
 use Rattle.format.specs.Numbers.{intBounds}
-use Rattle.format.specs.Rules.{mandatory, unique, key, isShaped, distinct}
-use Rattle.format.specs.Questions.{occurrences, noneProhibited, allAllowed, allPresent, noneRepeated, allTyped, valuesIn, keysOf}
-use Rattle.format.proofs.Elements.{Each, each-parts, each-imp, each-both, all-each}
+use Rattle.format.specs.Rules.{mandatory, unique, singular, key, isShaped, distinct}
+use Rattle.format.specs.Questions.{occurrences, noneProhibited, allAllowed, allPresent, noneRepeated, allTyped, valuesIn, keysOf, singularMet}
+use Rattle.format.proofs.Elements.{Each, each-parts, each-imp, each-both, all-each, all-alike}
 use Rattle.format.proofs.Least.{least, leasts}
 use Rattle.format.proofs.Judging.{recordNo}
 use Rattle.format.proofs.Records.{records}
@@ -88,6 +88,10 @@ values-flat w (m ∷ ms) = values-append w m (flat ms) ∙ ap (λ (vs : List Byt
 
 values-part : (w s : Bytes) → valuesOf w (recordIn s) ≡ valuesIn w (records (readOf s))
 values-part w s = ap (valuesOf w) (fields-records (readOf s)) ∙ values-flat w (records (readOf s))
+
+-- and the singular names have each value once in them
+pub singular-part : (rules : Record) (s : Bytes) → all (λ (n : Bytes). distinct (valuesOf n (recordIn s))) (singular rules) ≡ singularMet (ruled rules (records (readOf s)))
+singular-part rules s = all-alike (λ (n : Bytes). distinct (valuesOf n (recordIn s))) (λ (n : Bytes). distinct (valuesIn n (records (readOf s)))) (λ n. ap distinct (values-part n s)) (singular rules)
 
 once-length : (rules : Record) (w : Bytes) (ms : List Record) → key rules ≡ w ∷ [] → HaveKeys rules ms → length (valuesIn w ms) ≡ length ms
 once-length rules w [] e h = refl

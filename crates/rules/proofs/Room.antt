@@ -1,34 +1,22 @@
 -- How many records a part can have: each takes four bytes, a name, a colon, a newline and the newline of a blank line, but for that of the last.
 use Prim.Native.Nat.{suc, _+_, _*_, _≤_, _<_}
 use native.Mathlib.Omega.{arith}
-use mathlib.Core.Path.{_≡_, refl, ap, _∙_}
-use mathlib.Core.Bool.{true, false≢true}
+use mathlib.Core.Path.{_≡_, refl, ap}
+use mathlib.Core.Bool.{true}
 use mathlib.Core.List.{List, [], _∷_}
 use lib.ListN.{length, length-append}
 use Rattle.format.proofs.Records.{recordsIn, records}
 use Rattle.format.specs.Lists.{onto}
 use Rattle.format.specs.Bytes.{Bytes}
-use Rattle.format.specs.Lines.{Line, bytes, isName}
+use Rattle.format.specs.Lines.{Line, bytes}
 use Rattle.format.specs.Pieces.{Piece, readOf}
 use Rattle.format.specs.Records.{Block, blocks, countOf}
 use Rattle.format.proofs.Elements.{Each}
 use Rattle.format.proofs.Whole.{Sound}
-use Rattle.format.proofs.Renaming.{sound-name, sound-starts}
+use Rattle.format.proofs.Sizes.{field-size}
 use Rattle.records.specs.Places.{isReadable, sizeIn}
 use Rattle.records.proofs.Readings.{readable-reads, reads-length}
 use Rattle.records.proofs.Walks.{size-piece}
-
-name-some : (n : Bytes) → isName n ≡ true → 0 < length n
-name-some [] e = absurd (false≢true e)
-name-some (c ∷ n) e = omega arith
-
-field-size : (n v : Bytes) (ls : List Line) → Sound (Piece.field n v ls) → 3 ≤ countOf ls
-field-size n v ls h =
-    let f = sound-starts n v ls h in
-    let l : Line = f .0 in
-    let e : countOf ls ≡ length l + length (10 ∷ bytes (f .1)) = ap countOf (f .3) ∙ length-append l (10 ∷ bytes (f .1)) in
-    let m : length l ≡ length n + length (58 ∷ f .2) = ap length (f .4) ∙ length-append n (58 ∷ f .2) in
-    omega (arith, e, m, name-some n (sound-name n v ls h))
 
 line-size : (l : Line) → 0 < countOf (l ∷ [])
 line-size l = omega (arith, length-append l (10 ∷ []))

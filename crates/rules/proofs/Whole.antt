@@ -12,7 +12,7 @@ use Rattle.format.specs.Records.{Record}
 use Rattle.format.specs.Numbers.{intBounds}
 use Rattle.format.specs.Sets.{RecSet, valuesOf}
 use Rattle.format.specs.Rules.{distinct, sizeRule, meetsSize}
-use Rattle.format.specs.Questions.{firstNo, keysOf, sizeMet}
+use Rattle.format.specs.Questions.{firstNo, keysOf, sizeMet, singularMet}
 use Rattle.format.proofs.Least.{leasts}
 use Rattle.format.proofs.Judging.{recordNo, wholeRows, setNo}
 use Rattle.format.proofs.Walking.{ruled}
@@ -37,15 +37,18 @@ module _ (rules : Record) (ms : List Record) (t : Bool) (k : t ≡ distinct (key
   abbrev s : RecSet
   s = ruled rules ms
 
-  by-keys : firstNo (wholeRows intBounds) s ≡ pick t (pick (sizeMet intBounds s) 0 14) 13
-  by-keys = ap (λ (b : Bool). pick b (pick (sizeMet intBounds s) 0 14) 13) (sym k)
+  abbrev singularNo : ℕ
+  singularNo = pick (singularMet s) 0 30
+
+  by-keys : firstNo (wholeRows intBounds) s ≡ pick t (pick (sizeMet intBounds s) singularNo 14) 13
+  by-keys = ap (λ (b : Bool). pick b (pick (sizeMet intBounds s) singularNo 14) 13) (sym k)
 
   pub keys-stop : t ≡ false → 13 ≡ firstNo (wholeRows intBounds) s
-  keys-stop h = sym (by-keys ∙ ap (λ (b : Bool). pick b (pick (sizeMet intBounds s) 0 14) 13) h)
+  keys-stop h = sym (by-keys ∙ ap (λ (b : Bool). pick b (pick (sizeMet intBounds s) singularNo 14) 13) h)
 
   module _ (h : t ≡ true) where
-    by-size : firstNo (wholeRows intBounds) s ≡ pick (sizeMet intBounds s) 0 14
-    by-size = by-keys ∙ ap (λ (b : Bool). pick b (pick (sizeMet intBounds s) 0 14) 13) h
+    by-size : firstNo (wholeRows intBounds) s ≡ pick (sizeMet intBounds s) singularNo 14
+    by-size = by-keys ∙ ap (λ (b : Bool). pick b (pick (sizeMet intBounds s) singularNo 14) 13) h
 
     -- n records were counted, and u tells whether that meets the size
     module _ (n : ℕ) (c : n ≡ length ms) (u : Bool) (q : u ≡ all (λ (v : Bytes). meetsSize (sizeRule intBounds (words v)) n) (valuesOf (text "%size") rules)) where
@@ -53,7 +56,15 @@ module _ (rules : Record) (ms : List Record) (t : Bool) (k : t ≡ distinct (key
       size-by = q ∙ ap (λ (j : ℕ). all (λ (v : Bytes). meetsSize (sizeRule intBounds (words v)) j) (valuesOf (text "%size") rules)) c
 
       pub size-stop : u ≡ false → 14 ≡ firstNo (wholeRows intBounds) s
-      size-stop g = sym (by-size ∙ ap (λ (b : Bool). pick b 0 14) (sym size-by ∙ g))
+      size-stop g = sym (by-size ∙ ap (λ (b : Bool). pick b singularNo 14) (sym size-by ∙ g))
 
-      pub whole-passes : u ≡ true → 0 ≡ firstNo (wholeRows intBounds) s
-      whole-passes g = sym (by-size ∙ ap (λ (b : Bool). pick b 0 14) (sym size-by ∙ g))
+      -- it does, and z tells whether no singular name has a value twice
+      module _ (g : u ≡ true) (z : Bool) (y : z ≡ singularMet s) where
+        by-singular : firstNo (wholeRows intBounds) s ≡ pick z 0 30
+        by-singular = by-size ∙ ap (λ (b : Bool). pick b singularNo 14) (sym size-by ∙ g) ∙ ap (λ (b : Bool). pick b 0 30) (sym y)
+
+        pub singular-stop : z ≡ false → 30 ≡ firstNo (wholeRows intBounds) s
+        singular-stop f = sym (by-singular ∙ ap (λ (b : Bool). pick b 0 30) f)
+
+        pub whole-passes : z ≡ true → 0 ≡ firstNo (wholeRows intBounds) s
+        whole-passes f = sym (by-singular ∙ ap (λ (b : Bool). pick b 0 30) f)

@@ -1,4 +1,4 @@
-// Questions 8 to 14 of one set. Its descriptor is read once, into tables; then its records are walked.
+// Questions 8 to 14 and 30 of one set. Its descriptor is read once, into tables; then its records are walked.
 ghost use mathlib.Core.Path.{_≡_};
 ghost use mathlib.Core.Bool.{true, not};
 ghost use Prim.Native.Nat.{_≤_};
@@ -172,7 +172,7 @@ fn keys_apart(d: &[u8], part: &[u8], scratch: &mut [u8], entries: &mut [u32]) ->
     keys::keys_distinct(&scratch[start..e], part, &mut *entries)
 }
 
-// Questions 13 and 14 of a set whose records have its key; so many they are. The number of the first that says no, else 0.
+// Questions 13, 14 and 30 of a set whose records have its key; so many they are. The number of the first that says no, else 0.
 fn judge_whole(d: &[u8], count: usize, part: &[u8], scratch: &mut [u8], entries: &mut [u32]) -> u32
     requires { ⌜ IsRules (now d) × (length (now d) ≤ fileBytes) × (count ≡ length (records (readOf (now part)))) ⌝ }
     requires { ⌜ (isReadable (now part) ≡ true) × (length (now part) ≤ fileBytes) × HaveKeys (recordIn (now d)) (records (readOf (now part))) ⌝ }
@@ -185,10 +185,13 @@ fn judge_whole(d: &[u8], count: usize, part: &[u8], scratch: &mut [u8], entries:
     if !descriptors::size_met(d, count, &mut *scratch) {
         return Refusal::SIZE;
     }
+    if !singulars::values_apart(d, part, &mut *entries) {
+        return Refusal::SINGULAR;
+    }
     0
 }
 
-// The number of the first of questions 8 to 14 that a set fails, else 0: d is its descriptor, part the bytes of its records.
+// The number of the first of questions 8 to 14 and 30 that a set fails, else 0: d is its descriptor, part the bytes of its records.
 pub fn judge_set(d: &[u8], part: &[u8], scratch: &mut [u8], entries: &mut [u32]) -> u32
     requires { ⌜ IsRules (now d) × (length (now d) ≤ fileBytes) ⌝ }
     requires { ⌜ (isReadable (now part) ≡ true) × (length (now part) ≤ fileBytes) × AllFit (records (readOf (now part))) ⌝ }

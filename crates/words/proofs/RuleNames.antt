@@ -43,7 +43,7 @@ not-placed w v ws n k e f h = go (same v w) refl
     go true q = absurd (h (e ∙ ap (λ (x : Bytes). placeIn x ws) (sym (same-true v w q)) ∙ f))
 
 -- and one that has a name's place is that name
-placed-is : (w : Bytes) (ws : List Bytes) → placeIn w ws < length ws → w ≡ getD ws (placeIn w ws) []
+pub placed-is : (w : Bytes) (ws : List Bytes) → placeIn w ws < length ws → w ≡ getD ws (placeIn w ws) []
 placed-is w [] h = absurd (omega arith)
 placed-is w (v ∷ vs) h = go (same w v) refl (λ g. placed-is w vs g) h
   where

@@ -11,7 +11,7 @@ impl Rule {
 
     pub const DOC: usize = 1;
 
-    // The four lists of names.
+    // Lists of names; the last of them stands behind the others.
     pub const MANDATORY: usize = 2;
 
     pub const PROHIBIT: usize = 3;
@@ -28,8 +28,10 @@ impl Rule {
 
     pub const TYPE: usize = 9;
 
+    pub const SINGULAR: usize = 10;
+
     // How many there are: the number of every other name.
-    pub const COUNT: usize = 10;
+    pub const COUNT: usize = 11;
 }
 
 // The number of a name.
@@ -38,6 +40,6 @@ pub fn rule_of(name: &[u8]) -> usize
 {
     word_place(
         name,
-        b"%rec %doc %mandatory %prohibit %allowed %unique %key %size %typedef %type",
+        b"%rec %doc %mandatory %prohibit %allowed %unique %key %size %typedef %type %singular",
     )
 }

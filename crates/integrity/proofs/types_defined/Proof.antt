@@ -10,7 +10,8 @@ use Rattle.format.specs.Limits.{valueBytes}
 use Rattle.words.specs.Spans.{span}
 use Rattle.words.proofs.Spans.{span-length}
 use Rattle.records.specs.Walk.{recordIn}
-use Rattle.integrity.proofs.Holding.{few-typedefs, values-fit}
+use Rattle.format.proofs.Limits.{rules-few}
+use Rattle.integrity.proofs.Holding.{values-fit}
 use Rattle.integrity.proofs.Granting.{TypesAt, types-start, types-end, types-row, types-fit, types-stop, types-on}
 use Rattle.integrity.proofs.types_defined.Statement.{statement}
 use Rattle.integrity.proofs.types_defined.Tie as tie
@@ -79,7 +80,7 @@ types-well-requires c κs =
     let d = recordIn (span a e (at-args .s .now)) in
     let short = span-length (at-args .s .now) a e (omega (arith, r .filled)) (omega (arith, r .within, r .inside)) in
     let room : valueBytes ≤ length (at-loop .scratch) = omega (arith, at-pre .1 .1, at-loop .inv .1) in
-    (((r .own, omega (arith, short, at-pre .0 .1, r .within, r .inside)), ((few-typedefs d (f .few (r .head)), values-fit (length (at-loop .scratch)) room (text "%typedef") d (f .fits)), values-fit (length (at-loop .scratch)) room (text "%type") d (f .fits))))
+    (((r .own, omega (arith, short, at-pre .0 .1, r .within, r .inside)), ((rules-few d (f .few (r .head)) .typedefs-few, values-fit (length (at-loop .scratch)) room (text "%typedef") d (f .fits)), values-fit (length (at-loop .scratch)) room (text "%type") d (f .fits))))
 
 same-length : tie.Need-same-length Inv-loop μ-loop
 same-length c =

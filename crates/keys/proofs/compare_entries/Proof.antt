@@ -1,10 +1,10 @@
--- `keys::compare_entries` meets its contract: the fingerprints of entries are those of their keys.
+-- `keys::compare_entries` meets its contract: the numbers decide, else the values.
 use native.Mathlib.Omega.{arith}
 use mathlib.Core.Path.{sym, ap, ap₂, _∙_}
 use Rattle.sorting.specs.Likeness.{likenessOf}
 use Rattle.sorting.specs.Order.{orderOf}
-use Rattle.keys.specs.Keys.{keyAt}
-use Rattle.keys.proofs.Prints.{key-part}
+use Rattle.keys.specs.Marks.{markAt}
+use Rattle.keys.proofs.Prints.{value-part}
 use Rattle.keys.proofs.Order.{ranked-lt, ranked-gt, ranked-on}
 use borrow.Author.Needs.{needs}
 use Rattle.keys.proofs.compare_entries.Statement.{statement}
@@ -19,13 +19,13 @@ returns : tie.Need-returns
 returns c =
     let at-args = c .before .before .args in
     let at-pre = c .before .before .pre in
-    sym (ranked-lt (keyAt (at-args .s .now) (at-args .x)) (keyAt (at-args .s .now) (at-args .y)) (omega (arith, at-pre .0 .print, at-pre .1 .print)))
+    sym (ranked-lt (markAt (at-args .s .now) (at-args .x)) (markAt (at-args .s .now) (at-args .y)) (omega arith))
 
 returns-2 : tie.Need-returns-2
 returns-2 c =
     let at-args = c .before .before .before .args in
     let at-pre = c .before .before .before .pre in
-    sym (ranked-gt (keyAt (at-args .s .now) (at-args .x)) (keyAt (at-args .s .now) (at-args .y)) (omega (arith, at-pre .0 .print, at-pre .1 .print)))
+    sym (ranked-gt (markAt (at-args .s .now) (at-args .x)) (markAt (at-args .s .now) (at-args .y)) (omega arith))
 
 place-requires : tie.Need-place-requires
 place-requires c κs = search needs
@@ -66,8 +66,8 @@ returns-3 c =
     let at-compare = c .before .compare in
     let at-pre = c .before .before .before .before .before .before .before .before .before .pre in
     let s = at-args .s .now in
-    let e = ap₂ likenessOf (key-part s (at-place .result) (at-args .x) (at-place .ensures)) (key-part s (at-place2 .result) (at-args .y) (at-place2 .ensures)) in
-    at-order .ensures ∙ ap orderOf (at-compare .ensures ∙ e) ∙ sym (ranked-on (keyAt s (at-args .x)) (keyAt s (at-args .y)) (omega (arith, at-pre .0 .print, at-pre .1 .print)))
+    let e = ap₂ likenessOf (value-part s (at-place .result) (at-args .x) (at-place .ensures)) (value-part s (at-place2 .result) (at-args .y) (at-place2 .ensures)) in
+    at-order .ensures ∙ ap orderOf (at-compare .ensures ∙ e) ∙ sym (ranked-on (markAt s (at-args .x)) (markAt s (at-args .y)) (omega arith))
 
 pub compare-entries-spec : {M : Type 1} → statement M
 compare-entries-spec =

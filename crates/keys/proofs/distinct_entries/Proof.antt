@@ -2,9 +2,9 @@
 use mathlib.Core.Path.{sym, subst, _∙_}
 use Rattle.format.specs.Rules.{distinct}
 use Rattle.sorting.specs.declared.Compared.{Compared}
-use Rattle.keys.specs.Keys.{keyAt, keysOf}
+use Rattle.keys.specs.Marks.{markAt, marksOf}
 use Rattle.keys.specs.Order.{Tells}
-use Rattle.keys.proofs.Moves.{moved-distinct, moved-entries}
+use Rattle.keys.proofs.Moves.{moved-distinct, moved-inside}
 use borrow.Author.Needs.{needs}
 use Rattle.keys.proofs.distinct_entries.Statement.{statement}
 use Rattle.keys.proofs.distinct_entries.Tie as tie
@@ -22,7 +22,7 @@ neighbours-requires c κs =
     let at-args = c .before .before .before .before .before .before .before .args in
     let at-sort = c .before .before .before .sort in
     let at-pre = c .before .before .before .before .before .before .before .pre in
-    moved-entries (at-args .s .now) (at-sort .ensures) at-pre
+    moved-inside (at-args .s .now) (at-sort .ensures) at-pre
 
 enum-told : tie.Need-enum-told
 enum-told c = search needs
@@ -38,7 +38,7 @@ distinct-pairs-requires c κs =
     let at-args = c .before .before .before .before .before .before .before .before .before .before .before .args in
     let at-sort = c .before .before .before .before .before .before .before .sort in
     let at-pre = c .before .before .before .before .before .before .before .before .before .before .before .pre in
-    moved-entries (at-args .s .now) (at-sort .ensures) at-pre
+    moved-inside (at-args .s .now) (at-sort .ensures) at-pre
 
 same-length : tie.Need-same-length
 same-length c = search needs
@@ -49,8 +49,8 @@ returns c =
     let at-sort = c .before .before .before .before .before .before .sort in
     let at-enum-told = c .enum-told in
     let at-neighbours = c .before .before .neighbours in
-    let d = distinct (keysOf (at-args .s .now) (at-sort .last .1 .0)) in
-    sym (subst (λ (r : Compared). Tells r d) (at-enum-told .given .1) (at-neighbours .ensures)) ∙ moved-distinct (keyAt (at-args .s .now)) (at-sort .ensures)
+    let d = distinct (marksOf (at-args .s .now) (at-sort .last .1 .0)) in
+    sym (subst (λ (r : Compared). Tells r d) (at-enum-told .given .1) (at-neighbours .ensures)) ∙ moved-distinct (markAt (at-args .s .now)) (at-sort .ensures)
 
 same-length-2 : tie.Need-same-length-2
 same-length-2 c = search needs
@@ -61,8 +61,8 @@ returns-2 c =
     let at-sort = c .before .before .before .before .before .before .sort in
     let at-enum-told2 = c .enum-told2 in
     let at-neighbours = c .before .before .neighbours in
-    let d = distinct (keysOf (at-args .s .now) (at-sort .last .1 .0)) in
-    sym (subst (λ (r : Compared). Tells r d) (at-enum-told2 .given .1) (at-neighbours .ensures)) ∙ moved-distinct (keyAt (at-args .s .now)) (at-sort .ensures)
+    let d = distinct (marksOf (at-args .s .now) (at-sort .last .1 .0)) in
+    sym (subst (λ (r : Compared). Tells r d) (at-enum-told2 .given .1) (at-neighbours .ensures)) ∙ moved-distinct (markAt (at-args .s .now)) (at-sort .ensures)
 
 same-length-3 : tie.Need-same-length-3
 same-length-3 c = search needs
@@ -72,7 +72,7 @@ returns-3 c =
     let at-distinct-pairs = c .distinct-pairs in
     let at-args = c .before .before .before .before .before .before .before .before .before .before .before .before .args in
     let at-sort = c .before .before .before .before .before .before .before .before .sort in
-    at-distinct-pairs .ensures ∙ moved-distinct (keyAt (at-args .s .now)) (at-sort .ensures)
+    at-distinct-pairs .ensures ∙ moved-distinct (markAt (at-args .s .now)) (at-sort .ensures)
 
 pub distinct-entries-spec : {M : Type 1} → statement M
 distinct-entries-spec =

@@ -1,11 +1,12 @@
--- `keys::neighbours` meets its contract. The invariant: each key up to i is before the next.
+-- `keys::neighbours` meets its contract. The invariant: each up to i is before the next.
 use borrow.Author.Needs.{needs}
-use Prim.Native.Nat.{_-_, _≤_}
+use Prim.Native.Nat.{_-_, _/_, _≤_}
 use native.Mathlib.Omega.{arith}
 use mathlib.Core.Path.{sym, _∙_}
 use borrow.Author.Count.{below-more}
 use lib.ListN.{length, getD}
-use Rattle.keys.specs.Keys.{keyAt}
+use Rattle.keys.specs.Marks.{markAt}
+use Rattle.keys.specs.Order.{valueIn}
 use Rattle.keys.proofs.Order.{ranked-same}
 use Rattle.keys.proofs.Apart.{Rising, rising-distinct, twins-distinct}
 use Rattle.keys.proofs.neighbours.Statement.{statement}
@@ -15,7 +16,7 @@ use Rattle.keys.proofs.neighbours.Lts as lts
 use Rattle.keys.proofs.compare_entries.Reads as compare-entries-reads
 
 abbrev Inv-loop : tie.InvT-loop
-Inv-loop s entries i₀ i = (1 ≤ i) × Rising (keyAt s) i entries
+Inv-loop s entries i₀ i = (1 ≤ i) × Rising (markAt s) i entries
 
 abbrev μ-loop : tie.MeasureT-loop
 μ-loop s entries i₀ i = length entries - i
@@ -58,7 +59,7 @@ returns c =
     let s = at-args .s .now in
     let l = at-args .entries .now in
     let i = at-loop .i in
-    twins-distinct (keyAt s) l i (at-loop-test .taken) (at-loop .inv .0) (ranked-same (keyAt s (getD l (i - 1) 0)) (keyAt s (getD l i 0)) (sym (at-compare-entries .ensures) ∙ at-enum-told .given .1))
+    twins-distinct (markAt s) l i (at-loop-test .taken) (at-loop .inv .0) (ranked-same (getD l (i - 1) 0 / 65536) (getD l i 0 / 65536) (valueIn (markAt s (getD l (i - 1) 0))) (valueIn (markAt s (getD l i 0))) (sym (at-compare-entries .ensures) ∙ at-enum-told .given .1))
 
 enum-told-2 : tie.Need-enum-told-2 Inv-loop μ-loop
 enum-told-2 c = search needs
@@ -86,7 +87,7 @@ returns-3 : tie.Need-returns-3 Inv-loop μ-loop
 returns-3 c =
     let at-args = c .before .before .before .before .args in
     let at-loop = c .before .loop in
-    rising-distinct (keyAt (at-args .s .now)) (at-args .entries .now) (λ q h. at-loop .inv .1 q (omega arith))
+    rising-distinct (markAt (at-args .s .now)) (at-args .entries .now) (λ q h. at-loop .inv .1 q (omega arith))
 
 pub neighbours-spec : {M : Type 1} → statement M
 neighbours-spec =

@@ -40,12 +40,23 @@ returns-5 c =
 
 returns-6 : tie.Need-returns-6
 returns-6 c =
-    let at-if1 = c .before .before .before .before .before .before .before .before .before .if1 in
-    let at-if2 = c .before .before .before .before .before .before .before .if2 in
-    let at-if3 = c .before .before .before .before .before .if3 in
-    let at-if4 = c .before .before .before .if4 in
-    let at-if5 = c .before .if5 in
-    rw (le-leb _ _ (at-if1 .left), le-leb _ _ (at-if2 .left), le-leb _ _ (at-if3 .left), le-leb _ _ (at-if4 .left), le-leb _ _ (at-if5 .left))
+    let at-if1 = c .before .before .before .before .before .before .before .before .before .before .if1 in
+    let at-if2 = c .before .before .before .before .before .before .before .before .if2 in
+    let at-if3 = c .before .before .before .before .before .before .if3 in
+    let at-if4 = c .before .before .before .before .if4 in
+    let at-if5 = c .before .before .if5 in
+    let at-if6 = c .if6 in
+    rw (le-leb _ _ (at-if1 .left), le-leb _ _ (at-if2 .left), le-leb _ _ (at-if3 .left), le-leb _ _ (at-if4 .left), le-leb _ _ (at-if5 .left), lt-leb _ _ (at-if6 .taken))
+
+returns-7 : tie.Need-returns-7
+returns-7 c =
+    let at-if1 = c .before .before .before .before .before .before .before .before .before .before .before .if1 in
+    let at-if2 = c .before .before .before .before .before .before .before .before .before .if2 in
+    let at-if3 = c .before .before .before .before .before .before .before .if3 in
+    let at-if4 = c .before .before .before .before .before .if4 in
+    let at-if5 = c .before .before .before .if5 in
+    let at-if6 = c .before .if6 in
+    rw (le-leb _ _ (at-if1 .left), le-leb _ _ (at-if2 .left), le-leb _ _ (at-if3 .left), le-leb _ _ (at-if4 .left), le-leb _ _ (at-if5 .left), le-leb _ _ (at-if6 .left))
 
 pub fits-spec : {M : Type 1} → statement M
-fits-spec = tie.close (tie.spec returns returns-2 returns-3 returns-4 returns-5 returns-6)
+fits-spec = tie.close (tie.spec returns returns-2 returns-3 returns-4 returns-5 returns-6 returns-7)

@@ -1,12 +1,12 @@
--- `keys::distinct_keys` meets its contract: the first n entries are a part of their own.
+-- `keys::distinct_marks` meets its contract: the first n entries are a part of their own.
 use mathlib.Core.Path.{sym}
 use lib.Seq.{length-take-le}
-use Rattle.keys.proofs.Prints.{entries-front}
+use Rattle.keys.proofs.Prints.{inside-front}
 use borrow.Author.Needs.{needs}
-use Rattle.keys.proofs.distinct_keys.Statement.{statement}
-use Rattle.keys.proofs.distinct_keys.Tie as tie
-use Rattle.keys.proofs.distinct_keys.Reads as reads
-use Rattle.keys.proofs.distinct_keys.Lts as lts
+use Rattle.keys.proofs.distinct_marks.Statement.{statement}
+use Rattle.keys.proofs.distinct_marks.Tie as tie
+use Rattle.keys.proofs.distinct_marks.Reads as reads
+use Rattle.keys.proofs.distinct_marks.Lts as lts
 use Rattle.keys.proofs.distinct_entries.Reads as distinct-entries-reads
 
 slice-relend-prefix-distinct-entries : tie.Need-slice-relend-prefix-distinct-entries
@@ -22,7 +22,7 @@ distinct-entries-requires : tie.Need-distinct-entries-requires
 distinct-entries-requires c κs =
     let at-args = c .before .before .before .args in
     let at-pre = c .before .before .before .pre in
-    entries-front (at-args .s .now) (at-args .entries .now) (at-args .n) (at-pre .0) (at-pre .1)
+    inside-front (at-args .s .now) (at-args .entries .now) (at-args .n) (at-pre .0) (at-pre .1)
 
 same-length : tie.Need-same-length
 same-length c = search needs
@@ -30,8 +30,8 @@ same-length c = search needs
 returns : tie.Need-returns
 returns c = search needs
 
-pub distinct-keys-spec : {M : Type 1} → statement M
-distinct-keys-spec =
+pub distinct-marks-spec : {M : Type 1} → statement M
+distinct-marks-spec =
     tie.close
     (tie.spec
     slice-relend-prefix-distinct-entries

@@ -1,0 +1,44 @@
+-- `singulars::place_of` meets its contract: what the table answers is the set of the name's places in the list.
+use mathlib.Core.Path.{_∙_}
+use native.Mathlib.Omega.{arith}
+use Rattle.format.specs.Rules.{singular}
+use Rattle.records.specs.Walk.{recordIn}
+use Rattle.dictionary.proofs.Finding.{places-found}
+use Rattle.singulars.proofs.Places.{place-found, none-found}
+use Rattle.singulars.proofs.place_of.Statement.{statement}
+use Rattle.singulars.proofs.place_of.Tie as tie
+use Rattle.singulars.proofs.place_of.Reads as reads
+use Rattle.singulars.proofs.place_of.Lts as lts
+use Rattle.singulars.proofs.first_place.Reads as first-place-reads
+use Rattle.terms.proofs.find_joined.Reads as find-joined-reads
+
+find-joined-requires : tie.Need-find-joined-requires
+find-joined-requires c κs =
+    let at-pre = c .before .before .before .before .before .pre in
+    at-pre .table
+
+returns : tie.Need-returns
+returns c =
+    let at-pre = c .before .before .before .before .before .before .before .pre in
+    let at-args = c .before .before .before .before .before .before .before .args in
+    let at-find-joined = c .before .find-joined in
+    let at-if1 = c .if1 in
+    at-pre .count ∙ none-found (singular (recordIn (at-args .d .now))) (at-args .name .now) (at-find-joined .result) (places-found (at-args .d .now) (singular (recordIn (at-args .d .now))) (at-args .words .now) (at-args .sets .now) (at-args .w) at-pre (at-args .name .now) (at-find-joined .result) (at-find-joined .ensures)) (at-if1 .taken)
+
+first-place-requires : tie.Need-first-place-requires
+first-place-requires c κs =
+    let at-pre = c .before .before .before .before .before .before .before .pre in
+    omega (arith, at-pre .few, at-pre .count)
+
+returns-2 : tie.Need-returns-2
+returns-2 c =
+    let at-pre = c .before .before .before .before .before .before .before .before .pre in
+    let at-first-place = c .first-place in
+    let at-args = c .before .before .before .before .before .before .before .before .args in
+    let at-find-joined = c .before .before .find-joined in
+    let e = at-pre .count in
+    let f = at-first-place .ensures in
+    place-found (singular (recordIn (at-args .d .now))) (at-args .name .now) (at-find-joined .result) (places-found (at-args .d .now) (singular (recordIn (at-args .d .now))) (at-args .words .now) (at-args .sets .now) (at-args .w) at-pre (at-args .name .now) (at-find-joined .result) (at-find-joined .ensures)) (at-first-place .result) (omega (arith, f .0, e)) (λ h. f .1 (omega (arith, h, e))) (f .2)
+
+pub place-of-spec : {M : Type 1} → statement M
+place-of-spec = tie.close (tie.spec find-joined-requires returns first-place-requires returns-2)
