@@ -306,6 +306,38 @@ def read_types(pieces, descriptor):
     return out
 
 
+def types_of(pieces, descriptor, name):
+    return [t for names, t in read_types(pieces, descriptor) if name in names]
+
+
+def autos_counted(pieces, descriptor):
+    """Is every type of a name of the %auto lists int or range?"""
+    return all(t[0] in ('int', 'range') for n in listed(pieces, descriptor, b'%auto') for t in types_of(pieces, descriptor, n))
+
+
+def next_number(pieces, s, name):
+    """The least int above every int in the fields of a name, not below 0, that meets their types; None where there is none."""
+    there = [parse_int(v.strip(b' \t\n')) for r in s.records for v in values(pieces, r, name)]
+    there = [n for n in there if n is not None]
+    types = types_of(pieces, s.descriptor, name)
+    # the least one is 0, follows an int that is there, or begins a range
+    tried = [0] + [n + 1 for n in there] + [t[1] for t in types if t[0] == 'range']
+    fits = [n for n in tried if 0 <= n <= INT_MAX and all(n > m for m in there) and all(meets(t, b'%d' % n) for t in types)]
+    return min(fits, default=None)
+
+
+def completed(pieces, s, pairs):
+    """The pairs of an insert with the omitted names of the %auto lists before them, or No(31)."""
+    added = []
+    for name in listed(pieces, s.descriptor, b'%auto'):
+        if name not in [n for n, _ in added + pairs]:
+            number = next_number(pieces, s, name)
+            if number is None:
+                raise No(31)
+            added.append((name, b'%d' % number))
+    return added + pairs
+
+
 def ask_rules(pieces, sets, raised=0):
     described = [s for s in sets if s.descriptor]
     rules = {id(s): {n: listed(pieces, s.descriptor, b'%' + n.encode()) for n in ('mandatory', 'prohibit', 'allowed', 'unique', 'singular', 'key')} for s in described}

@@ -220,6 +220,25 @@ class Samples:
         r.shuffle(keys)
         return b'%rec: S\n%key: K\n\n' + b''.join(b'K: ' + self.laid(k) + b'\n' + b'A: 1\n' * (r.random() < .3) + b'\n' for k in keys)
 
+    def numbered(self):
+        """The rules of a set with %auto lists, its records, and the fields of an insert; each as text."""
+        r = self.random
+        ints = ['0', '-1', '-0', '3', '7', '010', '0x1F', '0XA', '08', '12', '-0x10', '2.5', 'x', '', ' 5 ', '9223372036854775806', '9223372036854775807', '9223372036854775808', '-9223372036854775808', '0x7fffffffffffffff']
+        ends = ['0', '3', '8', '0x10', '011', '100', '-5', '-0', 'MIN', 'MAX', '9223372036854775807']
+
+        def kind():
+            return r.choice(['int', 'range ' + r.choice(ends), 'range %s %s' % (r.choice(ends), r.choice(ends)), 'range 0 MAX', 'N', 'O'])
+
+        def field():
+            return r.choice(NAMES[:4]) + ': ' + r.choice(ints if r.random() < .4 else ints[:6]) + r.choice(['', '', '\n+', '\n+ 1', '\n#'])
+
+        rules = ['%auto: ' + r.choice(['Id', 'Id A', 'A\n+ B', 'B Id B', 'A', 'C Id', 'L' * 65]) for _ in range(r.choice([0, 1, 1, 1, 2, 3]))]
+        rules += ['%type: ' + r.choice(['Id', 'A', 'Id,A', 'B,Id,B']) + ' ' + kind() for _ in range(r.choice([0, 0, 1, 2, 3]))]
+        rules += ['%typedef: N ' + r.choice(['int', 'range 2 9', 'range MIN 4']), '%typedef: O N']
+        r.shuffle(rules)
+        records = [[field() for _ in range(r.randint(1, 3))] for _ in range(r.randint(0, 3))]
+        return tuple(t.encode() for t in ('\n'.join(rules) + '\n', '\n'.join('\n'.join(fs) + '\n' for fs in records), ''.join(field() + '\n' for _ in range(r.randint(1, 3)))))
+
     def entries(self, count):
         """So many entries that hold anything."""
         r = self.random

@@ -10,7 +10,7 @@ use Rattle.format.specs.Pieces.{Piece, Mode, after, seen, Reading, takeL
 use Rattle.format.specs.Records.{Record, Block, isBlankLine, fieldsOf}
 use Rattle.format.specs.Numbers.{intBounds}
 use Rattle.format.proofs.Elements.{Each, all-each, each-all}
-use Rattle.format.proofs.Lists.{each-pick}
+use Rattle.format.proofs.Lists.{each-filter}
 use Rattle.format.proofs.Lines.{Clean, lines-bytes, bytes-lines, lines-clean, ended-bytes, allowed-bytes}
 use Rattle.format.proofs.Listing.{same-true}
 use Rattle.format.proofs.Records.{close, recordsIn, records}
@@ -78,10 +78,6 @@ dense-read [] Mode.joined = tt
 dense-read (l ∷ ls) m = dense-by ls (filter notJoint ls) (dense-read ls) (isJoint l) l m refl
 
 -- the lines of the dense text are those that are left
-each-filter : {A : Type 0} (P : A → Type 0) (p : A → Bool) (xs : List A) → Each P xs → Each P (filter p xs)
-each-filter P p [] h = tt
-each-filter P p (x ∷ xs) h = each-pick P (p x) (x ∷ filter p xs) (filter p xs) (h .0, each-filter P p xs (h .1)) (each-filter P p xs (h .1))
-
 dense-lines : (s : Bytes) → lines (dense s) ≡ filter notJoint (lines s)
 unfolding dense
 dense-lines s = lines-bytes (filter notJoint (lines s)) (each-filter Clean notJoint (lines s) (lines-clean s))

@@ -49,4 +49,7 @@ pub mod Lookups
 pub mod Directories
 pub mod Sendings
 pub mod Singulars
+pub mod Digits
+pub mod Numbering
+pub mod Numberings
 pub mod Traps

@@ -6,7 +6,7 @@ use mathlib.Core.Bool.{Bool, true, false}
 use mathlib.Core.List.{List, [], _∷_, _++_, append-assoc, map}
 use mathlib.Core.Option.{Option, none, some}
 use Rattle.format.specs.Bytes.{pick, any}
-use Rattle.format.specs.Lists.{sum, flat, keep, kept, onto, cutAt, turn, at, nth, behindLast}
+use Rattle.format.specs.Lists.{sum, flat, filter, keep, kept, onto, cutAt, turn, at, nth, behindLast}
 use Rattle.format.proofs.Elements.{Each, each-append, each-parts, each-imp, any-none, Filled, Has}
 
 abbrev pub None : {A : Type 0} → (A → Bool) → List A → Type 0
@@ -66,6 +66,10 @@ module _ {A : Type 0} (P : A → Type 0) where
   pub each-pick : (b : Bool) (xs ys : List A) → Each P xs → Each P ys → Each P (pick b xs ys)
   each-pick true xs ys h k = h
   each-pick false xs ys h k = k
+
+  pub each-filter : (p : A → Bool) (xs : List A) → Each P xs → Each P (filter p xs)
+  each-filter p [] h = tt
+  each-filter p (x ∷ xs) h = each-pick (p x) (x ∷ filter p xs) (filter p xs) (h .0, each-filter p xs (h .1)) (each-filter p xs (h .1))
 
   each-turn : (b : Bool) (k : ℕ) (t : A → Bool) (f : A → List A) (x : A) (xs : List A) → (b ≡ true → Each P (f x)) → P x → Each P xs → ((j : ℕ) → Each P (at t j f xs)) → Each P (turn b k (f x ++ xs) (λ (j : ℕ). x ∷ at t j f xs))
   each-turn true zero t f x xs h p ps ih = each-append P (f x) xs (h refl) ps

@@ -12,6 +12,7 @@ pub mod Types
 pub mod Rules
 pub mod Questions
 pub mod Written
+pub mod Numbering
 pub mod Edits
 pub mod Requests
 pub mod Plain
