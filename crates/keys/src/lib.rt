@@ -20,20 +20,13 @@ use sorting::Compared;
 use sorting::Entry;
 use sorting::ends;
 
-fn narrow(x: usize) -> u32
-    requires { ⌜ x < 4294967296 ⌝ }
-    ensures { λ r. ⌜ r ≡ x ⌝ }
-{
-    x as u32
-}
-
 // The entry of the key that begins at a place.
 fn entry(s: &[u8], at: usize) -> u32
     requires { ⌜ (at < fileBytes) × (at ≤ length (now s)) ⌝ }
     ensures { λ r. ⌜ r ≡ entryOf at (valueFrom (drop at (now (s .entry)))) ⌝ }
 {
-    let p = narrow(sorting::mix(s, at, false)) / Entry::PLACES;
-    narrow(at) + Entry::PLACES * p
+    let p = sorting::narrow(sorting::mix(s, at, false)) / Entry::PLACES;
+    sorting::narrow(at) + Entry::PLACES * p
 }
 
 // What two entries stand for, compared: as values only where the numbers are equal.

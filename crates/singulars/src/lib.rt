@@ -23,13 +23,6 @@ use records::FoundField;
 use records::NextField;
 use sorting::Entry;
 
-fn narrow(x: usize) -> u32
-    requires { ⌜ x < 4294967296 ⌝ }
-    ensures { λ r. ⌜ r ≡ x ⌝ }
-{
-    x as u32
-}
-
 // The first of some places that is in a set, and their number where none is.
 fn first_place(set: u64, count: usize) -> usize
     requires { ⌜ count ≤ listWords ⌝ }
@@ -63,8 +56,8 @@ fn entry(s: &[u8], at: usize, k: usize) -> u32
     requires { ⌜ (at < fileBytes) × (k < listWords) ⌝ }
     ensures { λ r. ⌜ r ≡ entryOf at k (valueFrom (drop at (now (s .entry)))) ⌝ }
 {
-    let p = narrow(sorting::mix(s, at, false)) / Entry::TAGGED;
-    narrow(at) + Entry::PLACES * narrow(k) + Entry::TAGGED * p
+    let p = sorting::narrow(sorting::mix(s, at, false)) / Entry::TAGGED;
+    sorting::narrow(at) + Entry::PLACES * sorting::narrow(k) + Entry::TAGGED * p
 }
 
 // All fields of singular names are entered, so many; or there are more than entries.

@@ -18,6 +18,14 @@ fn wide(x: u32) -> usize
     x as usize
 }
 
+// A number of 32 bits as one: entries are made of such.
+pub fn narrow(x: usize) -> u32
+    requires { ⌜ x < 4294967296 ⌝ }
+    ensures { λ r. ⌜ r ≡ x ⌝ }
+{
+    x as u32
+}
+
 // The parts of an entry, from the lowest bits up: the place in 16; where words are sorted, a tag in 6; then bits that the text is mixed into. The upper ten name the bucket that it is sorted in.
 pub struct Entry {}
 

@@ -23,13 +23,6 @@ fn wide(x: u32) -> u64
     x as u64
 }
 
-fn narrow(x: usize) -> u32
-    requires { ⌜ x < 4294967296 ⌝ }
-    ensures { λ r. ⌜ r ≡ x ⌝ }
-{
-    x as u32
-}
-
 // Is tag k in a set?
 pub fn has(set: u64, k: u64) -> bool
     requires { ⌜ k < tags ⌝ }
@@ -63,7 +56,7 @@ fn mix_word(w: &[u8]) -> usize
 fn word_print(w: &[u8]) -> u32
     ensures { λ r. ⌜ r ≡ printOf (now (w .entry)) ⌝ }
 {
-    narrow(mix_word(w)) / Table::PRINT
+    sorting::narrow(mix_word(w)) / Table::PRINT
 }
 
 // The entry of the word at a place, with a tag.
@@ -71,8 +64,8 @@ pub fn entry(s: &[u8], at: usize, tag: u32) -> u32
     requires { ⌜ (at < fileBytes) × (tag < tags) ⌝ }
     ensures { λ r. ⌜ (r ≡ entryOf at tag (textAt true (now (s .entry)) at)) × IsEntry (now (s .entry)) r × (termAt (now (s .entry)) r ≡ record { word = textAt true (now (s .entry)) at; tag = tag }) ⌝ }
 {
-    let p = narrow(sorting::mix(s, at, true)) / Table::PRINT;
-    narrow(at) + Table::TAG * tag + Table::PRINT * p
+    let p = sorting::narrow(sorting::mix(s, at, true)) / Table::PRINT;
+    sorting::narrow(at) + Table::TAG * tag + Table::PRINT * p
 }
 
 // The word at a place compared with another.

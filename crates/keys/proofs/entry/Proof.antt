@@ -12,7 +12,7 @@ use Rattle.keys.proofs.entry.Statement.{statement}
 use Rattle.keys.proofs.entry.Tie as tie
 use Rattle.keys.proofs.entry.Reads as reads
 use Rattle.keys.proofs.entry.Lts as lts
-use Rattle.keys.proofs.narrow.Reads as narrow-reads
+use Rattle.sorting.proofs.narrow.Reads as narrow-reads
 use Rattle.sorting.proofs.mix.Reads as mix-reads
 
 mix-requires : tie.Need-mix-requires

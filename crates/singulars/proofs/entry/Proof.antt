@@ -12,7 +12,7 @@ use Rattle.singulars.proofs.entry.Statement.{statement}
 use Rattle.singulars.proofs.entry.Tie as tie
 use Rattle.singulars.proofs.entry.Reads as reads
 use Rattle.singulars.proofs.entry.Lts as lts
-use Rattle.singulars.proofs.narrow.Reads as narrow-reads
+use Rattle.sorting.proofs.narrow.Reads as narrow-reads
 use Rattle.sorting.proofs.mix.Reads as mix-reads
 
 mix-requires : tie.Need-mix-requires
@@ -48,7 +48,7 @@ returns c =
     let at-narrow2 = c .before .narrow2 in
     let at-narrow3 = c .narrow3 in
     let p : at-narrow .result / 4194304 ≡ mixed 2166136261 (valueFrom (drop (at-args .at) (at-args .s .now))) / 4194304 = ap (λ (z : ℕ). z / 4194304) (at-narrow .ensures ∙ at-mix .ensures .0 ∙ ap (mixed 2166136261) (text-whole (at-args .s .now) (at-args .at))) in
-  omega (arith, p, at-narrow2 .ensures, at-narrow3 .ensures)
+    omega (arith, p, at-narrow2 .ensures, at-narrow3 .ensures)
 
 pub entry-spec : {M : Type 1} → statement M
 entry-spec =

@@ -12,7 +12,7 @@ use Rattle.terms.proofs.entry.Tie as tie
 use Rattle.terms.proofs.entry.Reads as reads
 use Rattle.terms.proofs.entry.Lts as lts
 use Rattle.sorting.proofs.mix.Reads as mix-reads
-use Rattle.terms.proofs.narrow.Reads as narrow-reads
+use Rattle.sorting.proofs.narrow.Reads as narrow-reads
 
 mix-requires : tie.Need-mix-requires
 mix-requires c κs = search needs

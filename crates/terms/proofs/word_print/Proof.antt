@@ -8,7 +8,7 @@ use Rattle.terms.proofs.word_print.Tie as tie
 use Rattle.terms.proofs.word_print.Reads as reads
 use Rattle.terms.proofs.word_print.Lts as lts
 use Rattle.terms.proofs.mix_word.Reads as mix-word-reads
-use Rattle.terms.proofs.narrow.Reads as narrow-reads
+use Rattle.sorting.proofs.narrow.Reads as narrow-reads
 
 mix-word-requires : tie.Need-mix-word-requires
 mix-word-requires c κs = search needs
