@@ -3,7 +3,7 @@
 
 Makes its files in target/bench, builds bench/time.c over target/staticlib/librecfile.a (made by `rt staticlib recfile`) and bench/librec.c
 over librec, and prints times and ratios, in processes and in memory; growth and instructions of the check and of each edit; instructions of
-a directory's calls and of a run of requests; the peak stack of each call; and the check of every file of bench/shapes.py, the slowest last. Times are the best of several runs on both sides. Where a
+a directory's calls, of a run of requests and of inserts that are numbered; the peak stack of each call; and the check of every file of bench/shapes.py, the slowest last. Times are the best of several runs on both sides. Where a
 figure has a limit, it stands beside it.
 """
 import os
@@ -23,6 +23,9 @@ EDITS = ('insert', 'delete', 'add', 'set', 'drop', 'rename')
 GROWTH, EDIT, KEYS, STACK, WORST = 8.5, 2.2, 1.5, 163840, 25
 FILL, LISTED = 1.3, 1.15
 REQUESTS, RUN = 64, 0.6
+NUMBERED = 1.5
+# instructions a byte of the check before `%auto` was known, and how much more a file without it may take
+UNNUMBERED, SPARED = {'book 64 KB': 57.5, 'keys 64 KB': 72.0}, 1.02
 LONG_KEYS = {'keys with a common front': True, 'keys with a common end': False}
 FASTER = {'book 1 KB': 150, 'book 8 KB': 250, 'book 64 KB': 700}
 
@@ -144,8 +147,9 @@ def counted(files):
         print('instructions: valgrind is not here\n')
         return
     a_byte = {name: instructions(files[name][0], 'check') / files[name][1] for name in ('book 64 KB', 'keys 64 KB', *LONG_KEYS)}
-    for name in ('book 64 KB', 'keys 64 KB'):
-        print('instructions, check, %s: %.1f a byte' % (name, a_byte[name]))
+    for name, before in UNNUMBERED.items():
+        ratio = a_byte[name] / before
+        print('instructions, check, %s: %.1f a byte, %.3f times those without a look for `%%auto` (at most %.2f): %s' % (name, a_byte[name], ratio, SPARED, verdict(ratio <= SPARED)), flush=True)
     for name in LONG_KEYS:
         ratio = a_byte[name] / a_byte['book 64 KB']
         print('instructions, check, %s: %.1f a byte, %.2f times the book (at most %.1f): %s' % (name, a_byte[name], ratio, KEYS, verdict(ratio <= KEYS)), flush=True)
@@ -181,6 +185,16 @@ def sendings(path):
     print('instructions, %d inserts in one run: %.2f times those of as many single ones (at most %.1f): %s\n' % (REQUESTS, ratio, RUN, verdict(ratio <= RUN)), flush=True)
 
 
+def numberings(files):
+    """Instructions of an insert that gets 64 numbers as many times those of one that has them."""
+    if not shutil.which('valgrind'):
+        return
+    for name, path in files.items():
+        ratio = instructions(path, 'insert-omitting') / instructions(path, 'insert-naming')
+        print('instructions, an insert that gets 64 numbers, %s: %.2f times those of one that has them (at most %.1f): %s' % (name, ratio, NUMBERED, verdict(ratio <= NUMBERED)), flush=True)
+    print()
+
+
 def stack(paths):
     """The peak stack of each call on any of some files."""
     deepest = {}
@@ -206,6 +220,10 @@ def slow_shapes(book):
     for name in sorted(ratios, key=ratios.get)[-5:]:
         ratios[name] = ours(paths[name], 'check') / base
         print('again, %-57s %s %9.2f times the book' % (name + ':', ' ' * 26, ratios[name]), flush=True)
+    insert = ours(book, 'insert')
+    slowest = {name: ours(paths[name], 'insert-omitting') / insert for name in shapes.autos()}
+    worst = max(slowest, key=slowest.get)
+    print('an insert that is numbered: %.2f times an insert into the 64 KB book (%s) (at most %d): %s' % (slowest[worst], worst, WORST, verdict(slowest[worst] <= WORST)), flush=True)
     print('\nstack, check of any shape: %d bytes (at most %d): %s' % (deepest, STACK, verdict(deepest <= STACK)))
     worst = max(ratios, key=ratios.get)
     print('worst: %.2f times the check of the 64 KB book (%s) (at most %d): %s' % (ratios[worst], worst, WORST, verdict(ratios[worst] <= WORST)))
@@ -228,7 +246,9 @@ def main():
     directories({**files, 'sets 64 KB': (kept('sets', text), len(text), 64)})
     room = REQUESTS * len(b'\nId: 999900\nPage: front\n')
     sendings(kept('book with room', shapes.book(shapes.LIMIT - room)[0]))
-    stack([files['book 64 KB'][0], kept('aliases', shapes.aliases())])
+    numbered = {name: kept('numbered ' + name, shapes.numbered(shapes.LIMIT - shapes.INSERTED, there)) for name, there in (('they are in each record', True), ('they are in none', False))}
+    numberings(numbered)
+    stack([files['book 64 KB'][0], kept('aliases', shapes.aliases()), *numbered.values(), *(kept(name, text) for name, text in shapes.autos().items())])
     slow_shapes(files['book 64 KB'][0])
 
 

@@ -46,9 +46,9 @@ def keyed(keys, head=HEAD + b'%key: K\n'):
     return filled(head + b'\n', lambda n: b'K: ' + keys[n - 1] + b'\n\n' if n <= len(keys) else bytes(LIMIT))[0]
 
 
-def full(head, lines, each=200):
+def full(head, lines, each=200, limit=LIMIT):
     """A descriptor, then records of some fields each, the lines again and again, as many whole records as fit."""
-    return filled(head + b'\n', lambda n: b''.join(lines[i % len(lines)] for i in range(each * (n - 1), each * n)) + b'\n')[0]
+    return filled(head + b'\n', lambda n: b''.join(lines[i % len(lines)] for i in range(each * (n - 1), each * n)) + b'\n', limit)[0]
 
 
 M, SIZE = 2654435761, 1 << 32
@@ -284,6 +284,50 @@ def singulars():
     }
 
 
+NUMBERED = [b'N%02d' % k for k in range(64)]
+INSERTED = 6144     # the most that an insert into a shape of `%auto` names writes
+
+
+def numbered(limit, there):
+    """The book with 64 `%auto` names; they are there in each record, or in none."""
+    fields = b''.join(n + b': %d\n' for n in NUMBERED) if there else b''
+    return filled(HEAD + lists(NUMBERED, b'auto') + types(b','.join(NUMBERED), [b'int']) + b'\n', lambda n: b'Page: front\n' + fields.replace(b'%d', b'%d' % n) + b'\n', limit)[0]
+
+
+def autos():
+    """Shapes of `%auto` names, with room for an insert into the set that gets all their numbers."""
+    words, common, crafted = PAIRS[:64], [b'N' * 62 + pair for pair in PAIRS[:60]], alike(60, 10, b'N' * 60)
+    many = b','.join(PAIRS[:600])
+
+    def counted(names, kinds, lines, each=200, head=b''):
+        return full(HEAD + head + lists(names, b'auto') + (types(b','.join(names), kinds) if kinds else b''), lines, each, LIMIT - INSERTED)
+
+    def fives(names):
+        return [n + b': 5\n' for n in names]
+
+    return {
+        '64 auto names in each record': counted(words, [b'int'], fives(words), 64),
+        '64 auto names without a type': counted(words, [], fives(words), 64),
+        '64 auto names, none in a record': counted(words, [b'int'], [b'zz:\n'], 1),
+        'all fields of one auto name': counted([b'A'], [b'int'], [b'A: 5\n'], 256),
+        'one auto name 64 times': counted([b'A'] * 64, [], [b'A: 5\n'], 1),
+        '64 auto names in lists of one each': counted(words[63:], [], fives(words), 64, b''.join(lists([w], b'auto') for w in words[:63])),
+        'auto names of 64 bytes with a common front': counted(common, [b'int'], fives(common), 60),
+        'auto names of 64 bytes of one fingerprint': counted(crafted, [b'int'], fives(crafted), 60),
+        'auto names of one fingerprint': counted(alike(64, 10), [b'int'], fives(alike(128, 10)), 64),
+        'auto names of 32 ranges': counted(words, [b'range 0 MAX'] * 32, fives(words), 64),
+        'auto names of 14 types of 600 names': counted(words, [], [b'zz:\n'], 1, types(many, [b'int'] * 14)),
+        'auto names behind 31 aliases': counted(words, [b'T0'] * 32, fives(words), 64, chain(b'range 0 MAX')),
+        'auto values of 4,000 digits': counted([b'A'], [b'int'], [b'A: ' + b'0' * 4000 + b'7\n'], 1),
+        'auto values that are no ints': counted([b'A'], [], [b'A: ' + b'1' * 200 + b'x\n'], 1),
+        'auto values behind joints': counted([b'A'], [b'int'], [b'A: ' + joints(400) + b'5\n'], 10),
+        'joints in an auto name': counted([b'A' + joints(50000) + b'B'], [], [b'AB: 5\n']),
+        'joints in 64 auto names': counted([p[:1] + joints(840) + p[1:] for p in words], [], fives(words), 64),
+        'a joint behind each byte of 15 auto names': counted([b'\\\n'.join(n[i:i + 1] for i in range(64)) for n in common[:15]], [], fives(common), 20),
+        '64 sets of 64 auto names': b''.join(b'%%rec: S%d\n' % i + lists(words, b'auto') + types(b','.join(words), [b'int']) + b'\n' for i in range(63)) + counted(words, [b'int'], fives(words), 64)[:30000].rsplit(b'\n\n', 1)[0] + b'\n',
+    }
+
+
 def sets():
     """Shapes of many descriptors."""
     def each(descriptor, records, count=64):
@@ -369,4 +413,4 @@ def joined():
 
 def shapes():
     """All of them by name."""
-    return {**keys(), **singulars(), **enums(), **names(), **listed(), **kinds(), **sets(), **lines(), **joined()}
+    return {**keys(), **singulars(), **autos(), **enums(), **names(), **listed(), **kinds(), **sets(), **lines(), **joined()}

@@ -1,6 +1,7 @@
 /* Times one call of the library on a file: `time FILE CALL`, where CALL is check, fetch, fill, count-at, one of the six edits
- * (insert, delete, add, set, drop, rename), insert-listed or set-listed, the same with a directory, or inserts-singly or
- * inserts-run, 64 inserts in as many calls and in one. Prints nanoseconds a call, the best of several rounds, and the number that
+ * (insert, delete, add, set, drop, rename), insert-listed or set-listed, the same with a directory, inserts-singly or
+ * inserts-run, 64 inserts in as many calls and in one, or insert-omitting or insert-naming, an insert without the names N00 to N63
+ * and one with them. Prints nanoseconds a call, the best of several rounds, and the number that
  * the call gave, of inserts the first that was not 0. An edit is timed on a fresh copy of the file each time, the copy not
  * counted; count-at asks for the last set. `time FILE CALL N` makes N calls and prints the number, for a counter of instructions.
  * `time FILE stack` prints the peak stack of each call in bytes, `time FILE depth` that of the check. */
@@ -14,7 +15,7 @@
 
 #define ENTRIES (RECFILE_MAX_DESCRIPTORS + 1)
 
-static uint8_t file[ROOM], work[ROOM], request[512], run[RECFILE_MAX_REQUESTS * 64], out[4096];
+static uint8_t file[ROOM], work[ROOM], request[4096], run[RECFILE_MAX_REQUESTS * 64], out[4096];
 static recfile_entry entries[ENTRIES];
 static uint32_t answers[RECFILE_MAX_REQUESTS];
 static size_t run_len;
@@ -55,6 +56,26 @@ static void insert_of(const char *id)
 }
 
 static void insert_request(void) { insert_of("999999"); }
+
+/* An insert of a page alone, and of the names of an %auto list behind it. */
+static void omitting_request(void)
+{
+    begin("\1");
+    field(4, "Page", 4);
+    field(6, "front", 5);
+}
+
+static void naming_request(void)
+{
+    char name[] = "N00";
+    omitting_request();
+    for (int i = 0; i < RECFILE_MAX_WORDS; i++) {
+        name[1] = (char)('0' + i / 10);
+        name[2] = (char)('0' + i % 10);
+        field(4, name, 3);
+        field(6, "7", 1);
+    }
+}
 
 /* As many inserts as a run may have, with keys of their own. */
 static void inserts_request(void)
@@ -159,6 +180,7 @@ static const struct call {
     {"insert", insert_request, edit}, {"delete", delete_request, edit}, {"add", add_request, edit}, {"set", set_request, edit},
     {"drop", drop_request, edit}, {"rename", rename_request, edit},
     {"fill", NULL, fill}, {"count-at", NULL, count_at}, {"insert-listed", insert_request, edit_listed}, {"set-listed", set_request, edit_listed},
+    {"insert-omitting", omitting_request, edit}, {"insert-naming", naming_request, edit},
     {"inserts-singly", inserts_request, inserts_singly}, {"inserts-run", inserts_request, inserts_run},
 };
 

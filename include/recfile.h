@@ -18,7 +18,7 @@
  * - A pointer to bytes or to entries may be NULL where its length is 0. `number` and `start` are never NULL: they point to a
  *   uint32_t and a size_t, aligned, writable and readable.
  * - What a call writes overlaps nothing else that it is given: an `out` that lies over `buf` overwrites the file.
- * - The stack has room. A call takes at most 160 KiB (163,840 bytes), as measured by bench/run.py.
+ * - The stack has room. An edit takes at most 172 KiB, every other call 160 KiB, as measured by bench/run.py.
  *
  * What the caller can rely on: no call allocates, keeps anything between calls, or reads or writes outside the buffers it is
  * given and its own stack. So calls may run at once, in threads or one interrupting another, as long as none of them writes what
@@ -36,9 +36,9 @@
 
 /* The version of this header. An archive made of the same sources belongs to it. */
 #define RECFILE_VERSION_MAJOR 1
-#define RECFILE_VERSION_MINOR 3
+#define RECFILE_VERSION_MINOR 4
 #define RECFILE_VERSION_PATCH 0
-#define RECFILE_VERSION "1.3.0"
+#define RECFILE_VERSION "1.4.0"
 
 #ifdef __cplusplus
 extern "C" {
@@ -55,7 +55,8 @@ enum recfile_refusal {
     RECFILE_REFUSED_LIMIT = 4,        /* a limit below is passed */
     RECFILE_REFUSED_REC = 5,          /* a record with a % name has no %rec, or several */
     RECFILE_REFUSED_DESCRIPTOR = 6,   /* a descriptor is not well formed, or two sets have one name */
-    RECFILE_REFUSED_TYPE = 7,         /* a %typedef or %type is not well formed, or a type is missing or defined in a loop */
+    RECFILE_REFUSED_TYPE = 7,         /* a %typedef or %type is not well formed, a type is missing or defined in a loop, or a name
+                                         of an %auto list has a type that is neither int nor range */
     RECFILE_REFUSED_PROHIBITED = 8,   /* a prohibited name */
     RECFILE_REFUSED_NOT_ALLOWED = 9,  /* a name that is not allowed */
     RECFILE_REFUSED_MISSING = 10,     /* a mandatory name or the key is missing */
@@ -72,6 +73,7 @@ enum recfile_refusal {
     RECFILE_REFUSED_NO_FIELD = 23,    /* no such name or occurrence */
     RECFILE_REFUSED_EMPTIED = 24,     /* a record would be left without a field */
     RECFILE_REFUSED_ILLEGAL = 25,     /* a new name or value is not legal */
+    RECFILE_REFUSED_NUMBERLESS = 31,  /* no number is left for a name of an %auto list that an insert omits; asked between 25 and 26 */
     RECFILE_REFUSED_LARGE = 26,       /* the result is longer than the buffer or than RECFILE_MAX_FILE */
     RECFILE_REFUSED_ROOM = 27,        /* the text is longer than the buffer it is to be put into */
     RECFILE_REFUSED_LIST = 28,        /* the list has fewer entries than the file has sets */
@@ -80,7 +82,8 @@ enum recfile_refusal {
 
     /* the questions of the result, raised by RECFILE_REFUSED_RESULT */
     RECFILE_REFUSED_RESULT = 100,
-    RECFILE_REFUSED_RESULT_LIMIT = 104,   /* more than RECFILE_MAX_FIELDS fields in a record */
+    RECFILE_REFUSED_RESULT_LIMIT = 104,   /* more than RECFILE_MAX_FIELDS fields in a record, or an added %auto name that is longer
+                                             than RECFILE_MAX_NAME */
     RECFILE_REFUSED_RESULT_PROHIBITED = 108,
     RECFILE_REFUSED_RESULT_NOT_ALLOWED = 109,
     RECFILE_REFUSED_RESULT_MISSING = 110,
@@ -100,7 +103,8 @@ enum recfile_limit {
     RECFILE_MAX_DESCRIPTORS = 64,     /* descriptors of a file */
     RECFILE_MAX_TYPEDEFS = 32,        /* %typedef fields of a descriptor */
     RECFILE_MAX_TYPES = 32,           /* %type fields of a descriptor */
-    RECFILE_MAX_WORDS = 64,           /* words in all %mandatory fields of a descriptor; %prohibit, %allowed, %unique and %singular likewise */
+    RECFILE_MAX_WORDS = 64,           /* words in all %mandatory fields of a descriptor; %prohibit, %allowed, %unique, %singular
+                                         and %auto likewise */
     RECFILE_MAX_CONTENTS = 65535,     /* bytes of the contents of a request's field */
     RECFILE_MAX_REQUESTS = 64         /* requests of a run */
 };
@@ -160,13 +164,18 @@ size_t recfile_view(const uint8_t *buf, size_t len, size_t used,
 size_t recfile_request_field(uint8_t *request, size_t len, size_t at,
                              uint8_t tag, const uint8_t *contents, size_t contents_len);
 
-/* Puts the text of an insert request's record at the front of `out` and returns its length; the bytes of `out` behind it stay.
+/* Puts the text of an insert request's record at the front of `out` and returns its length; the bytes of `out` behind it stay. It
+ * knows no file, so it adds no %auto name.
  * Refused (20, 25, 26, 104, 27, asked in this order): returns 0, and `out` stays as it is. */
 size_t recfile_write(const uint8_t *request, size_t request_len,
                      uint8_t *out, size_t out_len, uint32_t *number);
 
 /* Carries out one request on the file and returns the file's new length; the bytes from there to the old length become 0, the
- * ones behind stay. Refused (1 to 14, 30, 20 to 26, 104, 108 to 114, 130): returns `used`, and the buffer stays as it is. */
+ * ones behind stay. Refused (1 to 14, 30, 20 to 25, 31, 26, 104, 108 to 114, 130): returns `used`, and the buffer stays as it is.
+ *
+ * An insert need not have the names of the set's %auto lists. Each that it omits is added in front of its own fields, once and in
+ * the order of the lists, with a number in decimal: the least one from 0 on that is above every int in the fields of that name in
+ * the set and that meets the name's types. The caller reads it with recfile_fetch or recfile_view, as the set's last record. */
 size_t recfile_edit(uint8_t *buf, size_t len, size_t used,
                     const uint8_t *request, size_t request_len, uint32_t *number);
 
@@ -202,7 +211,7 @@ size_t recfile_fill(const uint8_t *buf, size_t len, size_t used,
 
 /* recfile_edit, with a directory. Refused (1 to 14, 30, 28): returns `used`, and neither the buffer nor the list is changed. Else it
  * does and returns what recfile_edit does, refusals included, and then puts the entries of the file as it stands at the front of
- * the list, as recfile_fill would: after a refusal (20 to 26, 104, 108 to 114, 130) those of the file that was there. */
+ * the list, as recfile_fill would: after a refusal (20 to 26, 31, 104, 108 to 114, 130) those of the file that was there. */
 size_t recfile_edit_listed(uint8_t *buf, size_t len, size_t used,
                            const uint8_t *request, size_t request_len,
                            recfile_entry *entries, size_t entries_len, uint32_t *number);

@@ -1,9 +1,9 @@
-/* Files a scan in the receipt book on standard input, looks it up and prints its record, and then sends two requests in one call; a directory of
- * the book's sets is kept beside it.
+/* Files a scan in the book on standard input, which gives it an Id, looks that up and prints the record, and then sends two requests in one call; a
+ * directory of the book's sets is kept beside it.
  *
  *   rt staticlib recfile
  *   cc -O2 -Iinclude examples/c/scan.c target/staticlib/librecfile.a -o target/scan
- *   target/scan < samples/receipts.rec
+ *   target/scan < samples/numbered.rec
  */
 #include <recfile.h>
 #include <stdio.h>
@@ -18,15 +18,17 @@ static size_t text(uint8_t *request, size_t len, size_t at, uint8_t tag, const c
     return recfile_request_field(request, len, at, tag, (const uint8_t *)contents, strlen(contents));
 }
 
-/* An insert of a scan; its length, more than `len` where it does not fit. */
+/* An insert of a scan; its length, more than `len` where it does not fit. Without an Id, NULL, the scan gets the next one, as the book's %auto says. */
 static size_t scan(uint8_t *request, size_t len, const char *id, const char *page)
 {
     const uint8_t insert = RECFILE_KIND_INSERT;
     size_t at = recfile_request_field(request, len, 0, RECFILE_TAG_KIND, &insert, 1);
 
     at = text(request, len, at, RECFILE_TAG_SET, "Scan");
-    at = text(request, len, at, RECFILE_TAG_NAME, "Id");
-    at = text(request, len, at, RECFILE_TAG_VALUE, id);
+    if (id != NULL) {
+        at = text(request, len, at, RECFILE_TAG_NAME, "Id");
+        at = text(request, len, at, RECFILE_TAG_VALUE, id);
+    }
     at = text(request, len, at, RECFILE_TAG_NAME, "Page");
     return text(request, len, at, RECFILE_TAG_VALUE, page);
 }
@@ -51,7 +53,8 @@ int main(void)
 {
     const uint8_t *set = (const uint8_t *)"Scan";
     size_t used = fread(book, 1, sizeof book, stdin);
-    uint8_t request[256], next[256], run[520], value[64];
+    uint8_t request[256], run[520];
+    char id[64];
     uint32_t number, answers[2];
     size_t at, sets, count, start, len;
 
@@ -62,7 +65,7 @@ int main(void)
     if (refused("fill", number))
         return 1;
 
-    at = scan(request, sizeof request, "2", "front");
+    at = scan(request, sizeof request, NULL, "front");
     if (at > sizeof request) {
         printf("the request is too long\n");
         return 1;
@@ -82,27 +85,28 @@ int main(void)
         return 1;
     printf("in the directory of %zu sets: %zu\n", sets, count);
 
-    len = recfile_fetch(book, sizeof book, used, set, 4, count - 1, (const uint8_t *)"Page", 4, 0, value, sizeof value, &number);
+    len = recfile_fetch(book, sizeof book, used, set, 4, count - 1, (const uint8_t *)"Id", 2, 0, (uint8_t *)id, sizeof id - 1, &number);
     if (refused("fetch", number))
         return 1;
-    printf("the last one's page: %.*s\n", (int)len, (const char *)value);
+    id[len] = '\0';
+    printf("the last one's Id: %s\n", id);
 
     len = recfile_view(book, sizeof book, used, set, 4, count - 1, &start, &number);
     if (refused("view", number))
         return 1;
     fwrite(book + start, 1, len, stdout);
 
-    /* two requests in one call: the same scan again, whose key is there (RECFILE_REFUSED_RESULT_KEY), and another */
+    /* two requests in one call: the same scan again, which gets the next Id, and one with the Id that is there (RECFILE_REFUSED_RESULT_KEY) */
     len = append(run, 0, request, at);
-    at = scan(next, sizeof next, "3", "back");
-    if (at > sizeof next) {
+    at = scan(request, sizeof request, id, "back");
+    if (at > sizeof request) {
         printf("the request is too long\n");
         return 1;
     }
-    len = append(run, len, next, at);
+    len = append(run, len, request, at);
     used = recfile_edit_run(book, sizeof book, used, run, len, answers, 2, &number);
     if (refused("edit_run", number))
         return 1;
-    printf("the same scan again, and another: %u and %u, %zu bytes\n", (unsigned)answers[0], (unsigned)answers[1], used);
+    printf("the same scan again, and one with its Id: %u and %u, %zu bytes\n", (unsigned)answers[0], (unsigned)answers[1], used);
     return 0;
 }

@@ -483,7 +483,9 @@ static void files(void)
         { RECFILE_REFUSED_LINE, "Page front\n" },
         { RECFILE_REFUSED_REC, "%key: Id\n" },
         { RECFILE_REFUSED_DESCRIPTOR, "%rec: Scan\n%key: Id Page\n" },
+        { RECFILE_REFUSED_DESCRIPTOR, "%rec: Scan\n%auto: Id %Page\n" },
         { RECFILE_REFUSED_TYPE, "%rec: Scan\n%typedef: T U\n%typedef: U T\n" },
+        { RECFILE_REFUSED_TYPE, "%rec: Scan\n%auto: Id\n%typedef: T real\n%type: Id T\n" },
         { RECFILE_REFUSED_PROHIBITED, "%rec: Scan\n%prohibit: Draft\n\nDraft: yes\n" },
         { RECFILE_REFUSED_NOT_ALLOWED, "%rec: Scan\n%allowed: Id\n\nPage: 1\n" },
         { RECFILE_REFUSED_MISSING, "%rec: Scan\n%key: Id\n\nPage: 1\n" },
@@ -493,7 +495,7 @@ static void files(void)
         { RECFILE_REFUSED_SIZE, "%rec: Scan\n%size: 1\n" },
         { RECFILE_REFUSED_SINGULAR, "%rec: Scan\n%singular: Id\n\nId: 1\nId: 1\n" },
     };
-    static const char *const lists[] = { "%rec: S\n%mandatory:", "%rec: S\n%prohibit:", "%rec: S\n%allowed:", "%rec: S\n%unique:", "%rec: S\n%singular:" };
+    static const char *const lists[] = { "%rec: S\n%mandatory:", "%rec: S\n%prohibit:", "%rec: S\n%allowed:", "%rec: S\n%unique:", "%rec: S\n%singular:", "%rec: S\n%auto:" };
     struct list list = { 0, 0, NULL };
     size_t i;
     char *text;
@@ -971,6 +973,79 @@ static void directories(void)
     free(all);
 }
 
+/* Inserts that omit names of %auto lists. */
+static void numbers(void)
+{
+    static const char tape[] = "%rec: Scan\n%key: Id\n%auto: Id\n%type: Id range 9\n\nId: 8\nPage: a\n", spent[] = "%rec: Scan\n%auto: Id\n%type: Id range 9\n\nId: 9\n";
+    static const char lists[] = "A: 5\n\n%rec: S\n%auto: B A\n%auto: C B\n\nA: 0x1F\nC: x\n\n%rec: T\n%auto: A\n%prohibit: A\n";
+    static const recfile_entry none[] = { { 0, 0, 0 }, { 0, 1, sizeof spent - 1 } }, one[] = { { 0, 0, 0 }, { 0, 2, sizeof tape - 1 + 15 } };
+    static const uint32_t told[] = { RECFILE_ACCEPTED, RECFILE_REFUSED_NUMBERLESS, RECFILE_ACCEPTED };
+    char *name = many("%rec: S\n%auto: ", "N", RECFILE_MAX_NAME, "\n"), *long_name = many("%rec: S\n%auto: ", "N", RECFILE_MAX_NAME + 1, "\n");
+    char *named_after = malloc(strlen(name) + RECFILE_MAX_NAME + 16), *filled_up = many("%rec: S\n%auto: Id\n\nId: 0\n", "A: 1\n", RECFILE_MAX_FIELDS - 1, "");
+    size_t len = sizeof tape - 1, i;
+
+    if (named_after == NULL)
+        exit(2);
+
+    /* the number, and a buffer that is just long enough for it */
+    insert("Scan", "Page", "p");
+    accepted(tape, len + 15, "%rec: Scan\n%key: Id\n%auto: Id\n%type: Id range 9\n\nId: 8\nPage: a\n\nId: 9\nPage: p\n");
+    accepted(tape, len + 99, "%rec: Scan\n%key: Id\n%auto: Id\n%type: Id range 9\n\nId: 8\nPage: a\n\nId: 9\nPage: p\n");
+    refused(tape, len + 14, RECFILE_REFUSED_LARGE);
+    refused(tape, len, RECFILE_REFUSED_LARGE);
+    accepted_listed(tape, "%rec: Scan\n%key: Id\n%auto: Id\n%type: Id range 9\n\nId: 8\nPage: a\n\nId: 9\nPage: p\n", 2, one);
+    written(request, end, 8, RECFILE_ACCEPTED, "Page: p\n", 8);
+
+    /* none is left: behind 25, before 26, and never where the insert has the name */
+    refused(spent, sizeof spent + 99, RECFILE_REFUSED_NUMBERLESS);
+    refused(spent, sizeof spent - 1, RECFILE_REFUSED_NUMBERLESS);
+    refused_listed(spent, sizeof spent - 1, 2, none, RECFILE_REFUSED_NUMBERLESS);
+    insert("Scan", "Page", "p\\");
+    refused(spent, sizeof spent + 99, RECFILE_REFUSED_ILLEGAL);
+    insert("Scan", "Id", "3");
+    accepted(spent, sizeof spent + 99, "%rec: Scan\n%auto: Id\n%type: Id range 9\n\nId: 9\n\nId: 3\n");
+    refused(spent, sizeof spent - 1, RECFILE_REFUSED_LARGE);
+
+    /* several names, in the order of the lists, each once */
+    insert("S", "D", "d");
+    accepted(lists, sizeof lists + 99, "A: 5\n\n%rec: S\n%auto: B A\n%auto: C B\n\nA: 0x1F\nC: x\n\nB: 0\nA: 32\nC: 0\nD: d\n\n%rec: T\n%auto: A\n%prohibit: A\n");
+    insert("S", "A", "");
+    accepted(lists, sizeof lists + 99, "A: 5\n\n%rec: S\n%auto: B A\n%auto: C B\n\nA: 0x1F\nC: x\n\nB: 0\nC: 0\nA: \n\n%rec: T\n%auto: A\n%prohibit: A\n");
+    insert("", "D", "d");
+    accepted(lists, sizeof lists + 99, "A: 5\n\nD: d\n\n%rec: S\n%auto: B A\n%auto: C B\n\nA: 0x1F\nC: x\n\n%rec: T\n%auto: A\n%prohibit: A\n");
+    insert("T", "D", "d");
+    refused(lists, sizeof lists + 99, RECFILE_REFUSED_RESULT_PROHIBITED);
+
+    /* an added name at the limit, and as many fields as a record may have */
+    insert("S", "A", "1");
+    sprintf(named_after, "%s\n%.*s: 0\nA: 1\n", name, RECFILE_MAX_NAME, name + strlen("%rec: S\n%auto: "));
+    accepted(name, strlen(named_after), named_after);
+    refused(name, strlen(named_after) - 1, RECFILE_REFUSED_LARGE);
+    refused(long_name, strlen(named_after) + 2, RECFILE_REFUSED_RESULT_LIMIT);
+    refused(long_name, strlen(named_after) + 1, RECFILE_REFUSED_LARGE);
+    begin(RECFILE_KIND_INSERT, "S");
+    for (i = 0; i < RECFILE_MAX_FIELDS; i++) {
+        if (i == RECFILE_MAX_FIELDS - 1)
+            accepted("%rec: S\n%auto: Id\n", strlen(filled_up), filled_up);
+        text(RECFILE_TAG_NAME, "A");
+        text(RECFILE_TAG_VALUE, "1");
+    }
+    refused("%rec: S\n%auto: Id\n", 2 * strlen(filled_up), RECFILE_REFUSED_RESULT_LIMIT);
+
+    /* in a run each has the number above what the one before left */
+    run_end = 0;
+    insert("Scan", "Page", "p");
+    next();
+    next();
+    delete("Scan", 0);
+    next();
+    sent(tape, (struct sending){ 15, len, 3, len + 15 }, run, run_end, RECFILE_ACCEPTED, told, 3, "%rec: Scan\n%key: Id\n%auto: Id\n%type: Id range 9\n\n\nId: 9\nPage: p\n", len + 1);
+    free(name);
+    free(long_name);
+    free(named_after);
+    free(filled_up);
+}
+
 /* An edit without the list leaves it out of date; the next one with it, refused or not, or the next filling makes it right. */
 static void out_of_date(void)
 {
@@ -1014,6 +1089,7 @@ int main(int argc, char **argv)
         edits();
         runs();
         directories();
+        numbers();
         out_of_date();
     }
     printf("%u answers, %u wrong\n", answers, wrong);

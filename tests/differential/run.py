@@ -4,7 +4,7 @@
 Usage: python3 tests/differential/run.py [SEED [ROUNDS]]     (after `rt staticlib recfile`; needs cc; recutils if it is installed)
 
 Random, damaged and limit-sized files, such with many types, names and symbols, such with runs of joints, such with keys of one fingerprint in several lines, and such of many sets with comments and blank lines anywhere; every call on each of them;
-requests built field by field; lists of edits with other bytes behind the file, some of them given a directory of its sets, and runs of requests among them. It prints how many answers were compared and stops at the first that differs,
+requests built field by field; lists of edits with other bytes behind the file, some of them given a directory of its sets, and runs of requests among them; inserts that omit names of %auto lists. It prints how many answers were compared and stops at the first that differs,
 showing what was asked.
 """
 import ctypes
@@ -251,11 +251,38 @@ class Tests:
             self.edits(text + bytes(90), len(text), 1)
 
     def chosen(self):
-        """Files about the ends of int and about singular names, and an edit of each."""
-        for runs in (*samples.int_ends(), *samples.singulars()):
+        """Files about the ends of int, about singular names and about %auto lists, and an edit of each."""
+        for runs in (*samples.int_ends(), *samples.singulars(), *samples.autos()):
             text = frames.whole(runs)
             self.compare('check', text, len(text))
             self.edits(text + bytes(90), len(text), 1)
+
+    def numberings(self, rounds):
+        """Inserts that omit names of %auto lists, into a file of a set with such lists: singly, with its directory, in a run, and other edits between them."""
+        r = self.random
+        for _ in range(rounds):
+            text, requests = self.samples.numbering(8)
+            while recfile.check(text, len(text)) != 0 and r.random() < .9:
+                text, requests = self.samples.numbering(8)
+            buf, used = text + bytes(r.randrange(256) for _ in range(r.choice([0, 20, 60, 500, 500]))), len(text)
+            entries = self.directory(buf, used)
+            for request in requests[:3]:
+                _, used, buf = self.compare('edit', buf, used, request)
+            _, used, buf, entries = self.compare('edit_listed', buf, used, requests[3], entries)
+            _, used, buf = self.compare('edit', buf, used, self.samples.request([b'T']))
+            self.compare('edit_run', buf, used, *self.run(requests[4:]))
+
+    def full_lists(self):
+        """Inserts that get the numbers of 64 names, and 256 fields with them and one more; in a buffer that is long enough and in one that is a byte too short."""
+        names = [b'N%d' % k for k in range(64)]
+        for lists in (names, names[:63] + [b'L' * 64], names[:63] + [b'L' * 65], names[:32] * 2):
+            text = b'%rec: S\n%auto: ' + b' '.join(lists) + b'\n%type: ' + b','.join(lists) + b' range 7 MAX\n'
+            for count in (1, 191, 192, 193, 223, 224, 225, 256):
+                for given in (0, 1, 64):
+                    request = edits.insert(b'S', *((n, b'70') for n in names[:given]), *[(b'A', b'')] * max(0, count - given))
+                    length = self.compare('edit', text + bytes(4000), len(text), request)[1]
+                    for room in {max(len(text), length - 1), length}:
+                        self.compare('edit', text + bytes(room - len(text)), len(text), request)
 
     def runs(self):
         """Runs about the most requests that there may be, on files that pass, fail and are said to be longer than their buffer, and runs of more bytes than a file may have."""
@@ -285,8 +312,8 @@ class Tests:
             b'A: ' + b'x' * 4000 + b'\\\n' + b'y' * 96 + b'\n', b'A: ' + b'x' * 4000 + b'\n+ ' + b'y' * 96 + b'\n', b'N' * 64 + b': 1\n', b'N' * 65 + b': 1\n',
             b'\n'.join(b'%%rec: S%d\n' % i for i in range(64)), b'\n'.join(b'%%rec: S%d\n' % i for i in range(65)),
             *(b'%rec: S\n' + (b'%%typedef: T%d int\n' * n % tuple(range(n))) for n in (32, 33)), *(b'%rec: S\n' + b'%type: A int\n' * n for n in (32, 33)),
-            *(b'%rec: S\n%' + f + b':' + b' A' * n + b'\n' for n in (64, 65) for f in (b'mandatory', b'prohibit', b'allowed', b'unique', b'singular')),
-            *(b'%rec: S\n%' + f + b': A\n' + b'%' + f + b':' + b' A' * n + b'\n' for n in (63, 64) for f in (b'mandatory', b'prohibit', b'allowed', b'unique', b'singular')),
+            *(b'%rec: S\n%' + f + b':' + b' A' * n + b'\n' for n in (64, 65) for f in (b'mandatory', b'prohibit', b'allowed', b'unique', b'singular', b'auto')),
+            *(b'%rec: S\n%' + f + b': A\n' + b'%' + f + b':' + b' A' * n + b'\n' for n in (63, 64) for f in (b'mandatory', b'prohibit', b'allowed', b'unique', b'singular', b'auto')),
             chain(32, b'int'), chain(32, b'T0'), chain(33, b'int'), chain(32, b'T31'),
             book(1800), book(1800).replace(b'Id: 1799', b'Id: 77'), book(2400), b'%rec: S\n%key: K\n\n' + b''.join(b'K: %d\n\n' % i for i in range(7000)),
             b'%rec: S\n%size: <= 3\n%key: A\n\nA: 1\n', b'%rec: S\n%mandatory: ' + b'N' * 65 + b'\n\nA: 1\n', b'%rec: S\n%type: ' + b'A,' * 2000 + b'A int\n\nA: 5\nA: x\n',
@@ -358,7 +385,9 @@ def main():
     tests.chosen()
     tests.limit_crowds()
     tests.runs()
+    tests.full_lists()
     tests.builds(rounds)
+    tests.numberings(2 * rounds)
     for _ in range(rounds):
         tests.file(tests.samples.file())
         tests.file(tests.damaged(tests.samples.file()))

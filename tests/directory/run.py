@@ -22,7 +22,8 @@ from edits import add, delete, drop, insert, rename, run, setting  # noqa: E402
 
 RECEIPTS = open(os.path.join(ROOT, 'samples', 'receipts.rec'), 'rb').read()
 FAILING = (b'A: 1', b'A: \x01\n', b'A\n', b'A' * 65 + b': 1\n', b'%key: A\n', b'%rec: S\n%foo: 1\n', b'%rec: S\n%type: A foo\n', b'%rec: S\n%prohibit: A\n\nA: 1\n', b'%rec: S\n%allowed: B\n\nA: 1\n',
-           b'%rec: S\n%mandatory: B\n\nA: 1\n', b'%rec: S\n%unique: A\n\nA: 1\nA: 1\n', b'%rec: S\n%type: A int\n\nA: x\n', b'%rec: S\n%key: A\n\nA: 1\n\nA: 1\n', b'%rec: S\n%size: 0\n\nA: 1\n')
+           b'%rec: S\n%mandatory: B\n\nA: 1\n', b'%rec: S\n%unique: A\n\nA: 1\nA: 1\n', b'%rec: S\n%type: A int\n\nA: x\n', b'%rec: S\n%key: A\n\nA: 1\n\nA: 1\n', b'%rec: S\n%size: 0\n\nA: 1\n',
+           b'%rec: S\n%auto: %A\n\nA: 1\n', b'%rec: S\n%auto: A\n%type: A real\n\nA: 1\n')
 
 
 def numbers(*ns):
@@ -136,6 +137,23 @@ def refusals(c):
         c.listed(request)
 
 
+def numbered(c):
+    """Inserts that omit names of %auto lists: accepted, 31, 26 and 104 to 109; the list is right afterwards."""
+    x = (b'A', b'x')
+    for rules in (b'%auto: Id\n', b'%auto: Id No\n%type: Id range 2\n%type: No range 9 MAX\n', b'%auto: Id\n%type: Id range -1\n', b'%auto: Id\n%prohibit: Id\n', b'%auto: Id\n%allowed: A\n', b'%auto: ' + b'L' * 65 + b'\n', b'%key: Id\n%auto: Id\n%size: < 3\n'):
+        for entries in (2, 3, 4):
+            for room in (0, 14, 200):
+                c.start(b'A: 0\n\n%rec: S\n' + rules + b'# c\n\n# d\n\n%rec: T\n\nId: 70\n', entries, room=room)
+                c.listed(insert(b'S', x), insert(b'S', x), insert(b'T', x))
+                c.edit(insert(b'S', x))
+                c.count_at(0, 1, 2)
+                c.edit_run(run(insert(b'S', x), delete(b'S', 0), insert(b'S', x)), 3)
+                c.listed(insert(b'S', (b'Id', b'1'), x), insert(b'S', x))
+                c.count_at(0, 1, 2)
+    c.start(b'%rec: S\n%auto: Id\n', 2, room=2000)
+    c.listed(insert(b'S', *[(b'A', b'')] * 255), insert(b'S', *[(b'A', b'')] * 256))
+
+
 def many(c):
     """Files of 1 to 65 sets: a list that is one entry short, just long enough, and longer."""
     for sets in list(range(1, 66)) + [63, 64, 65, 65]:
@@ -194,7 +212,7 @@ def random_calls(c, rounds):
 
 def main(program, seed=1, rounds=1000):
     c = Cases(int(seed))
-    for make in (book, failing, refusals, many):
+    for make in (book, failing, refusals, numbered, many):
         make(c)
     random_calls(c, int(rounds))
     done = subprocess.run(program.split(), input=b''.join(c.input), capture_output=True, check=False)

@@ -1,6 +1,6 @@
 #!/usr/bin/env python3
 """The examples of docs/FORMAT.md: each file, and each request on the receipt book, is refused with the number that stands there; a damaged file cut into parts shows the
-numbers that stand there; the directory of a file is the one that stands there, and a run of requests answers what stands there; and where GNU recutils is there, recfix finds a fault in the files of which the page says so.
+numbers that stand there; the directory of a file is the one that stands there, a run of requests answers what stands there, and inserts get the numbers that stand there; and where GNU recutils is there, recfix finds a fault in the files of which the page says so.
 
 Usage: python3 tests/format/examples.py     (after `rt staticlib recfile`; needs cc)
 """
@@ -70,6 +70,20 @@ def directory(lib, section):
         sys.exit('the directory of a file of %d bytes is %r, and the page says %r' % (len(text), got, entries))
 
 
+def numbers(section, edit):
+    """The requests of the section's table, one after another on its file, are answered as stands there and leave the records that stand there."""
+    file = indented(section[section.index('On this file'):].split('\n'))
+    if len(file) != int(re.search(r'On this file of (\d+) bytes', section).group(1)):
+        sys.exit('the file of the section on numbers has %d bytes' % len(file))
+    wanted = file + b'\n' + indented(section[section.index('and the file ends'):].split('\n'))
+    for request, answer, length in re.findall(r'^\| `([0-9A-F ]+)` \|.*\| (\d+): (\d+) bytes \|$', section, flags=re.M):
+        got, file = edit(file, 65536, bytes.fromhex(request))
+        if (got, len(file)) != (int(answer), int(length)):
+            sys.exit('request %s: %d and %d bytes, the page says %s and %s' % (request, got, len(file), answer, length))
+    if file != wanted:
+        sys.exit('the numbered file is %r, the page says %r' % (file, wanted))
+
+
 def run_of_requests(lib, section, book):
     """The run of the section's table on the book leaves a file of the length that stands there, and these answers; and what is refused there is refused."""
     rows = re.findall(r'^\| `([0-9A-F ]+)` \|.*\| (\d+) \|$', section, flags=re.M)
@@ -119,19 +133,20 @@ def main():
 
     def edit(text, room, request):
         buf, number = ctypes.create_string_buffer(text, room), ctypes.c_uint32(77)
-        lib.recfile_edit(buf, size(room), size(len(text)), request, size(len(request)), ctypes.byref(number))
-        return number.value
+        used = lib.recfile_edit(buf, size(room), size(len(text)), request, size(len(request)), ctypes.byref(number))
+        return number.value, buf.raw[:used]
 
     book, requests = indented(page[page.index('## Records and sets'):].split('\n')), 0
     run_of_requests(lib, page[page.index('## Runs of requests'):page.index('## The directory of sets')], book)
+    numbers(page[page.index('## Numbers for omitted names'):page.index('## Runs of requests')], edit)
     page = page[page.index('## What a call is refused for'):]
     for request, answer in re.findall(r'^\| `([0-9A-F ]+)` \|.*\| (\d+)[^|]*\|$', page, flags=re.M):
-        got = edit(book, 65536, bytes.fromhex(request))
+        got, _ = edit(book, 65536, bytes.fromhex(request))
         if got != int(answer):
             sys.exit('request %s: %d, the page says %s' % (request, got, answer))
         requests += 1
     for text, request, answer in re.findall(r'^\| `([^`]+)` \| `([0-9A-F ]+)` \|.*\| (\d+) \|$', page, flags=re.M):
-        got = edit(text.replace('\\n', '\n').encode(), 65536, bytes.fromhex(request))
+        got, _ = edit(text.replace('\\n', '\n').encode(), 65536, bytes.fromhex(request))
         if got != int(answer):
             sys.exit('request %s on %s: %d, the page says %s' % (request, text, got, answer))
         requests += 1
@@ -139,10 +154,11 @@ def main():
     add = bytes.fromhex('01 0001 03 02 0000 03 0002 0000 04 0001 42 06 0001 32')
     number = ctypes.c_uint32(77)
     lib.recfile_fetch(book, size(len(book)), size(len(book)), b'Scan', size(4), size(0), b'Page', size(4), size(0), ctypes.create_string_buffer(4), size(4), ctypes.byref(number))
-    if (edit(book, 109, insert), number.value, filled(lib, book, 1)[0], edit(b'A: 1\n' * 256, 65536, add)) != (26, 27, 28, 104):
+    numbered = bytes.fromhex('01 0001 01 02 0001 53') + bytes.fromhex('04 0001 41 06 0000') * 256
+    if (edit(book, 109, insert)[0], number.value, filled(lib, book, 1)[0], edit(b'A: 1\n' * 256, 65536, add)[0], edit(b'%rec: S\n%auto: Id\n', 65536, numbered)[0]) != (26, 27, 28, 104, 104):
         sys.exit('26, 27, 28 and 104 are not as the page says')
-    requests += 4
-    print('docs/FORMAT.md: %d files, a directory, a run and %d requests are as the page says' % (files, requests))
+    requests += 5
+    print('docs/FORMAT.md: %d files, a directory, a run, numbered inserts and %d requests are as the page says' % (files, requests))
 
 
 main()

@@ -9,12 +9,13 @@ PAIRS = [a + b for a in LETTERS for b in LETTERS]
 CLASSES = {
     'number': (['0', '1'], ['int', 'real', 'bool', 'range 1', 'range -1 0x1', 'range MIN MAX', 'line', 'size 60', 'enum']),
     'key': ([str(n) for n in range(30)], ['int', 'real', 'range 29', 'range MIN 40', 'line', 'size 99', 'enum']),
+    'count': (['0', '5', '0x7'], ['int', 'range 7', 'range -1 0x9', 'range MIN MAX']),
     'word': (['yes', 'no', 'true'], ['bool', 'field', 'line', 'size 60', 'enum']),
     'text': (['front', 'a b', '', '%'], ['line', 'size 60']),
     'uuid': (['0123abcd-45ef-6789-ABCD-0123456789ef'], ['uuid', 'line', 'size 90', 'enum']),
 }
-# Kinds that no value of a class meets.
-OTHERS = {'number': ['field', 'uuid', 'range 2 9', 'enum 2', 'size'], 'key': ['range 30 99', 'bool x', 'enum a'], 'word': ['int', 'real', 'enum ye s'],
+# Kinds that no value of a class meets, or that no name of an %auto list has.
+OTHERS = {'number': ['field', 'uuid', 'range 2 9', 'enum 2', 'size'], 'key': ['range 30 99', 'bool x', 'enum a'], 'count': ['real', 'enum 0 5', 'size 9', 'range 8 9'], 'word': ['int', 'real', 'enum ye s'],
           'text': ['enum f', 'uuid', 'T99'], 'uuid': ['size 35', 'int', 'bool']}
 
 
@@ -97,6 +98,9 @@ class Crowds:
             allowed = list(fields) + [r.choice(list(fields)) for _ in range(r.choice([0, 1, 64 - len(fields)]))]
             r.shuffle(allowed)
             out.append('%allowed:' + self.words(allowed))
+        counted = [n for n in fields if fields[n] == 'count']
+        for _ in range(r.choice([0, 1, 2]) if counted else 0):
+            out.append('%auto:' + self.words([r.choice(counted + others[:r.choice([0, 0, 1])]) for _ in range(r.choice([1, 2, 5, 30]))]))
         return out
 
     def value(self, of):
@@ -142,7 +146,7 @@ class Crowds:
         """The text of a set."""
         r = self.random
         names = r.sample(NAMES[1:], r.choice([3, 6, 20]))
-        fields = {n: r.choice(['number', 'word', 'word', 'text', 'uuid']) for n in names + ['A']}
+        fields = {n: r.choice(['number', 'count', 'word', 'word', 'text', 'uuid']) for n in names + ['A']}
         others = [n for n in NAMES if n not in fields] + ALIKE[12:]
         needed = r.sample(names, r.choice([0, 1, 3]))
         single = r.sample(names, r.choice([0, 1, 2]))
@@ -207,6 +211,8 @@ def at_limits():
         *both(listed('mandatory', ['A'] * 63 + ['B']) + listed('unique', ['C'] * 63 + ['A']), 'A:\nB:\n\n', 'A:\n\n', 5),
         *both(listed('unique', ['C'] * 63 + ['A']) + listed('mandatory', ['A'] * 64), 'A:\nB:\n\n', 'A:\nB:\nA:\n\n', 5),
         *both(types(','.join(ALIKE[:20]), ['int', 'real']) + listed('unique', ALIKE[:25]), ALIKE[0] + ': 1\n' + ALIKE[29] + ': x\n\n', ALIKE[19] + ': x\n\n', 5),
+        *both(listed('auto', words) + types(','.join(words), ['int', 'range MIN MAX', 'range 100']), record.replace(':', ': 99').replace(words[0], 'zz'), record.replace(':', ': 99').replace('%s: 99' % words[-1], '%s: 101' % words[-1])),
+        *both(listed('auto', ALIKE[:30]) + types(','.join(ALIKE[20:]), ['range 9']) + types(','.join(ALIKE[:20]), ['range 5 9'] * 31), ALIKE[0] + ': 5\n' + ALIKE[29] + ': 7\n\n', ALIKE[19] + ': 4\n\n', 5),
         *both(types('A', [enum(ALIKE[:29])]), 'A: ' + ALIKE[28] + '\n\n', 'A: ' + ALIKE[29] + '\n\n', 5),
         *both(types('N' * 64 + ',' + 'N' * 65 + ',' + 'N' * 3000, ['int']), 'N' * 63 + ': x\n\n', 'N' * 64 + ': x\n\n'),
     ]

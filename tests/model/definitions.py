@@ -3,9 +3,10 @@
 
 Usage: tests/model/definitions.py [SEED [COUNT]]       (from the repository's root; needs rt)
 
-It states what recfile.py answers as equations about the definitions, which the checker must prove by computing both sides: the verdict of COUNT files and of those about the ends of int and about singular names; the numbers,
+It states what recfile.py answers as equations about the definitions, which the checker must prove by computing both sides: the verdict of COUNT files and of those about the ends of int, about singular names and about %auto lists; the numbers,
 lengths and buffer of COUNT / 2 lists of edits, runs of requests among them; what COUNT / 2 runs of requests answer; the directory of COUNT / 2 files, filled and after an edit that is given it; and
-COUNT / 4 lists of edits, some of them given the directory and some of them runs of requests, run on the buffer and on the plain file. The equations go into a copy of the crate in a temporary folder.
+COUNT / 4 lists of edits, some of them given the directory and some of them runs of requests, and COUNT / 4 lists of inserts that omit names of %auto lists, run on the buffer and on the plain file.
+The equations go into a copy of the crate in a temporary folder.
 """
 import collections
 import os
@@ -30,9 +31,10 @@ use Rattle.format.specs.Bytes.{Bytes, text, same}
 use Rattle.format.specs.Pieces.{pieces, readOf, bytesOf}
 use Rattle.format.specs.Sets.{setsOf}
 use Rattle.format.specs.Written.{written}
+use Rattle.format.specs.Numbering.{decimal, completed}
 use Rattle.format.specs.Questions.{fileOf, verdictIn, verdict}
 use Rattle.format.specs.Requests.{tagged, requestOf, requestsIn}
-use Rattle.format.specs.Plain.{plainOf, lengthOf, apply, step}
+use Rattle.format.specs.Plain.{plainOf, lengthOf, apply, completedBy, step}
 use Rattle.format.specs.Calls.{Answer, numberIn, valueOr, editAnswer}
 use Rattle.format.specs.Directory.{directoryOf, Listed, fillAnswer, listedStep, listedAnswer, Kept, keptAnswer, countAtAnswer}
 use Rattle.format.specs.Runs.{Single, singly, Call, singles, run, Ran, plainRun, PlainRan, entriesAfter, Told, Numbered, runAnswer}
@@ -93,7 +95,7 @@ runs file spare calls told buffer old new =
     edited file spare calls told buffer && (same (numbers (p .told)) told && holds (entriesAfter (singles calls) start (length file) old) new)
 
 '''
-UNFOLDING = 'unfolding bytesOf pieces readOf setsOf written fileOf verdictIn verdict tagged requestOf plainOf lengthOf apply step editAnswer singly run requestsIn runAnswer ' \
+UNFOLDING = 'unfolding bytesOf pieces readOf setsOf written decimal completed fileOf verdictIn verdict tagged requestOf plainOf lengthOf apply completedBy step editAnswer singly run requestsIn runAnswer ' \
     'directoryOf fillAnswer listedStep listedAnswer keptAnswer countAtAnswer plainRun entriesAfter\n'
 
 
@@ -120,7 +122,7 @@ class Equations:
     def __init__(self, seed):
         self.samples, self.text = samples.Samples(seed), HEAD
         self.random = self.samples.random
-        self.verdicts, self.edits, self.sent, self.filled, self.kept = (collections.Counter() for _ in range(5))
+        self.verdicts, self.edits, self.sent, self.filled, self.kept, self.numbered = (collections.Counter() for _ in range(6))
 
     def files(self, count):
         """Equations of the verdict of files; those that pass."""
@@ -196,6 +198,23 @@ class Equations:
                 calls.append(call)
             self.text += equation('run-%d' % k, 'edited %s %d %s %s %s' % (literal(data), spare, listed(calls), listed(str(n) for n in told), literal(buffer)))
 
+    def numberings(self, count):
+        """Lists of inserts that omit names of %auto lists, some of them in runs, on the buffer and on the plain file."""
+        r = self.random
+        for k in range(count):
+            data = b'A'
+            while recfile.check(data, len(data)) != 0 or b'%auto' not in data or len(data) > 400:
+                data, requests = self.samples.numbering(r.randint(1, 4))
+            spare = r.choice([0, 20, 200, 200])
+            buffer, used, told, calls = data + bytes([170]) * spare, len(data), [], []
+            single = r.randint(0, len(requests))
+            calls = ['one ' + literal(q) for q in requests[:single]] + ['Call.many 4 ' + literal(edits.run(*requests[single:]))]
+            for request in requests:
+                number, used, buffer = recfile.edit(buffer, used, request)
+                told += [number, used]
+                self.numbered[number] += 1
+            self.text += equation('numbered-%d' % k, 'runs %s %d %s %s %s [] []' % (literal(data), spare, listed(calls), listed(str(n) for n in told), literal(buffer)))
+
     def names(self, data):
         """The names of a file's sets, those with records several times."""
         sets = recfile.read_sets(recfile.read_pieces(data)) if recfile.check(data, len(data)) == 0 else [recfile.Set(b'', None)]
@@ -255,11 +274,12 @@ class Equations:
 def main(seed=1, count=300):
     e = Equations(seed)
     passing = e.files(count)
-    chosen = e.chosen('end', samples.int_ends()) + e.chosen('singular', samples.singulars())
+    chosen = e.chosen('end', samples.int_ends()) + e.chosen('singular', samples.singulars()) + e.chosen('auto', samples.autos())
     e.edit_lists(passing, count // 2)
     e.sendings(passing, count // 2)
     e.directories(passing, count // 2)
     e.listed_runs(count // 4)
+    e.numberings(count // 4)
     with tempfile.TemporaryDirectory() as folder:
         shutil.copytree('crates/format', folder + '/crates/format', ignore=shutil.ignore_patterns('must-fail'))
         with open(folder + '/crates.txt', 'w') as f:
@@ -270,12 +290,13 @@ def main(seed=1, count=300):
             f.write(e.text)
         said = subprocess.run(['rt', 'dev', 'format'], cwd=folder, capture_output=True, text=True)
     errors = [line for line in (said.stdout + said.stderr).splitlines() if ': error' in line]
-    for what, numbers in (('files by verdict', e.verdicts), ('edits by number', e.edits), ('runs of requests, by number', e.sent), ('directories filled, by number', e.filled), ('edits with a directory, by number', e.kept)):
+    for what, numbers in (('files by verdict', e.verdicts), ('edits by number', e.edits), ('runs of requests, by number', e.sent), ('directories filled, by number', e.filled), ('edits with a directory, by number', e.kept), ('inserts that omit names, by number', e.numbered)):
         print('%s: %s' % (what, dict(sorted(numbers.items()))))
     for line in errors[:10]:
         print(line[:300])
     agreed = said.returncode == 0 and not errors
-    print('%d files, %d lists of edits, %d runs of requests, %d directories, %d lists of edits with one: %s' % (count + chosen, count // 2, count // 2, count // 2, count // 4, 'agreed' if agreed else 'NOT agreed'))
+    print('%d files, %d lists of edits, %d runs of requests, %d directories, %d lists of edits with one, %d lists of inserts that omit names: %s' % (
+        count + chosen, count // 2, count // 2, count // 2, count // 4, count // 4, 'agreed' if agreed else 'NOT agreed'))
     sys.exit(0 if agreed else 1)
 
 

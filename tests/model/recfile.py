@@ -15,7 +15,7 @@ NAME_RE = re.compile(rb'[A-Za-z%][A-Za-z0-9_]*\Z')
 TYPE_NAME_RE = re.compile(rb'[A-Za-z][A-Za-z0-9_]*\Z')
 FIELD_LINE_RE = re.compile(rb'([A-Za-z%][A-Za-z0-9_]*):(?:[ \t](.*)|)\Z', re.S)
 KINDS = {b'int', b'range', b'real', b'line', b'size', b'enum', b'bool', b'field', b'uuid'}
-LISTS = (b'%mandatory', b'%prohibit', b'%allowed', b'%unique', b'%singular')
+LISTS = (b'%mandatory', b'%prohibit', b'%allowed', b'%unique', b'%singular', b'%auto')
 RESERVED = KINDS | {b'email', b'date', b'regexp', b'rec'}
 
 
@@ -268,7 +268,7 @@ def ask_descriptors(pieces, sets):
             if f.name == b'%rec':
                 good = len(words) == 1 and TYPE_NAME_RE.match(words[0])
             elif f.name in LISTS:
-                good = words and all(NAME_RE.match(w) for w in words)
+                good = words and all(NAME_RE.match(w) for w in words) and not (f.name == b'%auto' and any(w.startswith(b'%') for w in words))
             elif f.name == b'%key':
                 good = len(words) == 1 and NAME_RE.match(words[0])
             elif f.name == b'%size':
@@ -283,6 +283,8 @@ def ask_descriptors(pieces, sets):
         raise No(6)
     for s in sets[1:]:
         read_types(pieces, s.descriptor)
+        if not autos_counted(pieces, s.descriptor):
+            raise No(7)
 
 
 def read_types(pieces, descriptor):
@@ -548,14 +550,14 @@ def write(req, out):
 
 
 def edited(pieces, sets, req):
-    """The new file's bytes, or No(20 to 25)."""
+    """The new file's bytes, or No(20 to 25 or 31)."""
     kind, got, pairs = parse_request(req)
     s = find_set(sets, got[2])
     raws = [p.raw for p in pieces]
     if kind == 1:
         if not all(legal_name(n) and legal_value(v) for n, v in pairs):
             raise No(25)
-        text = b''.join(written(n, v) for n, v in pairs)
+        text = b''.join(written(n, v) for n, v in completed(pieces, s, pairs))
         last = s.records[-1] if s.records else s.descriptor
         if last is None:
             return text + (b'\n' if pieces else b'') + b''.join(raws)

@@ -69,6 +69,46 @@ def singulars():
         yield [(1, described(short, records(lines)))]
 
 
+def autos():
+    """Files, as runs, about the names of %auto lists: the kinds that their types may have and may not, at the first place and at the last, and what comes before question 7."""
+    def described(*rules):
+        return [(1, b'%rec: S\n' + b''.join(rule + b'\n' for rule in rules) + b'\nA: 1\n')]
+
+    kinds = (b'int', b'range 5', b'range 5 1', b'range MIN MAX', b'real', b'line', b'size 3', b'enum 1', b'bool', b'field', b'uuid')
+    for kind in kinds:
+        yield described(b'%auto: A', b'%type: A ' + kind)
+        yield described(b'%type: B,A T', b'%auto: A', b'%typedef: T U', b'%typedef: U ' + kind)
+    for types in ((b'A int', b'A range 5'), (b'A int', b'A real'), (b'A real', b'A int'), (b'B,A line', b'B int'), (b'A,B line', b'A int'), (b'B line', b'A int'), (b'a line', b'AA line'), (b'B,A,B bool', b'C int')):
+        yield described(b'%auto: A', *(b'%type: ' + t for t in types))
+        yield described(*(b'%type: ' + t for t in types), b'%auto: B', b'%auto: C A')
+    # 5 and 6 before 7, words in several lines, and types of another set
+    yield [(1, b'%auto: A\n\nA: 1\n')]
+    yield described(b'%auto: A %A', b'%type: A real')
+    yield described(b'%auto: A\\\nB', b'%type: A real')
+    yield described(b'%auto: A\\\nB', b'%type: AB real')
+    yield described(b'%auto: \\\n\\\nB\n+A\n+', b'%type: A real')
+    yield described(b'%auto: \\\n\\\nB\n+A\n+', b'%type: BA real')
+    yield described(b'%auto: A', b'%typedef: T line')
+    yield described(b'%auto: A', b'', b'%rec: T', b'%type: A line')
+    yield described(b'%type: A line', b'', b'%rec: T', b'%auto: A')
+    yield described(b'%type: A line', b'', b'%rec: T', b'%auto: %A')
+    yield described(b'%key: A', b'%mandatory: A', b'%unique: A', b'%singular: A', b'%auto: A', b'%type: A int')
+    # names that differ at their end only, as long as a field's may be and longer
+    for n in (63, 64, 65, 3000):
+        yield from (described(b'%auto: ' + b'L' * n + end, b'%type: ' + b'L' * n + b'x line') for end in (b'x', b'y', b''))
+    # the last of many words, of many types and of many names
+    words = [b'N%d' % k for k in range(63)]
+    for kind in (b'int', b'line'):
+        yield described(b'%auto: ' + b' '.join(words) + b' A', b'%type: A ' + kind)
+        yield described(b'%auto: A ' + b' '.join(words[:30]), b'%auto: ' + b' '.join(words[30:]), b'%type: ' + b','.join(words) + b' int', *[b'%type: A int'] * 30, b'%type: A ' + kind)
+        yield described(b'%auto: ' + b'A ' * 64, *[b'%type: B,A int'] * 31, b'%type: B,A ' + kind)
+        yield described(b'%auto: A', b'%type: ' + b'B,' * 2000 + b'A ' + kind)
+        yield described(b'%auto: A', b'%type: A T0', *(b'%%typedef: T%d T%d' % (k, k + 1) for k in range(31)), b'%typedef: T31 ' + kind)
+        yield described(b'%auto:' + b' A' * 65, b'%type: A ' + kind)
+    yield described(b'%auto:' + b' %A' * 65)
+    yield described(b'%auto:' + b' A' * 40, b'%auto:' + b' %A' * 25)
+
+
 def fingerprint(text):
     """Keys that differ here are told apart by the library without a look at their bytes (`sorting::mix`)."""
     h = 2166136261
@@ -97,6 +137,20 @@ class Samples:
     def __init__(self, seed):
         self.random = random.Random(seed)
 
+    def counted(self):
+        """%auto lists, and types for their names that are all int or range."""
+        r = self.random
+        ends = ['0', '3', '8', '0x10', '011', '100', '-5', '-0', 'MIN', 'MAX', '9223372036854775807']
+
+        def kind():
+            return r.choice(['int', 'range ' + r.choice(ends), 'range %s %s' % (r.choice(ends), r.choice(ends)), 'range 0 MAX', 'N', 'O'])
+
+        rules = ['%auto: ' + r.choice(['Id', 'Id A', 'A\n+ B', 'B Id B', 'A', 'C Id', 'L' * 65]) for _ in range(r.choice([0, 1, 1, 1, 2, 3]))]
+        rules += ['%type: ' + r.choice(['Id', 'A', 'Id,A', 'B,Id,B']) + ' ' + kind() for _ in range(r.choice([0, 0, 1, 2, 3]))]
+        rules += ['%typedef: N ' + r.choice(['int', 'range 2 9', 'range MIN 4']), '%typedef: O N']
+        r.shuffle(rules)
+        return rules
+
     def descriptor(self):
         r = self.random
         good = r.random() < .85
@@ -108,6 +162,7 @@ class Samples:
             lambda: '%allowed: ' + r.choice(['A B Id Page C', 'A B Id', 'A Page Id']),
             lambda: '%unique: ' + r.choice(words),
             lambda: '%singular: ' + r.choice(words),
+            lambda: '%auto: ' + r.choice(['Id', 'A', 'C', 'Id A'] if good else [*words, 'A ' * 65, 'Id\n+ %rec']),
             lambda: '%size: ' + r.choice(['<= 3', '< 9', '>= 0', '<= 2'] if good else ['1', '< 2', '> 0', '0', '-0', '<1', 'x']),
             lambda: '%typedef: T1 ' + r.choice(KINDS[:8] if good else KINDS),
             lambda: '%typedef: ' + r.choice(['U', 'W']) + ' ' + r.choice(['T1', 'int', 'U', 'W', 'enum a x 1']),
@@ -117,7 +172,8 @@ class Samples:
             lambda: 'Foo: x',
         ]
         name = r.choice(['S', 'T', 'U', 'V'] if r.random() < .9 else ['S', 'S T', ''])
-        return ['%rec: ' + name] + [r.choice(rules)() for _ in range(r.randint(0, 4))]
+        numbered = self.counted() if r.random() < .2 else []
+        return ['%rec: ' + name] + numbered + [r.choice(rules)() for _ in range(r.randint(0, 1 if numbered else 4))]
 
     def record(self, key):
         r, out = self.random, []
@@ -224,20 +280,23 @@ class Samples:
         """The rules of a set with %auto lists, its records, and the fields of an insert; each as text."""
         r = self.random
         ints = ['0', '-1', '-0', '3', '7', '010', '0x1F', '0XA', '08', '12', '-0x10', '2.5', 'x', '', ' 5 ', '9223372036854775806', '9223372036854775807', '9223372036854775808', '-9223372036854775808', '0x7fffffffffffffff']
-        ends = ['0', '3', '8', '0x10', '011', '100', '-5', '-0', 'MIN', 'MAX', '9223372036854775807']
-
-        def kind():
-            return r.choice(['int', 'range ' + r.choice(ends), 'range %s %s' % (r.choice(ends), r.choice(ends)), 'range 0 MAX', 'N', 'O'])
 
         def field():
             return r.choice(NAMES[:4]) + ': ' + r.choice(ints if r.random() < .4 else ints[:6]) + r.choice(['', '', '\n+', '\n+ 1', '\n#'])
 
-        rules = ['%auto: ' + r.choice(['Id', 'Id A', 'A\n+ B', 'B Id B', 'A', 'C Id', 'L' * 65]) for _ in range(r.choice([0, 1, 1, 1, 2, 3]))]
-        rules += ['%type: ' + r.choice(['Id', 'A', 'Id,A', 'B,Id,B']) + ' ' + kind() for _ in range(r.choice([0, 0, 1, 2, 3]))]
-        rules += ['%typedef: N ' + r.choice(['int', 'range 2 9', 'range MIN 4']), '%typedef: O N']
-        r.shuffle(rules)
         records = [[field() for _ in range(r.randint(1, 3))] for _ in range(r.randint(0, 3))]
-        return tuple(t.encode() for t in ('\n'.join(rules) + '\n', '\n'.join('\n'.join(fs) + '\n' for fs in records), ''.join(field() + '\n' for _ in range(r.randint(1, 3)))))
+        return tuple(t.encode() for t in ('\n'.join(self.counted()) + '\n', '\n'.join('\n'.join(fs) + '\n' for fs in records), ''.join(field() + '\n' for _ in range(r.randint(1, 3)))))
+
+    def numbering(self, count):
+        """A file with a set T that has %auto lists, mostly one that passes, and so many inserts into T, few of which name what the lists do."""
+        r = self.random
+        rules, records, _ = self.numbered()
+        more = [b'%key: Id', b'%mandatory: A', b'%unique: Id', b'%singular: A', b'%allowed: A B Id', b'%prohibit: C', b'%%auto: A%d %s' % (r.randint(1, 3), b'M' * r.choice([1, 64, 65, 200])), b'%size: <= 4', b'%auto: Id A\n%type: Id,A range 9', b'%auto: B\n%type: B range -3 0']
+        text = b'%rec: T\n' + rules + b''.join(rule + b'\n' for rule in r.sample(more, r.choice([0, 0, 1, 2]))) + b'\n' + records
+        text = r.choice([b'', b'', b'Id: 70\n\n']) + text + r.choice([b'', b'', b'\n%rec: U\n%auto: Id\n\nId: 900\n'])
+        names = [b'Page', b'Page', b'B', b'A', b'Id', b'L' * 65]
+        values = [b'x', b'1', b'', b'12', b'-3', b'a\nb', b'a\\']
+        return text, [tagged(1, b'\1') + tagged(2, b'T') + b''.join(tagged(4, r.choice(names[:r.choice([2, 5, 5, 6])])) + tagged(6, r.choice(values[:r.choice([2, 5, 7])])) for _ in range(r.choice([1, 1, 2, 3]))) for _ in range(count)]
 
     def entries(self, count):
         """So many entries that hold anything."""

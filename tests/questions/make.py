@@ -111,6 +111,8 @@ def limits():
     at_limit(lambda n: '%rec: ' + 'S' * n + '\n', 4096)
     at_limit(lambda n: described('%mandatory: ' + 'A' * n + '\n'), 64)
     at_limit(lambda n: described('%prohibit: ' + 'A' * n + '\n'), 64)
+    at_limit(lambda n: described('%auto: ' + 'A' * n + '\n%type: ' + 'A' * n + ' int\n'), 64)
+    at_limit(lambda n: described('%auto: ' + 'A' * n + '\n'), 4096)
     at_limit(lambda n: described('%key: ' + 'A' * n + '\n', 'A' * n + ': 1\n'), 64)
     at_limit(lambda n: 'A: ' + 'x' * n + '\n', 4096)
     at_limit(lambda n: 'A: ' + 'x' * (n - 2) + '\n+ y\n', 4096)
@@ -127,7 +129,7 @@ def limits():
     at_limit(lambda n: described(''.join('%%typedef: T%d int\n' % k for k in range(n))), 32)
     at_limit(lambda n: described('%type: A int\n' * n), 32)
     at_limit(lambda n: described(''.join('%%typedef: T%d int\n' % k for k in range(n)) + '%type: A int\n' * n), 32)
-    for name in ('mandatory', 'prohibit', 'allowed', 'unique', 'singular'):
+    for name in ('mandatory', 'prohibit', 'allowed', 'unique', 'singular', 'auto'):
         at_limit(lambda n: described('%' + name + ':' + ' B' * n + '\n', ''), 64)
         at_limit(lambda n: described('%' + name + ':' + ' B' * n + '\n', 'B: 1\n'), 64)
         at_limit(lambda n: described(('%' + name + ': B\n') * n, 'B: 1\n'), 64)
@@ -139,14 +141,14 @@ def descriptors():
     each('%key: A\n', '%rec: S\n%rec: T\n', '%rec: S\n%rec: S\n', 'A: 1\n%key: A\n', '%: 1\n', '%doc: x\n', 'A: 1\n\n%type: A int\n\n%rec: S\n', '%rec: S\n\n%rec: T\n', '%rec: S\n\nA: 1\n%key: A\n')
     each('%rec:\n', '%rec: \n', '%rec: S T\n', '%rec: S\n+ T\n', '%rec: \n+ S\n', '%rec:  S \n', '%rec:\tS\t\n', '%rec: S\\\nT\n', '%rec: S\\\n T\n', '%rec: %S\n', '%rec: 1\n', '%rec: S-T\n', '%rec: S_1\n', '%rec: S:\n',
          '%rec: S\n\n%rec: S\n', '%rec: S\n\n%rec: s\n', '%rec: S\n\n%rec:  S \n', '%rec: S\\\nT\n\n%rec: ST\n', 'A: 1\n%rec: S\n', '# c\n%rec: S\n# d\n', '%rec: rec\n', '%rec: int\n')
-    for name in ('mandatory', 'prohibit', 'allowed', 'unique', 'singular'):
+    for name in ('mandatory', 'prohibit', 'allowed', 'unique', 'singular', 'auto'):
         each(*(described('%' + name + ':' + v + '\n', 'A: 1\nB: 2\n') for v in ('', ' ', ' A', ' A B', ' A\n+ B', ' A A', ' A,B', ' 1', ' %A', ' %', ' A:', '\tA\tB', ' A B C', ' \n+ ', ' A\\\nB', ' _A', ' C')))
     each(*(described('%key:' + v + '\n') for v in ('', ' ', ' A', ' A B', ' 1', ' %A', ' A:', '  A ', '\tA', ' A\n+ ', ' A\n+ B', ' B')))
     each(described('%key: A\n%key: A\n'), described('%key: A\n%key: B\n'), described('%size: 1\n%size: 1\n'))
     each(*(described('%size:' + v + '\n') for v in ('', ' ', ' 1', ' 0', ' 2', ' 01', ' 0x1', ' 0X1', ' 00', ' -0', ' -1', ' +1', ' 1 1', ' <1', ' < 1', ' < 2', ' <= 1', ' <= 0', ' > 0', ' > 1', ' >= 1', ' >= 2', ' >= 0',
                                                     ' = 1', ' == 1', ' != 1', ' <\n+ 2', ' 08', ' 9223372036854775807', ' < 9223372036854775807', ' < 9223372036854775808', ' <', ' < <', ' < 2 3', ' a', ' 1.0', ' >= -0', ' >= 0x0', '  <=  1 ')))
     each(*(described('%size: ' + v + '\n', '') for v in ('0', '1', '< 1', '<= 0', '> 0', '>= 0', '< 0')))
-    each(described('%foo: x\n'), described('%Rec: x\n'), described('%keys: A\n'), described('%confidential: A\n'), described('%sort: A\n'), described('%auto: A\n'), described('%singulars: A\n'), described('%constraint: A\n'),
+    each(described('%foo: x\n'), described('%Rec: x\n'), described('%keys: A\n'), described('%confidential: A\n'), described('%sort: A\n'), described('%autos: A\n'), described('%aut: A\n'), described('%Auto: A\n'), described('%singulars: A\n'), described('%constraint: A\n'),
          described('%doc:\n'), described('%doc: a\n+ b\n%doc: c\n'), described('Foo: x\n'), described('Foo: x\n%key: A\n'))
 
 
@@ -226,6 +228,11 @@ def singulars():
         case(runs)
 
 
+def autos():
+    for runs in samples.autos():
+        case(runs)
+
+
 def alike_keys(count):
     for seed in range(count):
         case(samples.Samples(seed).alike())
@@ -236,9 +243,9 @@ def random_files(count):
         case(samples.Samples(seed).file())
 
 
-for make in (lengths, bytes_and_lines, limits, descriptors, types, values, ends, rules, singulars, marked):
+for make in (lengths, bytes_and_lines, limits, descriptors, types, values, ends, rules, singulars, autos, marked):
     make()
-random_files(800)
+random_files(700)
 alike_keys(120)
 
 numbers, stdin = [], b''

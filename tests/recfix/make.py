@@ -41,6 +41,10 @@ COINCIDE = [
     # %singular
     *(described('%singular: ' + rules + '\n', records) for rules in ('A', 'A\n%singular: B', 'B\n%singular: A', 'B') for records in ('A: 1\n', 'A: 1\n\nA: 1\n', 'A: 1\n\nA: 2\n', 'A: 1\n\nA: 01\n', 'A: 1\nA: 2\n\nA: 3\n\nA: 2\n', 'A: 1\n\nB: 1\n', 'A: 1\nB: 1\n\nA: 2\nB: 1\n', 'A: a\n+ b\n\nA: a\n+b\n')),
     described('%singular: A\n', 'A: 1\n') + '\n%rec: T\n%singular: A\n\nA: 1\n', described('%singular: A\n', 'A: 1\n\nA:  1\n'), described('%singular: A\n', 'A: x\\\ny\n\nA: xy\n'), described('%singular: A\n', 'A:\n\nA:\n'), described('%singular: A\n', ''), described('%singular: A\n%key: A\n', 'A: 1\n\nA: 1\n'),
+    # %auto
+    *(described('%auto: A\n%type: A ' + kind + '\n') for kind in ('int', 'range 5', 'range 1 2', 'real', 'line', 'size 3', 'enum 1', 'bool', 'field')), *(described('%typedef: T U\n%typedef: U ' + kind + '\n%type: B,A T\n%auto: A\n') for kind in ('int', 'range 5', 'real', 'line')),
+    described('%auto: A\n'), described('%auto: A B\n%type: A real\n'), described('%auto: B A\n%type: A real\n'), described('%auto: B\n%auto: A\n%type: A real\n'), described('%auto: B\n%type: A real\n'), described('%auto: A A\n'), described('%auto: A\n+ B\n'), described('%auto:\n'), described('%auto: 1\n'),
+    described('%auto: A,B\n'), described('%auto: A\n%type: A int\n', 'A: x\n'), described('%auto: A\n', '') + '\n%rec: T\n%type: A line\n', described('%type: A line\n', '') + '\n%rec: T\n%auto: A\n', described('%auto: A\n%key: A\n%mandatory: A\n%type: A range 5 1\n', ''),
     # %key
     described('%key: A\n'), described('%key: A\n', 'A: 1\n\nA: 2\n'), described('%key: A\n', 'A: 1\n\nA: 1\n'), described('%key: A\n', 'A: 1\n\nA: 01\n'), described('%key: A\n', 'A: 1\n\nA:  1\n'), described('%key:\n'), described('%key: A\n', 'A: 1\nA: 2\n'), described('%key: A\n', 'B: 1\n'), described('%key: A\n%key: B\n', 'A: 1\nB: 2\n'),
     described('%key: A\n', 'A: 1\n') + '\n%rec: T\n%key: A\n\nA: 1\n',
@@ -65,14 +69,15 @@ DIFFER = {
     'recfix asks for no blank behind the colon, takes blanks before the name, and a backslash at the end': ['A:1\n', ' A: 1\n', 'A:\\\nx\n', 'A: x\\\n'],
     'recfix takes `%` names in a record without %rec': ['%: x\n', '%A: x\n', '%key: A\n', 'A: 1\n%key: A\n'],
     'recfix knows more type names and ignores `%` names that it does not know': ['%rec: S-T\n', '%rec: %S\n', described('%foo: x\n')],
-    'fields of a descriptor that are left to others': [described('%sort: A\n'), described('%auto: A\n'), described('%constraint: A > 0\n')],
+    'fields of a descriptor that are left to others': [described('%sort: A\n'), described('%constraint: A > 0\n')],
     'types that are left to others': [*typed('date', 'x'), *typed('regexp /x/', 'x')],
     'recfix takes the first of several keys': [described('%key: A B\n', 'A: 1\nB: 2\n')],
     'of a %singular field recfix takes one name, not several, in any form, and no two fields of one record': [
         described('%singular: A B\n', 'A: 1\n\nA: 1\n'), described('%singular: B A\n', 'A: 1\n\nA: 1\n'), described('%singular:\n'), described('%singular: 1\n'), described('%singular: A\n', 'A: 1\nA: 1\n')],
+    'recfix takes uuids and dates in %auto lists, and names with `%`': [described('%auto: A\n%type: A uuid\n', ''), described('%auto: A\n%type: A date\n', ''), described('%auto: %A\n')],
     'recfix takes a size without a blank behind the sign': [described('%size: <1\n', '')],
     'recfix takes the key and the mandatory names as allowed': [described('%allowed: B\n%key: A\n'), described('%allowed: B\n%mandatory: A\n')],
-    'of several types of one field recfix takes the last': [described('%type: A range 5\n%type: A int\n', 'A: 7\n')],
+    'of several types of one field recfix takes the last': [described('%type: A range 5\n%type: A int\n', 'A: 7\n'), described('%auto: A\n%type: A real\n%type: A int\n')],
     'recfix takes typedefs called by a kind, and defined twice': [described('%typedef: int bool\n'), described('%typedef: T int\n%typedef: T bool\n%type: A T\n')],
     'ints have no bounds in recfix, and 8 and 9 may follow a 0': typed('int', '9223372036854775808', '-9223372036854775809', '0x8000000000000000', '08', '09'),
     'the ends of ranges and the numbers of sizes have 32 bits in recfix': [*typed('range 3 MAX', '2147483648'), *typed('range MIN 3', '-2147483649'), *typed('range 4294967297', '5'), *typed('size 4294967297', 'abc'), described('%size: < 4294967297\n', 'A: 1\n\nA: 2\n')],

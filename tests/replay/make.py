@@ -1,5 +1,6 @@
 #!/usr/bin/env python3
-"""The input and the expected output of the test program `test_replay`: what tests/model/recfile.py answers to edits, runs of requests and the other calls.
+"""The input and the expected output of the test program `test_replay`: what tests/model/recfile.py answers to edits, runs of requests and the other calls,
+and what GNU recins made of the files of tests/recins.
 
 Usage: tests/replay/make.py       (writes crates/test_replay/stdin and crates/test_replay/stdout)
 """
@@ -296,6 +297,119 @@ def runs(r):
         r.edit_run(text)
 
 
+MAX, MIN = b'9223372036854775807', b'-9223372036854775808'
+
+
+def scans(rules, *records):
+    """A file of the set S: its rules, and its records' lines."""
+    return b'%rec: S\n' + rules + b''.join(b'\n' + fields for fields in records)
+
+
+def numbered_by_types(r):
+    """The number of an omitted name: every kind of type, alone and with others, and what is there."""
+    new, own = insert(b'S', (b'A', b'x')), insert(b'S', (b'A', b'x'), (b'Id', b'1'))
+    ends = (b'', b'0', b'2', b'3', b'-3', b'-0', b'0x0F', b'017', b'198', b'199', b'9223372036854775806', MAX, b'0x7fffffffffffffff', b'0777777777777777777777', MIN)
+    kinds = (b'int', b'range 3', b'range 0', b'range 3 199', b'range 100 199', b'range -5 5', b'range -5 -1', b'range -5 -0', b'range -0 0x10', b'range 5 3', b'range MAX MAX', b'range MIN MAX', b'range MIN', b'range 9223372036854775806 MAX')
+    for kind in kinds:
+        for there in ends:
+            text = scans(b'%auto: Id\n%type: Id ' + kind + b'\n', *[b'Id: ' + there + b'\n'] * (there != b''))
+            if recfile.check(text, len(text)) == 0:
+                r.start(text)
+                r.edit(new, new, own)
+    # no type: any base, any order, any occurrence, blanks around; what is no int does not count
+    for there in ((b'08',), (b'1.5', b'+7', b'7a', b'0x', b'--1', b'1 2', b'-'), (b'',), (b'9223372036854775808',), (b'-9223372036854775809', b'18446744073709551616', b'0x8000000000000000'), (b'-0x8000000000000000',), (b'old', b'3', b'new'), (b' 6\t',), (b'\n+ 6\n+',), (b'1\n+ 2',),
+                  (b'\\\n12',), (b'1\\\n\\\n2',), (b'9', b'0x0A', b'-20'), (b'010', b'9'), (b'9', b'010'), (b'-1', b'-2'), (b'0' * 50 + b'7',), (b'0x' + b'0' * 50 + b'fF',), (b'9',), (b'99',), (b'999999999999',), (MAX,), (MIN, MAX), (MIN,)):
+        for text in (scans(b'%auto: Id\n', *(b'Id: ' + v + b'\nB: 77\n' for v in there)), scans(b'%auto: Id\n', b'# c\n' + b'# d\n'.join(b'Id: ' + v + b'\n' for v in there) + b'id: 77\nIdx: 78\n')):
+            r.start(text)
+            r.edit(new, new)
+    for types in (b'%type: Id int\n%type: Id,No range 10 20\n%type: Id range 15 30\n', b'%type: Id range 10 20\n%type: Id range 21 30\n', b'%type: No,Id range 10 20\n%type: Id range 20 30\n', b'%typedef: Low Mid\n%typedef: Mid High\n%typedef: High range 7 9\n%type: A,Id Low\n',
+                  b'%typedef: N int\n%type: Id N\n', b'%type: No range 50\n%type: A line\n', b'%type: Id range 9 MAX\n' * 32, b'%type: Id range MIN MAX\n' * 31 + b'%type: No,Id range 1\n'):
+        r.start(scans(types + b'%auto: Id\n'), room=2000)
+        r.edit(new, insert(b'S', (b'A', b'8')), new, new, own)
+        r.start(scans(types + b'%auto: Id No\n', b'No: 16\n'), room=2000)
+        r.edit(new, insert(b'S', (b'A', b'8')), insert(b'S', (b'No', b'3')), insert(b'S', (b'Id', b'17')), own)
+
+
+def numbered_names(r):
+    """Which names are added, where and in which order; sets; and the edits that add none."""
+    x, id_, no = (b'A', b'x'), (b'Id', b'7'), (b'No', b'5')
+    for lists in (b'%auto: Id No\n', b'%auto: No Id\n', b'%auto: No\n%auto: Id No Id\n+ Row\n', b'%auto: Id\\\n No\n', b'%auto: I\\\nd\n+No\n', b'%auto: Id No\n%type: No range 5 4\n', b'%auto: Id\n%type: Id range 0\n', b'%mandatory: Id\n', b'%auto: A Id A\n'):
+        for pairs in ([x], [id_, x], [x, no], [no, id_, (b'No', b'6')], [(b'Id', b'')], [(b'id', b'1'), (b'Idx', b'2'), (b'I', b'3')], [(b'N', b'1'), (b'o', b'2'), (b'NoNo', b'3')]):
+            r.start(scans(lists, b'Id: 0\n'))
+            r.edit(insert(b'S', *pairs), insert(b'S', *pairs))
+        r.look_around()
+    text = b'Id: 70\n\n%rec: S\n# c\n%auto: Id\n# d\n\n# e\n\n%rec: T\n%auto: Id No\n\nId: 8\n# f\n\n\n%rec: U\n\nId: 9\n'
+    for request in (insert(b'', x), insert(b'S', x), insert(b'T', x), insert(b'U', x), insert(b'T', x, id_), insert(b'V', x), insert(b'S'), add(b'T', 0, *x), setting(b'T', 0, b'Id', 0, b'3'), drop(b'T', 0, b'Id', 0), rename(b'T', 0, b'Id', 0, b'No'), delete(b'T', 0), delete(b'', 0)):
+        r.start(text, room=400, behind=b'behind')
+        r.edit(request, insert(b'T', x), insert(b'S', x), insert(b'', x), request)
+        r.look_around()
+    r.start(b'')
+    r.edit(insert(b'', x))
+    for room in (0, 4, 5, 100):
+        r.write(insert(b'T', x), room)
+    # a field's lines are as long as the number has digits
+    for last in (b'8', b'9', b'98', b'99', b'999999999999999999'):
+        text = scans(b'%auto: Id\n', b'Id: ' + last + b'\n')
+        least = len(text) + len(b'\nId: \nA: x\n') + len(b'%d' % (int(last) + 1))
+        for room in (least - 1, least, least + 1):
+            r.start(text, room=room)
+            r.edit(insert(b'S', x), insert(b'S', x))
+
+
+def numbered_refusals(r):
+    """25, 31, 26 and 104 beside each other, and what is asked of the completed record."""
+    x, bad, long = (b'A', b'x'), (b'A', b'\\'), b'L' * 65
+    # names at both sides of 64 bytes, in a small buffer and in a large one, with a number and without
+    for name in (b'L' * 64, long, b'L' * 300):
+        for more in (b'', b'%type: ' + name + b' range MIN -1\n', b'%auto: Id\n%type: Id range -1\n'):
+            text = scans(b'%auto: ' + name + b'\n' + more)
+            for room in (len(text), len(text) + len(name) + 10, len(text) + len(name) + 11, len(text) + 400):
+                for pairs in ([x], [bad], [x, (name, b'1')], [(b'%A', b'1')]):
+                    r.start(text, room=room)
+                    r.edit(insert(b'S', *pairs))
+    r.start(scans(b'%auto: Id ' + long + b' No\n%prohibit: Id\n%mandatory: B\n'), room=400)
+    r.edit(insert(b'S', x), insert(b'S', (b'B', b'1')), insert(b'S', (long, b'1')))
+    # 256 fields, the added ones among them
+    names = [b'N%d' % k for k in range(64)]
+    for lists, count in ((b'%auto: Id\n', 255), (b'%auto: ' + b' '.join(names) + b'\n', 192), (b'%auto: ' + b' '.join(names[:40]) + b'\n%auto: ' + b' '.join(names[40:]) + b'\n', 193)):
+        for n in (count - 1, count, count + 1, 256, 257):
+            for room in (400, 1800, 3000):
+                r.start(scans(lists), room=max(room, len(scans(lists))))
+                r.edit([(1, head(1, b'S')), (n, pair(b'A', b''))], [(1, insert(b'S', (b'Id', b'1'))), (n - 1, pair(b'A', b''))], [(1, insert(b'S', *((m, b'1') for m in names))), (n - 64, pair(b'A', b''))])
+    r.start(scans(b'%auto: Id\n%type: Id range -1\n'), room=3000)
+    r.edit(insert(b'S', *[(b'A', b'')] * 256), insert(b'S', *[(b'A', b'')] * 257), insert(b'S', *[(b'A', b'')] * 256, bad))
+    # a file of 65,536 bytes and one more
+    for more in (0, 1):
+        r.start([(1, scans(b'%auto: Id\n\n')), (16000, b'A:\n\n'), (1, b'# ' + b'c' * (65536 - 64000 - len(scans(b'%auto: Id\n\n')) - 3 - 13 + more) + b'\n')], room=65600)
+        r.edit(insert(b'S', x))
+    # 108 to 114 and 130
+    for rules in (b'%prohibit: Id\n', b'%allowed: A\n', b'%allowed: Id A\n', b'%allowed: Id\n', b'%mandatory: Id A\n', b'%mandatory: B\n', b'%unique: Id\n', b'%key: Id\n', b'%key: A\n', b'%singular: Id\n', b'%singular: A\n', b'%singular: Id A\n', b'%size: <= 2\n', b'%type: A int\n',
+                  b'%key: Id\n%type: Id int\n%mandatory: A\n%unique: A\n%singular: A\n%size: < 3\n%allowed: A Id B\n'):
+        for there in ((), (b'Id: 3\nA: y\n',), (b'Id: 010\nA: z\n',), (b'Id: x\nA: y\n',)):
+            text = scans(b'%auto: Id\n' + rules, *there)
+            if recfile.check(text, len(text)) == 0:
+                for pairs in ([x], [(b'A', b'3')], [(b'B', b'')], [x, x], [x, (b'Id', b'4'), (b'Id', b'5')], [(b'Id', b'3'), x]):
+                    r.start(text, behind=b'behind')
+                    r.edit(insert(b'S', *pairs), insert(b'S', *pairs))
+
+
+def numbered_runs(r):
+    """Runs of requests whose inserts are numbered one after another, with other edits between them."""
+    x = insert(b'S', (b'A', b'x'))
+    for rules in (b'%key: Id\n%auto: Id\n%type: Id int\n', b'%auto: Id\n%type: Id range 2 4\n', b'%auto: Id No\n'):
+        for requests in ([x] * 5, [x, x, delete(b'S', 1), x, delete(b'S', 0), x], [x, setting(b'S', 0, b'Id', 0, MAX), x, setting(b'S', 0, b'Id', 0, b'3'), x], [x, x, rename(b'S', 1, b'Id', 0, b'No'), x, x], [x, add(b'S', 0, b'Id', b'4'), x, drop(b'S', 0, b'Id', 1), x],
+                         [x, insert(b'S', (b'Id', b'3')), x, insert(b'', (b'Id', b'9')), x, b'', insert(b'T', (b'A', b'1')), insert(b'T', (b'A', b'2'))], [x] * 64, [x] * 65):
+            for room in (60, 140, 1600):
+                text = scans(rules) + b'\n%rec: T\n%auto: A Id\n'
+                r.start(text, room=max(room, len(text)), behind=b'' if room < 140 else b'behind')
+                r.edit(*requests)
+                r.start(text, room=max(room, len(text)))
+                r.edit_run(run(*requests))
+                r.edit_run(run(*requests), 3)
+                r.edit(x)
+        r.look_around()
+
+
 def passing(g):
     """A random file that passes and has two records or more, and its sets."""
     while True:
@@ -329,17 +443,38 @@ def random_lists(r, count):
             requests = requests[max(1, n):]
 
 
-r = Replay()
-for make in (marked, numbers, comments, writing, names, runs):
-    make(r)
-random_lists(r, 200)
+def random_numberings(r, count):
+    """Inserts into sets with %auto lists, one by one and as a run."""
+    for seed in range(count):
+        g = samples.Samples(20000 + seed)
+        text, requests = g.numbering(6)
+        while recfile.check(text, len(text)) != 0 and g.random.random() < .9:
+            text, requests = g.numbering(6)
+        room = len(text) + g.random.choice([0, 20, 60, 400, 400])
+        r.start(text, room)
+        r.edit(*requests)
+        if seed % 4 == 0:
+            r.look_around()
+        r.start(text, room)
+        r.edit_run(run(*requests), 6)
 
-stdin = b''.join(r.frames)
+
+r = Replay()
+for make in (marked, numbers, comments, writing, names, runs, numbered_by_types, numbered_names, numbered_refusals, numbered_runs):
+    make(r)
+random_lists(r, 150)
+random_numberings(r, 120)
+
+judged = os.path.join(ROOT, 'tests', 'recins')
+with open(os.path.join(judged, 'cases'), 'rb') as f:
+    stdin = b''.join(r.frames) + f.read()
+with open(os.path.join(judged, 'told')) as f:
+    r.lines += f.readlines()
 folder = os.path.join(ROOT, 'crates', 'test_replay')
 with open(os.path.join(folder, 'stdin'), 'wb') as f:
     f.write(stdin)
 with open(os.path.join(folder, 'stdout'), 'w') as f:
     f.writelines(r.lines)
-print(len(r.lines), 'lines', len(stdin), 'bytes')
+print(len(r.frames), 'frames', len(r.lines), 'lines', len(stdin), 'bytes')
 for kind in sorted({k for k, _ in r.calls}):
     print(kind, sorted((n, c) for (k, n), c in r.calls.items() if k == kind))

@@ -5,7 +5,7 @@ use mathlib.Core.Path.{_≡_, refl, ap, _∙_, subst}
 use mathlib.Core.Bool.{Bool, true, false, _&&_, _||_, not, or-false}
 use mathlib.Core.List.{List, [], _∷_, map}
 use lib.ListN.{length, getD}
-use Rattle.format.specs.Lines.{isSpecial}
+use Rattle.format.specs.Lines.{isName, isSpecial}
 use Rattle.format.specs.Bytes.{Bytes, text, any, same, pick}
 use Rattle.format.specs.Numbers.{intBounds}
 use Rattle.format.specs.Rules.{Shape, shapes}
@@ -13,8 +13,17 @@ use Rattle.format.proofs.Elements.{Each}
 use Rattle.format.proofs.Listing.{same-true}
 use Rattle.words.specs.RuleNames.{placeIn, ruleNames}
 use Rattle.words.proofs.RuleNames.{is-placed}
-use Rattle.descriptors.specs.Contents.{holds, Asks}
+use Rattle.descriptors.specs.Contents.{listable, holds, Asks}
 use Rattle.descriptors.specs.declared.shapes.Content.{Content}
+
+-- a word in a list of names
+pub listable-not : (b : Bool) (w : Bytes) → isName w ≡ false → listable b w ≡ false
+listable-not true w e = e
+listable-not false w e = ap (λ (x : Bool). x && not (isSpecial w)) e
+
+pub listable-name : (b : Bool) (w : Bytes) → isName w ≡ true → listable b w ≡ (b || not (isSpecial w))
+listable-name true w e = e
+listable-name false w e = ap (λ (x : Bool). x && not (isSpecial w)) e
 
 -- the rows
 pub rec-asks : Asks (text "%rec") Content.TypeName
@@ -49,6 +58,9 @@ type-asks v k = refl
 
 pub singular-asks : Asks (text "%singular") Content.Names
 singular-asks v k = or-false (holds Content.Names v)
+
+pub auto-asks : Asks (text "%auto") Content.Ordinary
+auto-asks v k = or-false (holds Content.Ordinary v)
 
 -- a name that has the place of one of them
 pub asks-at : (n m : Bytes) (c : Content) (r k : ℕ) → r ≡ placeIn n ruleNames → getD ruleNames k [] ≡ m → k < length ruleNames → same m m ≡ true → Asks m c → r ≡ k → Asks n c

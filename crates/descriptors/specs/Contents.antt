@@ -7,7 +7,7 @@ use lib.ListN.{length}
 use Rattle.format.specs.Bytes.{Bytes, isSome}
 use Rattle.format.specs.Lines.{isName}
 use Rattle.format.specs.Numbers.{intBounds}
-use Rattle.format.specs.Rules.{sizeRule, one, nameList, isShaped}
+use Rattle.format.specs.Rules.{sizeRule, one, several, nameList, isOrdinary, isShaped}
 use Rattle.format.specs.Words.{words, isTypeName}
 use Rattle.words.specs.Spans.{span}
 use Rattle.words.specs.declared.Word.{Word}
@@ -19,11 +19,17 @@ abbrev pub OnlyWord : Bytes → Word → Type 0
 OnlyWord s (Word.At a e) = (a < e) × (e ≤ length s) × (words s ≡ span a e s ∷ [])
 OnlyWord s Word.Nothing = (p : Bytes → Bool) → one p (words s) ≡ false
 
+-- may a word stand in a list of names, of such as may begin with `%` or of others
+abbrev pub listable : Bool → Bytes → Bool
+listable true = isName
+listable false = isOrdinary
+
 -- is a value what is asked
 abbrev pub holds : Content → Bytes → Bool
 holds Content.Free v = true
 holds Content.TypeName v = one isTypeName (words v)
 holds Content.Names v = nameList v
+holds Content.Ordinary v = several isOrdinary (words v)
 holds Content.Name v = one isName (words v)
 holds Content.Size v = isSome (sizeRule intBounds (words v))
 holds Content.Fault v = false

@@ -21,7 +21,7 @@ ghost use Rattle.records.specs.Places.{isReadable};
 ghost use Rattle.records.specs.Heads.{HeadParts};
 ghost use Rattle.words.specs.Spans.{span};
 ghost use Rattle.descriptors.specs.Sizes.{fieldOf};
-ghost use Rattle.descriptors.specs.Contents.{OnlyWord, holds, Asks};
+ghost use Rattle.descriptors.specs.Contents.{OnlyWord, listable, holds, Asks};
 ghost use Rattle.descriptors.specs.Names.{namesAt, Inside, NamedBy, Told};
 use super::sizes::is_size;
 use super::sizes::size_rule;
@@ -69,9 +69,19 @@ fn one_type_name(s: &[u8]) -> bool
     words::is_type_name(&s[start..end])
 }
 
-// Is every word of this text a name?
-fn each_name(s: &[u8]) -> bool
-    ensures { λ r. ⌜ r ≡ all isName (words (now (s .entry))) ⌝ }
+// May this word stand in a list of names? Those of some lists may begin with `%`.
+fn is_listable(w: &[u8], special: bool) -> bool
+    ensures { λ r. ⌜ r ≡ listable special (now (w .entry)) ⌝ }
+{
+    if !words::is_name(w) {
+        return false;
+    }
+    special | !lines::is_special(w)
+}
+
+// May every word of this text stand in such a list?
+fn each_name(s: &[u8], special: bool) -> bool
+    ensures { λ r. ⌜ r ≡ all (listable special) (words (now (s .entry))) ⌝ }
 {
     let mut rest = s;
     loop {
@@ -79,29 +89,30 @@ fn each_name(s: &[u8]) -> bool
         let Word::At { start, end } = w else {
             return true;
         };
-        if !words::is_name(&rest[start..end]) {
+        if !is_listable(&rest[start..end], special) {
             return false;
         }
         rest = &rest[end..];
     }
 }
 
-// Is this text one or more names?
-fn all_names(s: &[u8]) -> bool
-    ensures { λ r. ⌜ r ≡ several isName (words (now (s .entry))) ⌝ }
+// Is this text one or more such words?
+fn all_names(s: &[u8], special: bool) -> bool
+    ensures { λ r. ⌜ r ≡ several (listable special) (words (now (s .entry))) ⌝ }
 {
     let w = words::next_word(s);
     let Word::At { start: _, end: _ } = w else {
         return false;
     };
-    each_name(s)
+    each_name(s, special)
 }
 
-// What the value of a field has to be.
+// What the value of a field has to be. Ordinary names do not begin with `%`.
 pub enum Content {
     Free,
     TypeName,
     Names,
+    Ordinary,
     Name,
     Size,
     Fault,
@@ -125,6 +136,7 @@ fn special_content(name: &[u8]) -> Content
         Rule::TYPEDEF => Content::Free,
         Rule::TYPE => Content::Free,
         Rule::SINGULAR => Content::Names,
+        Rule::AUTO => Content::Ordinary,
         _ => Content::Fault,
     }
 }
@@ -147,7 +159,8 @@ pub fn text_holds(c: Content, s: &[u8]) -> bool
     match c {
         Content::Free => true,
         Content::TypeName => one_type_name(s),
-        Content::Names => all_names(s),
+        Content::Names => all_names(s, true),
+        Content::Ordinary => all_names(s, false),
         Content::Name => one_name(s),
         Content::Size => is_size(size_rule(s)),
         Content::Fault => false,

@@ -15,13 +15,13 @@ use Rattle.format.specs.Sets.{valuesOf}
 use Rattle.format.specs.Numbers.{intBounds}
 use Rattle.format.specs.Rules.{listed, mandatory, prohibited, allowed, unique, key, one, isShaped}
 use Rattle.format.proofs.Limits.{rules-few}
-use Rattle.format.proofs.Listing.{listed-cons}
+use Rattle.format.proofs.Listing.{listed-cons, shaped-as}
 use Rattle.records.specs.Walk.{recordIn}
 use Rattle.terms.specs.Sets.{termOf}
 use Rattle.dictionary.specs.Tags.{listTag}
 use Rattle.dictionary.specs.Terms.{termsBy, fieldTerms, listTerms}
 use Rattle.dictionary.specs.Known.{Described}
-use Rattle.dictionary.proofs.Listing.{list-none, list-cons, tag-any, Tags, tags-mandatory, tags-prohibit, tags-allowed, tags-unique, tags-key, shaped-as}
+use Rattle.dictionary.proofs.Listing.{list-none, list-cons, tag-any, Tags, tags-mandatory, tags-prohibit, tags-allowed, tags-unique, tags-key}
 use Rattle.dictionary.proofs.Typing.{all-shaped}
 
 -- the words of a field, if its tag is k

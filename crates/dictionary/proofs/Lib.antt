@@ -2,6 +2,7 @@
 pub mod Numbering
 pub mod Places
 pub mod Finding
+pub mod FirstPlaces
 pub mod Splitting
 pub mod Parts
 pub mod Names

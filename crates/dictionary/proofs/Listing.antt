@@ -2,7 +2,7 @@
 use Prim.Native.Nat.{ℕ, _≤_, _<_}
 use native.Mathlib.Omega.{arith}
 use mathlib.Core.Path.{_≡_, refl, sym, ap, ap₂, _∙_}
-use mathlib.Core.Bool.{Bool, true, false, _&&_, _||_, and-eq-true-iff, or-false, false≢true}
+use mathlib.Core.Bool.{Bool, true, false, _||_, and-eq-true-iff, or-false, false≢true}
 use mathlib.Core.List.{List, [], _∷_, _++_, map}
 use borrow.Author.Tests.{eqb-true, eq-eqb, ne-eqb}
 use lib.Dec.{eqb}
@@ -11,9 +11,8 @@ use Rattle.format.specs.Words.{words}
 use Rattle.format.specs.Records.{Field, Record}
 use Rattle.format.specs.Lines.{isName}
 use Rattle.format.specs.Numbers.{Bounds}
-use Rattle.format.specs.Rules.{listed, mandatory, prohibited, allowed, unique, key, one, several, nameList, isShaped}
-use Rattle.format.proofs.Lines.{all-append}
-use Rattle.format.proofs.Listing.{same-true, listed-cons}
+use Rattle.format.specs.Rules.{listed, mandatory, prohibited, allowed, unique, key, one, nameList, isShaped}
+use Rattle.format.proofs.Listing.{same-true, listed-cons, shaped-as, several-all}
 use Rattle.sorting.proofs.Tests.{by-bool}
 use Rattle.terms.specs.Sets.{termOf, tagged}
 use Rattle.terms.proofs.Tests.{tagged-append}
@@ -171,20 +170,13 @@ module _ (w : Bytes) where
 
 -- the words of lists are names, since the fields have the shapes of their names
 module _ (bounds : Bounds) (f : Field) where
-  pub shaped-as : (n : Bytes) → same n (f .name) ≡ true → isShaped bounds f ≡ true → isShaped bounds (record { name = n; value = f .value; count = f .count }) ≡ true
-  shaped-as n q s = ap (λ (x : Bytes). isShaped bounds (record { name = x; value = f .value; count = f .count })) (same-true n (f .name) q) ∙ s
-
-  names-several : (ws : List Bytes) → several isName ws ≡ true → all isName ws ≡ true
-  names-several [] s = refl
-  names-several (w ∷ ws) s = s
-
   names-one : (ws : List Bytes) → one isName ws ≡ true → all isName ws ≡ true
   names-one [] s = refl
   names-one (w ∷ []) s = and-eq-true-iff (isName w) true .1 (s, refl)
   names-one (w ∷ v ∷ ws) s = absurd (false≢true s)
 
   field-names : (n : Bytes) → same n (f .name) ≡ true → (isShaped bounds (record { name = n; value = f .value; count = f .count }) ≡ true → nameList (f .value) ≡ true) → isShaped bounds f ≡ true → areNames f ≡ true
-  field-names n q g s = or-right (eqb (listTag (f .name)) 64) (all isName (words (f .value))) (names-several (words (f .value)) (g (shaped-as n q s)))
+  field-names n q g s = or-right (eqb (listTag (f .name)) 64) (all isName (words (f .value))) (several-all isName (words (f .value)) (g (shaped-as bounds f n q s)))
     where
       or-right : (x y : Bool) → y ≡ true → x || y ≡ true
       or-right true y z = refl
@@ -201,24 +193,11 @@ module _ (bounds : Bounds) (f : Field) where
       (λ q₁. by-bool (b (f .name)) (λ q. list (text "%prohibit") q (λ z. sym (or-false (nameList (f .value))) ∙ z))
       (λ q₂. by-bool (c (f .name)) (λ q. list (text "%allowed") q (λ z. sym (or-false (nameList (f .value))) ∙ z))
       (λ q₃. by-bool (d (f .name)) (λ q. list (text "%unique") q (λ z. sym (or-false (nameList (f .value))) ∙ z))
-      (λ q₄. by-bool (e (f .name)) (λ q. or-true (eqb (listTag (f .name)) 64) (all isName (words (f .value))) (names-one (words (f .value)) (sym (or-false (one isName (words (f .value)))) ∙ shaped-as (text "%key") q s)))
+      (λ q₄. by-bool (e (f .name)) (λ q. or-true (eqb (listTag (f .name)) 64) (all isName (words (f .value))) (names-one (words (f .value)) (sym (or-false (one isName (words (f .value)))) ∙ shaped-as bounds f (text "%key") q s)))
       (λ q₅. rw (q₁, q₂, q₃, q₄, q₅))))))
     where
       list : (n : Bytes) → same n (f .name) ≡ true → (isShaped bounds (record { name = n; value = f .value; count = f .count }) ≡ true → nameList (f .value) ≡ true) → areNames f ≡ true
       list n q g = field-names n q g s
-
--- those of a list of any name whose shape asks for names
-pub listed-names : (bounds : Bounds) (n : Bytes) → ((v : Bytes) (k : ℕ) → isShaped bounds (record { name = n; value = v; count = k }) ≡ true → nameList v ≡ true) → (r : Record) → all (isShaped bounds) r ≡ true → all isName (listed n r) ≡ true
-listed-names bounds n g [] e = refl
-listed-names bounds n g (f ∷ r) e =
-    let h = and-eq-true-iff (isShaped bounds f) (all (isShaped bounds) r) .0 e in
-    ap (all isName) (listed-cons n f r)
-    ∙ all-append isName (pick (same n (f .name)) (words (f .value)) []) (listed n r)
-    ∙ (λ i. here (same n (f .name)) refl (h .0) i && listed-names bounds n g r (h .1) i)
-  where
-    here : (t : Bool) → same n (f .name) ≡ t → isShaped bounds f ≡ true → all isName (pick t (words (f .value)) []) ≡ true
-    here true q s = names-several bounds f (words (f .value)) (g (f .value) (f .count) (shaped-as bounds f n q s))
-    here false q s = refl
 
 pub lists-names : (bounds : Bounds) (r : Record) → all (isShaped bounds) r ≡ true → all areNames r ≡ true
 lists-names bounds [] s = refl

@@ -19,6 +19,7 @@ use Rattle.format.specs.Types.{Typedef}
 use Rattle.format.specs.Rules.{typedNames, typedefsOf, endKind, isTypedefName, distinct, isShaped}
 use Rattle.format.specs.Questions.{fitsField}
 use Rattle.format.proofs.Limits.{rules-few}
+use Rattle.format.proofs.Listing.{well-shaped}
 use Rattle.lines.specs.Value.{valueFrom}
 use Rattle.words.specs.Spans.{span}
 use Rattle.records.specs.Walk.{recordIn}
@@ -83,10 +84,7 @@ module _ (d : Bytes) (h : Described d) where
   rows-few = rules-few rules (h .few) .types-few
 
   pub all-shaped : all (isShaped intBounds) rules ≡ true
-  all-shaped =
-      let k : Bool = leb (length (valuesOf (text "%key") rules)) 1 in
-      let z : Bool = leb (length (valuesOf (text "%size") rules)) 1 in
-      and-eq-true-iff (all (isShaped intBounds) rules) k .0 (and-eq-true-iff (all (isShaped intBounds) rules && k) z .0 (h .well) .0) .0
+  all-shaped = well-shaped intBounds rules (h .well)
 
 -- `row` of them are passed, and byte i is behind them
 module _ (d : Bytes) (row i v e : ℕ) (b : Passed d (text "%type") row i) (f : ValueHere d (text "%type") i v e) where

@@ -9,7 +9,7 @@ use Rattle.format.specs.Limits.{fileBytes}
 use Rattle.format.specs.Records.{Record}
 use Rattle.format.specs.Sets.{valuesOf}
 use Rattle.format.specs.Numbers.{intBounds}
-use Rattle.format.specs.Rules.{mandatory, prohibited, allowed, unique, key, typedNames, isWellFormed, isTypedWell}
+use Rattle.format.specs.Rules.{mandatory, prohibited, allowed, unique, key, typedNames, isWellFormed, areTypesDefined}
 use Rattle.format.specs.Questions.{fitsRecord, fitsRules}
 use Rattle.records.specs.Places.{isReadable}
 use Rattle.records.specs.Walk.{recordIn}
@@ -21,14 +21,14 @@ use Rattle.dictionary.specs.Tags.{mandatoryTag, prohibitedTag, allowedTa
 use Rattle.dictionary.specs.Terms.{listTerms, rowTerms}
 use Rattle.dictionary.specs.declared.Dictionary.{Dictionary}
 
--- a part whose fields are rules that pass questions 4, 6 and 7
+-- a part whose fields are rules that pass questions 4, 6 and 7, the types of `%auto` names aside
 pub record Described (d : Bytes) : Type 0 where
   pub reads : isReadable d ≡ true
   pub short : length d ≤ fileBytes
   pub fits : fitsRecord (recordIn d) ≡ true
   pub few : fitsRules (recordIn d) ≡ true
   pub well : isWellFormed intBounds (recordIn d) ≡ true
-  pub typed : isTypedWell intBounds (recordIn d) ≡ true
+  pub typed : areTypesDefined intBounds (recordIn d) ≡ true
 
 -- the value of `%type` field k
 abbrev pub typeValue : Record → ℕ → Bytes

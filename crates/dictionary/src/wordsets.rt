@@ -1,17 +1,19 @@
 // The words of one of a descriptor's lists, each with its place in the list as tag: what a record has of them is a set in one number.
 ghost use mathlib.Core.Path.{_≡_};
-ghost use mathlib.Core.Bool.{true};
-ghost use mathlib.Core.List.{[]};
-ghost use Prim.Native.Nat.{_+_, _≤_};
+ghost use mathlib.Core.Bool.{true, false};
+ghost use mathlib.Core.List.{List, []};
+ghost use Prim.Native.Nat.{ℕ, _+_, _<_, _≤_};
 ghost use lib.ListN.{length, drop};
-ghost use Rattle.format.specs.Bytes.{all};
+ghost use Rattle.format.specs.Bytes.{Bytes, all};
 ghost use Rattle.format.specs.Limits.{fileBytes, listWords};
 ghost use Rattle.format.specs.Lines.{isName};
 ghost use Rattle.format.specs.Words.{words};
 ghost use Rattle.format.specs.Rules.{listed};
 ghost use Rattle.lines.specs.Value.{valueFrom};
+ghost use Rattle.words.specs.RuleNames.{placeIn};
 ghost use Rattle.records.specs.Places.{isReadable};
 ghost use Rattle.records.specs.Walk.{recordIn};
+ghost use Rattle.terms.specs.Sets.{inSet};
 ghost use Rattle.terms.specs.Adding.{Adding};
 ghost use Rattle.dictionary.specs.Numbered.{numbered, IsWords};
 use super::lists;
@@ -80,4 +82,32 @@ pub fn read(d: &[u8], name: &[u8], entries: &mut [u32], sets: &mut [u64]) -> Wor
     let t = terms::build(d, &mut entries[..n]);
     terms::join(d, &*entries, t, &mut *sets);
     Words { table: t, count: n }
+}
+
+// The first of some places that is in a set, and their number where none is.
+fn first_place(set: u64, count: usize) -> usize
+    requires { ⌜ count ≤ listWords ⌝ }
+    ensures { λ r. ⌜ (r ≤ count) × (r < count → inSet r set ≡ true) × ((k : ℕ) → k < r → inSet k set ≡ false) ⌝ }
+{
+    let mut k = 0;
+    while k < count {
+        if terms::has(set, k as u64) {
+            return k;
+        }
+        k += 1;
+    }
+    k
+}
+
+// The place of a name in a list, the list's length where it does not stand there.
+pub fn place_of(d: &[u8], entries: &[u32], sets: &[u64], w: Words, name: &[u8]) -> usize
+    requires { ⌜ ((ws : List Bytes) × IsWords (now d) ws (now entries) (now sets) w) ⌝ }
+    ensures { λ r. ⌜ ((ws : List Bytes) → IsWords (now (d .entry)) ws (now (entries .entry)) (now (sets .entry)) w → r ≡ placeIn (now (name .entry)) ws) ⌝ }
+{
+    let t = w.table;
+    let set = terms::find_joined(d, entries, t, sets, name);
+    if set == 0 {
+        return w.count;
+    }
+    first_place(set, w.count)
 }

@@ -1,8 +1,8 @@
 -- What one edit answers: the file passes, the request was read, and where it acts was located.
-use Prim.Native.Nat.{ℕ, zero, suc, _≤_}
+use Prim.Native.Nat.{ℕ, zero, suc, _≤_, _<_}
 use native.Mathlib.Omega.{arith}
-use mathlib.Core.Path.{_≡_, refl, sym, ap, _∙_}
-use mathlib.Core.Logic.{_≢_}
+use mathlib.Core.Path.{_≡_, refl, sym, ap, _∙_, subst}
+use mathlib.Core.Logic.{_≢_, _⊎_, inl, inr}
 use mathlib.Core.Bool.{Bool, true, false, and-eq-true-iff}
 use mathlib.Core.Option.{some}
 use lib.Dec.{leb}
@@ -11,20 +11,25 @@ use lib.Seq.{length-take-le}
 use borrow.Author.Tests.{leb-true}
 use Rattle.format.specs.Bytes.{Bytes, pick, isSome}
 use Rattle.format.specs.Lines.{isEnded}
-use Rattle.format.specs.Pieces.{pieces}
+use Rattle.format.specs.Pieces.{bytesOf as piecesText, pieces, readOf}
 use Rattle.format.specs.Limits.{fileBytes}
-use Rattle.format.specs.Questions.{verdict}
+use Rattle.format.specs.Sets.{setsOf}
+use Rattle.format.specs.Questions.{verdict, fitsLimits}
 use Rattle.format.specs.Requests.{Request, requestOf}
+use Rattle.format.specs.Plain.{plainOf}
 use Rattle.format.specs.Calls.{Answer, Filled, placed, editAnswer}
-use Rattle.format.proofs.Passing.{Passes, verdict-reads, verdict-passes}
+use Rattle.format.proofs.Passing.{Passes, SetsPass, verdict-reads, verdict-read, verdict-passes, holds-start, holds-sets}
+use Rattle.format.proofs.Requested.{request-pairs}
 use Rattle.format.proofs.Judging.{textNo}
-use Rattle.format.proofs.Results.{raisedNo, editNo}
+use Rattle.format.proofs.Results.{raisedNo, editNo, limit-text}
 use Rattle.format.proofs.Answers.{refusedEdit, answer-refused, answer-accepted}
 use Rattle.records.specs.Places.{isReadable}
 use Rattle.edits.specs.declared.Located.{Located}
 use Rattle.edits.specs.declared.Splice.{Splice}
-use Rattle.edits.specs.Splices.{madeBy}
-use Rattle.edits.specs.Places.{Locates}
+use Rattle.edits.specs.Splices.{madeBy, isWithin}
+use Rattle.edits.specs.Places.{placeNo, resultTo, OverAs, Locates}
+use Rattle.edits.proofs.Sizes.{over-file}
+use Rattle.editor.specs.Overs.{overNo}
 
 -- an accepted edit: its text is within the room
 
@@ -53,21 +58,40 @@ module _ (buffer : Bytes) (used : ℕ) (v : verdict buffer used ≡ 0) where
   unfolding isReadable
   file-readable = and-eq-true-iff (isEnded (take used buffer)) (isSome (pieces (take used buffer))) .1 (passes .ended, ap isSome (passes .reads))
 
+  pub file-sets : SetsPass (setsOf (readOf (take used buffer)))
+  unfolding plainOf
+  file-sets = holds-sets buffer used (plainOf (readOf (take used buffer))) (holds-start buffer used (readOf (take used buffer)) v (verdict-read buffer used v))
+
   -- a request that was read, and what was located of it
   module _ (req : Bytes) (q : Request) (e : requestOf req ≡ some q) where
     abbrev s : Bytes
     s = take used buffer
 
-    pub place-refused : (k : ℕ) → Locates (take used buffer) req q (Located.Refused k) → refusedEdit k buffer ≡ editAnswer buffer used req
-    place-refused zero l = absurd (omega (arith, l .1))
-    place-refused (suc k) l = sym (answer-refused buffer used req v q e (suc k) (l .0 (length buffer)) (suc k) (omega arith) refl)
+    pub place-refused : (added : Bytes) (k : ℕ) → Locates (take used buffer) req added q (Located.Refused k) → refusedEdit k buffer ≡ editAnswer buffer used req
+    place-refused added zero l = absurd (omega (arith, l .1))
+    place-refused added (suc k) l = sym (answer-refused buffer used req v q e (suc k) (l .0 (length buffer)) (suc k) (omega arith) refl)
 
-    module _ (x : Splice) (l : Locates (take used buffer) req q (Located.At x)) where
-      pub edit-refused : (n : ℕ) → n ≢ 0 → n ≡ editNo (length buffer) 0 (madeBy (take used buffer) req x) → refusedEdit n buffer ≡ editAnswer buffer used req
+    -- what is over a limit
+    over-text : (n : ℕ) → ((room : ℕ) → placeNo room s q ≡ 0) → OverAs n (length (piecesText (resultTo s q .pieces))) (fitsLimits (resultTo s q .sets)) → editNo (length buffer) 0 (piecesText (resultTo s q .pieces)) ≡ overNo (length buffer) n
+    over-text n y (inl h) = ap (λ (b : Bool). pick b (raisedNo (textNo (piecesText (resultTo s q .pieces)))) 26) (over-file (length buffer) (length (piecesText (resultTo s q .pieces))) (h .1)) ∙ sym (ap (λ (b : Bool). pick b 104 26) (over-file (length buffer) n (h .0)))
+    over-text n y (inr h) =
+        let t : Bytes = piecesText (resultTo s q .pieces) in
+        let k : textNo t ≡ 4 = limit-text buffer used (plainOf (readOf s)) (holds-start buffer used (readOf s) v (verdict-read buffer used v)) 0 q (request-pairs req q e) (y 0) (h .1) in
+        (λ i. pick (isWithin (length buffer) (sym (h .0) i)) (raisedNo (k i)) 26)
+
+    over-some : (b : Bool) → 0 < pick b 104 26
+    over-some true = omega arith
+    over-some false = omega arith
+
+    pub over-refused : (added : Bytes) (n k : ℕ) → Locates (take used buffer) req added q (Located.Over n) → k ≡ overNo (length buffer) n → refusedEdit k buffer ≡ editAnswer buffer used req
+    over-refused added n k l z = sym (answer-refused buffer used req v q e 0 (l .0 (length buffer)) k (subst (λ (x : ℕ). 0 < x) (sym z) (over-some (isWithin (length buffer) n))) (over-text n (l .0) (l .1) ∙ sym z))
+
+    module _ (added : Bytes) (x : Splice) (l : Locates (take used buffer) req added q (Located.At x)) where
+      pub edit-refused : (n : ℕ) → n ≢ 0 → n ≡ editNo (length buffer) 0 (madeBy (take used buffer) req added x) → refusedEdit n buffer ≡ editAnswer buffer used req
       edit-refused n h z = sym (answer-refused buffer used req v q e 0 (l .0 (length buffer)) n (omega arith) (sym (z ∙ ap (editNo (length buffer) 0) (l .1))))
 
       -- what was carried out is what the request asks for
-      pub edit-accepted : 0 ≡ editNo (length buffer) 0 (madeBy (take used buffer) req x) → (n : ℕ) (after : Bytes) → n ≡ length (madeBy (take used buffer) req x) → after ≡ placed (madeBy (take used buffer) req x) used buffer → _≡_ {A = Filled} (record { result = Answer.value n; out = after }) (editAnswer buffer used req)
+      pub edit-accepted : 0 ≡ editNo (length buffer) 0 (madeBy (take used buffer) req added x) → (n : ℕ) (after : Bytes) → n ≡ length (madeBy (take used buffer) req added x) → after ≡ placed (madeBy (take used buffer) req added x) used buffer → _≡_ {A = Filled} (record { result = Answer.value n; out = after }) (editAnswer buffer used req)
       edit-accepted z n after h k =
           (λ i. record { result = Answer.value ((h ∙ ap length (l .1)) i); out = (k ∙ ap (λ (t : Bytes). placed t used buffer) (l .1)) i })
           ∙ sym (answer-accepted buffer used req v q e 0 (l .0 (length buffer)) (sym (z ∙ ap (editNo (length buffer) 0) (l .1))))

@@ -17,20 +17,20 @@ use Rattle.edits.specs.Splices.{madeBy, Sound}
 use Rattle.edits.specs.declared.Splice.{Splice}
 
 -- s copied over the front of d
-module _ (s d b req : Bytes) (x : Splice) (e : b ≡ over s d) where
+module _ (s d b req added : Bytes) (x : Splice) (e : b ≡ over s d) where
   copied : take (length s) b ≡ s
   copied = ap (take (length s)) e ∙ take-append-seam s (drop (length s) d)
 
-  pub copied-sound : Sound s req x → Sound (take (length s) b) req x
-  copied-sound h = subst (λ (t : Bytes). Sound t req x) (sym copied) h
+  pub copied-sound : Sound s req added x → Sound (take (length s) b) req added x
+  copied-sound h = subst (λ (t : Bytes). Sound t req added x) (sym copied) h
 
-  pub copied-made : madeBy (take (length s) b) req x ≡ madeBy s req x
-  copied-made = ap (λ (t : Bytes). madeBy t req x) copied
+  pub copied-made : madeBy (take (length s) b) req added x ≡ madeBy s req added x
+  copied-made = ap (λ (t : Bytes). madeBy t req added x) copied
 
   -- what is judged, once the splice was carried out on the copy
-  pub copied-judged : (n : ℕ) (after : Bytes) → n ≡ length (madeBy (take (length s) b) req x) → after ≡ placed (madeBy (take (length s) b) req x) (length s) b → take n after ≡ madeBy s req x
+  pub copied-judged : (n : ℕ) (after : Bytes) → n ≡ length (madeBy (take (length s) b) req added x) → after ≡ placed (madeBy (take (length s) b) req added x) (length s) b → take n after ≡ madeBy s req added x
   copied-judged n after h k =
-      (λ i. take (h i) (k i)) ∙ placed-take (madeBy (take (length s) b) req x) (length s) b ∙ copied-made
+      (λ i. take (h i) (k i)) ∙ placed-take (madeBy (take (length s) b) req added x) (length s) b ∙ copied-made
 
 -- an edit's number, as the questions are asked: b says whether the made text is within the room
 

@@ -11,8 +11,10 @@ ghost use Rattle.format.proofs.Judging.{textNo};
 ghost use Rattle.format.proofs.Results.{editNo};
 ghost use Rattle.edits.specs.Splices.{madeBy, Sound};
 ghost use Rattle.editor.specs.Runs.{isRun, Sends};
+ghost use Rattle.editor.specs.Overs.{overNo};
 use edits::Located;
 use edits::Splice;
+use edits::Text;
 use format::Answer;
 use format::File;
 use format::Refusal;
@@ -21,34 +23,45 @@ use runs::First;
 
 mod runs;
 
-// The number of the text that a splice makes of s, questions 2 to 14. It is made in a copy.
-fn result_no(x: Splice, s: &[u8], req: &[u8], copy: &mut [u8]) -> u32
+// The number of the text that a splice makes of s, questions 2 to 14 and 30. It is made in a copy.
+fn result_no(x: Splice, s: &[u8], req: &[u8], added: &[u8], copy: &mut [u8]) -> u32
     requires { ⌜ fileBytes ≤ length (now copy) ⌝ }
-    requires { ⌜ Sound (now s) (now req) x ⌝ }
-    requires { ⌜ (length (now s) ≤ fileBytes) × (length (madeBy (now s) (now req) x) ≤ fileBytes) ⌝ }
-    ensures { λ r. ⌜ r ≡ textNo (madeBy (now (s .entry)) (now (req .entry)) x) ⌝ }
+    requires { ⌜ Sound (now s) (now req) (now added) x ⌝ }
+    requires { ⌜ (length (now s) ≤ fileBytes) × (length (madeBy (now s) (now req) (now added) x) ≤ fileBytes) ⌝ }
+    ensures { λ r. ⌜ r ≡ textNo (madeBy (now (s .entry)) (now (req .entry)) (now (added .entry)) x) ⌝ }
 {
     let used = s.len();
     writing::put_bytes(&mut *copy, s);
-    let n = edits::carry_out(x, &mut *copy, used, req);
+    let n = edits::carry_out(x, &mut *copy, used, req, added);
     integrity::judge_spent(copy, n)
 }
 
 // The number of a splice of a text that passes, in a buffer of room bytes: the first question, 26 on, that says no, else 0.
-fn edit_no(x: Splice, s: &[u8], req: &[u8], room: usize, copy: &mut [u8]) -> u32
+fn edit_no(x: Splice, s: &[u8], req: &[u8], added: &[u8], room: usize, copy: &mut [u8]) -> u32
     requires { ⌜ fileBytes ≤ length (now copy) ⌝ }
-    requires { ⌜ Sound (now s) (now req) x ⌝ }
+    requires { ⌜ Sound (now s) (now req) (now added) x ⌝ }
     requires { ⌜ (length (now s) ≤ room) × (length (now s) ≤ fileBytes) ⌝ }
-    ensures { λ r. ⌜ r ≡ editNo room 0 (madeBy (now (s .entry)) (now (req .entry)) x) ⌝ }
+    ensures { λ r. ⌜ r ≡ editNo room 0 (madeBy (now (s .entry)) (now (req .entry)) (now (added .entry)) x) ⌝ }
 {
-    if !edits::fits(x, s, req, room) {
+    if !edits::fits(x, s, req, added, room) {
         return Refusal::LARGE;
     }
-    let n = result_no(x, s, req, copy);
+    let n = result_no(x, s, req, added, copy);
     if n == 0 {
         return 0;
     }
     Refusal::RESULT + n
+}
+
+// The number of an edit that makes so many bytes, with a name among them that is longer than a field's may be.
+fn over_no(n: usize, room: usize) -> u32
+    ensures { λ r. ⌜ r ≡ overNo room n ⌝ }
+{
+    let f = File::new(n);
+    if f.fits(room) {
+        return Refusal::RESULT_LIMIT;
+    }
+    Refusal::LARGE
 }
 
 // One request to a file that passes, in the first `used` bytes of buf, with room for a copy of it. A refusal writes nothing.
@@ -61,18 +74,22 @@ pub fn edit_passing(buf: &mut [u8], used: usize, req: &[u8], copy: &mut [u8]) ->
     let RequestOf::Is(q) = r else {
         return Answer::Refused(Refusal::FORM);
     };
-    let l = edits::locate(&buf[..used], req, q);
+    let mut added = [0u8; Text::ROOM];
+    let l = edits::locate(&buf[..used], req, q, &mut *copy, &mut added);
+    let room = buf.len();
     match l {
         Located::Refused(k) => {
             return Answer::Refused(k);
         }
+        Located::Over(n) => {
+            return Answer::Refused(over_no(n, room));
+        }
         Located::At(x) => {
-            let room = buf.len();
-            let n = edit_no(x, &buf[..used], req, room, &mut *copy);
+            let n = edit_no(x, &buf[..used], req, &added, room, &mut *copy);
             if n != 0 {
                 return Answer::Refused(n);
             }
-            let new = edits::carry_out(x, buf, used, req);
+            let new = edits::carry_out(x, buf, used, req, &added);
             return Answer::Value(new);
         }
     }

@@ -1,21 +1,23 @@
--- What each edit does to a text, by the places that the searches find: questions 21 to 25 say yes, and the splice makes the text that the request asks for.
+-- What each act on a record does to a text, by the places that the searches find: questions 21 to 25 and 31 say yes, and the splice makes the text that the request asks for.
 use Prim.Native.Nat.{ℕ, _+_, _-_, _≤_, _<_}
 use native.Mathlib.Omega.{arith}
 use mathlib.Core.Path.{_≡_, refl, sym, ap, _∙_, subst}
 use mathlib.Core.Bool.{Bool, true, false}
-use mathlib.Core.List.{List, [], _++_}
+use mathlib.Core.List.{[], _++_}
+use mathlib.Core.Option.{Option}
 use lib.Dec.{ltb}
 use lib.ListN.{length, take, drop, length-drop}
 use lib.Seq.{length-take-le}
-use Rattle.format.specs.Pieces.{readOf}
-use Rattle.format.specs.Bytes.{Bytes, pick, all, isSome}
+use Rattle.format.specs.Pieces.{bytesOf as piecesText, readOf}
+use Rattle.format.specs.Bytes.{Bytes, pick}
 use Rattle.format.specs.Limits.{fileBytes}
 use Rattle.format.specs.Sets.{valuesOf, setsOf}
 use Rattle.format.specs.Written.{Pair, written, isLegalPair, isLegalName, isLegalValue}
 use Rattle.format.specs.Edits.{Change, Act, Edit}
 use Rattle.format.specs.Requests.{Request}
-use Rattle.format.specs.Plain.{membersAt, leavesField, isLegalEdit}
+use Rattle.format.specs.Plain.{plainOf, apply, requestOr, membersAt, leavesField, isLegalEdit}
 use Rattle.format.proofs.Splices.{spliced as replaced}
+use Rattle.format.proofs.Completing.{completed-on}
 use Rattle.lines.proofs.Cuts.{rest}
 use Rattle.records.specs.Places.{isReadable, placesOf, setPlace, recordPlace, fieldPlace}
 use Rattle.records.specs.Walk.{recordIn}
@@ -26,25 +28,21 @@ use Rattle.records.specs.declared.FoundField.{FoundField}
 use Rattle.records.proofs.Members.{SetFound, set-told, RecordFound, record-told}
 use Rattle.records.proofs.Fields.{field-told}
 use Rattle.records.proofs.Unfielding.{leftOf}
-use Rattle.records.specs.Sets.{setEnd}
-use Rattle.records.proofs.SetEnds.{end-inside}
 use Rattle.records.proofs.RecordEdits.{ownPart, name-inside}
-use Rattle.records.proofs.Applied.{appliedTo, insert-applied, add-applied, delete-applied, value-applied, dropped-applied, name-applied}
+use Rattle.records.proofs.Applied.{appliedTo, add-applied, delete-applied, value-applied, dropped-applied, name-applied}
 use Rattle.requests.specs.Fields.{bytesOf, InSpan}
-use Rattle.requests.specs.Pairs.{pairsFrom, pairsAt, pairOf, Weighs}
+use Rattle.requests.specs.Pairs.{pairOf}
 use Rattle.words.specs.declared.Span.{Span}
 use Rattle.requests.specs.Kinds.{changeOf, actOf, editOf, InChange}
 use Rattle.requests.specs.declared.kinds.Change.{Change as ReadChange}
 use Rattle.requests.specs.declared.kinds.Act.{Act as ReadAct}
 use Rattle.requests.specs.declared.kinds.Edit.{Edit as ReadEdit}
-use Rattle.requests.specs.declared.pairs.Weighed.{Weighed}
 use Rattle.requests.proofs.Reading.{span-length}
-use Rattle.splices.specs.Space.{spliced, inserted}
-use Rattle.splices.proofs.Inserted.{told-inserted}
+use Rattle.splices.specs.Space.{spliced}
 use Rattle.edits.specs.declared.Located.{Located}
 use Rattle.edits.specs.declared.Splice.{Splice}
-use Rattle.edits.specs.Places.{placeNo, changeAt, Locates, LocatesIn}
-use Rattle.edits.proofs.PlaceQuestions.{own-readable, no-set, insert-asked, no-record, delete-asked, add-asked, no-field, change-asked}
+use Rattle.edits.specs.Places.{placeNo, resultTo, changeAt, Locates, LocatesIn}
+use Rattle.edits.proofs.PlaceQuestions.{own-readable, no-set, no-record, delete-asked, add-asked, no-field, change-asked}
 
 -- a text with its bytes from x to y replaced, and with so many bytes replaced from x on
 as-spliced : (s : Bytes) (x y old : ℕ) (t : Bytes) → y ≡ x + old → replaced s x y t ≡ spliced s x old t
@@ -55,40 +53,31 @@ pub record-placed : (s : Bytes) (a row : ℕ) (x : FoundRecord) {y : FoundRecord
 record-placed s a row x f g = ap (λ (t : Bytes). recordPlace (placesOf t) row) (sym (rest s a)) ∙ sym f ∙ g
 
 -- a set that is not there
-pub set-missing : (s req : Bytes) (q : Request) → isReadable s ≡ true → setPlace (q .set) (placesOf s) ≡ FoundSet.Missing → Locates s req q (Located.Refused 21)
-set-missing s req q e f = (λ room. no-set room s (q .set) (q .edit) (set-told s (q .set) FoundSet.Missing e (sym f) refl), omega arith)
+pub set-missing : (s req : Bytes) (q : Request) → isReadable s ≡ true → setPlace (q .set) (placesOf s) ≡ FoundSet.Missing → (added : Bytes) → Locates s req added q (Located.Refused 21)
+set-missing s req q e f added = (λ room. no-set room s (q .set) (q .edit) (set-told s (q .set) FoundSet.Missing e (sym f) refl), omega arith)
 
 -- an edit and an act, once their form is known
-pub edit-as : (s req set : Bytes) (r : Located) {x y : ReadEdit} → x ≡ y → Locates s req (record { set = set; edit = editOf req y }) r → Locates s req (record { set = set; edit = editOf req x }) r
-edit-as s req set r e h = subst (λ (z : ReadEdit). Locates s req (record { set = set; edit = editOf req z }) r) (sym e) h
+pub edit-as : (s req added set : Bytes) (r : Located) {x y : ReadEdit} → x ≡ y → Locates s req added (record { set = set; edit = editOf req y }) r → Locates s req added (record { set = set; edit = editOf req x }) r
+edit-as s req added set r e h = subst (λ (z : ReadEdit). Locates s req added (record { set = set; edit = editOf req z }) r) (sym e) h
 
 pub act-as : (s req : Bytes) (a row : ℕ) (r : Located) {x y : ReadAct} → x ≡ y → LocatesIn s req a (Edit.on row (actOf req y)) r → LocatesIn s req a (Edit.on row (actOf req x)) r
 act-as s req a row r e h = subst (λ (z : ReadAct). LocatesIn s req a (Edit.on row (actOf req z)) r) (sym e) h
+
+-- what an act makes is what it makes as it is
+on-made : (s set : Bytes) (row : ℕ) (act : Act) → appliedTo s (record { set = set; edit = Edit.on row act }) ≡ piecesText (resultTo s (record { set = set; edit = Edit.on row act }) .pieces)
+on-made s set row act = ap (λ (x : Option Request). piecesText (apply (requestOr x) (plainOf (readOf s)) .pieces)) (sym (completed-on (plainOf (readOf s)) set row act))
 
 -- A readable text s, and a set whose records begin at a.
 module _ (s : Bytes) (a row : ℕ) (whole : isReadable s ≡ true) (within : a ≤ length s) (readable : isReadable (drop a s) ≡ true) where
   set-at : (set : Bytes) → setPlace set (placesOf s) ≡ FoundSet.At a → SetFound s set (setsOf (readOf s)) a
   set-at set f = set-told s set (FoundSet.At a) whole (sym f) refl
 
-  -- a record that is put in
-  pub insert-illegal : (req : Bytes) (new : List Pair) → all isLegalPair new ≡ false → LocatesIn s req a (Edit.insert new) (Located.Refused 25)
-  insert-illegal req new h set f = (λ room. insert-asked room s set a (set-at set f) new false h, omega arith)
-
-  pub insert-located : (req : Bytes) (e from len count : ℕ) → e ≡ setEnd 0 (placesOf (drop a s)) → isSome (pairsFrom req from) ≡ true → Weighs (pairsAt req from) (Weighed.Sums len count)
-      → LocatesIn s req a (Edit.insert (pairsAt req from)) (Located.At (Splice.Record (a + e) from len))
-  insert-located req e from len count p some w set f =
-      let new : List Pair = pairsAt req from in
-      let r : Request = record { set = set; edit = Edit.insert new } in
-      let z : ℕ = setEnd 0 (placesOf (drop a s)) in
-      let made = told-inserted s (a + z) new (appliedTo s r) (insert-applied s r a whole f new refl) in
-      (λ room. insert-asked room s set a (set-at set f) new true (w .0), sym (made ∙ ap (λ (x : ℕ). inserted s (a + x) new) (sym p)), (omega (arith, end-inside (drop a s) readable, length-drop a s), some, w .1))
-
   -- a record that is not there
   no-row : recordPlace (placesOf (drop a s)) row ≡ FoundRecord.Missing → length (membersAt 0 (setsOf (readOf (drop a s)))) ≤ row
   no-row g = record-told (drop a s) row FoundRecord.Missing readable (sym g) refl
 
   pub record-missing : (req : Bytes) (act : Act) → recordPlace (placesOf (drop a s)) row ≡ FoundRecord.Missing → LocatesIn s req a (Edit.on row act) (Located.Refused 22)
-  record-missing req act g set f = (λ room. no-record room s set a (set-at set f) row act (no-row g), omega arith)
+  record-missing req act g set added f = (λ room. no-record room s set a (set-at set f) row act (no-row g), omega arith)
 
   -- Its record is found at q.
   module _ (q : Place) (g : recordPlace (placesOf (drop a s)) row ≡ FoundRecord.At q) where
@@ -102,26 +91,26 @@ module _ (s : Bytes) (a row : ℕ) (whole : isReadable s ≡ true) (within : a �
     record-readable = own-readable s a q row record-at
 
     pub delete-located : (req : Bytes) → LocatesIn s req a (Edit.on row Act.delete) (Located.At (Splice.Unfield (a + q .start) (a + q .end)))
-    delete-located req set f =
+    delete-located req set added f =
         let r : Request = record { set = set; edit = (Edit.on row Act.delete) } in
         let h = record-inside in
         let x : ℕ = a + q .start in
         let y : ℕ = a + q .end in
-        (λ room. delete-asked room s set a (set-at set f) row q record-at, sym (delete-applied s r a whole f row q g refl ∙ as-spliced s x y (y - x) (leftOf (ownPart s a q)) (omega arith)), (omega arith, h .1, record-readable))
+        (λ room. delete-asked room s set a (set-at set f) row q record-at, sym (delete-applied s r a whole f row q g refl ∙ as-spliced s x y (y - x) (leftOf (ownPart s a q)) (omega arith)) ∙ on-made s set row Act.delete, (omega arith, h .1, record-readable))
 
     pub add-illegal : (req : Bytes) (new : Pair) → isLegalPair new ≡ false → LocatesIn s req a (Edit.on row (Act.add new)) (Located.Refused 25)
-    add-illegal req new h set f = (λ room. add-asked room s set a (set-at set f) row q record-at new false h, omega arith)
+    add-illegal req new h set added f = (λ room. add-asked room s set a (set-at set f) row q record-at new false h, omega arith)
 
     pub add-located : (req : Bytes) (n v : Span) → length req ≤ fileBytes → InSpan req n → InSpan req v → isLegalPair (pairOf req n v) ≡ true → LocatesIn s req a (Edit.on row (Act.add (pairOf req n v))) (Located.At (Splice.Field (a + q .end) 0 n v))
-    add-located req n v l i j h set f =
+    add-located req n v l i j h set added f =
         let new : Pair = pairOf req n v in
         let r : Request = record { set = set; edit = Edit.on row (Act.add new) } in
         let x : ℕ = a + q .end in
-        (λ room. add-asked room s set a (set-at set f) row q record-at new true h, sym (add-applied s r a whole f row q g new refl ∙ as-spliced s x x 0 (written (new .name) (new .value)) (omega arith)), (omega (arith, record-inside .1), l, i, j))
+        (λ room. add-asked room s set a (set-at set f) row q record-at new true h, sym (add-applied s r a whole f row q g new refl ∙ as-spliced s x x 0 (written (new .name) (new .value)) (omega arith)) ∙ on-made s set row (Act.add new), (omega (arith, record-inside .1), l, i, j))
 
     -- an occurrence that is not there
     pub field-missing : (req n : Bytes) (o : ℕ) (c : Change) → fieldPlace n (ownPart s a q) o ≡ FoundField.Missing → LocatesIn s req a (Edit.on row (Act.change n o c)) (Located.Refused 23)
-    field-missing req n o c h set f = (λ room. no-field room s set a (set-at set f) row q record-at n o c (field-told n (ownPart s a q) o FoundField.Missing record-readable (sym h) refl), omega arith)
+    field-missing req n o c h set added f = (λ room. no-field room s set a (set-at set f) row q record-at n o c (field-told n (ownPart s a q) o FoundField.Missing record-readable (sym h) refl), omega arith)
 
     pub field-inside : (n : Bytes) (o x v z : ℕ) → fieldPlace n (ownPart s a q) o ≡ FoundField.At x v z → (x < z) × (a + q .start + z ≤ length s) × (o < length (valuesOf n (recordIn (ownPart s a q))))
     field-inside n o x v z h =
@@ -153,32 +142,32 @@ module _ (s : Bytes) (a row : ℕ) (whole : isReadable s ≡ true) (within : a �
       Does c r = LocatesIn s req a (Edit.on row (Act.change (bytesOf req n) o (changeOf req c))) r
 
       value-by : (w : Span) (t : Bool) → isLegalValue (bytesOf req w) ≡ t → length req ≤ fileBytes → InSpan req w → Does (ReadChange.Value w) (pick t (Located.At (Splice.Field start (end - start) n w)) (Located.Refused 25))
-      value-by w false h l j set f = (asks (Change.value (bytesOf req w)) true false refl h set f, omega arith)
-      value-by w true h l j set f =
+      value-by w false h l j set added f = (asks (Change.value (bytesOf req w)) true false refl h set f, omega arith)
+      value-by w true h l j set added f =
           let r : Request = record { set = set; edit = Edit.on row (Act.change (bytesOf req n) o (Change.value (bytesOf req w))) } in (
             asks (Change.value (bytesOf req w)) true true refl h set f,
-            made r (written (bytesOf req n) (bytesOf req w)) (value-applied s r a whole f row q g (bytesOf req n) o x v z found (bytesOf req w) refl),
+            made r (written (bytesOf req n) (bytesOf req w)) (value-applied s r a whole f row q g (bytesOf req n) o x v z found (bytesOf req w) refl) ∙ on-made s set row (Act.change (bytesOf req n) o (Change.value (bytesOf req w))),
             (omega (arith, inside .0, inside .1), l, in-name, j),
           )
 
       drop-by : (t : Bool) → ltb 1 (length (recordIn (ownPart s a q))) ≡ t → Does ReadChange.Dropped (pick t (Located.At (Splice.Cut start (end - start))) (Located.Refused 24))
-      drop-by false h set f = (asks Change.dropped false true h refl set f, omega arith)
-      drop-by true h set f =
+      drop-by false h set added f = (asks Change.dropped false true h refl set f, omega arith)
+      drop-by true h set added f =
           let r : Request = record { set = set; edit = Edit.on row (Act.change (bytesOf req n) o Change.dropped) } in (
             asks Change.dropped true true h refl set f,
-            made r [] (dropped-applied s r a whole f row q g (bytesOf req n) o x v z found refl),
+            made r [] (dropped-applied s r a whole f row q g (bytesOf req n) o x v z found refl) ∙ on-made s set row (Act.change (bytesOf req n) o Change.dropped),
             omega (arith, inside .0, inside .1),
           )
 
       name-by : (m : Span) (t : Bool) → isLegalName (bytesOf req m) ≡ t → InSpan req m → Does (ReadChange.Name m) (pick t (Located.At (Splice.Name start (n .end - n .start) m)) (Located.Refused 25))
-      name-by m false h j set f = (asks (Change.name (bytesOf req m)) true false refl h set f, omega arith)
-      name-by m true h j set f =
+      name-by m false h j set added f = (asks (Change.name (bytesOf req m)) true false refl h set f, omega arith)
+      name-by m true h j set added f =
           let old : Bytes = bytesOf req n in
           let r : Request = record { set = set; edit = Edit.on row (Act.change old o (Change.name (bytesOf req m))) } in
           let k = name-inside s set a row (set-at set f .index) q whole f g (set-at set f .there) old o x v z found in
           let b : start + length old ≡ start + (n .end - n .start) = omega (arith, span-length req n in-name) in (
             asks (Change.name (bytesOf req m)) true true refl h set f,
-            sym (name-applied s r a whole f row q g old o x v z found (bytesOf req m) refl ∙ ap (λ (y : ℕ). replaced s start y (bytesOf req m)) b),
+            sym (name-applied s r a whole f row q g old o x v z found (bytesOf req m) refl ∙ ap (λ (y : ℕ). replaced s start y (bytesOf req m)) b) ∙ on-made s set row (Act.change old o (Change.name (bytesOf req m))),
             (omega (arith, k, inside .1, b), j),
           )
 

@@ -2,3 +2,5 @@
 pub mod PlaceQuestions
 pub mod Acting
 pub mod Sizes
+pub mod Inserting
+pub mod Densing

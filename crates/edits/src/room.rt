@@ -3,30 +3,33 @@ ghost use mathlib.Core.Path.{_≡_};
 ghost use Prim.Native.Nat.{_≤_};
 ghost use lib.ListN.{length};
 ghost use Rattle.format.specs.Limits.{fileBytes};
-ghost use Rattle.edits.specs.Splices.{madeBy, Sound, isWithin};
+ghost use Rattle.edits.specs.Splices.{madeBy, Sound, isWithin, madeLen};
 use super::Splice;
 
+// How long a text of `used` bytes is with a record of so many put in: a newline comes between, unless it stands alone.
+pub(crate) fn made_len(used: usize, len: usize) -> usize
+    requires { ⌜ (used ≤ fileBytes) × (len ≤ 1048576) ⌝ }
+    ensures { λ r. ⌜ r ≡ madeLen used len ⌝ }
+{
+    if used == 0 {
+        return len;
+    }
+    used + len + 1
+}
+
 // Is the text that a splice makes of s at most room bytes long, and no longer than a file may be?
-pub fn fits(x: Splice, s: &[u8], req: &[u8], room: usize) -> bool
-    requires { ⌜ Sound (now s) (now req) x ⌝ }
+pub fn fits(x: Splice, s: &[u8], req: &[u8], added: &[u8], room: usize) -> bool
+    requires { ⌜ Sound (now s) (now req) (now added) x ⌝ }
     requires { ⌜ (length (now s) ≤ room) × (length (now s) ≤ fileBytes) ⌝ }
-    ensures { λ r. ⌜ r ≡ isWithin room (length (madeBy (now (s .entry)) (now (req .entry)) x)) ⌝ }
+    ensures { λ r. ⌜ r ≡ isWithin room (length (madeBy (now (s .entry)) (now (req .entry)) (now (added .entry)) x)) ⌝ }
 {
     let used = s.len();
     match x {
-        Splice::Record {
-            at: _,
-            from: _,
-            len,
-        } => {
-            if len > format::File::BYTES {
+        Splice::Record { new, own: _ } => {
+            if new.len > format::File::BYTES {
                 return false;
             }
-            if used == 0 {
-                let f = format::File::new(len);
-                return f.fits(room);
-            }
-            let f = format::File::new(used + len + 1);
+            let f = format::File::new(made_len(used, new.len));
             return f.fits(room);
         }
         Splice::Field {

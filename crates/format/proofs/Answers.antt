@@ -9,7 +9,7 @@ use Rattle.format.specs.Pieces.{bytesOf, readOf}
 use Rattle.format.specs.Numbers.{intBounds}
 use Rattle.format.specs.Questions.{firstNo, verdict}
 use Rattle.format.specs.Requests.{Request, requestOf}
-use Rattle.format.specs.Plain.{Plain, plainOf, apply, editQuestions, Step, stepBy, stepOf, step}
+use Rattle.format.specs.Plain.{Plain, plainOf, editQuestions, Step, stepBy, stepOf, step}
 use Rattle.format.specs.Calls.{Answer, thenNo, Filled, placed, edited, editAnswer}
 use Rattle.format.proofs.Requested.{request-pairs}
 use Rattle.format.proofs.Questions.{asked}
@@ -45,20 +45,20 @@ module _ (buffer : Bytes) (used : ℕ) (request : Bytes) where
     answer-fault e = answer-step none e
 
     module _ (q : Request) (e : requestOf request ≡ some q) where
-      answer-by : (n : ℕ) → firstNo (editQuestions intBounds) (asked (length buffer) first q) ≡ n → editAnswer buffer used request ≡ (let s : Step = stepBy n first (apply q first) in edited (s .number) (bytesOf (s .file .pieces)) buffer used)
-      answer-by n z = answer-step (some q) e ∙ ap (λ (x : ℕ). let s : Step = stepBy x first (apply q first) in edited (s .number) (bytesOf (s .file .pieces)) buffer used) z
+      answer-by : (n : ℕ) → firstNo (editQuestions intBounds) (asked (length buffer) first q) ≡ n → editAnswer buffer used request ≡ (let s : Step = stepBy n first (asked (length buffer) first q .result) in edited (s .number) (bytesOf (s .file .pieces)) buffer used)
+      answer-by n z = answer-step (some q) e ∙ ap (λ (x : ℕ). let s : Step = stepBy x first (asked (length buffer) first q .result) in edited (s .number) (bytesOf (s .file .pieces)) buffer used) z
 
-      -- the edit's number, by that of questions 21 to 25
+      -- the edit's number, by that of questions 21 to 25 and 31
       module _ (k : ℕ) (z : firstNo placeRows (asked (length buffer) first q) ≡ k) where
         abbrev made : Bytes
-        made = bytesOf (apply q first .pieces)
+        made = bytesOf (asked (length buffer) first q .result .pieces)
 
         number : firstNo (editQuestions intBounds) (asked (length buffer) first q) ≡ editNo (length buffer) k made
         number = edit-number buffer used first (holds-start buffer used (readOf (take used buffer)) v (verdict-read buffer used v)) (length buffer) q (request-pairs request q e) k z
 
-        pub answer-refused : (n : ℕ) → 0 < n → editNo (length buffer) k (bytesOf (apply q (plainOf (readOf (take used buffer))) .pieces)) ≡ n → editAnswer buffer used request ≡ refusedEdit n buffer
+        pub answer-refused : (n : ℕ) → 0 < n → editNo (length buffer) k (bytesOf (asked (length buffer) (plainOf (readOf (take used buffer))) q .result .pieces)) ≡ n → editAnswer buffer used request ≡ refusedEdit n buffer
         answer-refused zero h t = absurd (omega arith)
         answer-refused (suc n) h t = answer-by (suc n) (number ∙ t)
 
-        pub answer-accepted : editNo (length buffer) k (bytesOf (apply q (plainOf (readOf (take used buffer))) .pieces)) ≡ 0 → editAnswer buffer used request ≡ acceptedEdit (bytesOf (apply q (plainOf (readOf (take used buffer))) .pieces)) buffer used
+        pub answer-accepted : editNo (length buffer) k (bytesOf (asked (length buffer) (plainOf (readOf (take used buffer))) q .result .pieces)) ≡ 0 → editAnswer buffer used request ≡ acceptedEdit (bytesOf (asked (length buffer) (plainOf (readOf (take used buffer))) q .result .pieces)) buffer used
         answer-accepted t = answer-by 0 (number ∙ t)

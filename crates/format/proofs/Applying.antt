@@ -11,17 +11,17 @@ use Rattle.format.specs.Pieces.{Piece, bytesOf}
 use Rattle.format.specs.Sets.{Group, groups, RecSet, setOf, setsOf}
 use Rattle.format.specs.Edits.{Edit, inSet, editPieces}
 use Rattle.format.specs.Requests.{Request}
-use Rattle.format.specs.Plain.{Plain, othersOf, plainOf, lengthOf, newlines, indexOf, applyAt, applyIn, apply, soughtRecord, Asked, soughtBy, leavesField, isLegalEdit}
+use Rattle.format.specs.Plain.{Plain, othersOf, plainOf, lengthOf, newlines, indexOf, applyAt, applyIn, apply, soughtRecord, Asked, soughtBy, leavesField}
 use Rattle.format.specs.Questions.{Row}
 use Rattle.format.specs.Plain.{foundRows}
 use Rattle.format.proofs.Elements.{Each, Has}
 use Rattle.format.proofs.Whole.{Sound}
-use Rattle.format.proofs.Legal.{legal-not-rec}
+use Rattle.format.proofs.Legal.{ordinary-not-rec}
 use Rattle.format.proofs.Named.{NotRec, NewNames}
 use Rattle.format.proofs.Grouping.{HasPairs}
 use Rattle.format.proofs.Regrouping.{edit-sets}
 use Rattle.format.proofs.Counting.{length-bytes, edit-others}
-use Rattle.format.proofs.Keeping.{edit-all, legal-names, keeps-sound, edit-allowed}
+use Rattle.format.proofs.Keeping.{edit-all, isWritableEdit, writable-names, keeps-sound, edit-allowed}
 
 -- the plain file is what its pieces read as, and they read as themselves
 abbrev pub Agrees : Plain → Type 0
@@ -34,11 +34,11 @@ pub agrees-sets : (p : Plain) → Agrees p → setsOf (p .pieces) ≡ p .sets
 unfolding plainOf
 agrees-sets p a = ap (λ (x : Plain). x .sets) (a .1)
 
--- questions 21 to 25 say yes
+-- questions 21 to 24 say yes, and what the edit writes can be written
 pub record Granted (a : Asked) : Type 0 where
   pub found : Each (λ (r : Row _). r .asks (soughtBy a) ≡ true) foundRows
   pub left : leavesField (a .request .edit) (soughtRecord (soughtBy a)) ≡ true
-  pub legal : isLegalEdit (a .request .edit) ≡ true
+  pub writable : isWritableEdit (a .request .edit) ≡ true
 
 -- the set is found
 there-some : (x : Option ℕ) → isSome x ≡ true → (i : ℕ) × (x ≡ some i)
@@ -86,10 +86,10 @@ edit-follows i e ps s f n h =
     let k = edit-sets i e ps s f n h in
     plain-is (editPieces i e ps) (nth i (inSet e) (setsOf ps)) (othersOf ps (setsOf ps) + newlines e ps) k (edit-others i e ps h k)
 
-at-agrees : (p : Plain) (i : ℕ) (e : Edit) → HasPairs e → isLegalEdit e ≡ true → Has (p .sets) i → Agrees p → Agrees (applyAt i e p)
+at-agrees : (p : Plain) (i : ℕ) (e : Edit) → HasPairs e → isWritableEdit e ≡ true → Has (p .sets) i → Agrees p → Agrees (applyAt i e p)
 at-agrees p i e f l h a =
     let there : Has (groups (p .pieces)) i = has-group (p .pieces) i (subst (λ (ss : List RecSet). Has ss i) (sym (agrees-sets p a)) h) in
-    (edit-all Sound i e (keeps-sound e l) (p .pieces) (a .0), edit-follows i e (p .pieces) (a .0) f (legal-names NotRec legal-not-rec e l) there ∙ ap (applyAt i e) (a .1))
+    (edit-all Sound i e (keeps-sound e l) (p .pieces) (a .0), edit-follows i e (p .pieces) (a .0) f (writable-names NotRec ordinary-not-rec e l) there ∙ ap (applyAt i e) (a .1))
 
 -- The plain file agrees with its pieces after an accepted request too.
 pub apply-agrees : (a : Asked) → HasPairs (a .request .edit) → Granted a → Agrees (a .file) → Agrees (apply (a .request) (a .file))
@@ -98,13 +98,13 @@ apply-agrees a f g s =
     let q : Request = a .request in
     let i : ℕ = granted-set a g .0 in
     let e = granted-set a g .1 in
-    subst (λ (x : Option ℕ). Agrees (applyIn x (q .edit) (a .file))) (sym e) (at-agrees (a .file) i (q .edit) f (g .legal) (index-has (q .set) (a .file .sets) i e) s)
+    subst (λ (x : Option ℕ). Agrees (applyIn x (q .edit) (a .file))) (sym e) (at-agrees (a .file) i (q .edit) f (g .writable) (index-has (q .set) (a .file .sets) i e) s)
 
 -- allowed bytes stay allowed
-allowed-in : (x : Option ℕ) (e : Edit) (p : Plain) → isLegalEdit e ≡ true → Each Sound (p .pieces) → all isAllowed (bytesOf (p .pieces)) ≡ true → all isAllowed (bytesOf (applyIn x e p .pieces)) ≡ true
+allowed-in : (x : Option ℕ) (e : Edit) (p : Plain) → isWritableEdit e ≡ true → Each Sound (p .pieces) → all isAllowed (bytesOf (p .pieces)) ≡ true → all isAllowed (bytesOf (applyIn x e p .pieces)) ≡ true
 allowed-in none e p l s h = h
 allowed-in (some i) e p l s h = edit-allowed i e (p .pieces) l s h
 
-pub apply-allowed : (q : Request) (p : Plain) → isLegalEdit (q .edit) ≡ true → Each Sound (p .pieces) → all isAllowed (bytesOf (p .pieces)) ≡ true → all isAllowed (bytesOf (apply q p .pieces)) ≡ true
+pub apply-allowed : (q : Request) (p : Plain) → isWritableEdit (q .edit) ≡ true → Each Sound (p .pieces) → all isAllowed (bytesOf (p .pieces)) ≡ true → all isAllowed (bytesOf (apply q p .pieces)) ≡ true
 unfolding apply
 apply-allowed q p l s h = allowed-in (indexOf (q .set) (p .sets)) (q .edit) p l s h

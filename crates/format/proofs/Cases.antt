@@ -13,7 +13,8 @@ use Rattle.format.specs.Questions.{fileOf, verdictIn, verdict}
 use Rattle.format.specs.Written.{Pair, written}
 use Rattle.format.specs.Edits.{Change, Act, Edit}
 use Rattle.format.specs.Requests.{tagged, requestOf, encoded}
-use Rattle.format.specs.Plain.{plainOf, lengthOf, apply, step}
+use Rattle.format.specs.Numbering.{completed}
+use Rattle.format.specs.Plain.{plainOf, lengthOf, apply, completedBy, step}
 use Rattle.format.specs.Calls.{numberIn, valueOr, Filled, checkAnswer, editAnswer}
 
 -- "One receipt book"
@@ -82,7 +83,7 @@ cases =
     record { file = []; spare = large; request = []; number = 20; length = 0 } ∷ []
 
 pub marked : all holds cases ≡ true
-unfolding classOf bytesOf pieces readOf setsOf written fileOf verdictIn verdict tagged requestOf encoded plainOf lengthOf apply step checkAnswer editAnswer
+unfolding classOf bytesOf pieces readOf setsOf written fileOf verdictIn verdict tagged requestOf encoded plainOf lengthOf apply completed completedBy step checkAnswer editAnswer
 marked = refl
 
 -- the request of (f) is what the encoder gives

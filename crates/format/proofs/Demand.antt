@@ -23,9 +23,10 @@ use Rattle.format.specs.Origins.{ifAccepted}
 use Rattle.format.specs.Demand.{inserted, deleted, ifSet, toSet, tally, Demand}
 use Rattle.format.proofs.Describing.{apply-names}
 use Rattle.format.proofs.Applying.{Agrees, Granted, granted-set}
-use Rattle.format.proofs.Questions.{yes-granted, asked, Accepted}
+use Rattle.format.proofs.Completing.{completed-whole, whole-alike}
+use Rattle.format.proofs.Questions.{yes-granted, asked, whole-granted, Accepted}
 use Rattle.format.proofs.SingleSteps.{single-accepted, single-refused}
-use Rattle.format.proofs.Passing.{verdict-read, holds-agrees, holds-start}
+use Rattle.format.proofs.Passing.{SetsPass, verdict-read, holds-agrees, holds-sets, holds-start}
 use Rattle.format.proofs.Tallying.{apply-number, apply-others}
 use Rattle.format.proofs.Running.{Stands, stands-start, stands-room, stands-length, single-stands, single-told}
 use Rattle.format.proofs.Origins.{list-stays}
@@ -55,7 +56,7 @@ abbrev held : ℕ → Plain → ℕ
 held i p = length (membersAt i (p .sets))
 
 step-names : (room : ℕ) (p : Plain) (c : Single) (n : ℕ) → singleStep room p c .number ≡ n → map nameOf (singleStep room p c .file .sets) ≡ map nameOf (p .sets)
-step-names room p c zero e = let a = single-accepted room p c e in ap (λ (x : Plain). map nameOf (x .sets)) (a .makes) ∙ apply-names (a .asks) p
+step-names room p c zero e = let a = single-accepted room p c e in ap (λ (x : Plain). map nameOf (x .sets)) (a .makes) ∙ apply-names (a .whole) p
 step-names room p c (suc k) e = ap (λ (x : Plain). map nameOf (x .sets)) (single-refused room p c k e)
 
 pub single-names : (room : ℕ) (p : Plain) (c : Single) → map nameOf (singleStep room p c .file .sets) ≡ map nameOf (p .sets)
@@ -66,28 +67,29 @@ number-at a g s k e i true h =
     subst (λ (x : ℕ). held x (apply (a .request) (a .file)) + deleted (a .request .edit) ≡ held x (a .file) + inserted (a .request .edit)) (eqb-true k i h) (apply-number a g s k e)
 number-at a g s k e i false h = ap (λ ms. length ms + 0) (apply-others (a .request) (a .file) k e i (eqb-false k i h))
 
-accepted-number : (room : ℕ) (p : Plain) (q : Bytes) (p′ : Plain) → Agrees p → Accepted room p q p′ → (i : ℕ) → held i p′ + toSet deleted (p .sets) i (requestOf q) ≡ held i p + toSet inserted (p .sets) i (requestOf q)
-accepted-number room p q p′ s a i =
-    let c : Asked = asked room p (a .asks) in
-    let g = yes-granted intBounds c (a .yes) in
+accepted-number : (room : ℕ) (p : Plain) (q : Bytes) (p′ : Plain) → SetsPass (p .sets) → Agrees p → Accepted room p q p′ → (i : ℕ) → held i p′ + toSet deleted (p .sets) i (requestOf q) ≡ held i p + toSet inserted (p .sets) i (requestOf q)
+accepted-number room p q p′ d s a i =
+    let c : Asked = asked room p (a .whole) in
+    let h = completed-whole p (a .asks) (a .whole) (d .1 .1 .0) (a .completes) in
+    let g = whole-granted room p (a .asks) (a .whole) h (yes-granted intBounds (asked room p (a .asks)) (a .yes)) in
     let k : ℕ = granted-set c g .0 in
     let e = granted-set c g .1 in
-    let o : (f : Edit → ℕ) → toSet f (p .sets) i (requestOf q) ≡ pick (eqb k i) (f (a .asks .edit)) 0 = λ f. ap (toSet f (p .sets) i) (a .reads) ∙ ap (λ (x : Option ℕ). ifSet i x (f (a .asks .edit))) e in
-    omega (arith, ap (held i) (a .makes), o deleted, o inserted, number-at c g s k e i (eqb k i) refl)
+    let o : (f : Edit → ℕ) → f (a .asks .edit) ≡ f (a .whole .edit) → toSet f (p .sets) i (requestOf q) ≡ pick (eqb k i) (f (a .whole .edit)) 0 = λ f x. ap (toSet f (p .sets) i) (a .reads) ∙ (λ j. ifSet i ((ap (λ (n : Bytes). indexOf n (p .sets)) (sym (h .0)) ∙ e) j) (x j)) in
+    omega (arith, ap (held i) (a .makes), o deleted (whole-alike deleted (λ new ps. refl) (a .asks .edit) (a .whole .edit) (h .1)), o inserted (whole-alike inserted (λ new ps. refl) (a .asks .edit) (a .whole .edit) (h .1)), number-at c g s k e i (eqb k i) refl)
 
-step-number : (room : ℕ) (p : Plain) (c : Single) (n : ℕ) → Agrees p → singleStep room p c .number ≡ n
+step-number : (room : ℕ) (p : Plain) (c : Single) (n : ℕ) → SetsPass (p .sets) → Agrees p → singleStep room p c .number ≡ n
     → (i : ℕ) → held i (singleStep room p c .file) + ifAccepted n (toSet deleted (p .sets) i (requestOf (requestIn c))) 0 ≡ held i p + ifAccepted n (toSet inserted (p .sets) i (requestOf (requestIn c))) 0
-step-number room p c zero s e i = accepted-number room p (requestIn c) (singleStep room p c .file) s (single-accepted room p c e) i
-step-number room p c (suc k) s e i = ap (λ (x : Plain). held i x + 0) (single-refused room p c k e)
+step-number room p c zero d s e i = accepted-number room p (requestIn c) (singleStep room p c .file) d s (single-accepted room p c e) i
+step-number room p c (suc k) d s e i = ap (λ (x : Plain). held i x + 0) (single-refused room p c k e)
 
 -- the first of a list
-single-tally : (room : ℕ) (p : Plain) (c : Single) (cs : List Single) (n l : ℕ) (ts : List Told) → Agrees p → singleStep room p c .number ≡ n → (i m : ℕ)
+single-tally : (room : ℕ) (p : Plain) (c : Single) (cs : List Single) (n l : ℕ) (ts : List Told) → SetsPass (p .sets) → Agrees p → singleStep room p c .number ≡ n → (i m : ℕ)
     → m + tally deleted (singleStep room p c .file .sets) i cs ts ≡ held i (singleStep room p c .file) + tally inserted (singleStep room p c .file .sets) i cs ts
     → m + tally deleted (p .sets) i (c ∷ cs) (record { number = n; length = l } ∷ ts) ≡ held i p + tally inserted (p .sets) i (c ∷ cs) (record { number = n; length = l } ∷ ts)
-single-tally room p c cs n l ts a e i m h =
+single-tally room p c cs n l ts d a e i m h =
     let ss : List RecSet = singleStep room p c .file .sets in
     let same-tally : (f : Edit → ℕ) → tally f ss i cs ts ≡ tally f (p .sets) i cs ts = λ f. tally-names f ss (p .sets) i cs ts (single-names room p c) in
-    omega (arith, h, same-tally deleted, same-tally inserted, step-number room p c n a e i)
+    omega (arith, h, same-tally deleted, same-tally inserted, step-number room p c n d a e i)
 
 -- what a list leaves, from any state on the way
 record Leaves (start : Bytes) (p : Plain) (cs : List Single) (r : Ran) (l : PlainRan) : Type 0 where
@@ -109,7 +111,7 @@ singly-leaves start (c ∷ cs) most buffer used p st =
     let sized : n ≡ lengthOf (s .file) = stands-length start m (a .out) n (s .file) next in
     record {
       told = λ i. record { number = number i; length = sized i } ∷ d .told i;
-      counts = λ i. single-tally (length start) p c cs (numberIn (a .result)) n (singly cs (a .out) n .told) (holds-agrees buffer used p (st .holds)) (sym number) i (held i (plainRun (length start) cs (s .file) m .file)) (d .counts i);
+      counts = λ i. single-tally (length start) p c cs (numberIn (a .result)) n (singly cs (a .out) n .told) (holds-sets buffer used p (st .holds)) (holds-agrees buffer used p (st .holds)) (sym number) i (held i (plainRun (length start) cs (s .file) m .file)) (d .counts i);
       stands = d .stands;
     }
 

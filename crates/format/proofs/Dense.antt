@@ -139,7 +139,7 @@ dense-allowed s a e =
     let each : Each (λ (l : Line). all isAllowed l ≡ true) (lines s) = all-each (all isAllowed) (lines s) (sym (allowed-bytes (lines s)) ∙ ap (all isAllowed) (bytes-lines s e) ∙ a) in
     allowed-bytes (filter notJoint (lines s)) ∙ each-all (all isAllowed) (filter notJoint (lines s)) (each-filter (λ (l : Line). all isAllowed l ≡ true) notJoint (lines s) each)
 
-dense-ended : (s : Bytes) → isEnded (dense s) ≡ true
+pub dense-ended : (s : Bytes) → isEnded (dense s) ≡ true
 unfolding dense
 dense-ended s = ended-bytes (filter notJoint (lines s))
 
@@ -157,3 +157,11 @@ dense-no s ps t e =
     ∙ ap (λ (qs : List Piece). recordsNo intBounds (records qs)) (sym (d .alike))
     ∙ number-unlined ps
     ∙ sym (text-walk s ps (h .0) (h .1) e)
+
+-- what does not ask how many bytes fields take is the same of the fields of a text that reads and of the dense one
+pub dense-fields : {A : Type 0} (f : Record → A) → ((r : Record) → f (bare r) ≡ f r) → (s : Bytes) (ps : List Piece) (e : pieces s ≡ some ps) → f (fieldsOf (denser s ps e .left)) ≡ f (fieldsOf ps)
+dense-fields f h s ps e =
+    let d : Denser s ps = denser s ps e in
+    sym (h (fieldsOf (d .left)))
+    ∙ ap f (sym (fields-unlined (d .left)) ∙ ap fieldsOf (sym (d .alike)) ∙ fields-unlined ps)
+    ∙ h (fieldsOf ps)

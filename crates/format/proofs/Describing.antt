@@ -1,4 +1,4 @@
--- Questions 5 to 7, about descriptors: a legal request changes none of their answers from yes to no.
+-- Questions 5 to 7, about descriptors: a request that can be written changes none of their answers from yes to no.
 use Prim.Native.Nat.{ℕ}
 use mathlib.Core.Path.{_≡_, refl, sym, ap, _∙_, subst}
 use mathlib.Core.Bool.{Bool, true, false, _&&_, _||_, not, and-eq-true-iff, or-false}
@@ -17,13 +17,13 @@ use Rattle.format.specs.Rules.{isWellFormed, isTypedWell, distinct}
 use Rattle.format.specs.Questions.{hasRecOnce, describesOnce, nameOf, describesWell, typesWell}
 use Rattle.format.specs.Edits.{Edit, inSet}
 use Rattle.format.specs.Requests.{Request}
-use Rattle.format.specs.Plain.{Plain, indexOf, applyIn, apply, isLegalEdit}
+use Rattle.format.specs.Plain.{Plain, indexOf, applyIn, apply}
 use Rattle.format.proofs.Elements.{Each, each-imp, each-both, all-each, each-all, any-none, none-any}
 use Rattle.format.proofs.Lists.{each-on, map-same}
-use Rattle.format.proofs.Legal.{legal-not-special}
+use Rattle.format.proofs.Legal.{ordinary-not-special}
 use Rattle.format.proofs.Named.{Named, named-members, Member}
 use Rattle.format.proofs.Grouping.{member-block}
-use Rattle.format.proofs.Keeping.{legal-names}
+use Rattle.format.proofs.Keeping.{isWritableEdit, writable-names}
 use Rattle.format.proofs.Applying.{Agrees, agrees-sets}
 
 -- a request leaves the name and the rules of each set
@@ -84,13 +84,13 @@ Ordinary n = isSpecial n ≡ false
 abbrev OrdinaryIn : RecSet → Type 0
 OrdinaryIn s = Each (Named Ordinary) (s .members)
 
-ordinary-in : (x : Option ℕ) (e : Edit) (p : Plain) → isLegalEdit e ≡ true → Each OrdinaryIn (p .sets) → Each OrdinaryIn (applyIn x e p .sets)
+ordinary-in : (x : Option ℕ) (e : Edit) (p : Plain) → isWritableEdit e ≡ true → Each OrdinaryIn (p .sets) → Each OrdinaryIn (applyIn x e p .sets)
 ordinary-in none e p l h = h
 ordinary-in (some i) e p l h =
-    let n = legal-names Ordinary legal-not-special e l in
+    let n = writable-names Ordinary ordinary-not-special e l in
     each-on OrdinaryIn always (λ (s : RecSet). inSet e s ∷ []) (λ s k t. (named-members Ordinary e n (s .members) k, tt)) (p .sets) h i
 
-apply-ordinary : (q : Request) (p : Plain) → isLegalEdit (q .edit) ≡ true → Each OrdinaryIn (p .sets) → Each OrdinaryIn (apply q p .sets)
+apply-ordinary : (q : Request) (p : Plain) → isWritableEdit (q .edit) ≡ true → Each OrdinaryIn (p .sets) → Each OrdinaryIn (apply q p .sets)
 unfolding apply
 apply-ordinary q p l h = ordinary-in (indexOf (q .set) (p .sets)) (q .edit) p l h
 
@@ -120,7 +120,7 @@ once-halves s h =
 halves-once : (s : RecSet) → Halves s → Once s
 halves-once s h = and-eq-true-iff (hasRecOnce (s .rules)) (all hasRecOnce (s .members)) .1 (h .0, each-all hasRecOnce (s .members) (each-imp (Named Ordinary) (λ (r : Record). hasRecOnce r ≡ true) ordinary-once (s .members) (h .1)))
 
-pub describes-once : (q : Request) (p : Plain) → isLegalEdit (q .edit) ≡ true → Agrees p → describesOnce (p .sets) ≡ true → describesOnce (apply q p .sets) ≡ true
+pub describes-once : (q : Request) (p : Plain) → isWritableEdit (q .edit) ≡ true → Agrees p → describesOnce (p .sets) ≡ true → describesOnce (apply q p .sets) ≡ true
 describes-once q p l a e =
     let test : RecSet → Bool = λ (s : RecSet). hasRecOnce (s .rules) in
     let ss : List RecSet = p .sets in

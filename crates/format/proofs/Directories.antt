@@ -13,7 +13,8 @@ use Rattle.format.specs.Questions.{fileOf, verdictIn, verdict}
 use Rattle.format.specs.Written.{written}
 use Rattle.format.specs.Edits.{Act, Edit}
 use Rattle.format.specs.Requests.{tagged, requestOf, encoded}
-use Rattle.format.specs.Plain.{plainOf, lengthOf, apply, step}
+use Rattle.format.specs.Numbering.{completed}
+use Rattle.format.specs.Plain.{plainOf, lengthOf, apply, completedBy, step}
 use Rattle.format.specs.Calls.{Answer, numberIn, valueOr}
 use Rattle.format.specs.Directory.{directoryOf, Listed, fillAnswer, listedStep, listedAnswer, Kept, keptAnswer, countAtAnswer}
 use Rattle.format.specs.declared.Entry.{Entry}
@@ -103,7 +104,7 @@ givens =
     record { request = []; before = old ∷ old ∷ old ∷ []; number = 28; after = entry 9 9 9 ∷ entry 9 9 9 ∷ entry 9 9 9 ∷ [] } ∷ []
 
 pub kept-told : all keeps givens ≡ true
-unfolding pieces readOf setsOf fileOf verdictIn verdict bytesOf written tagged requestOf encoded plainOf lengthOf apply step directoryOf fillAnswer listedStep listedAnswer keptAnswer
+unfolding pieces readOf setsOf fileOf verdictIn verdict bytesOf written tagged requestOf encoded plainOf lengthOf apply completed completedBy step directoryOf fillAnswer listedStep listedAnswer keptAnswer
 kept-told = refl
 
 -- the count at a position, and past the list's end

@@ -51,5 +51,8 @@ pub mod Sendings
 pub mod Singulars
 pub mod Digits
 pub mod Numbering
+pub mod Completing
+pub mod Overlong
 pub mod Numberings
+pub mod Completions
 pub mod Traps

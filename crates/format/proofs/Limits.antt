@@ -9,7 +9,7 @@ use Rattle.format.specs.Bytes.{text}
 use Rattle.format.specs.Records.{Record}
 use Rattle.format.specs.Sets.{valuesOf}
 use Rattle.format.specs.Limits.{typedefs, typeFields, listWords}
-use Rattle.format.specs.Rules.{mandatory, prohibited, allowed, unique, singular}
+use Rattle.format.specs.Rules.{mandatory, prohibited, allowed, unique, singular, auto}
 use Rattle.format.specs.Questions.{fitsRules}
 
 pub record Few (r : Record) : Type 0 where
@@ -20,6 +20,7 @@ pub record Few (r : Record) : Type 0 where
   pub allowed-few : length (allowed r) ≤ listWords
   pub unique-few : length (unique r) ≤ listWords
   pub singular-few : length (singular r) ≤ listWords
+  pub auto-few : length (auto r) ≤ listWords
 
 pub rules-few : (r : Record) → fitsRules r ≡ true → Few r
 rules-few r e =
@@ -30,7 +31,9 @@ rules-few r e =
     let a : Bool = leb (length (allowed r)) listWords in
     let u : Bool = leb (length (unique r)) listWords in
     let s : Bool = leb (length (singular r)) listWords in
-    let hs = and-eq-true-iff (d && t && m && p && a && u) s .0 e in
+    let o : Bool = leb (length (auto r)) listWords in
+    let ho = and-eq-true-iff (d && t && m && p && a && u && s) o .0 e in
+    let hs = and-eq-true-iff (d && t && m && p && a && u) s .0 (ho .0) in
     let hu = and-eq-true-iff (d && t && m && p && a) u .0 (hs .0) in
     let ha = and-eq-true-iff (d && t && m && p) a .0 (hu .0) in
     let hp = and-eq-true-iff (d && t && m) p .0 (ha .0) in
@@ -44,4 +47,5 @@ rules-few r e =
       allowed-few = leb-true (length (allowed r)) listWords (ha .1);
       unique-few = leb-true (length (unique r)) listWords (hu .1);
       singular-few = leb-true (length (singular r)) listWords (hs .1);
+      auto-few = leb-true (length (auto r)) listWords (ho .1);
     }

@@ -230,14 +230,15 @@ typedefs (suc n) = text "%typedef: " ++ replicate (suc n) 84 ++ text " int\n" ++
 abbrev listing : String → ℕ → Bytes
 listing field n = text field ++ times n (text " N") ++ text "\n"
 
-abbrev described : ℕ → ℕ → ℕ → ℕ → ℕ → ℕ → ℕ → Bytes
-described m p a u s d t =
+abbrev described : ℕ → ℕ → ℕ → ℕ → ℕ → ℕ → ℕ → ℕ → Bytes
+described m p a u s o d t =
     text "%rec: S\n"
     ++ listing "%mandatory:" m
     ++ listing "%prohibit:" p
     ++ listing "%allowed:" a
     ++ listing "%unique:" u
     ++ listing "%singular:" s
+    ++ listing "%auto:" o
     ++ typedefs d
     ++ times t (text "%type: N int\n")
 
@@ -260,19 +261,24 @@ limited =
     passes (recs 64) ∷
     stops 4 (recs 65) ∷
     passes (text "A: v\n\n" ++ recs 64) ∷
-    passes (described 64 64 64 64 64 32 32) ∷
-    stops 4 (described 65 64 64 64 64 32 32) ∷
-    stops 4 (described 64 65 64 64 64 32 32) ∷
-    stops 4 (described 64 64 65 64 64 32 32) ∷
-    stops 4 (described 64 64 64 65 64 32 32) ∷
-    stops 4 (described 64 64 64 64 65 32 32) ∷
-    stops 4 (described 64 64 64 64 64 33 32) ∷
-    stops 4 (described 64 64 64 64 64 32 33) ∷
+    passes (described 64 64 64 64 64 64 32 32) ∷
+    stops 4 (described 65 64 64 64 64 64 32 32) ∷
+    stops 4 (described 64 65 64 64 64 64 32 32) ∷
+    stops 4 (described 64 64 65 64 64 64 32 32) ∷
+    stops 4 (described 64 64 64 65 64 64 32 32) ∷
+    stops 4 (described 64 64 64 64 65 64 32 32) ∷
+    stops 4 (described 64 64 64 64 64 65 32 32) ∷
+    stops 4 (described 64 64 64 64 64 64 33 32) ∷
+    stops 4 (described 64 64 64 64 64 64 32 33) ∷
     passes (text "%rec: S\n" ++ listing "%unique:" 32 ++ listing "%unique:" 32) ∷
     stops 4 (text "%rec: S\n" ++ listing "%unique:" 32 ++ listing "%unique:" 33) ∷
     passes (text "%rec: S\n" ++ listing "%singular:" 32 ++ listing "%singular:" 32) ∷
     stops 4 (text "%rec: S\n" ++ listing "%singular:" 33 ++ listing "%singular:" 32) ∷
-    passes (described 64 64 64 64 64 32 32 ++ text "\n%rec: T\n" ++ listing "%mandatory:" 64 ++ times 32 (text "%type: N int\n")) ∷
+    passes (text "%rec: S\n" ++ listing "%auto:" 64) ∷
+    stops 4 (text "%rec: S\n" ++ listing "%auto:" 65) ∷
+    passes (text "%rec: S\n" ++ listing "%auto:" 32 ++ listing "%auto:" 32) ∷
+    stops 4 (text "%rec: S\n" ++ listing "%auto:" 32 ++ listing "%auto:" 33) ∷
+    passes (described 64 64 64 64 64 64 32 32 ++ text "\n%rec: T\n" ++ listing "%mandatory:" 64 ++ times 32 (text "%type: N int\n")) ∷
     passes (replicate 65535 35 ++ text "\n") ∷
     stops 1 (replicate 65536 35 ++ text "\n") ∷ []
 

@@ -15,9 +15,9 @@ use Rattle.format.specs.Sets.{RecSet}
 use Rattle.format.specs.Words.{trim}
 use Rattle.format.specs.Numbers.{Int, plus, minus, Bounds, intBounds, intOf, isAtMost}
 use Rattle.format.specs.Types.{Kind, isInRange, meets}
-use Rattle.format.specs.Rules.{TypeRule, typeRules, isTyped, distinct}
+use Rattle.format.specs.Rules.{auto, TypeRule, typeRules, isTyped, distinct, kindsOf, Span, allInts, spanOf, isCounted}
 use Rattle.format.specs.Written.{Pair, newField, isLegalValue}
-use Rattle.format.specs.Numbering.{auto, kindsOf, Span, allInts, spanOf, isCounted, firsts, pairNames, omitted, intsOf, above, from, largest, leastIn, nextNumber, decimal, numbered, every, added, completed}
+use Rattle.format.specs.Numbering.{firsts, pairNames, omitted, intsOf, above, from, largest, leastIn, nextNumber, decimal, numbered, every, added, completed}
 use Rattle.format.proofs.Elements.{Each, all-each, each-all, each-imp, any-none, none-any}
 use Rattle.format.proofs.Lists.{each-filter}
 use Rattle.format.proofs.Digits.{decimal-digits, decimal-back, trim-digits, decimal-legal}

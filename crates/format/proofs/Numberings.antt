@@ -11,7 +11,8 @@ use Rattle.format.specs.Records.{Field, fieldsOf}
 use Rattle.format.specs.Sets.{RecSet, setsOf}
 use Rattle.format.specs.Numbers.{intBounds}
 use Rattle.format.specs.Written.{Pair, written, writtenAll}
-use Rattle.format.specs.Numbering.{autosCounted, decimal, completed}
+use Rattle.format.specs.Rules.{autosCounted}
+use Rattle.format.specs.Numbering.{decimal, completed}
 
 -- the set T of a file: its descriptor's further lines, then its records and what follows
 abbrev setT : String → String → RecSet

@@ -9,14 +9,15 @@ use lib.Dec.{eqb}
 use lib.ListN.{length}
 use borrow.Author.Tests.{eq-eqb, ne-eqb}
 use Rattle.format.specs.Bytes.{pick, upFrom, any}
-use Rattle.format.specs.Lists.{filter, kept}
+use Rattle.format.specs.Lists.{filter, kept, onward}
 use Rattle.format.specs.Pieces.{Piece}
 use Rattle.format.specs.Edits.{Edit}
-use Rattle.format.specs.Requests.{Request}
+use Rattle.format.specs.Requests.{Request, requestOf}
 use Rattle.format.specs.Plain.{Plain, indexOf, applyIn, apply, lengthOf}
-use Rattle.format.specs.Runs.{Single, singleStep, plainRun}
+use Rattle.format.specs.Runs.{Single, requestIn, singleStep, plainRun}
 use Rattle.format.specs.Origins.{Fate, setFates, requestFates, singleFates, ifAccepted, fates, Origin, pieceOf, numberOf, Trace, carried, namedOf, startFrom, traced, Stays}
 use Rattle.format.proofs.Fates.{Goes, goes-edit}
+use Rattle.format.proofs.Questions.{wholeOf}
 use Rattle.format.proofs.SingleSteps.{single-accepted, single-refused}
 
 -- a request, on the plain file
@@ -34,7 +35,8 @@ goes-apply q p = goes-in (indexOf (q .set) (p .sets)) (q .edit) p
 goes-step : (room : ℕ) (p : Plain) (c : Single) (n : ℕ) → singleStep room p c .number ≡ n → Goes (ifAccepted n (singleFates c p) []) (p .pieces) (singleStep room p c .file .pieces)
 goes-step room p c zero e =
     let a = single-accepted room p c e in
-    subst (λ (x : Option Request). Goes (requestFates x p) (p .pieces) (singleStep room p c .file .pieces)) (sym (a .reads)) (subst (λ (x : Plain). Goes (requestFates (some (a .asks)) p) (p .pieces) (x .pieces)) (sym (a .makes)) (goes-apply (a .asks) p))
+    let w : onward (wholeOf p) (requestOf (requestIn c)) ≡ some (a .whole) = ap (onward (wholeOf p)) (a .reads) ∙ a .completes in
+    subst (λ (x : Option Request). Goes (requestFates x p) (p .pieces) (singleStep room p c .file .pieces)) (sym w) (subst (λ (x : Plain). Goes (requestFates (some (a .whole)) p) (p .pieces) (x .pieces)) (sym (a .makes)) (goes-apply (a .whole) p))
 goes-step room p c (suc k) e = ap (λ (x : Plain). x .pieces) (sym (single-refused room p c k e))
 
 single-goes : (room : ℕ) (p : Plain) (c : Single) → Goes (fates room p c) (p .pieces) (singleStep room p c .file .pieces)

@@ -17,14 +17,14 @@ use Rattle.format.specs.Limits.{fileBytes}
 use Rattle.format.specs.Numbers.{intBounds}
 use Rattle.format.specs.Questions.{fileOf, limitRows, descriptorRows, ruleRows, verdict}
 use Rattle.format.specs.Requests.{Request}
-use Rattle.format.specs.Plain.{Plain, plainOf, lengthOf, apply, editQuestions}
+use Rattle.format.specs.Plain.{Plain, plainOf, lengthOf, apply}
 use Rattle.format.specs.Calls.{placed}
 use Rattle.format.proofs.Elements.{Each}
 use Rattle.format.proofs.Lines.{ended-bytes}
 use Rattle.format.proofs.Whole.{Sound, pieces-sound, sound-pieces}
-use Rattle.format.proofs.Grouping.{HasPairs}
-use Rattle.format.proofs.Applying.{Agrees, agrees-length, agrees-sets, apply-agrees, apply-allowed}
-use Rattle.format.proofs.Questions.{Yes, verdict-yes, yes-verdict, yes-granted, yes-fits, asked, Accepted, accepted-pairs}
+use Rattle.format.proofs.Applying.{Agrees, agrees-length, agrees-sets, Granted, apply-agrees, apply-allowed}
+use Rattle.format.proofs.Completing.{WholeRequest, completed-whole, whole-pairs}
+use Rattle.format.proofs.Questions.{Yes, verdict-yes, yes-verdict, yes-granted, yes-fits, asked, whole-granted, Accepted, accepted-pairs, accepted-result}
 use Rattle.format.proofs.Describing.{describes-once, describes-well, types-well}
 
 -- questions 4 to 14 and 30 say yes of sets
@@ -99,6 +99,9 @@ module _ (buffer : Bytes) (used : ℕ) (p : Plain) (h : Holds buffer used p) whe
   pub holds-agrees : Agrees p
   holds-agrees = (holds-sound .0, h .plain)
 
+  pub holds-sets : SetsPass (p .sets)
+  holds-sets = subst SetsPass (agrees-sets p holds-agrees) (holds-passes .sets)
+
 -- bytes put in the place of a used buffer's
 pub placed-length : (s : Bytes) (used : ℕ) (buffer : Bytes) → length s ≤ length buffer → used ≤ length buffer → length (placed s used buffer) ≡ length buffer
 placed-length s used buffer a b = simp (length-append, length-replicate, length-drop) (omega arith)
@@ -106,37 +109,56 @@ placed-length s used buffer a b = simp (length-append, length-replicate, length-
 pub placed-take : (s : Bytes) (used : ℕ) (buffer : Bytes) → take (length s) (placed s used buffer) ≡ s
 placed-take s used buffer = take-append-seam s (replicate (used - length s) 0 ++ drop (max used (length s)) buffer)
 
--- an accepted request: the result passes, and reads as what the request makes of the plain file
-module _ (buffer : Bytes) (used : ℕ) (p : Plain) (request : Bytes) (h : Holds buffer used p) where
-  result-sets : (q : Request) → SetsPass (p .sets) → Agrees p → Each (Yes (asked (length buffer) p q)) (editQuestions intBounds) → SetsPass (apply q p .sets)
-  result-sets q s a y =
-      let l = yes-granted intBounds (asked (length buffer) p q) y .legal in
-      let m = y .1 .1 .1 .1 .1 .1 .1 in
-      (m .0, (describes-once q p l a (s .1 .0), (describes-well intBounds q p ∙ s .1 .1 .0, (types-well intBounds q p ∙ s .1 .1 .1 .0, m .1))))
+-- an accepted request: the result passes, and reads as what the completed request makes of the plain file
+module _ (buffer : Bytes) (used : ℕ) (p : Plain) (request : Bytes) (h : Holds buffer used p) (p′ : Plain) (accepted : Accepted (length buffer) p request p′) where
+  abbrev q : Request
+  q = accepted .asks
 
-  result-holds : (q : Request) → HasPairs (q .edit) → Each (Yes (asked (length buffer) p q)) (editQuestions intBounds) → Holds (placed (bytesOf (apply q p .pieces)) used buffer) (length (bytesOf (apply q p .pieces))) (apply q p)
-  result-holds q f y =
-      let r : Plain = apply q p in
+  abbrev w : Request
+  w = accepted .whole
+
+  agrees : Agrees p
+  agrees = holds-agrees buffer used p h
+
+  passed : SetsPass (p .sets)
+  passed = holds-sets buffer used p h
+
+  whole : WholeRequest q w
+  whole = completed-whole p q w (passed .1 .1 .0) (accepted .completes)
+
+  granted : Granted (asked (length buffer) p w)
+  granted = whole-granted (length buffer) p q w whole (yes-granted intBounds (asked (length buffer) p q) (accepted .yes))
+
+  result : asked (length buffer) p q .result ≡ apply w p
+  result = accepted-result (length buffer) p request p′ accepted ∙ accepted .makes
+
+  result-sets : SetsPass (apply w p .sets)
+  result-sets =
+      let m = subst (λ (x : Plain). Each (Yes (x .sets)) (limitRows ++ ruleRows intBounds)) result (accepted .yes .1 .1 .1 .1 .1 .1 .1 .1) in
+      (m .0, (describes-once w p (granted .writable) agrees (passed .1 .0), (describes-well intBounds w p ∙ passed .1 .1 .0, (types-well intBounds w p ∙ passed .1 .1 .1 .0, m .1))))
+
+  result-holds : Holds (placed (bytesOf (apply w p .pieces)) used buffer) (length (bytesOf (apply w p .pieces))) (apply w p)
+  result-holds =
+      let r : Plain = apply w p in
       let s : Bytes = bytesOf (r .pieces) in
       let c = holds-passes buffer used p h in
-      let a = holds-agrees buffer used p h in
-      let g = yes-granted intBounds (asked (length buffer) p q) y in
-      let b : Agrees r = apply-agrees (asked (length buffer) p q) f g a in
+      let b : Agrees r = apply-agrees (asked (length buffer) p w) (whole-pairs (q .edit) (w .edit) (whole .1) (accepted-pairs (length buffer) p request p′ accepted)) granted agrees in
       let n : lengthOf r ≡ length s = agrees-length r b in
-      let k = yes-fits intBounds (asked (length buffer) p q) y in
+      let k = yes-fits intBounds (asked (length buffer) p q) (accepted .yes) in
+      let z : lengthOf (asked (length buffer) p q .result) ≡ lengthOf r = ap lengthOf result in
       let l : length s ≤ length buffer = omega (arith, k .0) in
       let t : take (length s) (placed s used buffer) ≡ s = placed-take s used buffer in
       let e : pieces (take (length s) (placed s used buffer)) ≡ some (r .pieces) = ap pieces t ∙ sound-pieces (r .pieces) (b .0) in
-      let w : all isAllowed s ≡ true = apply-allowed q p (g .legal) (a .0) (ap (all isAllowed) (holds-bytes buffer used p h) ∙ c .allowed) in
-      let v : Passes (placed s used buffer) (length s) (r .pieces) = record {
+      let v : all isAllowed s ≡ true = apply-allowed w p (granted .writable) (agrees .0) (ap (all isAllowed) (holds-bytes buffer used p h) ∙ c .allowed) in
+      let y : Passes (placed s used buffer) (length s) (r .pieces) = record {
         fits = subst (λ (x : ℕ). length s ≤ x) (sym (placed-length s used buffer l (c .fits))) l;
         small = omega (arith, k .1);
-        allowed = ap (all isAllowed) t ∙ w;
+        allowed = ap (all isAllowed) t ∙ v;
         ended = ap isEnded t ∙ bytes-ended (r .pieces);
         reads = e;
-        sets = subst SetsPass (sym (agrees-sets r b)) (result-sets q (subst SetsPass (agrees-sets p a) (c .sets)) a y);
+        sets = subst SetsPass (sym (agrees-sets r b)) result-sets;
       } in
-      record { passes = passes-verdict (placed s used buffer) (length s) (r .pieces) v; reads = e; plain = b .1 }
+      record { passes = passes-verdict (placed s used buffer) (length s) (r .pieces) y; reads = e; plain = b .1 }
 
-  pub edit-holds : (p′ : Plain) → Accepted (length buffer) p request p′ → Holds (placed (bytesOf (p′ .pieces)) used buffer) (length (bytesOf (p′ .pieces))) p′
-  edit-holds p′ a = subst (λ (x : Plain). Holds (placed (bytesOf (x .pieces)) used buffer) (length (bytesOf (x .pieces))) x) (sym (a .makes)) (result-holds (a .asks) (accepted-pairs (length buffer) p request p′ a) (a .yes))
+  pub edit-holds : Holds (placed (bytesOf (p′ .pieces)) used buffer) (length (bytesOf (p′ .pieces))) p′
+  edit-holds = subst (λ (x : Plain). Holds (placed (bytesOf (x .pieces)) used buffer) (length (bytesOf (x .pieces))) x) (sym (accepted .makes)) result-holds

@@ -14,7 +14,8 @@ use Rattle.format.specs.Questions.{fileOf, verdictIn, verdict}
 use Rattle.format.specs.Written.{Pair, written}
 use Rattle.format.specs.Edits.{Act, Edit}
 use Rattle.format.specs.Requests.{tagged, requestOf, encoded, requestsIn, runBytes}
-use Rattle.format.specs.Plain.{plainOf, lengthOf, apply, step}
+use Rattle.format.specs.Numbering.{completed}
+use Rattle.format.specs.Plain.{plainOf, lengthOf, apply, completedBy, step}
 use Rattle.format.specs.Calls.{numberIn, valueOr, editAnswer}
 use Rattle.format.specs.Runs.{singly, Numbered, runAnswer}
 
@@ -75,5 +76,5 @@ cases =
     record { file = text "A\n"; used = 3; sends = 0 ∷ 0 ∷ []; before = 9 ∷ []; number = 0; length = 3; after = 1 ∷ []; left = text "A\n" } ∷ []
 
 pub sent-told : all holds cases ≡ true
-unfolding pieces readOf setsOf fileOf verdictIn verdict bytesOf written tagged requestOf encoded requestsIn plainOf lengthOf apply step editAnswer singly runAnswer
+unfolding pieces readOf setsOf fileOf verdictIn verdict bytesOf written tagged requestOf encoded requestsIn plainOf lengthOf apply completed completedBy step editAnswer singly runAnswer
 sent-told = refl

@@ -12,7 +12,8 @@ use Rattle.format.specs.Questions.{fileOf, verdictIn, verdict}
 use Rattle.format.specs.Written.{Pair, written}
 use Rattle.format.specs.Edits.{Change, Act, Edit}
 use Rattle.format.specs.Requests.{tagged, requestOf, encoded}
-use Rattle.format.specs.Plain.{plainOf, lengthOf, apply, step}
+use Rattle.format.specs.Numbering.{completed}
+use Rattle.format.specs.Plain.{plainOf, lengthOf, apply, completedBy, step}
 use Rattle.format.specs.Calls.{checkAnswer, editAnswer}
 use Rattle.format.proofs.Cases.{asks, pair, change, Case, holds}
 
@@ -58,5 +59,5 @@ singular-edits : all holds (
     renames 1 "Stamp" 0 "Roll" 0 163 ∷
     edits (change 0 "Stamp" 0 Change.dropped) 0 155 ∷
     edits (Edit.on 0 Act.delete) 0 134 ∷ []) ≡ true
-unfolding classOf bytesOf pieces readOf setsOf written fileOf verdictIn verdict tagged requestOf encoded plainOf lengthOf apply step checkAnswer editAnswer
+unfolding classOf bytesOf pieces readOf setsOf written fileOf verdictIn verdict tagged requestOf encoded plainOf lengthOf apply completed completedBy step checkAnswer editAnswer
 singular-edits = refl

@@ -15,7 +15,7 @@ use Rattle.format.specs.Written.{Pair, written, writtenAll, newField, ne
 use Rattle.format.specs.Edits.{renamedLines, newline, newlineIf, inFront}
 use Rattle.format.proofs.Elements.{Each, each-imp, all-each}
 use Rattle.format.proofs.Lines.{bytes-append}
-use Rattle.format.proofs.Legal.{legal-name, legal-not-rec, record-reads-back}
+use Rattle.format.proofs.Legal.{isWritable, writable-name, ordinary-not-rec, record-reads-back}
 use Rattle.format.proofs.Named.{NotRec}
 use Rattle.format.proofs.Grouping.{setBy}
 use Rattle.format.proofs.Regrouping.{sets-front}
@@ -108,8 +108,8 @@ pub front-bytes : (new : List Pair) (ps : List Piece) → Each Sound ps → byte
 front-bytes new ps h = bytesOf-append (map newPiece new) (newlineIf ps ++ ps) ∙ (λ i. writtenAll-bytes new i ++ gap-bytes ps h i)
 
 -- a record that is written alone reads back as a file of that record
-pub set-reads-back : (p : Pair) (ps : List Pair) → all isLegalPair (p ∷ ps) ≡ true → (qs : List Piece) × (pieces (writtenAll (p ∷ ps)) ≡ some qs) × (setsOf qs ≡ setBy [] (map newField (p ∷ ps) ∷ []) ∷ [])
+pub set-reads-back : (p : Pair) (ps : List Pair) → all isWritable (p ∷ ps) ≡ true → (qs : List Piece) × (pieces (writtenAll (p ∷ ps)) ≡ some qs) × (setsOf qs ≡ setBy [] (map newField (p ∷ ps) ∷ []) ∷ [])
 unfolding setsOf
 set-reads-back p ps e =
-    let n = each-imp (λ (q : Pair). isLegalPair q ≡ true) (λ (q : Pair). NotRec (q .name)) (λ q x. legal-not-rec (q .name) (legal-name q x)) (p ∷ ps) (all-each isLegalPair (p ∷ ps) e) in
+    let n = each-imp (λ (q : Pair). isWritable q ≡ true) (λ (q : Pair). NotRec (q .name)) (λ q x. ordinary-not-rec (q .name) (writable-name q x)) (p ∷ ps) (all-each isWritable (p ∷ ps) e) in
     (map newPiece (p ∷ ps), record-reads-back (p ∷ ps) e, ap setsOf (sym (append-nil (map newPiece (p ∷ ps)))) ∙ sets-front p ps n [] refl)

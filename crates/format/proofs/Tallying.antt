@@ -131,7 +131,7 @@ members-other zero (suc i) e (s ∷ ss) h = refl
 members-other (suc k) zero e (s ∷ ss) h = refl
 members-other (suc k) (suc i) e (s ∷ ss) h = members-other k i e ss (λ (q : k ≡ i). h (ap suc q))
 
-apply-sets : (q : Request) (p : Plain) (i : ℕ) → indexOf (q .set) (p .sets) ≡ some i → apply q p .sets ≡ nth i (inSet (q .edit)) (p .sets)
+pub apply-sets : (q : Request) (p : Plain) (i : ℕ) → indexOf (q .set) (p .sets) ≡ some i → apply q p .sets ≡ nth i (inSet (q .edit)) (p .sets)
 unfolding apply
 apply-sets q p i e = ap (λ (x : Option ℕ). applyIn x (q .edit) p .sets) e
 

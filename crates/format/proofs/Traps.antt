@@ -129,6 +129,17 @@ default-told : meeting (
 unfolding pieces setsOf fileOf verdictIn verdict
 default-told = refl
 
+-- names that an insert may omit: a list has one, none begins with `%`, one may be longer than a field's; their types, aliases followed, are int or range; and which question comes first
+auto-told : meeting (
+    these 6 (("%auto:\n" has "") ∷ ("%auto: \t\n" has "") ∷ ("%auto: A\n%auto:\n" has "") ∷ ("%auto: %A\n" has "") ∷ ("%auto: A %rec\n" has "") ∷ ("%auto: a 1\n" has "") ∷ ("%auto: a,b\n" has "") ∷ ("%auto: %A\n%type: A real\n" has "") ∷ ("%autos: A\n" has "") ∷ []) ∷
+    these 7 (("%auto: A\n%type: A real\n" has "") ∷ ("%auto: A\n%type: A line\n" has "") ∷ ("%auto: A\n%type: A size 9\n" has "") ∷ ("%auto: A\n%type: A enum 1 2\n" has "") ∷ ("%auto: A\n%type: A bool\n" has "") ∷ ("%auto: A\n%type: A field\n" has "") ∷ ("%auto: A\n%type: A uuid\n" has "") ∷ ("%type: A int\n%type: A line\n%auto: A\n" has "") ∷ ("%auto: B\n%auto: C\n+ A\n%type: D,A real\n" has "") ∷ ("%auto: A\n%typedef: T U\n%typedef: U bool\n%type: A T\n" has "") ∷ ("%auto: A\n%prohibit: A\n%type: A real\n" has "A: 1\n") ∷ ("" has "\n%rec: U\n%auto: A\n%type: A real\n") ∷ []) ∷
+    these 5 (("" has "%auto: A\n") ∷ []) ∷
+    these 12 (("%auto: A\n%type: A int\n" has "A: b\n") ∷ []) ∷
+    these 0 (("%auto: A\n" has "A: b\n") ∷ ("%auto: A\n%type: A int\n" has "B: c\n") ∷ ("%auto: A B\n%type: A,B range 5 3\n%type: A int\n" has "") ∷ ("%auto: A\n%typedef: T U\n%typedef: U range 9\n%type: A T\n" has "A: 9\n") ∷ ("%auto: A\n%type: a,AA,B real\n" has "") ∷ ("%auto: A A\n%auto: A_\n" has "") ∷ ("%auto: A\n" has "\n%rec: U\n%type: A real\n") ∷ []) ∷
+    these 0 ((text "%rec: T\n%auto: A " ++ replicate 65 78 ++ text "\n") ∷ []) ∷ []) ≡ true
+unfolding pieces setsOf fileOf verdictIn verdict
+auto-told = refl
+
 -- values and types
 types-told : meeting (
     these 0 (typed "int" ("0" ∷ "-0" ∷ "00" ∷ "010" ∷ "-0x0" ∷ "0x1F" ∷ "0xff" ∷ " 7\n+ " ∷ []) ∷ typed "range 2" ("0" ∷ "1" ∷ "2" ∷ []) ∷ typed "range -1 1" ("-1" ∷ "0" ∷ "1" ∷ "-0" ∷ []) ∷ typed "range 1 MAX" ("1" ∷ []) ∷ typed "real" ("1" ∷ "-1.5" ∷ "00.10" ∷ "0" ∷ "12345678901234567890.5" ∷ " 1.5 " ∷ []) ∷ typed "line" ("" ∷ "a b" ∷ "x\\\n+ y" ∷ []) ∷ typed "size 3" ("" ∷ "abc" ∷ " a " ∷ "a\n+ b" ∷ []) ∷ typed "size 0" ("" ∷ []) ∷ typed "enum a b-c 1_ (x)" ("a" ∷ "b-c" ∷ "1_" ∷ " a\n+ " ∷ []) ∷ typed "bool" ("yes" ∷ "no" ∷ "0" ∷ "1" ∷ "true" ∷ "false" ∷ " yes" ∷ []) ∷ typed "field" ("A" ∷ "%" ∷ "a_1" ∷ " %rec " ∷ []) ∷ typed "uuid" ("550e8400-e29b-41d4-a716-446655440000" ∷ "550E8400-E29B-41D4-A716-446655440000" ∷ []) ∷ []) ∷

@@ -3,18 +3,21 @@ use Prim.Native.Nat.{ℕ}
 use mathlib.Core.Path.{_≡_, refl, ap, _∙_}
 use mathlib.Core.Bool.{Bool, true, false, _&&_, _||_, not}
 use mathlib.Core.List.{List, [], _∷_, _++_, map}
+use mathlib.Core.Option.{Option·map}
 use lib.Dec.{leb, eqb}
 use lib.ListN.{length, length-map}
 use Rattle.format.specs.Bytes.{Bytes, text, pick, all, any, same, among, isSome}
-use Rattle.format.specs.Lists.{isFilled, flat, kept}
+use Rattle.format.specs.Lists.{isFilled, filter, flat, kept}
 use Rattle.format.specs.Lines.{isName, isSpecial}
 use Rattle.format.specs.Words.{firstWord, words}
 use Rattle.format.specs.Records.{Field, Record}
 use Rattle.format.specs.Sets.{valuesOf}
 use Rattle.format.specs.Limits.{recordFields, descriptors, typedefs, typeFields, listWords}
 use Rattle.format.specs.Numbers.{Bounds}
-use Rattle.format.specs.Rules.{listed, typedNames, endKind, typedefOf, typeRuleOf, typedefsOf, typeRules, isTyped, isShaped, isWellFormed, isTypedefName, isTypedWell, distinct, sizeRule, meetsSize}
+use Rattle.format.specs.Rules.{listed, typedNames, endKind, typedefOf, typeRuleOf, typedefsOf, typeRules, isTyped, isShaped, isWellFormed, isTypedefName, isCounted, autosCounted, areTypesDefined, isTypedWell, distinct, sizeRule, meetsSize, kindsOf, allInts, spanOf}
 use Rattle.format.specs.Questions.{fitsField, fitsRecord, fitsRules, hasRecOnce, noneProhibited, allAllowed, allPresent, noneRepeated, allTyped, keysOf, sizeMet, singularMet}
+use Rattle.format.specs.Written.{Pair}
+use Rattle.format.specs.Numbering.{firsts, pairNames, intsOf, leastIn, decimal, every, added}
 use Rattle.format.proofs.Least.{least, leasts}
 use Rattle.format.proofs.Judging.{recordNo, setNo}
 use Rattle.format.proofs.Walking.{isHead, nameIn, headName, heads, headNames, before, walkFits, walkWell, walkTypes, ruled, walkNo, recordsNo}
@@ -48,10 +51,10 @@ listed-bare : (n : Bytes) (r : Record) → flat (map words (valuesOf n (bare r))
 listed-bare n r = ap (λ (vs : List Bytes). flat (map words vs)) (values-bare n r)
 
 -- 4
-fits-bare : (r : Record) → fitsRecord (bare r) ≡ fitsRecord r
+pub fits-bare : (r : Record) → fitsRecord (bare r) ≡ fitsRecord r
 fits-bare r = λ i. leb (length-map r uncounted i) recordFields && all-through uncounted fitsField (λ f. refl) r i
 
-rules-bare : (r : Record) → fitsRules (bare r) ≡ fitsRules r
+pub rules-bare : (r : Record) → fitsRules (bare r) ≡ fitsRules r
 rules-bare r =
     λ i. leb (length (values-bare (text "%typedef") r i)) typedefs
     && leb (length (values-bare (text "%type") r i)) typeFields
@@ -60,6 +63,7 @@ rules-bare r =
     && leb (length (listed-bare (text "%allowed") r i)) listWords
     && leb (length (listed-bare (text "%unique") r i)) listWords
     && leb (length (listed-bare (text "%singular") r i)) listWords
+    && leb (length (listed-bare (text "%auto") r i)) listWords
 
 head-bare : (r : Record) → isHead (bare r) ≡ isHead r
 head-bare r = ap isFilled (values-bare (text "%rec") r)
@@ -88,7 +92,7 @@ once-bare : (r : Record) → hasRecOnce (bare r) ≡ hasRecOnce r
 once-bare r = λ i. not (any-through uncounted (λ (f : Field). isSpecial (f .name)) (λ f. refl) r i) || eqb (length (values-bare (text "%rec") r i)) 1
 
 -- 6
-well-bare : (b : Bounds) (r : Record) → isWellFormed b (bare r) ≡ isWellFormed b r
+pub well-bare : (b : Bounds) (r : Record) → isWellFormed b (bare r) ≡ isWellFormed b r
 well-bare b r =
     λ i. all-through uncounted (isShaped b) (λ f. refl) r i
     && leb (length (values-bare (text "%key") r i)) 1
@@ -105,22 +109,28 @@ walk-well b rs =
 typedefs-bare : (b : Bounds) (r : Record) → typedefsOf b (bare r) ≡ typedefsOf b r
 typedefs-bare b r = ap (kept (typedefOf b)) (values-bare (text "%typedef") r)
 
-typed-bare : (b : Bounds) (r : Record) → isTypedWell b (bare r) ≡ isTypedWell b r
-typed-bare b r =
+types-bare : (b : Bounds) (r : Record) → typeRules b (bare r) ≡ typeRules b r
+types-bare b r = λ i. kept (typeRuleOf b (typedefs-bare b r i)) (values-bare (text "%type") r i)
+
+pub defined-bare : (b : Bounds) (r : Record) → areTypesDefined b (bare r) ≡ areTypesDefined b r
+defined-bare b r =
     λ i. all (λ (v : Bytes). isTypedefName (firstWord v)) (values-bare (text "%typedef") r i)
     && all (λ (v : Bytes). isSome (endKind b (typedefs-bare b r i) v)) (values-bare (text "%typedef") r i)
     && distinct (map firstWord (values-bare (text "%typedef") r i))
     && all (λ (v : Bytes). all isName (typedNames v)) (values-bare (text "%type") r i)
     && all (λ (v : Bytes). isSome (endKind b (typedefs-bare b r i) v)) (values-bare (text "%type") r i)
 
+pub counted-bare : (b : Bounds) (r : Record) → autosCounted b (bare r) ≡ autosCounted b r
+counted-bare b r = λ i. all (isCounted b (types-bare b r i)) (listed-bare (text "%auto") r i)
+
+typed-bare : (b : Bounds) (r : Record) → isTypedWell b (bare r) ≡ isTypedWell b r
+typed-bare b r = λ i. defined-bare b r i && counted-bare b r i
+
 walk-types : (b : Bounds) (rs : List Record) → walkTypes b (map bare rs) ≡ walkTypes b rs
 walk-types b rs = all-through bare (λ (r : Record). not (isHead r) || isTypedWell b r) (λ r j. not (head-bare r j) || typed-bare b r j) rs
 
 -- 8 to 12
 module _ (b : Bounds) (rules : Record) where
-  types-bare : typeRules b (bare rules) ≡ typeRules b rules
-  types-bare = λ i. kept (typeRuleOf b (typedefs-bare b rules i)) (values-bare (text "%type") rules i)
-
   module _ (r : Record) where
     none-bare : noneProhibited (bare rules) (bare r) ≡ noneProhibited rules r
     none-bare =
@@ -139,7 +149,7 @@ module _ (b : Bounds) (rules : Record) where
     repeated-bare = λ i. all (λ (n : Bytes). leb (length (values-bare n r i)) 1) (listed-bare (text "%unique") rules i ++ listed-bare (text "%key") rules i)
 
     met-bare : allTyped b (bare rules) (bare r) ≡ allTyped b rules r
-    met-bare = all-through uncounted (isTyped b (typeRules b (bare rules))) (λ f. refl) r ∙ (λ i. all (isTyped b (types-bare i)) r)
+    met-bare = all-through uncounted (isTyped b (typeRules b (bare rules))) (λ f. refl) r ∙ (λ i. all (isTyped b (types-bare b rules i)) r)
 
     record-bare : recordNo b (bare rules) (bare r) ≡ recordNo b rules r
     unfolding recordNo
@@ -188,3 +198,9 @@ number-bare b rs =
     (pick (all-through bare hasRecOnce once-bare rs i)
     (pick (walk-well b rs i)
     (pick (walk-types b rs i) (walk-no b rs i) 7) 6) 5) 4
+
+-- nor does what an insert gets for the names that it omits
+pub added-bare : (b : Bounds) (rules : Record) (ms : List Record) (new : List Pair) → added b (ruled (bare rules) ms) new ≡ added b (ruled rules ms) new
+added-bare b rules ms new =
+    λ i. every (λ (n : Bytes). Option·map (λ (k : ℕ). record { name = n; value = decimal k }) (leastIn (allInts b ∷ kept (spanOf b) (kindsOf n (types-bare b rules i))) (intsOf b n ms)))
+    (filter (λ (n : Bytes). not (among n (pairNames new))) (firsts (listed-bare (text "%auto") rules i)))

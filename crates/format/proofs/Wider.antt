@@ -10,7 +10,7 @@ use mathlib.Core.Option.{Option, none, some, Option·map}
 use lib.Dec.{leb, eqb}
 use lib.ListN.{length, getD, drop}
 use borrow.Author.Tests.{leb-true, le-leb}
-use Rattle.format.specs.Lists.{onlyIf, onward, isFilled, keep, kept, front, behind}
+use Rattle.format.specs.Lists.{onlyIf, onward, isFilled, filter, keep, kept, front, behind}
 use Rattle.format.specs.Bytes.{Bytes, text, pick, isAllowed, all, any, same, among, isSome}
 use Rattle.format.specs.Lines.{isEnded, isSpecial, isName}
 use Rattle.format.specs.Pieces.{pieces}
@@ -20,7 +20,7 @@ use Rattle.format.specs.Limits.{fileBytes}
 use Rattle.format.specs.Words.{isGap, words, trim, firstWord, afterWord, isTypeName}
 use Rattle.format.specs.Numbers.{Int, plus, minus, Bounds, intBounds, unsigned, upTo, intOf, isAtMost, notBelow0, numberOf}
 use Rattle.format.specs.Types.{Kind, Typed, Typedef, bare, endOf, ranged, rangeOf, sizeOf, plainKind, isSymbol, enumIn, uncomment, beforeComment, typeOf, lookup, follow, kindOf, isInRange, meets}
-use Rattle.format.specs.Rules.{orderOf, sizeBy, sizeRule, meetsSize, typedefOf, typedefsOf, TypeRule, typedNames, endKind, typeRuleOf, typeRules, isTyped, Shape, shapes, isShaped, isWellFormed, isTypedefName, distinct, isTypedWell}
+use Rattle.format.specs.Rules.{orderOf, sizeBy, sizeRule, meetsSize, typedefOf, typedefsOf, TypeRule, typedNames, endKind, typeRuleOf, typeRules, isTyped, Shape, shapes, isShaped, isWellFormed, isTypedefName, distinct, spanOf, isCounted, autosCounted, auto, areTypesDefined, isTypedWell}
 use Rattle.format.specs.Questions.{Row, firstNo, File, fileOf, fitsLimits, describesOnce, nameOf, describesWell, typesWell, eachRecord, noneProhibited, allAllowed, allPresent, noneRepeated, allTyped, keysDistinct, sizeMet, singularMet, descriptorRows, ruleRows, verdictIn, verdict}
 use Rattle.format.proofs.Elements.{Each, each-imp, each-both, all-each, each-all, all-both}
 use Rattle.format.proofs.Listing.{same-true}
@@ -195,6 +195,11 @@ five true true false d e h = absurd (false≢true h)
 five true false c d e h = absurd (false≢true h)
 five false b c d e h = absurd (false≢true h)
 
+-- the first type of those that name a field, and the others
+counted-by : (b : Bounds) (c : Bool) (t : TypeRule) (ts : List TypeRule) → all (λ (k : Kind). isSome (spanOf b k)) (map (λ (x : TypeRule). x .kind) (pick c (t ∷ ts) ts)) ≡ (pick c (isSome (spanOf b (t .kind))) true && all (λ (k : Kind). isSome (spanOf b k)) (map (λ (x : TypeRule). x .kind) ts))
+counted-by b true t ts = refl
+counted-by b false t ts = refl
+
 module _ (n w : Bounds) (wide : Wider n w) where
   -- ints
 
@@ -243,10 +248,10 @@ module _ (n w : Bounds) (wide : Wider n w) where
       again-if (same v (text "MIN")) (λ t. absurd (false≢true (sym e ∙ t)))
       (λ f. again-pick (same v (text "MAX")) (again upper-max) (again-equal (λ a x h. h) (intOf n v) (intOf w v) (int-again v)))
 
-  -- types: every value that meets the one under the narrower ints meets the other under the wider ones
+  -- types: every value that meets the one under the narrower ints meets the other under the wider ones, and both or neither are of ints
 
   abbrev Covers : Kind → Kind → Type 0
-  Covers k l = (v : Bytes) → meets n k v ≡ true → meets w l v ≡ true
+  Covers k l = ((v : Bytes) → meets n k v ≡ true → meets w l v ≡ true) × (isSome (spanOf n k) ≡ isSome (spanOf w l))
 
   abbrev CoversTyped : Typed → Typed → Type 0
   CoversTyped (Typed.kind k) (Typed.kind l) = Covers k l
@@ -255,10 +260,10 @@ module _ (n w : Bounds) (wide : Wider n w) where
   CoversTyped (Typed.alias a) (Typed.alias b) = a ≡ b
 
   int-covers : Covers Kind.int Kind.int
-  int-covers v e = again-some (intOf n (trim v)) (intOf w (trim v)) (int-again (trim v)) e
+  int-covers = (λ v e. again-some (intOf n (trim v)) (intOf w (trim v)) (int-again (trim v)) e, refl)
 
   size-covers : (k m : ℕ) → k ≡ m → Covers (Kind.size k) (Kind.size m)
-  size-covers k m h v e = subst (λ (x : ℕ). leb (length v) x ≡ true) h e
+  size-covers k m h = (λ v e. subst (λ (x : ℕ). leb (length v) x ≡ true) h e, refl)
 
   in-range : (a b c d : Int) → Lower a c → Upper b d → (x y : Option Int) → Again Equal x y → isInRange a b x ≡ true → isInRange c d y ≡ true
   in-range a b c d l u none y h e = absurd (false≢true e)
@@ -268,7 +273,7 @@ module _ (n w : Bounds) (wide : Wider n w) where
       subst (λ (z : Int). isInRange c d (some z) ≡ true) (h .holds) (and-eq-true-iff (isAtMost c x) (isAtMost x d) .1 (l x (k .0), u x (k .1)))
 
   range-covers : (a b c d : Int) → Lower a c → Upper b d → Covers (Kind.range a b) (Kind.range c d)
-  range-covers a b c d l u v e = in-range a b c d l u (intOf n (trim v)) (intOf w (trim v)) (int-again (trim v)) e
+  range-covers a b c d l u = (λ v e. in-range a b c d l u (intOf n (trim v)) (intOf w (trim v)) (int-again (trim v)) e, refl)
 
   ranged-again : (a b c d : Option Int) → Again Lower a c → Again Upper b d → Again CoversTyped (ranged a b) (ranged c d)
   ranged-again a b c d l u =
@@ -300,16 +305,16 @@ module _ (n w : Bounds) (wide : Wider n w) where
   plain-again (v ∷ ws) h =
       again-pick (same v (text "int")) (bare-again Kind.int ws int-covers)
       (again-if (same v (text "range")) (λ e. range-again ws (if-yes (same v (text "range")) (endsWiden ws) h e)) (λ e.
-      again-pick (same v (text "real")) (bare-again Kind.real ws (λ x e. e))
-      (again-pick (same v (text "line")) (bare-again Kind.line ws (λ x e. e))
+      again-pick (same v (text "real")) (bare-again Kind.real ws (λ x e. e, refl))
+      (again-pick (same v (text "line")) (bare-again Kind.line ws (λ x e. e, refl))
       (again-pick (same v (text "size")) (size-again ws)
-      (again-pick (same v (text "bool")) (bare-again Kind.bool ws (λ x e. e))
-      (again-pick (same v (text "field")) (bare-again Kind.field ws (λ x e. e))
-      (again-pick (same v (text "uuid")) (bare-again Kind.uuid ws (λ x e. e))
+      (again-pick (same v (text "bool")) (bare-again Kind.bool ws (λ x e. e, refl))
+      (again-pick (same v (text "field")) (bare-again Kind.field ws (λ x e. e, refl))
+      (again-pick (same v (text "uuid")) (bare-again Kind.uuid ws (λ x e. e, refl))
       (only-again (not (isFilled ws) && isTypeName v) (Typed.alias v) refl))))))))
 
   enum-again : (s : Bytes) → Again CoversTyped (enumIn s) (enumIn s)
-  enum-again s = only-again (isFilled (words s) && all isSymbol (words s)) (Typed.kind (Kind.enum (words s))) (λ x e. e)
+  enum-again s = only-again (isFilled (words s) && all isSymbol (words s)) (Typed.kind (Kind.enum (words s))) (λ x e. e, refl)
 
   enums-again : (x : Option Bytes) → Again CoversTyped (onward enumIn x) (onward enumIn x)
   enums-again none = absent
@@ -371,12 +376,12 @@ module _ (n w : Bounds) (wide : Wider n w) where
   abbrev ends : Record → Bytes → Bool
   ends r v = isSome (endKind n (typedefsOf n r) v)
 
-  module _ (r : Record) (widen : rulesWiden r ≡ true) (well : isTypedWell n r ≡ true) where
+  module _ (r : Record) (widen : rulesWiden r ≡ true) (defined : areTypesDefined n r ≡ true) where
     widened : (all valueWidens (defs r) ≡ true) × (all valueWidens (types r) ≡ true)
     widened = and-eq-true-iff (all valueWidens (defs r)) (all valueWidens (types r)) .0 widen
 
     parts : (all (λ (v : Bytes). isTypedefName (firstWord v)) (defs r) ≡ true) × (all (ends r) (defs r) ≡ true) × (distinct (map firstWord (defs r)) ≡ true) × (all (λ (v : Bytes). all isName (typedNames v)) (types r) ≡ true) × (all (ends r) (types r) ≡ true)
-    parts = five (all (λ (v : Bytes). isTypedefName (firstWord v)) (defs r)) (all (ends r) (defs r)) (distinct (map firstWord (defs r))) (all (λ (v : Bytes). all isName (typedNames v)) (types r)) (all (ends r) (types r)) well
+    parts = five (all (λ (v : Bytes). isTypedefName (firstWord v)) (defs r)) (all (ends r) (defs r)) (distinct (map firstWord (defs r))) (all (λ (v : Bytes). all isName (typedNames v)) (types r)) (all (ends r) (types r)) defined
 
     defs-pair : Pairs CoversDef (typedefsOf n r) (typedefsOf w r)
     defs-pair =
@@ -393,8 +398,8 @@ module _ (n w : Bounds) (wide : Wider n w) where
         all-from (ends r) valueWidens (λ (v : Bytes). isSome (endKind w (typedefsOf w r) v))
         (λ v f k. again-some (endKind n (typedefsOf n r) v) (endKind w (typedefsOf w r) v) (ends-again v k) f) vs e h
 
-    typed-well : isTypedWell w r ≡ true
-    typed-well = (λ i. parts .0 i && ends-stay (defs r) (parts .1) (widened .0) i && parts .2 i && parts .3 i && ends-stay (types r) (parts .4) (widened .1) i)
+    types-defined : areTypesDefined w r ≡ true
+    types-defined = (λ i. parts .0 i && ends-stay (defs r) (parts .1) (widened .0) i && parts .2 i && parts .3 i && ends-stay (types r) (parts .4) (widened .1) i)
 
     rule-again : (v : Bytes) → valueWidens v ≡ true → Again CoversRule (typeRuleOf n (typedefsOf n r) v) (typeRuleOf w (typedefsOf w r) v)
     rule-again v h =
@@ -414,9 +419,26 @@ module _ (n w : Bounds) (wide : Wider n w) where
   typed-again (t ∷ ts) [] p f e = absurd p
   typed-again (t ∷ ts) (u ∷ us) p f e =
       let k = and-eq-true-iff (not (among (f .name) (t .names)) || meets n (t .kind) (f .value)) (isTyped n ts f) .0 e in
-      let a = or-later (not (among (f .name) (t .names))) (meets n (t .kind) (f .value)) (meets w (u .kind) (f .value)) (p .0 .1 (f .value)) (k .0) in
+      let a = or-later (not (among (f .name) (t .names))) (meets n (t .kind) (f .value)) (meets w (u .kind) (f .value)) (p .0 .1 .0 (f .value)) (k .0) in
       let b = subst (λ (ms : List Bytes). (not (among (f .name) ms) || meets w (u .kind) (f .value)) ≡ true) (p .0 .0) a in
       and-eq-true-iff (not (among (f .name) (u .names)) || meets w (u .kind) (f .value)) (isTyped w us f) .1 (b, typed-again ts us (p .1) f (k .1))
+
+  -- the kinds of a name are as before of ints
+
+  counted-again : (ts us : List TypeRule) → Pairs CoversRule ts us → (m : Bytes) → isCounted n ts m ≡ isCounted w us m
+  counted-again [] [] p m = refl
+  counted-again [] (u ∷ us) p m = absurd p
+  counted-again (t ∷ ts) [] p m = absurd p
+  counted-again (t ∷ ts) (u ∷ us) p m =
+      counted-by n (among m (t .names)) t (filter (λ (x : TypeRule). among m (x .names)) ts)
+      ∙ (λ i. pick (among m (p .0 .0 i)) (p .0 .1 .1 i) true && counted-again ts us (p .1) m i)
+      ∙ sym (counted-by w (among m (u .names)) u (filter (λ (x : TypeRule). among m (x .names)) us))
+
+  typed-well : (r : Record) → rulesWiden r ≡ true → isTypedWell n r ≡ true → isTypedWell w r ≡ true
+  typed-well r widen well =
+      let k = and-eq-true-iff (areTypesDefined n r) (autosCounted n r) .0 well in
+      let counted : autosCounted n r ≡ autosCounted w r = λ i. all (λ (m : Bytes). counted-again (typeRules n r) (typeRules w r) (rules-pair r widen (k .0)) m i) (auto r) in
+      and-eq-true-iff (areTypesDefined w r) (autosCounted w r) .1 (types-defined r widen (k .0), sym counted ∙ k .1)
 
   -- sizes
 
@@ -447,7 +469,7 @@ module _ (n w : Bounds) (wide : Wider n w) where
   shapes-pair : (v : Bytes) → Pairs (CoversShape v) (shapes n) (shapes w)
   shapes-pair v =
       let sized = again-some (sizeRule n (words v)) (sizeRule w (words v)) (size-rule-again (words v)) in
-      ((refl, λ e. e), ((refl, λ e. e), ((refl, λ e. e), ((refl, λ e. e), ((refl, λ e. e), ((refl, λ e. e), ((refl, λ e. e), ((refl, sized), ((refl, λ e. e), ((refl, λ e. e), ((refl, λ e. e), tt)))))))))))
+      ((refl, λ e. e), ((refl, λ e. e), ((refl, λ e. e), ((refl, λ e. e), ((refl, λ e. e), ((refl, λ e. e), ((refl, λ e. e), ((refl, sized), ((refl, λ e. e), ((refl, λ e. e), ((refl, λ e. e), ((refl, λ e. e), tt))))))))))))
 
   shaped-again : (f : Field) → isShaped n f ≡ true → isShaped w f ≡ true
   shaped-again f e =
@@ -497,7 +519,8 @@ module _ (n w : Bounds) (wide : Wider n w) where
   members-again s h e =
       let rules : Record = s .rules in
       let k = and-eq-true-iff (rulesWiden rules) (isTypedWell n rules) .0 h in
-      let field-again = typed-again (typeRules n rules) (typeRules w rules) (rules-pair rules (k .0) (k .1)) in
+      let defined = and-eq-true-iff (areTypesDefined n rules) (autosCounted n rules) .0 (k .1) .0 in
+      let field-again = typed-again (typeRules n rules) (typeRules w rules) (rules-pair rules (k .0) defined) in
       all-imp (allTyped n rules) (allTyped w rules) (λ r t. all-imp (isTyped n (typeRules n rules)) (isTyped w (typeRules w rules)) field-again r t) (s .members) e
 
   -- the questions

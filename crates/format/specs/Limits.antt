@@ -20,7 +20,7 @@ abbrev pub recordFields : ℕ
 recordFields = 256
 
 -- "64 descriptors; per descriptor 32 typedefs, 32 `%type` fields, and 64 words each in all mandatory, prohibit, allowed and unique fields";
--- document 02 has as many for singular fields
+-- document 02 has as many for singular and for auto fields
 abbrev pub descriptors : ℕ
 descriptors = 64
 

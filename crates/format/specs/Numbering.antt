@@ -1,56 +1,18 @@
 -- Numbers for the names that an insert omits (document 02, order 6).
 use Prim.Native.Nat.{ℕ, zero, suc, _+_, _/_, _%_, max}
-use mathlib.Core.Bool.{Bool, not}
+use mathlib.Core.Bool.{not}
 use mathlib.Core.List.{List, [], _∷_, _++_, map}
 use mathlib.Core.Option.{Option, none, some, Option·map}
 use lib.Dec.{leb, eqb}
 use Rattle.format.specs.Lists.{onlyIf, onward, filter, kept}
-use Rattle.format.specs.Bytes.{Bytes, text, pick, all, same, among, isSome}
+use Rattle.format.specs.Bytes.{Bytes, pick, all, same, among}
 use Rattle.format.specs.Records.{Record}
 use Rattle.format.specs.Sets.{RecSet}
 use Rattle.format.specs.Words.{trim}
 use Rattle.format.specs.Numbers.{Int, plus, minus, Bounds, intOf, isAtMost}
-use Rattle.format.specs.Types.{Kind, int, range, real, line, size, enum, bool, field, uuid}
-use Rattle.format.specs.Rules.{listed, TypeRule, typeRules}
+use Rattle.format.specs.Rules.{typeRules, auto, kindsOf, Span, allInts, spanOf}
 use Rattle.format.specs.Questions.{valuesIn}
 use Rattle.format.specs.Written.{Pair}
-
--- the names of the `%auto` lists
-abbrev pub auto : Record → List Bytes
-auto r = listed (text "%auto") r
-
--- "fields whose types are all int or range, or that have no type"
-
--- the kinds that a name has
-abbrev pub kindsOf : Bytes → List TypeRule → List Kind
-kindsOf n ts = map (λ (t : TypeRule). t .kind) (filter (λ (t : TypeRule). among n (t .names)) ts)
-
--- ints from one to another, both included
-pub record Span : Type 0 where
-  pub low : Int
-  pub high : Int
-
-abbrev pub allInts : Bounds → Span
-allInts b = record { low = minus (b .least); high = plus (b .greatest) }
-
--- those of a kind, where it is int or range
-abbrev pub spanOf : Bounds → Kind → Option Span
-spanOf b int = some (allInts b)
-spanOf b (range low high) = some (record { low = low; high = high })
-spanOf b real = none
-spanOf b line = none
-spanOf b (size n) = none
-spanOf b (enum ws) = none
-spanOf b bool = none
-spanOf b field = none
-spanOf b uuid = none
-
--- "An `%auto` field of any other type fails question 7."
-abbrev pub isCounted : Bounds → List TypeRule → Bytes → Bool
-isCounted b ts n = all (λ (k : Kind). isSome (spanOf b k)) (kindsOf n ts)
-
-abbrev pub autosCounted : Bounds → Record → Bool
-autosCounted b r = all (isCounted b (typeRules b r)) (auto r)
 
 -- "An insert that omits such a name gets it .., once, .. in the order of the lists"
 

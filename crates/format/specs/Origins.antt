@@ -7,14 +7,15 @@ use mathlib.Core.Option.{Option, none, some}
 use lib.Dec.{eqb}
 use lib.ListN.{length, getD}
 use Rattle.format.specs.Bytes.{pick, upFrom, any}
-use Rattle.format.specs.Lists.{flat, filter, keep, kept, turn, always}
+use Rattle.format.specs.Lists.{flat, filter, keep, kept, turn, always, onward}
 use Rattle.format.specs.Pieces.{Piece}
 use Rattle.format.specs.Records.{Block, isField, isRecord}
 use Rattle.format.specs.Sets.{Group, groups, isMember}
 use Rattle.format.specs.Written.{newPiece}
 use Rattle.format.specs.Edits.{Act, Edit, isOf, changePiece, newline, newlineIf}
 use Rattle.format.specs.Requests.{Request, requestOf}
-use Rattle.format.specs.Plain.{Plain, indexOf}
+use Rattle.format.specs.Numbers.{intBounds}
+use Rattle.format.specs.Plain.{Plain, indexOf, completedBy}
 use Rattle.format.specs.Runs.{Single, requestIn, singleStep}
 
 -- What an accepted edit does to the pieces, one after another: it leaves a piece, it names one, it adds one. Where no more is said, the rest is left.
@@ -67,9 +68,9 @@ abbrev pub requestFates : Option Request → Plain → List Fate
 requestFates none p = []
 requestFates (some q) p = setFates (indexOf (q .set) (p .sets)) (q .edit) (p .pieces)
 
--- of a single edit; a refused one names nothing and adds nothing
+-- of a single edit, whose request is completed; a refused one names nothing and adds nothing
 abbrev pub singleFates : Single → Plain → List Fate
-singleFates c p = requestFates (requestOf (requestIn c)) p
+singleFates c p = requestFates (onward (completedBy intBounds p) (requestOf (requestIn c))) p
 
 abbrev pub ifAccepted : {A : Type 0} → ℕ → A → A → A
 ifAccepted zero a b = a

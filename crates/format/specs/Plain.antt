@@ -2,7 +2,7 @@
 use Prim.Native.Nat.{ℕ, zero, suc, _+_}
 use mathlib.Core.Bool.{Bool, true, _&&_}
 use mathlib.Core.List.{List, [], _∷_, _++_, map}
-use mathlib.Core.Option.{Option, none, some}
+use mathlib.Core.Option.{Option, none, some, Option·map}
 use lib.Dec.{leb, ltb}
 use lib.ListN.{length, getD}
 use Rattle.format.specs.Bytes.{Bytes, pick, all, same, isSome}
@@ -12,7 +12,8 @@ use Rattle.format.specs.Records.{Field, Record, countOf, isLoose}
 use Rattle.format.specs.Sets.{RecSet, setsOf}
 use Rattle.format.specs.Limits.{fileBytes}
 use Rattle.format.specs.Numbers.{Bounds, intBounds}
-use Rattle.format.specs.Written.{isLegalName, isLegalValue, isLegalPair}
+use Rattle.format.specs.Written.{Pair, isLegalName, isLegalValue, isLegalPair}
+use Rattle.format.specs.Numbering.{completed}
 use Rattle.format.specs.Edits.{Change, Act, Edit, inSet, newlineIf, editPieces}
 use Rattle.format.specs.Questions.{Row, firstNo, askOf, occurrences, limitRows, ruleRows}
 use Rattle.format.specs.Requests.{Request, requestOf}
@@ -66,6 +67,22 @@ applyIn (some i) e p = applyAt i e p
 unfoldable pub apply : Request → Plain → Plain
 apply q p = applyIn (indexOf (q .set) (p .sets)) (q .edit) p
 
+-- "An insert that omits such a name gets it at the front" (document 02, order 6): what a request to the set of a place is, completed from the plain file's own records; none where an omitted name has no number.
+
+abbrev pub setAt : ℕ → List RecSet → RecSet
+setAt i ss = getD ss i (record { name = []; rules = []; members = [] })
+
+abbrev pub completedEdit : Bounds → RecSet → Edit → Option Edit
+completedEdit b s (Edit.insert new) = Option·map (λ (ps : List Pair). Edit.insert ps) (completed b s new)
+completedEdit b s (Edit.on j a) = some (Edit.on j a)
+
+abbrev pub completedAt : Bounds → List RecSet → Option ℕ → Request → Option Request
+completedAt b ss none q = some q
+completedAt b ss (some i) q = Option·map (λ (e : Edit). record { set = q .set; edit = e }) (completedEdit b (setAt i ss) (q .edit))
+
+unfoldable pub completedBy : Bounds → Plain → Request → Option Request
+completedBy b p q = completedAt b (p .sets) (indexOf (q .set) (p .sets)) q
+
 -- What is looked for among sets: one of them, and where they are meant a record of it and an occurrence of a name in that.
 pub record Occurrence : Type 0 where
   pub name : Bytes
@@ -107,12 +124,13 @@ foundRows =
     record { number = 22; asks = λ (q : Sought). ofSome (λ (j : ℕ). ltb j (length (soughtMembers q))) (q .row) } ∷
     record { number = 23; asks = λ (q : Sought). ofSome (λ (o : Occurrence). ltb (o .number) (occurrences (o .name) (soughtRecord q))) (q .field) } ∷ []
 
--- What an edit is asked: the buffer's length, the plain file, whether the bytes are a request, the request (an insert of nothing where they are none), and what it would make of the plain file.
+-- What an edit is asked: the buffer's length, the plain file, whether the bytes are a request, the request (an insert of nothing where they are none), whether it is completed, and what it would make of the plain file.
 pub record Asked : Type 0 where
   pub room : ℕ
   pub file : Plain
   pub formed : Bool
   pub request : Request
+  pub complete : Bool
   pub result : Plain
 
 -- the record and the field that an edit names
@@ -151,13 +169,15 @@ isLegalEdit (Edit.on j (Act.change n o (Change.name m))) = isLegalName m
 abbrev pub raised : {A : Type 0} → Row A → Row A
 raised r = record { number = 100 + r .number; asks = r .asks }
 
--- "An edit then asks: request of the form above, at most 65,536 bytes? 20. .. Result at most the buffer and 65,536? 26. Then 4 and 8 to 14 of the result", and 30 behind them
+-- "An edit then asks: request of the form above, at most 65,536 bytes? 20. .. Result at most the buffer and 65,536? 26. Then 4 and 8 to 14 of the result", and 30 behind them;
+-- "31, asked between 25 and 26, if for some omitted name no int meets that description, and only then" (document 02, order 6)
 abbrev pub editQuestions : Bounds → List (Row Asked)
 editQuestions b =
     record { number = 20; asks = λ (a : Asked). a .formed } ∷
     (askOf soughtBy foundRows ++
     (record { number = 24; asks = λ (a : Asked). leavesField (a .request .edit) (soughtRecord (soughtBy a)) } ∷
     record { number = 25; asks = λ (a : Asked). isLegalEdit (a .request .edit) } ∷
+    record { number = 31; asks = λ (a : Asked). a .complete } ∷
     record { number = 26; asks = λ (a : Asked). leb (lengthOf (a .result)) (a .room) && leb (lengthOf (a .result)) fileBytes } ∷
     askOf (λ (a : Asked). a .result .sets) (map raised (limitRows ++ ruleRows b))))
 
@@ -174,11 +194,13 @@ abbrev pub requestOr : Option Request → Request
 requestOr none = record { set = []; edit = Edit.insert [] }
 requestOr (some q) = q
 
+-- `apply` works on the completed request
 abbrev pub stepOf : Bounds → ℕ → Plain → Option Request → Step
 stepOf b room p x =
     let q : Request = requestOr x in
-    let r : Plain = apply q p in
-    stepBy (firstNo (editQuestions b) (record { room = room; file = p; formed = isSome x; request = q; result = r })) p r
+    let c : Option Request = completedBy b p q in
+    let r : Plain = apply (requestOr c) p in
+    stepBy (firstNo (editQuestions b) (record { room = room; file = p; formed = isSome x; request = q; complete = isSome c; result = r })) p r
 
 -- a request of any bytes, the buffer's length and the plain file
 unfoldable pub step : ℕ → Plain → Bytes → Step

@@ -14,7 +14,7 @@ use Rattle.format.specs.Sets.{RecSet, valuesOf, setsOf}
 use Rattle.format.specs.Limits.{fileBytes, nameBytes, valueBytes, recordFields, descriptors, typedefs, typeFields, listWords}
 use Rattle.format.specs.Words.{words}
 use Rattle.format.specs.Numbers.{Bounds, intBounds}
-use Rattle.format.specs.Rules.{mandatory, prohibited, allowed, unique, singular, key, sizeRule, meetsSize, typeRules, isTyped, isWellFormed, isTypedWell, distinct}
+use Rattle.format.specs.Rules.{mandatory, prohibited, allowed, unique, singular, auto, key, sizeRule, meetsSize, typeRules, isTyped, isWellFormed, isTypedWell, distinct}
 
 -- a question and the number of its no
 pub record Row (A : Type 0) : Type 0 where
@@ -60,6 +60,7 @@ fitsRules r =
     && leb (length (allowed r)) listWords
     && leb (length (unique r)) listWords
     && leb (length (singular r)) listWords
+    && leb (length (auto r)) listWords
 
 abbrev pub fitsLimits : List RecSet → Bool
 fitsLimits ss =
@@ -80,7 +81,7 @@ nameOf s = s .name
 abbrev pub describesWell : Bounds → List RecSet → Bool
 describesWell b ss = all (λ (s : RecSet). isWellFormed b (s .rules)) ss && distinct (map nameOf ss)
 
--- "7. Those fields well formed, types defined, without loop?"
+-- "7. Those fields well formed, types defined, without loop?", and those of `%auto` names int or range
 abbrev pub typesWell : Bounds → List RecSet → Bool
 typesWell b ss = all (λ (s : RecSet). isTypedWell b (s .rules)) ss
 

@@ -5,14 +5,14 @@ use mathlib.Core.List.{List, [], _∷_, map}
 use mathlib.Core.Option.{Option, none, some, Option·map}
 use lib.Dec.{leb, ltb, eqb}
 use lib.ListN.{length}
-use Rattle.format.specs.Lists.{onward, flat, kept, always}
+use Rattle.format.specs.Lists.{onward, filter, flat, kept, always}
 use Rattle.format.specs.Bytes.{Bytes, text, pick, all, any, same, among, isSome}
 use Rattle.format.specs.Lines.{isName, isSpecial}
 use Rattle.format.specs.Records.{Field, Record}
 use Rattle.format.specs.Sets.{valuesOf}
 use Rattle.format.specs.Words.{firstWord, afterWord, words, split, isTypeName}
-use Rattle.format.specs.Numbers.{Bounds, numberOf}
-use Rattle.format.specs.Types.{Kind, Typed, Typedef, typeOf, kindOf, meets}
+use Rattle.format.specs.Numbers.{Int, plus, minus, Bounds, numberOf}
+use Rattle.format.specs.Types.{Kind, int, range, real, line, size, enum, bool, field, uuid, Typed, Typedef, typeOf, kindOf, meets}
 
 -- "several such fields make a union": the words of all fields of one name
 abbrev pub listed : Bytes → Record → List Bytes
@@ -33,6 +33,10 @@ unique r = listed (text "%unique") r
 -- "Its names .. form a union like the others" (document 02, order 5)
 abbrev pub singular : Record → List Bytes
 singular r = listed (text "%singular") r
+
+-- the names that an insert may omit (document 02, order 6)
+abbrev pub auto : Record → List Bytes
+auto r = listed (text "%auto") r
 
 -- one name or none
 abbrev pub key : Record → List Bytes
@@ -108,6 +112,10 @@ several p (w ∷ ws) = all p (w ∷ ws)
 abbrev pub nameList : Bytes → Bool
 nameList v = several isName (words v)
 
+-- "none beginning with `%`"
+abbrev pub isOrdinary : Bytes → Bool
+isOrdinary n = isName n && not (isSpecial n)
+
 -- `%typedef` and `%type` fields have a question of their own
 abbrev pub shapes : Bounds → List Shape
 shapes b =
@@ -121,7 +129,8 @@ shapes b =
     record { name = text "%size"; fits = λ (v : Bytes). isSome (sizeRule b (words v)) } ∷
     record { name = text "%typedef"; fits = always } ∷
     record { name = text "%type"; fits = always } ∷
-    record { name = text "%singular"; fits = nameList } ∷ []
+    record { name = text "%singular"; fits = nameList } ∷
+    record { name = text "%auto"; fits = λ (v : Bytes). several isOrdinary (words v) } ∷ []
 
 -- "Other `%` names are faults. Names without `%` have no effect."
 abbrev pub isShaped : Bounds → Field → Bool
@@ -143,8 +152,8 @@ distinct [] = true
 distinct (x ∷ xs) = not (among x xs) && distinct xs
 
 -- "Missing names and loops are faults even if unused", "or defined twice"
-abbrev pub isTypedWell : Bounds → Record → Bool
-isTypedWell b r =
+abbrev pub areTypesDefined : Bounds → Record → Bool
+areTypesDefined b r =
     let ds : List Typedef = typedefsOf b r in
     let tds : List Bytes = valuesOf (text "%typedef") r in
     let tys : List Bytes = valuesOf (text "%type") r in
@@ -153,3 +162,39 @@ isTypedWell b r =
     && distinct (map firstWord tds)
     && all (λ (v : Bytes). all isName (typedNames v)) tys
     && all (λ (v : Bytes). isSome (endKind b ds v)) tys
+
+-- "fields whose types are all int or range, or that have no type"
+
+-- the kinds that a name has
+abbrev pub kindsOf : Bytes → List TypeRule → List Kind
+kindsOf n ts = map (λ (t : TypeRule). t .kind) (filter (λ (t : TypeRule). among n (t .names)) ts)
+
+-- ints from one to another, both included
+pub record Span : Type 0 where
+  pub low : Int
+  pub high : Int
+
+abbrev pub allInts : Bounds → Span
+allInts b = record { low = minus (b .least); high = plus (b .greatest) }
+
+-- those of a kind, where it is int or range
+abbrev pub spanOf : Bounds → Kind → Option Span
+spanOf b int = some (allInts b)
+spanOf b (range low high) = some (record { low = low; high = high })
+spanOf b real = none
+spanOf b line = none
+spanOf b (size n) = none
+spanOf b (enum ws) = none
+spanOf b bool = none
+spanOf b field = none
+spanOf b uuid = none
+
+abbrev pub isCounted : Bounds → List TypeRule → Bytes → Bool
+isCounted b ts n = all (λ (k : Kind). isSome (spanOf b k)) (kindsOf n ts)
+
+abbrev pub autosCounted : Bounds → Record → Bool
+autosCounted b r = all (isCounted b (typeRules b r)) (auto r)
+
+-- "An `%auto` field of any other type fails question 7."
+abbrev pub isTypedWell : Bounds → Record → Bool
+isTypedWell b r = areTypesDefined b r && autosCounted b r

@@ -193,6 +193,7 @@ pub struct Descriptor {
     pub allowed: usize,
     pub unique: usize,
     pub singular: usize,
+    pub auto: usize,
 }
 
 impl Descriptor {
@@ -205,7 +206,7 @@ impl Descriptor {
     pub const WORDS: usize = 64;
 
     pub fn new() -> Self
-        ensures { λ r. ⌜ (r .typedefs ≡ 0) × (r .types ≡ 0) × (r .mandatory ≡ 0) × (r .prohibited ≡ 0) × (r .allowed ≡ 0) × (r .unique ≡ 0) × (r .singular ≡ 0) ⌝ }
+        ensures { λ r. ⌜ (r .typedefs ≡ 0) × (r .types ≡ 0) × (r .mandatory ≡ 0) × (r .prohibited ≡ 0) × (r .allowed ≡ 0) × (r .unique ≡ 0) × (r .singular ≡ 0) × (r .auto ≡ 0) ⌝ }
     {
         Self {
             typedefs: 0,
@@ -215,11 +216,12 @@ impl Descriptor {
             allowed: 0,
             unique: 0,
             singular: 0,
+            auto: 0,
         }
     }
 
     pub fn fits(self) -> bool
-        ensures { λ r. ⌜ r ≡ (leb (self .typedefs) typedefs && leb (self .types) typeFields && leb (self .mandatory) listWords && leb (self .prohibited) listWords && leb (self .allowed) listWords && leb (self .unique) listWords && leb (self .singular) listWords) ⌝ }
+        ensures { λ r. ⌜ r ≡ (leb (self .typedefs) typedefs && leb (self .types) typeFields && leb (self .mandatory) listWords && leb (self .prohibited) listWords && leb (self .allowed) listWords && leb (self .unique) listWords && leb (self .singular) listWords && leb (self .auto) listWords) ⌝ }
     {
         if self.typedefs > Descriptor::TYPEDEFS {
             return false;
@@ -239,6 +241,9 @@ impl Descriptor {
         if self.unique > Descriptor::WORDS {
             return false;
         }
-        self.singular <= Descriptor::WORDS
+        if self.singular > Descriptor::WORDS {
+            return false;
+        }
+        self.auto <= Descriptor::WORDS
     }
 }

@@ -44,6 +44,8 @@ impl Refusal {
     pub const EMPTIED: u32 = 24;
     // A name or a value is not legal.
     pub const ILLEGAL: u32 = 25;
+    // A name that an insert omits has no number; asked between the one above and the one below.
+    pub const NUMBERLESS: u32 = 31;
     // The result is larger than the buffer or than a file may be.
     pub const LARGE: u32 = 26;
     // The text is longer than the buffer that it is written to.

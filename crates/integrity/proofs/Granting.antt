@@ -8,15 +8,15 @@ use borrow.Author.Tests.{ltb-true, ltb-false}
 use lib.Dec.{leb, ltb}
 use lib.ListN.{length, getD}
 use Rattle.format.specs.Bytes.{Bytes, pick, all}
-use Rattle.format.specs.Limits.{descriptors}
+use Rattle.format.specs.Limits.{fileBytes, descriptors}
 use Rattle.format.specs.Numbers.{intBounds}
 use Rattle.format.specs.Records.{Record}
-use Rattle.format.specs.Rules.{isWellFormed, isTypedWell, distinct}
+use Rattle.format.specs.Rules.{isWellFormed, autosCounted, areTypesDefined, isTypedWell, distinct}
 use Rattle.format.specs.Questions.{fitsRecord, fitsRules}
 use Rattle.format.proofs.Elements.{Each, each-both, each-imp, each-parts, all-each}
 use Rattle.format.proofs.Least.{least}
 use Rattle.format.proofs.Judging.{setNo}
-use Rattle.format.proofs.Walking.{isHead, heads, headNames, before, ruled, walkFits, walkTypes, walkNo}
+use Rattle.format.proofs.Walking.{isHead, heads, headNames, before, ruled, walkFits, walkWell, walkTypes, walkNo}
 use Rattle.format.specs.Pieces.{readOf}
 use Rattle.format.proofs.Records.{records}
 use Rattle.words.specs.Spans.{span}
@@ -25,40 +25,42 @@ use Rattle.records.specs.Walk.{recordIn}
 use Rattle.records.specs.Heads.{HeadHere, HeadRows, HeadParts, rowFrom}
 use Rattle.records.proofs.Cuts.{recordsFrom}
 use Rattle.records.proofs.Rows.{plain-by, heads-asked, MembersAt, row-next, row-heads, row-members, row-rest}
+use Rattle.dictionary.specs.Known.{Described}
 use Rattle.rules.proofs.Leasts.{least-none, least-assoc}
 use Rattle.rules.specs.Described.{IsRules, AllFit}
-use Rattle.integrity.specs.Stages.{Granted}
+use Rattle.integrity.specs.Stages.{IsFormed, Granted}
 
--- a record holds its limits, a descriptor its own too, and it is well formed
-pub record Fits (r : Record) : Type 0 where
+-- a record holds its limits; a descriptor its own too, and it is well formed
+pub record Formed (r : Record) : Type 0 where
   pub fits : fitsRecord r ≡ true
   pub few : isHead r ≡ true → fitsRules r ≡ true
-
-pub record Right (r : Record) : Type 0 where
-  pub holds : Fits r
   pub well : isHead r ≡ true → isWellFormed intBounds r ≡ true
+
+-- and its types are
+pub record Right (r : Record) : Type 0 where
+  pub formed : Formed r
   pub typed : isHead r ≡ true → isTypedWell intBounds r ≡ true
 
 if-head : (h b : Bool) → (not h || b) ≡ true → h ≡ true → b ≡ true
 if-head true b e k = e
 if-head false b e k = absurd (false≢true k)
 
-pub fits-each : (rs : List Record) → walkFits rs ≡ true → Each Fits rs
-fits-each rs e =
+pub formed-each : (rs : List Record) → walkFits rs ≡ true → walkWell intBounds rs ≡ true → Each Formed rs
+formed-each rs e g =
     let p : Record → Bool = λ (r : Record). fitsRecord r && (not (isHead r) || fitsRules r) in
-    each-imp (λ (r : Record). p r ≡ true) Fits
-    (λ r h. let k = and-eq-true-iff (fitsRecord r) (not (isHead r) || fitsRules r) .0 h in record { fits = k .0; few = if-head (isHead r) (fitsRules r) (k .1) })
-    rs (all-each p rs (and-eq-true-iff (all p rs) (leb (length (heads rs)) descriptors) .0 e .0))
+    let w : Record → Bool = λ (r : Record). not (isHead r) || isWellFormed intBounds r in
+    let fit = all-each p rs (and-eq-true-iff (all p rs) (leb (length (heads rs)) descriptors) .0 e .0) in
+    let well = all-each w rs (and-eq-true-iff (all w rs) (distinct (headNames rs)) .0 g .0) in
+    each-imp (λ (r : Record). (p r ≡ true) × (w r ≡ true)) Formed
+    (λ r h. let k = and-eq-true-iff (fitsRecord r) (not (isHead r) || fitsRules r) .0 (h .0) in record { fits = k .0; few = if-head (isHead r) (fitsRules r) (k .1); well = if-head (isHead r) (isWellFormed intBounds r) (h .1) })
+    rs (each-both (λ (r : Record). p r ≡ true) (λ (r : Record). w r ≡ true) rs fit well)
 
 pub granted-each : (rs : List Record) → Granted rs → Each Right rs
 granted-each rs g =
-    let w : Record → Bool = λ (r : Record). not (isHead r) || isWellFormed intBounds r in
     let t : Record → Bool = λ (r : Record). not (isHead r) || isTypedWell intBounds r in
-    let both = each-both (λ (r : Record). w r ≡ true) (λ (r : Record). t r ≡ true) rs (all-each w rs (and-eq-true-iff (all w rs) (distinct (headNames rs)) .0 (g .well) .0)) (all-each t rs (g .types)) in
-    let all = each-both Fits (λ (r : Record). (w r ≡ true) × (t r ≡ true)) rs (fits-each rs (g .fit)) both in
-    each-imp (λ (r : Record). Fits r × ((w r ≡ true) × (t r ≡ true))) Right
-    (λ r h. record { holds = h .0; well = if-head (isHead r) (isWellFormed intBounds r) (h .1 .0); typed = if-head (isHead r) (isTypedWell intBounds r) (h .1 .1) })
-    rs all
+    each-imp (λ (r : Record). Formed r × (t r ≡ true)) Right
+    (λ r h. record { formed = h .0; typed = if-head (isHead r) (isTypedWell intBounds r) (h .1) })
+    rs (each-both Formed (λ (r : Record). t r ≡ true) rs (formed-each rs (g .fit) (g .well)) (all-each t rs (g .types)))
 
 -- the members of a set hold their limits
 before-by : (b : Bool) (r : Record) (rs : List Record) → fitsRecord r ≡ true → AllFit rs → AllFit (pick b [] (r ∷ rs))
@@ -67,11 +69,21 @@ before-by false r rs h k = and-eq-true-iff (fitsRecord r) (all fitsRecord rs) .1
 
 before-fit : (rs : List Record) → Each Right rs → AllFit (before rs)
 before-fit [] h = refl
-before-fit (r ∷ rs) h = before-by (isHead r) r (before rs) (h .0 .holds .fits) (before-fit rs (h .1))
+before-fit (r ∷ rs) h = before-by (isHead r) r (before rs) (h .0 .formed .fits) (before-fit rs (h .1))
 
 -- a descriptor's part, and the members' part of its set
-rules-each : (d : Bytes) → isReadable d ≡ true → isHead (recordIn d) ≡ true → Right (recordIn d) → IsRules d
-rules-each d e h r = record { reads = e; fits = r .holds .fits; few = r .holds .few h; well = r .well h; typed = r .typed h }
+module _ (d : Bytes) (e : isReadable d ≡ true) (h : isHead (recordIn d) ≡ true) where
+  formed-part : Formed (recordIn d) → IsFormed d
+  formed-part r = record { reads = e; fits = r .fits; few = r .few h; well = r .well h }
+
+  rules-each : Right (recordIn d) → IsRules d
+  rules-each r =
+      let defined = and-eq-true-iff (areTypesDefined intBounds (recordIn d)) (autosCounted intBounds (recordIn d)) .0 (r .typed h) .0 in
+      record { reads = e; fits = r .formed .fits; few = r .formed .few h; well = r .formed .well h; typed = defined }
+
+-- and one whose types are defined
+pub defined-part : (d : Bytes) → IsFormed d → length d ≤ fileBytes → areTypesDefined intBounds (recordIn d) ≡ true → Described d
+defined-part d f s e = record { reads = f .reads; short = s; fits = f .fits; few = f .few; well = f .well; typed = e }
 
 -- the number of the sets of records with no descriptor in front of others
 no-plain : (xs ys : List Record) → heads xs ≡ [] → walkNo intBounds (xs ++ ys) ≡ walkNo intBounds ys
@@ -89,12 +101,12 @@ pub record TypesAt (s : Bytes) (starts ends : List ℕ) (count k : ℕ) : Type 0
   pub afters : List ℕ
   pub rows : HeadRows s starts ends afters count
   pub met : k ≤ count
-  pub fit : Each Fits (recordsFrom s (rowFrom afters k))
+  pub formed : Each Formed (recordsFrom s (rowFrom afters k))
   pub asked : walkTypes intBounds (records (readOf s)) ≡ all (isTypedWell intBounds) (heads (recordsFrom s (rowFrom afters k)))
 
-pub types-start : (s : Bytes) (starts ends : List ℕ) (count : ℕ) → HeadParts s starts ends count → walkFits (records (readOf s)) ≡ true → TypesAt s starts ends count 0
-types-start s starts ends count r f =
-    record { afters = r .0; rows = r .1; met = omega arith; fit = fits-each (records (readOf s)) f; asked = heads-asked (isTypedWell intBounds) (records (readOf s)) }
+pub types-start : (s : Bytes) (starts ends : List ℕ) (count : ℕ) → HeadParts s starts ends count → walkFits (records (readOf s)) ≡ true → walkWell intBounds (records (readOf s)) ≡ true → TypesAt s starts ends count 0
+types-start s starts ends count r f w =
+    record { afters = r .0; rows = r .1; met = omega arith; formed = formed-each (records (readOf s)) f w; asked = heads-asked (isTypedWell intBounds) (records (readOf s)) }
 
 module _ {s : Bytes} {starts ends : List ℕ} {count k : ℕ} (t : TypesAt s starts ends count k) where
   pub types-end : count ≤ k → true ≡ walkTypes intBounds (records (readOf s))
@@ -106,11 +118,11 @@ module _ {s : Bytes} {starts ends : List ℕ} {count k : ℕ} (t : TypesAt s sta
     pub types-row : HeadHere s (rowFrom (t .afters) k) (getD starts k 0) (getD ends k 0) (getD (t .afters) k 0)
     types-row = t .rows .row k h
 
-    fits-cut : Each Fits (records (readOf (span (rowFrom (t .afters) k) (getD starts k 0) s))) × Each Fits (recordIn (span (getD starts k 0) (getD ends k 0) s) ∷ recordsFrom s (getD (t .afters) k 0))
-    fits-cut = each-parts Fits (records (readOf (span (rowFrom (t .afters) k) (getD starts k 0) s))) (recordIn (span (getD starts k 0) (getD ends k 0) s) ∷ recordsFrom s (getD (t .afters) k 0)) (subst (Each Fits) (types-row .cut) (t .fit))
+    formed-cut : Each Formed (records (readOf (span (rowFrom (t .afters) k) (getD starts k 0) s))) × Each Formed (recordIn (span (getD starts k 0) (getD ends k 0) s) ∷ recordsFrom s (getD (t .afters) k 0))
+    formed-cut = each-parts Formed (records (readOf (span (rowFrom (t .afters) k) (getD starts k 0) s))) (recordIn (span (getD starts k 0) (getD ends k 0) s) ∷ recordsFrom s (getD (t .afters) k 0)) (subst (Each Formed) (types-row .cut) (t .formed))
 
-    pub types-fit : Fits (recordIn (span (getD starts k 0) (getD ends k 0) s))
-    types-fit = fits-cut .1 .0
+    pub types-formed : IsFormed (span (getD starts k 0) (getD ends k 0) s)
+    types-formed = formed-part (span (getD starts k 0) (getD ends k 0) s) (types-row .own) (types-row .head) (formed-cut .1 .0)
 
     types-cut : (b : Bool) → b ≡ isTypedWell intBounds (recordIn (span (getD starts k 0) (getD ends k 0) s)) → walkTypes intBounds (records (readOf s)) ≡ (b && all (isTypedWell intBounds) (heads (recordsFrom s (rowFrom (t .afters) (k + 1)))))
     types-cut b e =
@@ -126,7 +138,7 @@ module _ {s : Bytes} {starts ends : List ℕ} {count k : ℕ} (t : TypesAt s sta
           afters = t .afters;
           rows = t .rows;
           met = omega (arith, h);
-          fit = subst (λ (j : ℕ). Each Fits (recordsFrom s j)) (sym (row-next (t .afters) k)) (fits-cut .1 .1);
+          formed = subst (λ (j : ℕ). Each Formed (recordsFrom s j)) (sym (row-next (t .afters) k)) (formed-cut .1 .1);
           asked = types-cut b e ∙ ap (λ (x : Bool). x && all (isTypedWell intBounds) (heads (recordsFrom s (rowFrom (t .afters) (k + 1))))) f;
         }
 

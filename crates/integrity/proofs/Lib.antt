@@ -2,4 +2,4 @@
 pub mod Staging
 pub mod Granting
 pub mod Holding
-pub mod Joints
+pub mod Densing

@@ -10,13 +10,13 @@ ghost use Rattle.format.specs.Bytes.{pick, isAllowed, all};
 ghost use Rattle.format.specs.Lines.{isEnded};
 ghost use Rattle.format.specs.Limits.{fileBytes, valueBytes, descriptors};
 ghost use Rattle.format.specs.Numbers.{intBounds};
+ghost use Rattle.format.specs.Rules.{isTypedWell};
 ghost use Rattle.format.specs.Calls.{checkAnswer};
 ghost use Rattle.format.proofs.Judging.{textNo};
-ghost use Rattle.format.proofs.Walking.{walkFits, walkOnce, walkTypes, walkNo, recordsNo};
+ghost use Rattle.format.proofs.Walking.{walkFits, walkOnce, walkWell, walkTypes, walkNo, recordsNo};
 ghost use Rattle.records.specs.Heads.{HeadRows, HeadParts};
-ghost use Rattle.integrity.specs.Stages.{Granted};
-use dense::make_dense;
-use dense::may_join;
+ghost use Rattle.records.specs.Walk.{recordIn};
+ghost use Rattle.integrity.specs.Stages.{IsFormed, Granted};
 use format::Descriptor;
 use format::File;
 use format::Record;
@@ -24,8 +24,6 @@ use format::Refusal;
 use limits::Bounded;
 use rules::questions;
 use rules::tables::Tables;
-
-mod dense;
 
 // Is a byte allowed? All tests are made, so that many bytes can be asked at once.
 fn is_allowed(b: u8) -> bool
@@ -69,6 +67,18 @@ fn is_text(s: &[u8]) -> bool
     false
 }
 
+// Question 7 of a descriptor: are its types well formed, and those of `%auto` names int or range?
+fn typed_well(d: &[u8], scratch: &mut [u8]) -> bool
+    requires { ⌜ IsFormed (now d) × (length (now d) ≤ fileBytes) ⌝ }
+    requires { ⌜ valueBytes ≤ length (now scratch) ⌝ }
+    ensures { λ r. ⌜ r ≡ isTypedWell intBounds (recordIn (now (d .entry))) ⌝ }
+{
+    if !typedefs::types_well(d, &mut *scratch) {
+        return false;
+    }
+    numbering::autos_counted(d, scratch)
+}
+
 // Question 7: are the types of all descriptors well formed? count of them stand in s, from each start to the end beside it.
 fn types_defined(
     s: &[u8],
@@ -78,7 +88,7 @@ fn types_defined(
     scratch: &mut [u8],
 ) -> bool
     requires { ⌜ HeadParts (now s) (now starts) (now ends) count × (length (now s) ≤ fileBytes) ⌝ }
-    requires { ⌜ walkFits (records (readOf (now s))) ≡ true ⌝ }
+    requires { ⌜ (walkFits (records (readOf (now s))) ≡ true) × (walkWell intBounds (records (readOf (now s))) ≡ true) ⌝ }
     requires { ⌜ valueBytes ≤ length (now scratch) ⌝ }
     ensures { λ r. ⌜ r ≡ walkTypes intBounds (records (readOf (now (s .entry)))) ⌝ }
 {
@@ -86,7 +96,7 @@ fn types_defined(
     while k < count {
         let a = starts[k];
         let e = ends[k];
-        if !typedefs::types_well(&s[a..e], &mut *scratch) {
+        if !typed_well(&s[a..e], &mut *scratch) {
             return false;
         }
         k += 1;
@@ -199,7 +209,7 @@ fn judge_dense(text: &mut [u8], used: usize) -> u32
     if !records::is_readable(&text[..used]) {
         return Refusal::LINE;
     }
-    let n = make_dense(text, used);
+    let n = joints::make_dense(text, used);
     judge_lines(&text[..n])
 }
 
@@ -208,7 +218,7 @@ pub fn judge_spent(text: &mut [u8], used: usize) -> u32
     requires { ⌜ (used ≤ length (now text)) × (used ≤ fileBytes) ⌝ }
     ensures { λ r. ⌜ r ≡ textNo (take used (now (text .entry))) ⌝ }
 {
-    if may_join(&text[..used]) {
+    if joints::may_join(&text[..used]) {
         return judge_dense(text, used);
     }
     judge(&text[..used])
@@ -219,7 +229,7 @@ fn judge_kept(s: &[u8], copy: &mut [u8]) -> u32
     requires { ⌜ (length (now s) ≤ fileBytes) × (fileBytes ≤ length (now copy)) ⌝ }
     ensures { λ r. ⌜ r ≡ textNo (now (s .entry)) ⌝ }
 {
-    if may_join(s) {
+    if joints::may_join(s) {
         writing::put_bytes(&mut *copy, s);
         return judge_dense(copy, s.len());
     }

@@ -19,8 +19,8 @@ use Rattle.format.proofs.Listing.{same-true}
 use Rattle.limits.specs.Counts.{more, countOn}
 
 -- counts with the same numbers are the same
-pub counts-path : (d e : Descriptor) → d .typedefs ≡ e .typedefs → d .types ≡ e .types → d .mandatory ≡ e .mandatory → d .prohibited ≡ e .prohibited → d .allowed ≡ e .allowed → d .unique ≡ e .unique → d .singular ≡ e .singular → d ≡ e
-counts-path d e a b m p l u s = λ i. record { typedefs = a i; types = b i; mandatory = m i; prohibited = p i; allowed = l i; unique = u i; singular = s i }
+pub counts-path : (d e : Descriptor) → d .typedefs ≡ e .typedefs → d .types ≡ e .types → d .mandatory ≡ e .mandatory → d .prohibited ≡ e .prohibited → d .allowed ≡ e .allowed → d .unique ≡ e .unique → d .singular ≡ e .singular → d .auto ≡ e .auto → d ≡ e
+counts-path d e a b m p l u s o = λ i. record { typedefs = a i; types = b i; mandatory = m i; prohibited = p i; allowed = l i; unique = u i; singular = s i; auto = o i }
 
 -- one more field of a name, and its words
 
@@ -36,7 +36,7 @@ listed-one false v vs = omega arith
 abbrev each : Descriptor → Bytes → Bytes → Descriptor
 each d n v =
     let k : ℕ = length (words v) in
-    more d (pick (same (text "%typedef") n) 1 0) (pick (same (text "%type") n) 1 0) (pick (same (text "%mandatory") n) k 0) (pick (same (text "%prohibit") n) k 0) (pick (same (text "%allowed") n) k 0) (pick (same (text "%unique") n) k 0) (pick (same (text "%singular") n) k 0)
+    more d (pick (same (text "%typedef") n) 1 0) (pick (same (text "%type") n) 1 0) (pick (same (text "%mandatory") n) k 0) (pick (same (text "%prohibit") n) k 0) (pick (same (text "%allowed") n) k 0) (pick (same (text "%unique") n) k 0) (pick (same (text "%singular") n) k 0) (pick (same (text "%auto") n) k 0)
 
 by-test : {A : Type 0} (b : Bool) → (b ≡ true → A) → (b ≡ false → A) → A
 by-test true h g = h refl
@@ -47,9 +47,9 @@ module _ (d : Descriptor) (n v : Bytes) where
   pub count-named : (t : Bytes) → same t n ≡ true → countOn d n v ≡ countOn d t v
   count-named t e = ap (λ (m : Bytes). countOn d m v) (sym (same-true t n e))
 
-  pub count-other : same (text "%typedef") n ≡ false → same (text "%type") n ≡ false → same (text "%mandatory") n ≡ false → same (text "%prohibit") n ≡ false → same (text "%allowed") n ≡ false → same (text "%unique") n ≡ false → same (text "%singular") n ≡ false → countOn d n v ≡ d
+  pub count-other : same (text "%typedef") n ≡ false → same (text "%type") n ≡ false → same (text "%mandatory") n ≡ false → same (text "%prohibit") n ≡ false → same (text "%allowed") n ≡ false → same (text "%unique") n ≡ false → same (text "%singular") n ≡ false → same (text "%auto") n ≡ false → countOn d n v ≡ d
   unfolding countOn
-  count-other a b m p l u s = rw (a, b, m, p, l, u, s)
+  count-other a b m p l u s o = rw (a, b, m, p, l, u, s, o)
 
   named : (t : Bytes) → same t n ≡ true → countOn d t v ≡ each d t v → countOn d n v ≡ each d n v
   named t e h = subst (λ (m : Bytes). countOn d m v ≡ each d m v) (same-true t n e) h
@@ -64,7 +64,8 @@ module _ (d : Descriptor) (n v : Bytes) where
       by-test (same (text "%allowed") n) (λ e. named (text "%allowed") e refl) (λ l.
       by-test (same (text "%unique") n) (λ e. named (text "%unique") e refl) (λ u.
       by-test (same (text "%singular") n) (λ e. named (text "%singular") e refl) (λ s.
-      count-other a b m p l u s ∙ rw (a, b, m, p, l, u, s) (counts-path d (more d 0 0 0 0 0 0 0) (omega arith) (omega arith) (omega arith) (omega arith) (omega arith) (omega arith) (omega arith)))))))))
+      by-test (same (text "%auto") n) (λ e. named (text "%auto") e refl) (λ o.
+      count-other a b m p l u s o ∙ rw (a, b, m, p, l, u, s, o) (counts-path d (more d 0 0 0 0 0 0 0 0) (omega arith) (omega arith) (omega arith) (omega arith) (omega arith) (omega arith) (omega arith) (omega arith))))))))))
 
 -- all fields, one after another
 unfoldable pub countFrom : Descriptor → Record → Descriptor
@@ -74,7 +75,7 @@ countFrom d (f ∷ fs) = countFrom (countOn d (f .name) (f .value)) fs
 -- the numbers of fields and of words, from counts on
 abbrev grown : Descriptor → Record → Descriptor
 grown d r =
-    more d (length (valuesOf (text "%typedef") r)) (length (valuesOf (text "%type") r)) (length (listed (text "%mandatory") r)) (length (listed (text "%prohibit") r)) (length (listed (text "%allowed") r)) (length (listed (text "%unique") r)) (length (listed (text "%singular") r))
+    more d (length (valuesOf (text "%typedef") r)) (length (valuesOf (text "%type") r)) (length (listed (text "%mandatory") r)) (length (listed (text "%prohibit") r)) (length (listed (text "%allowed") r)) (length (listed (text "%unique") r)) (length (listed (text "%singular") r)) (length (listed (text "%auto") r))
 
 grown-on : (d : Descriptor) (f : Field) (fs : Record) → grown (each d (f .name) (f .value)) fs ≡ grown d (f ∷ fs)
 grown-on d f fs =
@@ -88,18 +89,19 @@ grown-on d f fs =
     (omega (arith, listed-one (same (text "%allowed") n) v (valuesOf (text "%allowed") fs)))
     (omega (arith, listed-one (same (text "%unique") n) v (valuesOf (text "%unique") fs)))
     (omega (arith, listed-one (same (text "%singular") n) v (valuesOf (text "%singular") fs)))
+    (omega (arith, listed-one (same (text "%auto") n) v (valuesOf (text "%auto") fs)))
 
 count-grown : (d : Descriptor) (r : Record) → countFrom d r ≡ grown d r
 unfolding countFrom
-count-grown d [] = counts-path d (grown d []) (omega arith) (omega arith) (omega arith) (omega arith) (omega arith) (omega arith) (omega arith)
+count-grown d [] = counts-path d (grown d []) (omega arith) (omega arith) (omega arith) (omega arith) (omega arith) (omega arith) (omega arith) (omega arith)
 count-grown d (f ∷ fs) = count-grown (countOn d (f .name) (f .value)) fs ∙ ap (λ (c : Descriptor). grown c fs) (count-each d (f .name) (f .value)) ∙ grown-on d f fs
 
 -- what `Descriptor::fits` asks of counts
 abbrev pub fitsCounts : Descriptor → Bool
-fitsCounts d = leb (d .typedefs) typedefs && leb (d .types) typeFields && leb (d .mandatory) listWords && leb (d .prohibited) listWords && leb (d .allowed) listWords && leb (d .unique) listWords && leb (d .singular) listWords
+fitsCounts d = leb (d .typedefs) typedefs && leb (d .types) typeFields && leb (d .mandatory) listWords && leb (d .prohibited) listWords && leb (d .allowed) listWords && leb (d .unique) listWords && leb (d .singular) listWords && leb (d .auto) listWords
 
 abbrev pub noCounts : Descriptor
-noCounts = record { typedefs = 0; types = 0; mandatory = 0; prohibited = 0; allowed = 0; unique = 0; singular = 0 }
+noCounts = record { typedefs = 0; types = 0; mandatory = 0; prohibited = 0; allowed = 0; unique = 0; singular = 0; auto = 0 }
 
 pub rules-counts : (r : Record) → fitsRules r ≡ fitsCounts (countFrom noCounts r)
 rules-counts r =
@@ -110,7 +112,8 @@ rules-counts r =
     let l : length (listed (text "%allowed") r) ≡ 0 + length (listed (text "%allowed") r) = omega arith in
     let u : length (listed (text "%unique") r) ≡ 0 + length (listed (text "%unique") r) = omega arith in
     let s : length (listed (text "%singular") r) ≡ 0 + length (listed (text "%singular") r) = omega arith in
-    (λ i. leb (a i) typedefs && leb (b i) typeFields && leb (m i) listWords && leb (p i) listWords && leb (l i) listWords && leb (u i) listWords && leb (s i) listWords)
+    let o : length (listed (text "%auto") r) ≡ 0 + length (listed (text "%auto") r) = omega arith in
+    (λ i. leb (a i) typedefs && leb (b i) typeFields && leb (m i) listWords && leb (p i) listWords && leb (l i) listWords && leb (u i) listWords && leb (s i) listWords && leb (o i) listWords)
     ∙ sym (ap fitsCounts (count-grown noCounts r))
 
 -- the cut of a walk over a descriptor's fields

@@ -174,6 +174,10 @@ fn counted(d: Descriptor, name: &[u8], value: &[u8]) -> Descriptor
             c.singular += count_words(value);
             return c;
         }
+        Rule::AUTO => {
+            c.auto += count_words(value);
+            return c;
+        }
         _ => {
             return c;
         }

@@ -14,6 +14,7 @@ pub mod Cuts
 pub mod Rows
 pub mod Going
 pub mod Members
+pub mod Leading
 pub mod Views
 pub mod Parting
 pub mod Unfielding

@@ -1,29 +1,32 @@
 -- What the searches find, by the sets of the part: the count of the default set, the record of a number, the records of a set.
-use Prim.Native.Nat.{ℕ, zero, suc, _+_, _≤_, _<_}
+use Prim.Native.Nat.{ℕ, zero, suc, _+_, _-_, _≤_, _<_}
 use native.Mathlib.Omega.{arith}
 use mathlib.Core.Path.{_≡_, refl, sym, ap, _∙_, subst}
 use mathlib.Core.Bool.{Bool, true, false}
 use mathlib.Core.List.{List, [], _∷_}
 use mathlib.Core.Option.{Option, none, some}
 use lib.Dec.{ltb}
-use lib.ListN.{length, drop, getD}
-use Rattle.format.specs.Pieces.{readOf}
+use lib.ListN.{length, take, drop, getD}
+use Rattle.format.specs.Pieces.{pieces, readOf}
 use Rattle.format.proofs.Records.{sets-records, enters, sets, GoodSets, good-sets}
 use Rattle.format.specs.Lists.{onward, isFilled}
 use Rattle.format.specs.Bytes.{Bytes, text, pick, same}
-use Rattle.format.specs.Records.{Record}
+use Rattle.format.specs.Records.{Record, fieldsOf}
 use Rattle.format.specs.Sets.{valuesOf, RecSet, setsOf}
 use Rattle.format.specs.Words.{firstWord}
-use Rattle.format.specs.Plain.{indexOf, membersAt, membersIn}
-use Rattle.records.specs.Places.{isReadable, Placed, placesOf, isDescriptor, firstPlace, namesSet, descriptorPlace, setPlace, recordBy, recordPlace, countBefore}
+use Rattle.format.specs.Plain.{indexOf, setAt, membersAt, membersIn}
+use Rattle.records.specs.Places.{isReadable, Placed, placesOf, isDescriptor, firstPlace, namesSet, headOf, descriptorHead, headPlace, setPlace, recordBy, recordPlace, countBefore}
 use Rattle.records.specs.declared.Place.{Place}
 use Rattle.records.specs.declared.NextRecord.{NextRecord}
+use Rattle.records.specs.Walk.{recordIn}
+use Rattle.records.specs.declared.Head.{Head}
+use Rattle.records.specs.declared.FoundHead.{FoundHead}
 use Rattle.records.specs.declared.FoundSet.{FoundSet}
 use Rattle.records.specs.declared.FoundRecord.{FoundRecord}
 use Rattle.records.proofs.Walks.{places-records}
 use Rattle.records.proofs.Shifts.{raise, fieldsIn, raise-fields}
-use Rattle.records.proofs.Readings.{places-read}
-use Rattle.records.proofs.Searches.{placesAt, places-all, Stand, Meets, meets-first, set-default, set-named}
+use Rattle.records.proofs.Readings.{reads-of, reads-readable, places-read}
+use Rattle.records.proofs.Searches.{placesAt, places-all, Stand, Meets, meets-first, head-default, head-named, beginOf, set-begin}
 
 -- the place of a set, one further on or here
 abbrev pub stepOn : Option ℕ → Option ℕ
@@ -144,6 +147,21 @@ abbrev pub SetTold : Bytes → Bytes → List RecSet → FoundSet → Type 0
 SetTold s n ss FoundSet.Missing = indexOf n ss ≡ none
 SetTold s n ss (FoundSet.At a) = SetFound s n ss a
 
+-- The same of its head: its rules are the fields of the descriptor's own part. The default set has none, and its head an empty part.
+abbrev pub headPart : Bytes → Head → Bytes
+headPart s h = take (h .end - h .start) (drop (h .start) s)
+
+pub record HeadFound (s n : Bytes) (ss : List RecSet) (h : Head) : Type 0 where
+  pub set : SetFound s n ss (h .begin)
+  pub ordered : h .start ≤ h .end
+  pub within : h .end ≤ h .begin
+  pub own-readable : isReadable (headPart s h) ≡ true
+  pub rules : setAt (set .index) ss .rules ≡ recordIn (headPart s h)
+
+abbrev pub HeadTold : Bytes → Bytes → List RecSet → FoundHead → Type 0
+HeadTold s n ss FoundHead.Missing = indexOf n ss ≡ none
+HeadTold s n ss (FoundHead.At h) = HeadFound s n ss h
+
 -- a set of another name in front
 pub other-index : (n : Bytes) (d : RecSet) (ds : List RecSet) → same n (d .name) ≡ false → indexOf n (d ∷ ds) ≡ stepOn (indexOf n ds)
 other-index n d ds e = ap (λ (b : Bool). indexBy b (indexOf n ds)) e
@@ -152,9 +170,8 @@ members-step : (d : RecSet) (ds : List RecSet) (x : Option ℕ) → membersIn (d
 members-step d ds none = refl
 members-step d ds (some i) = refl
 
-set-on : (s n : Bytes) (d : RecSet) (ds : List RecSet) (x : FoundSet) → same n (d .name) ≡ false → SetTold s n ds x → SetTold s n (d ∷ ds) x
-set-on s n d ds FoundSet.Missing e h = other-index n d ds e ∙ ap stepOn h
-set-on s n d ds (FoundSet.At a) e h =
+set-on : (s n : Bytes) (d : RecSet) (ds : List RecSet) (a : ℕ) → same n (d .name) ≡ false → SetFound s n ds a → SetFound s n (d ∷ ds) a
+set-on s n d ds a e h =
     record {
       index = suc (h .index);
       there = other-index n d ds e ∙ ap stepOn (h .there);
@@ -162,6 +179,11 @@ set-on s n d ds (FoundSet.At a) e h =
       readable = h .readable;
       members = ap (membersIn (d ∷ ds)) (other-index n d ds e) ∙ members-step d ds (indexOf n ds) ∙ h .members;
     }
+
+head-on : (s n : Bytes) (d : RecSet) (ds : List RecSet) (x : FoundHead) → same n (d .name) ≡ false → HeadTold s n ds x → HeadTold s n (d ∷ ds) x
+unfolding set-on
+head-on s n d ds FoundHead.Missing e h = other-index n d ds e ∙ ap stepOn h
+head-on s n d ds (FoundHead.At q) e h = record { set = set-on s n d ds (q .begin) e (h .set); ordered = h .ordered; within = h .within; own-readable = h .own-readable; rules = h .rules }
 
 -- the sets but the default one, by the next record
 abbrev pub others : List RecSet → List RecSet
@@ -179,47 +201,75 @@ others-enter (v ∷ vs) r [] = refl
 others-enter (v ∷ vs) r (s ∷ ss) = refl
 
 module _ (s n : Bytes) where
-  named-by : (t : Bool) (d : RecSet) (ds : List RecSet) (a : ℕ) (x : FoundSet) → same n (d .name) ≡ t → a ≤ length s → isReadable (drop a s) ≡ true → d .members ≡ membersAt 0 (setsOf (readOf (drop a s))) → SetTold s n ds x → SetTold s n (d ∷ ds) (pick t (FoundSet.At a) x)
-  named-by true d ds a x e h r m ih =
+  -- a descriptor stands where it says
+  abbrev Own : Placed → Type 0
+  Own p = Stand s (p .start) (p .end) (p .after) (p .fields)
+
+  named-by : (t : Bool) (p : Placed) (d : RecSet) (ds : List RecSet) (x : FoundHead) → same n (d .name) ≡ t → Own p → d .rules ≡ p .fields → d .members ≡ membersAt 0 (setsOf (readOf (drop (p .after) s))) → HeadTold s n ds x → HeadTold s n (d ∷ ds) (pick t (FoundHead.At (headOf p)) x)
+  named-by true p d ds x e o r m ih =
       let f : indexOf n (d ∷ ds) ≡ some 0 = ap (λ (b : Bool). indexBy b (indexOf n ds)) e in
-      record { index = 0; there = f; inside = h; readable = r; members = ap (membersIn (d ∷ ds)) f ∙ m }
-  named-by false d ds a x e h r m ih = set-on s n d ds x e ih
+      record {
+        set = record { index = 0; there = f; inside = o .inside; readable = o .readable; members = ap (membersIn (d ∷ ds)) f ∙ m };
+        ordered = omega (arith, o .filled);
+        within = o .within;
+        own-readable = reads-readable (o .own-reads);
+        rules = r ∙ sym (o .own-fields) ∙ ap fieldsOf (sym (reads-of (o .own-reads)));
+      }
+  named-by false p d ds x e o r m ih = head-on s n d ds x e ih
 
-  others-by : (vs : List Bytes) (p : Placed) (ss : List RecSet) (x : FoundSet) → p .after ≤ length s → isReadable (drop (p .after) s) ≡ true → membersAt 0 ss ≡ membersAt 0 (setsOf (readOf (drop (p .after) s))) → SetTold s n (others ss) x → SetTold s n (othersBy vs (p .fields) ss) (pick (namesSet n vs) (FoundSet.At (p .after)) x)
-  others-by [] p ss x h r m ih = ih
-  others-by (v ∷ vs) p ss x h r m ih = named-by (same n (firstWord v)) (record { name = firstWord v; rules = p .fields; members = membersAt 0 ss }) (others ss) (p .after) x refl h r m ih
+  others-by : (vs : List Bytes) (p : Placed) (ss : List RecSet) (x : FoundHead) → Own p → membersAt 0 ss ≡ membersAt 0 (setsOf (readOf (drop (p .after) s))) → HeadTold s n (others ss) x → HeadTold s n (othersBy vs (p .fields) ss) (pick (namesSet n vs) (FoundHead.At (headOf p)) x)
+  others-by [] p ss x o m ih = ih
+  others-by (v ∷ vs) p ss x o m ih = named-by (same n (firstWord v)) p (record { name = firstWord v; rules = p .fields; members = membersAt 0 ss }) (others ss) x refl o refl m ih
 
-  others-in : (ps : List Placed) → Stands s ps → SetTold s n (others (sets (fieldsIn ps))) (descriptorPlace n ps)
+  others-in : (ps : List Placed) → Stands s ps → HeadTold s n (others (sets (fieldsIn ps))) (descriptorHead n ps)
   others-in [] h = refl
   others-in (p ∷ ps) h =
       let vs : List Bytes = valuesOf (text "%rec") (p .fields) in
       let ss : List RecSet = sets (fieldsIn ps) in
       let m : membersAt 0 ss ≡ membersAt 0 (setsOf (readOf (drop (p .after) s))) = ap (λ (xs : List Placed). firstMembers xs) (h .1) ∙ ap (membersAt 0) (sets-at s (p .after)) in
-      subst (λ (ds : List RecSet). SetTold s n ds (descriptorPlace n (p ∷ ps))) (sym (others-enter vs (p .fields) ss))
-      (others-by vs p ss (descriptorPlace n ps) (h .0 .inside) (h .0 .readable) m (others-in ps (h .2)))
+      subst (λ (ds : List RecSet). HeadTold s n ds (descriptorHead n (p ∷ ps))) (sym (others-enter vs (p .fields) ss))
+      (others-by vs p ss (descriptorHead n ps) (h .0) m (others-in ps (h .2)))
 
-  named-in : (ss : List RecSet) (x : FoundSet) → GoodSets ss → same n [] ≡ false → SetTold s n (others ss) x → SetTold s n ss x
+  named-in : (ss : List RecSet) (x : FoundHead) → GoodSets ss → same n [] ≡ false → HeadTold s n (others ss) x → HeadTold s n ss x
   named-in [] x g e h = absurd g
-  named-in (d ∷ ds) x g e h = set-on s n d ds x (ap (same n) (g .0) ∙ e) h
+  named-in (d ∷ ds) x g e h = head-on s n d ds x (ap (same n) (g .0) ∙ e) h
 
-default-in : (s : Bytes) (ss : List RecSet) → GoodSets ss → isReadable s ≡ true → ss ≡ setsOf (readOf s) → SetFound s [] ss 0
+default-in : (s : Bytes) (ss : List RecSet) → GoodSets ss → isReadable s ≡ true → ss ≡ setsOf (readOf s) → HeadFound s [] ss (record { start = 0; end = 0; begin = 0 })
+unfolding pieces readOf isReadable
 default-in s [] g r e = absurd g
 default-in s (d ∷ ds) g r e =
     let f : indexOf [] (d ∷ ds) ≡ some 0 = ap (λ (m : Bytes). indexBy (same [] m) (indexOf [] ds)) (g .0) in
-    record { index = 0; there = f; inside = omega arith; readable = r; members = ap (membersIn (d ∷ ds)) f ∙ ap (membersAt 0) e }
+    record {
+      set = record { index = 0; there = f; inside = omega arith; readable = r; members = ap (membersIn (d ∷ ds)) f ∙ ap (membersAt 0) e };
+      ordered = omega arith;
+      within = omega arith;
+      own-readable = refl;
+      rules = g .1;
+    }
 
-set-in : (s n : Bytes) → isReadable s ≡ true → SetTold s n (sets (fieldsIn (placesOf s))) (setPlace n (placesOf s))
-set-in s [] e =
+head-in : (s n : Bytes) → isReadable s ≡ true → HeadTold s n (sets (fieldsIn (placesOf s))) (headPlace n (placesOf s))
+head-in s [] e =
     let ss : List RecSet = sets (fieldsIn (placesOf s)) in
-    subst (SetTold s [] ss) (sym (set-default [] (placesOf s) refl)) (default-in s ss (good-sets (fieldsIn (placesOf s))) e (sym (sets-places s)))
-set-in s (c ∷ n) e =
+    subst (HeadTold s [] ss) (sym (head-default [] (placesOf s) refl)) (default-in s ss (good-sets (fieldsIn (placesOf s))) e (sym (sets-places s)))
+head-in s (c ∷ n) e =
     let m : Bytes = c ∷ n in
     let ss : List RecSet = sets (fieldsIn (placesOf s)) in
-    subst (SetTold s m ss) (sym (set-named m (placesOf s) (λ q. omega arith)))
-    (named-in s m ss (descriptorPlace m (placesOf s)) (good-sets (fieldsIn (placesOf s))) refl (others-in s m (placesOf s) (stands s e)))
+    subst (HeadTold s m ss) (sym (head-named m (placesOf s) (λ q. omega arith)))
+    (named-in s m ss (descriptorHead m (placesOf s)) (good-sets (fieldsIn (placesOf s))) refl (others-in s m (placesOf s) (stands s e)))
+
+pub head-members : (s n : Bytes) → isReadable s ≡ true → HeadTold s n (setsOf (readOf s)) (headPlace n (placesOf s))
+head-members s n e = subst (λ (ss : List RecSet). HeadTold s n ss (headPlace n (placesOf s))) (sym (sets-places s)) (head-in s n e)
+
+-- the same of an answer, once its form is known
+pub head-told : (s n : Bytes) (x : FoundHead) {y : FoundHead} → isReadable s ≡ true → x ≡ headPlace n (placesOf s) → x ≡ y → HeadTold s n (setsOf (readOf s)) y
+head-told s n x {y} e f g = subst (HeadTold s n (setsOf (readOf s))) (sym f ∙ g) (head-members s n e)
+
+set-of-head : (s n : Bytes) (ss : List RecSet) (x : FoundHead) → HeadTold s n ss x → SetTold s n ss (beginOf x)
+set-of-head s n ss FoundHead.Missing h = h
+set-of-head s n ss (FoundHead.At q) h = h .set
 
 pub set-members : (s n : Bytes) → isReadable s ≡ true → SetTold s n (setsOf (readOf s)) (setPlace n (placesOf s))
-set-members s n e = subst (λ (ss : List RecSet). SetTold s n ss (setPlace n (placesOf s))) (sym (sets-places s)) (set-in s n e)
+set-members s n e = subst (SetTold s n (setsOf (readOf s))) (sym (set-begin n (placesOf s))) (set-of-head s n (setsOf (readOf s)) (headPlace n (placesOf s)) (head-members s n e))
 
 -- the same of an answer, once its form is known
 pub set-told : (s n : Bytes) (x : FoundSet) {y : FoundSet} → isReadable s ≡ true → x ≡ setPlace n (placesOf s) → x ≡ y → SetTold s n (setsOf (readOf s)) y

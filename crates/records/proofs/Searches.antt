@@ -12,10 +12,12 @@ use Rattle.format.specs.Pieces.{Piece}
 use Rattle.format.specs.Records.{Record, fieldsOf}
 use Rattle.format.specs.Sets.{valuesOf}
 use Rattle.lines.proofs.Cuts.{rest}
-use Rattle.records.specs.Places.{isReadable, Placed, placesOf, isDescriptor, placeOf, firstPlace, namesSet, descriptorPlace, setPlace, recordBy, recordPlace, countBefore}
+use Rattle.records.specs.Places.{isReadable, Placed, placesOf, isDescriptor, placeOf, firstPlace, namesSet, headOf, descriptorHead, headPlace, descriptorPlace, setPlace, recordBy, recordPlace, countBefore}
 use Rattle.records.specs.Walk.{opensSet}
 use Rattle.records.specs.declared.Place.{Place}
 use Rattle.records.specs.declared.NextRecord.{NextRecord}
+use Rattle.records.specs.declared.Head.{Head}
+use Rattle.records.specs.declared.FoundHead.{FoundHead}
 use Rattle.records.specs.declared.FoundSet.{FoundSet}
 use Rattle.records.specs.declared.FoundRecord.{FoundRecord}
 use Rattle.records.proofs.Shifts.{raise, raise-none, raise-twice}
@@ -32,6 +34,38 @@ pub set-named : (n : Bytes) (ps : List Placed) → (length n ≡ 0 → ⊥) → 
 unfolding setPlace
 set-named [] ps h = absurd (h refl)
 set-named (c ∷ n) ps h = refl
+
+-- the same of the whole head, of which the records begin at its last number
+pub head-default : (n : Bytes) (ps : List Placed) → length n ≡ 0 → headPlace n ps ≡ FoundHead.At (record { start = 0; end = 0; begin = 0 })
+unfolding headPlace
+head-default [] ps e = refl
+head-default (c ∷ n) ps e = absurd (omega arith)
+
+pub head-named : (n : Bytes) (ps : List Placed) → (length n ≡ 0 → ⊥) → headPlace n ps ≡ descriptorHead n ps
+unfolding headPlace
+head-named [] ps h = absurd (h refl)
+head-named (c ∷ n) ps h = refl
+
+abbrev pub beginOf : FoundHead → FoundSet
+beginOf (FoundHead.At h) = FoundSet.At (h .begin)
+beginOf FoundHead.Missing = FoundSet.Missing
+
+begin-by : (b : Bool) (p : Placed) (x : FoundHead) (y : FoundSet) → y ≡ beginOf x → pick b (FoundSet.At (p .after)) y ≡ beginOf (pick b (FoundHead.At (headOf p)) x)
+begin-by true p x y e = refl
+begin-by false p x y e = e
+
+descriptor-begin : (n : Bytes) (ps : List Placed) → descriptorPlace n ps ≡ beginOf (descriptorHead n ps)
+descriptor-begin n [] = refl
+descriptor-begin n (p ∷ ps) = begin-by (namesSet n (valuesOf (text "%rec") (p .fields))) p (descriptorHead n ps) (descriptorPlace n ps) (descriptor-begin n ps)
+
+pub set-begin : (n : Bytes) (ps : List Placed) → setPlace n ps ≡ beginOf (headPlace n ps)
+unfolding setPlace headPlace
+set-begin [] ps = refl
+set-begin (c ∷ n) ps = descriptor-begin (c ∷ n) ps
+
+-- a descriptor at q in the part from byte i on
+abbrev pub headAt : ℕ → Place → Head
+headAt i q = record { start = i + q .start; end = i + q .end; begin = i + q .after }
 
 -- the places of the part from byte i on, as places of the whole
 abbrev pub placesAt : Bytes → ℕ → List Placed
@@ -99,8 +133,8 @@ module _ (s : Bytes) (i : ℕ) where
   unfolding recordPlace
   record-end k e = ap (λ (ps : List Placed). recordPlace ps k) e
 
-  pub set-end : (n : Bytes) → placesAt s i ≡ [] → descriptorPlace n (placesAt s i) ≡ FoundSet.Missing
-  set-end n e = ap (descriptorPlace n) e
+  pub head-end : (n : Bytes) → placesAt s i ≡ [] → descriptorHead n (placesAt s i) ≡ FoundHead.Missing
+  head-end n e = ap (descriptorHead n) e
 
   module _ (q : Place) (m : Met s i q) where
     later : List Placed
@@ -139,29 +173,29 @@ module _ (s : Bytes) (i : ℕ) where
         record-on k ∙ ap (λ (b : Bool). recordBy b k (raise i (m .here)) (λ (n : ℕ). recordPlace later n)) d
         ∙ ap (λ (n : ℕ). recordBy false n (raise i (m .here)) (λ (x : ℕ). recordPlace later x)) z
 
-    set-on : (n : Bytes) → descriptorPlace n (placesAt s i) ≡ pick (namesSet n (valuesOf (text "%rec") (m .here .fields))) (FoundSet.At (i + q .after)) (descriptorPlace n later)
+    head-on : (n : Bytes) → descriptorHead n (placesAt s i) ≡ pick (namesSet n (valuesOf (text "%rec") (m .here .fields))) (FoundHead.At (headAt i q)) (descriptorHead n later)
     unfolding later
-    set-on n =
-        ap (descriptorPlace n) (m .places)
-        ∙ ap (λ (x : Place). pick (namesSet n (valuesOf (text "%rec") (m .here .fields))) (FoundSet.At (i + x .after)) (descriptorPlace n (placesAt s (i + q .after)))) (m .is)
+    head-on n =
+        ap (descriptorHead n) (m .places)
+        ∙ ap (λ (x : Place). pick (namesSet n (valuesOf (text "%rec") (m .here .fields))) (FoundHead.At (headAt i x)) (descriptorHead n (placesAt s (i + q .after)))) (m .is)
 
     -- a record that is no descriptor names no set
     no-name : (n : Bytes) (vs : List Bytes) → isFilled vs ≡ false → namesSet n vs ≡ false
     no-name n [] e = refl
     no-name n (v ∷ vs) e = absurd (false≢true (sym e))
 
-    pub set-member : (n : Bytes) → q .descriptor ≡ false → descriptorPlace n (placesAt s i) ≡ descriptorPlace n (placesAt s (i + q .after))
+    pub head-member : (n : Bytes) → q .descriptor ≡ false → descriptorHead n (placesAt s i) ≡ descriptorHead n (placesAt s (i + q .after))
     unfolding later
-    set-member n d = set-on n ∙ ap (λ (b : Bool). pick b (FoundSet.At (i + q .after)) (descriptorPlace n later)) (no-name n (valuesOf (text "%rec") (m .here .fields)) (described ∙ d))
+    head-member n d = head-on n ∙ ap (λ (b : Bool). pick b (FoundHead.At (headAt i q)) (descriptorHead n later)) (no-name n (valuesOf (text "%rec") (m .here .fields)) (described ∙ d))
 
     -- the descriptor's own part tells which set it opens
     opened : (n : Bytes) → opensSet n (take ((i + q .end) - (i + q .start)) (drop (i + q .start) s)) ≡ namesSet n (valuesOf (text "%rec") (m .here .fields))
     unfolding opensSet
     opened n = ap (λ (ps : List Piece). namesSet n (valuesOf (text "%rec") (fieldsOf ps))) (reads-of (m .stand .own-reads)) ∙ ap (λ r. namesSet n (valuesOf (text "%rec") r)) (m .stand .own-fields)
 
-    pub set-here : (n : Bytes) (t : Bool) → t ≡ opensSet n (take ((i + q .end) - (i + q .start)) (drop (i + q .start) s)) → t ≡ true → descriptorPlace n (placesAt s i) ≡ FoundSet.At (i + q .after)
-    set-here n t e d = set-on n ∙ ap (λ (b : Bool). pick b (FoundSet.At (i + q .after)) (descriptorPlace n later)) (sym (opened n) ∙ sym e ∙ d)
+    pub head-here : (n : Bytes) (t : Bool) → t ≡ opensSet n (take ((i + q .end) - (i + q .start)) (drop (i + q .start) s)) → t ≡ true → descriptorHead n (placesAt s i) ≡ FoundHead.At (headAt i q)
+    head-here n t e d = head-on n ∙ ap (λ (b : Bool). pick b (FoundHead.At (headAt i q)) (descriptorHead n later)) (sym (opened n) ∙ sym e ∙ d)
 
-    pub set-other : (n : Bytes) (t : Bool) → t ≡ opensSet n (take ((i + q .end) - (i + q .start)) (drop (i + q .start) s)) → t ≡ false → descriptorPlace n (placesAt s i) ≡ descriptorPlace n (placesAt s (i + q .after))
+    pub head-other : (n : Bytes) (t : Bool) → t ≡ opensSet n (take ((i + q .end) - (i + q .start)) (drop (i + q .start) s)) → t ≡ false → descriptorHead n (placesAt s i) ≡ descriptorHead n (placesAt s (i + q .after))
     unfolding later
-    set-other n t e d = set-on n ∙ ap (λ (b : Bool). pick b (FoundSet.At (i + q .after)) (descriptorPlace n later)) (sym (opened n) ∙ sym e ∙ d)
+    head-other n t e d = head-on n ∙ ap (λ (b : Bool). pick b (FoundHead.At (headAt i q)) (descriptorHead n later)) (sym (opened n) ∙ sym e ∙ d)

@@ -16,6 +16,8 @@ use Rattle.format.proofs.Walking.{isHead}
 use Rattle.lines.specs.Piece.{valueAt}
 use Rattle.records.specs.declared.Place.{Place}
 use Rattle.records.specs.declared.NextRecord.{NextRecord}
+use Rattle.records.specs.declared.Head.{Head}
+use Rattle.records.specs.declared.FoundHead.{FoundHead}
 use Rattle.records.specs.declared.FoundSet.{FoundSet}
 use Rattle.records.specs.declared.FoundRecord.{FoundRecord}
 use Rattle.records.specs.declared.FoundField.{FoundField}
@@ -67,11 +69,23 @@ abbrev pub firstPlace : List Placed → NextRecord
 firstPlace [] = NextRecord.Nothing
 firstPlace (p ∷ ps) = NextRecord.At (placeOf p)
 
--- the byte behind the block of the descriptor of a name
+-- does a descriptor with these `%rec` values open the set of a name
 abbrev pub namesSet : Bytes → List Bytes → Bool
 namesSet n [] = false
 namesSet n (v ∷ vs) = same n (firstWord v)
 
+-- the place of the descriptor of a name
+abbrev pub headOf : Placed → Head
+headOf p = record { start = p .start; end = p .end; begin = p .after }
+
+abbrev pub descriptorHead : Bytes → List Placed → FoundHead
+descriptorHead n [] = FoundHead.Missing
+descriptorHead n (p ∷ ps) = pick (namesSet n (valuesOf (text "%rec") (p .fields))) (FoundHead.At (headOf p)) (descriptorHead n ps)
+
+unfoldable pub headPlace : Bytes → List Placed → FoundHead
+headPlace n ps = pick (same n []) (FoundHead.At (record { start = 0; end = 0; begin = 0 })) (descriptorHead n ps)
+
+-- the byte behind its block
 abbrev pub descriptorPlace : Bytes → List Placed → FoundSet
 descriptorPlace n [] = FoundSet.Missing
 descriptorPlace n (p ∷ ps) = pick (namesSet n (valuesOf (text "%rec") (p .fields))) (FoundSet.At (p .after)) (descriptorPlace n ps)

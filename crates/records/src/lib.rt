@@ -8,7 +8,7 @@ ghost use Rattle.format.specs.Lists.{front, behind};
 ghost use Rattle.format.specs.Bytes.{text, same};
 ghost use Rattle.format.specs.Words.{isGap, notGap, firstWord};
 ghost use Rattle.lines.specs.Value.{valueFrom};
-ghost use Rattle.records.specs.Places.{isReadable, placesOf, firstPlace, setPlace, recordPlace, fieldPlace};
+ghost use Rattle.records.specs.Places.{isReadable, placesOf, firstPlace, headPlace, setPlace, recordPlace, fieldPlace};
 ghost use Rattle.records.specs.Sets.{leading, firstSet};
 ghost use Rattle.records.specs.Walk.{runFrom, opensSet};
 ghost use Rattle.records.specs.Gaps.{gapIs};
@@ -439,6 +439,50 @@ fn opens_set(s: &[u8], name: &[u8]) -> bool
     word_is(&s[value..end], name)
 }
 
+// Where a set stands: its descriptor's first field's first byte, the byte behind its last field, and the byte where its records begin. The default set, which has no descriptor, has 0 for each.
+pub struct Head {
+    pub start: usize,
+    pub end: usize,
+    pub begin: usize,
+}
+
+pub enum FoundHead {
+    At(Head),
+    Missing,
+}
+
+pub fn find_head(s: &[u8], name: &[u8]) -> FoundHead
+    requires { ⌜ isReadable (now s) ≡ true ⌝ }
+    ensures { λ r. ⌜ r ≡ headPlace (now (name .entry)) (placesOf (now (s .entry))) ⌝ }
+{
+    if name.len() == 0 {
+        return FoundHead::At(Head {
+            start: 0,
+            end: 0,
+            begin: 0,
+        });
+    }
+    let mut i = 0;
+    loop {
+        let r = next_record(&s[i..]);
+        let NextRecord::At(p) = r else {
+            return FoundHead::Missing;
+        };
+        if p.descriptor {
+            let a = i + p.start;
+            let e = i + p.end;
+            if opens_set(&s[a..e], name) {
+                return FoundHead::At(Head {
+                    start: a,
+                    end: e,
+                    begin: i + p.after,
+                });
+            }
+        }
+        i += p.after;
+    }
+}
+
 // Where the records of a set begin.
 pub enum FoundSet {
     At(usize),
@@ -449,22 +493,9 @@ pub fn find_set(s: &[u8], name: &[u8]) -> FoundSet
     requires { ⌜ isReadable (now s) ≡ true ⌝ }
     ensures { λ r. ⌜ r ≡ setPlace (now (name .entry)) (placesOf (now (s .entry))) ⌝ }
 {
-    if name.len() == 0 {
-        return FoundSet::At(0);
-    }
-    let mut i = 0;
-    loop {
-        let r = next_record(&s[i..]);
-        let NextRecord::At(p) = r else {
-            return FoundSet::Missing;
-        };
-        if p.descriptor {
-            let a = i + p.start;
-            let e = i + p.end;
-            if opens_set(&s[a..e], name) {
-                return FoundSet::At(i + p.after);
-            }
-        }
-        i += p.after;
+    let h = find_head(s, name);
+    match h {
+        FoundHead::At(p) => FoundSet::At(p.begin),
+        FoundHead::Missing => FoundSet::Missing,
     }
 }

@@ -11,6 +11,7 @@ use lib.Seq.{take-append-seam}
 use borrow.Author.Tests.{leb-true, leb-false}
 use types.Run.{OneOf, miss}
 use denote.Enum.Declared.{tagOf}
+use Rattle.format.proofs.Legal.{legals-writable}
 use Rattle.format.proofs.Splices.{set-reads-back}
 use Rattle.format.specs.Lists.{onward}
 use Rattle.format.specs.Bytes.{Bytes, all}
@@ -125,7 +126,7 @@ module _ (s out after : Bytes) (n : ℕ) (e : record { result = Answer.value n; 
   by-edit q (Edit.insert []) h k m v = absurd m
   by-edit q (Edit.insert (p ∷ ps)) h k m v =
       let w = filled-value (writeNo (p ∷ ps) (length out)) (writtenAll (p ∷ ps)) out after n v in
-      let b = set-reads-back p ps (asked-legal (p ∷ ps) (length out) (w .0)) in
+      let b = set-reads-back p ps (legals-writable (p ∷ ps) (asked-legal (p ∷ ps) (length out) (w .0))) in
       record { asked = q; first = p; others = ps; request = h; pairs = k; lines = b .0; reads = ap pieces (w .1) ∙ b .1; sets = b .2 }
   by-edit q (Edit.on j a) h k m v = absurd (refused v)
 

@@ -25,8 +25,10 @@ pub use kinds::Edit;
 pub use kinds::Request;
 pub use kinds::RequestOf;
 pub use kinds::request_of;
+pub use pairs::Pair;
 pub use pairs::Weighed;
 pub use pairs::is_legal_pair;
+pub use pairs::pair_at;
 pub use pairs::put_pairs;
 pub use pairs::weigh;
 

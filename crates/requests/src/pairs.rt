@@ -16,7 +16,7 @@ use super::fields::text_at;
 use words::Span;
 
 // A pair of an insert: its name, its value, and where the next one is looked for. End: there is none, since nothing is left or what is left is no pair.
-pub(crate) enum Pair {
+pub enum Pair {
     At {
         name: Span,
         value: Span,
@@ -25,7 +25,7 @@ pub(crate) enum Pair {
     End,
 }
 
-pub(crate) fn pair_at(req: &[u8], i: usize) -> Pair
+pub fn pair_at(req: &[u8], i: usize) -> Pair
     ensures { λ r. ⌜ PairAt (now (req .entry)) i r ⌝ }
 {
     let n = text_at(req, i, Tag::NAME);

@@ -1,11 +1,11 @@
--- What questions 4, 6 and 7 grant of a descriptor and of records.
+-- What questions 4, 6 and 7 grant of a descriptor, the types of `%auto` names aside, and of records.
 use mathlib.Core.Path.{_≡_}
 use mathlib.Core.Bool.{true}
 use mathlib.Core.List.{List}
 use Rattle.format.specs.Bytes.{Bytes, all}
 use Rattle.format.specs.Records.{Record}
 use Rattle.format.specs.Numbers.{intBounds}
-use Rattle.format.specs.Rules.{isWellFormed, isTypedWell}
+use Rattle.format.specs.Rules.{isWellFormed, areTypesDefined}
 use Rattle.format.specs.Questions.{fitsRecord, fitsRules}
 use Rattle.records.specs.Places.{isReadable}
 use Rattle.records.specs.Walk.{recordIn}
@@ -16,7 +16,7 @@ pub record IsRules (d : Bytes) : Type 0 where
   pub fits : fitsRecord (recordIn d) ≡ true
   pub few : fitsRules (recordIn d) ≡ true
   pub well : isWellFormed intBounds (recordIn d) ≡ true
-  pub typed : isTypedWell intBounds (recordIn d) ≡ true
+  pub typed : areTypesDefined intBounds (recordIn d) ≡ true
 
 -- records whose limits are held
 abbrev pub AllFit : List Record → Type 0

@@ -2,5 +2,4 @@
 pub mod Lists
 pub mod Marks
 pub mod Room
-pub mod Places
 pub mod Gathering

@@ -13,10 +13,10 @@ use Rattle.format.specs.Rules.{singular, nameList, distinct}
 use Rattle.format.specs.Sets.{valuesOf}
 use Rattle.format.specs.Words.{words}
 use Rattle.format.proofs.Limits.{rules-few}
+use Rattle.format.proofs.Listing.{listed-all}
 use Rattle.records.specs.Walk.{recordIn}
 use Rattle.records.specs.Named.{valuesFrom}
 use Rattle.dictionary.specs.Known.{Described}
-use Rattle.dictionary.proofs.Listing.{listed-names}
 use Rattle.dictionary.proofs.Typing.{all-shaped}
 
 module _ (d : Bytes) (h : Described d) where
@@ -24,7 +24,7 @@ module _ (d : Bytes) (h : Described d) where
   singular-few = rules-few (recordIn d) (h .few) .singular-few
 
   pub singular-names : all isName (singular (recordIn d)) ≡ true
-  singular-names = listed-names intBounds (text "%singular") (λ v k e. sym (or-false (nameList v)) ∙ e) (recordIn d) (all-shaped d h)
+  singular-names = listed-all intBounds (text "%singular") isName (λ v k e. sym (or-false (nameList v)) ∙ e) (recordIn d) (all-shaped d h)
 
 -- without such a field there is none
 pub none-singular : (d s : Bytes) → valuesFrom d (text "%singular") 0 ≡ [] → true ≡ all (λ (n : Bytes). distinct (valuesOf n (recordIn s))) (singular (recordIn d))

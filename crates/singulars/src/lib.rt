@@ -1,17 +1,15 @@
 // Question 30: has no singular name of a set the same value twice? The fields of these names are gathered as entries in one walk over the records, and the entries are told apart as those of keys are.
 ghost use mathlib.Core.Path.{_≡_};
-ghost use mathlib.Core.Bool.{true, false};
-ghost use Prim.Native.Nat.{ℕ, _<_, _≤_};
+ghost use mathlib.Core.Bool.{true};
+ghost use Prim.Native.Nat.{_<_, _≤_};
 ghost use lib.ListN.{length, drop};
 ghost use Rattle.format.specs.Bytes.{all};
 ghost use Rattle.format.specs.Limits.{fileBytes, listWords};
 ghost use Rattle.format.specs.Rules.{singular, distinct};
 ghost use Rattle.format.specs.Sets.{valuesOf};
 ghost use Rattle.lines.specs.Value.{valueFrom};
-ghost use Rattle.words.specs.RuleNames.{placeIn};
 ghost use Rattle.records.specs.Places.{isReadable};
 ghost use Rattle.records.specs.Walk.{recordIn};
-ghost use Rattle.terms.specs.Sets.{inSet};
 ghost use Rattle.dictionary.specs.Known.{Described};
 ghost use Rattle.dictionary.specs.Numbered.{IsWords};
 ghost use Rattle.singulars.specs.Marks.{entryOf};
@@ -22,34 +20,6 @@ use format::Descriptor;
 use records::FoundField;
 use records::NextField;
 use sorting::Entry;
-
-// The first of some places that is in a set, and their number where none is.
-fn first_place(set: u64, count: usize) -> usize
-    requires { ⌜ count ≤ listWords ⌝ }
-    ensures { λ r. ⌜ (r ≤ count) × (r < count → inSet r set ≡ true) × ((k : ℕ) → k < r → inSet k set ≡ false) ⌝ }
-{
-    let mut k = 0;
-    while k < count {
-        if terms::has(set, k as u64) {
-            return k;
-        }
-        k += 1;
-    }
-    k
-}
-
-// The place of a name among the singular ones, their number where it is none.
-fn place_of(d: &[u8], words: &[u32], sets: &[u64], w: Words, name: &[u8]) -> usize
-    requires { ⌜ IsWords (now d) (singular (recordIn (now d))) (now words) (now sets) w ⌝ }
-    ensures { λ r. ⌜ r ≡ placeIn (now (name .entry)) (singular (recordIn (now (d .entry)))) ⌝ }
-{
-    let t = w.table;
-    let set = terms::find_joined(d, words, t, sets, name);
-    if set == 0 {
-        return w.count;
-    }
-    first_place(set, w.count)
-}
 
 // The entry of the value that begins at a place, of the name at place k of the list.
 fn entry(s: &[u8], at: usize, k: usize) -> u32
@@ -93,7 +63,7 @@ fn gather(
         else {
             return Gathered::All(n);
         };
-        let k = place_of(d, words, sets, w, &s[i + start..i + named]);
+        let k = wordsets::place_of(d, words, sets, w, &s[i + start..i + named]);
         if k < count {
             if entries.len() <= n {
                 return Gathered::More;

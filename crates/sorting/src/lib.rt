@@ -18,6 +18,12 @@ fn wide(x: u32) -> usize
     x as usize
 }
 
+fn broad(x: u16) -> usize
+    ensures { λ r. ⌜ r ≡ x ⌝ }
+{
+    x as usize
+}
+
 // A number of 32 bits as one: entries are made of such.
 pub fn narrow(x: usize) -> u32
     requires { ⌜ x < 4294967296 ⌝ }
@@ -35,6 +41,9 @@ impl Entry {
     pub const TAGGED: u32 = 4194304;
 
     const BUCKETS: usize = 1024;
+
+    // More entries than there ever are: the counts of buckets are numbers of 16 bits, so that two lists of them take little of the stack.
+    const MANY: u16 = 32768;
 
     // So few are sorted by insertion.
     const FEW: usize = 48;
@@ -309,31 +318,31 @@ fn bucket(x: u32) -> usize
 }
 
 // The entries of each bucket are counted.
-fn count_buckets(entries: &[u32], counts: &mut [u32])
+fn count_buckets(entries: &[u32], counts: &mut [u16])
     requires { ⌜ 1024 ≤ length (now counts) ⌝ }
 {
     let mut i = 0;
     while i < entries.len() {
         let b = bucket(entries[i]);
-        counts[b] = counts[b] % Entry::PLACES + 1;
+        counts[b] = counts[b] % Entry::MANY + 1;
         i += 1;
     }
 }
 
 // The counts become the places where the buckets begin.
-fn sum_counts(counts: &mut [u32]) {
-    let mut total = 0;
+fn sum_counts(counts: &mut [u16]) {
+    let mut total: u16 = 0;
     let mut b = 0;
     while b < counts.len() {
         let count = counts[b];
         counts[b] = total;
-        total = (total + count % Entry::PLACES) % Entry::PLACES;
+        total = (total + count % Entry::MANY) % Entry::MANY;
         b += 1;
     }
 }
 
 // The entry at i changes places with the one where its bucket goes on; false where there is no such place.
-fn settle(entries: &mut [u32], next: &mut [u32], i: usize) -> bool
+fn settle(entries: &mut [u32], next: &mut [u16], i: usize) -> bool
     requires { ⌜ 1024 ≤ length (now next) ⌝ }
     ensures { λ _. ⌜ Moved (now (entries .entry)) (now (entries .exit)) ⌝ }
 {
@@ -341,24 +350,24 @@ fn settle(entries: &mut [u32], next: &mut [u32], i: usize) -> bool
         return false;
     }
     let b = bucket(entries[i]);
-    let j = wide(next[b]);
+    let j = broad(next[b]);
     if entries.len() <= j {
         return false;
     }
-    next[b] = next[b] % Entry::PLACES + 1;
+    next[b] = next[b] % Entry::MANY + 1;
     swap(&mut *entries, i, j);
     true
 }
 
 // Entries are settled until bucket b goes on at e.
-fn fill_bucket(entries: &mut [u32], next: &mut [u32], b: usize, e: usize)
+fn fill_bucket(entries: &mut [u32], next: &mut [u16], b: usize, e: usize)
     requires { ⌜ (1024 ≤ length (now next)) × (b < 1024) ⌝ }
     ensures { λ _. ⌜ Moved (now (entries .entry)) (now (entries .exit)) ⌝ }
 {
     let mut left = entries.len();
     while 0 < left {
         left -= 1;
-        let i = wide(next[b]);
+        let i = broad(next[b]);
         if e <= i {
             return;
         }
@@ -369,28 +378,28 @@ fn fill_bucket(entries: &mut [u32], next: &mut [u32], b: usize, e: usize)
 }
 
 // Every entry is moved into its bucket.
-fn fill_buckets(entries: &mut [u32], starts: &[u32], next: &mut [u32])
+fn fill_buckets(entries: &mut [u32], starts: &[u16], next: &mut [u16])
     requires { ⌜ (1025 ≤ length (now starts)) × (1024 ≤ length (now next)) ⌝ }
     ensures { λ _. ⌜ Moved (now (entries .entry)) (now (entries .exit)) ⌝ }
 {
     let mut b = 0;
     while b < Entry::BUCKETS {
-        let e = wide(starts[b + 1]);
+        let e = broad(starts[b + 1]);
         fill_bucket(&mut *entries, &mut *next, b, e);
         b += 1;
     }
 }
 
 // Each bucket is sorted.
-fn sort_buckets(s: &[u8], entries: &mut [u32], words: bool, starts: &[u32])
+fn sort_buckets(s: &[u8], entries: &mut [u32], words: bool, starts: &[u16])
     requires { ⌜ 1025 ≤ length (now starts) ⌝ }
     ensures { λ _. ⌜ Moved (now (entries .entry)) (now (entries .exit)) ⌝ }
 {
     let mut b = 0;
     while b < Entry::BUCKETS {
-        let lo = wide(starts[b]);
+        let lo = broad(starts[b]);
         b += 1;
-        let hi = wide(starts[b]);
+        let hi = broad(starts[b]);
         if hi <= entries.len() {
             if lo < hi {
                 sort_bucket(s, &mut *entries, words, lo, hi);
@@ -403,7 +412,7 @@ fn sort_buckets(s: &[u8], entries: &mut [u32], words: bool, starts: &[u32])
 fn sort_many(s: &[u8], entries: &mut [u32], words: bool)
     ensures { λ _. ⌜ Moved (now (entries .entry)) (now (entries .exit)) ⌝ }
 {
-    let mut starts = [0u32; 1025];
+    let mut starts = [0u16; 1025];
     count_buckets(&*entries, &mut starts);
     sum_counts(&mut starts);
     let mut next = starts;

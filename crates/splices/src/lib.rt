@@ -13,6 +13,7 @@ mod inserts;
 mod space;
 
 pub use cuts::cut_fields;
+pub use inserts::NewRecord;
 pub use inserts::put_record;
 use space::open_space;
 

@@ -11,7 +11,7 @@ use Rattle.format.specs.Words.{firstWord, split, isTypeName}
 use Rattle.format.specs.Numbers.{intBounds}
 use Rattle.format.specs.Records.{Record}
 use Rattle.format.specs.Sets.{valuesOf}
-use Rattle.format.specs.Rules.{typedNames, endKind, reserved, isTypedefName, distinct, isTypedWell}
+use Rattle.format.specs.Rules.{typedNames, endKind, reserved, isTypedefName, distinct, areTypesDefined}
 use Rattle.lines.specs.Value.{valueFrom}
 use Rattle.lines.specs.Line.{run}
 use Rattle.lines.proofs.Cuts.{at-cons, rest as rest-all}
@@ -59,16 +59,16 @@ module _ (r : Record) where
   abbrev rest : Bool
   rest = all (λ (v : Bytes). all isName (typedNames v)) uses && all (λ (v : Bytes). isSome (endKind intBounds (defsOf defs) v)) uses
 
-  well-by : isTypedWell intBounds r ≡ (areDefined defs && rest)
+  well-by : areTypesDefined intBounds r ≡ (areDefined defs && rest)
   well-by =
       five (all (λ (v : Bytes). isTypedefName (firstWord v)) defs) (all (λ (v : Bytes). isSome (endKind intBounds (defsOf defs) v)) defs) (distinct (map firstWord defs))
       (all (λ (v : Bytes). all isName (typedNames v)) uses) (all (λ (v : Bytes). isSome (endKind intBounds (defsOf defs) v)) uses)
       ∙ ap (λ (t : Bool). ((t && distinct (map firstWord defs)) && all (λ (v : Bytes). isSome (endKind intBounds (defsOf defs) v)) defs) && rest) (all-words isTypedefName defs)
 
-  pub not-defined : areDefined defs ≡ false → isTypedWell intBounds r ≡ false
+  pub not-defined : areDefined defs ≡ false → areTypesDefined intBounds r ≡ false
   not-defined e = well-by ∙ ap (λ (t : Bool). t && rest) e
 
-  pub well-types : areDefined defs ≡ true → isTypedWell intBounds r ≡ all (wellBy (map firstWord defs) (map (targetIn (map firstWord defs)) defs)) uses
+  pub well-types : areDefined defs ≡ true → areTypesDefined intBounds r ≡ all (wellBy (map firstWord defs) (map (targetIn (map firstWord defs)) defs)) uses
   well-types e =
       let b = both-true (all isTypedefName (map firstWord defs) && distinct (map firstWord defs)) (all (λ (v : Bytes). isSome (endKind intBounds (defsOf defs) v)) defs) e in
       well-by ∙ ap (λ (t : Bool). t && rest) e

@@ -11,7 +11,7 @@ ghost use Rattle.format.specs.Bytes.{text, all, among};
 ghost use Rattle.format.specs.Limits.{fileBytes, typedefs};
 ghost use Rattle.format.specs.Words.{firstWord, afterWord, split, isTypeName};
 ghost use Rattle.format.specs.Numbers.{intBounds};
-ghost use Rattle.format.specs.Rules.{reserved, isTypedefName, distinct, typedNames, isTypedWell};
+ghost use Rattle.format.specs.Rules.{reserved, isTypedefName, distinct, typedNames, areTypesDefined};
 ghost use Rattle.lines.specs.Value.{valueFrom};
 ghost use Rattle.records.specs.Places.{isReadable};
 ghost use Rattle.terms.specs.Adding.{Adding};
@@ -456,12 +456,12 @@ fn all_well(d: &[u8], names: Names, targets: Targets, scratch: &mut [u8]) -> boo
     }
 }
 
-// Question 7 of a descriptor: are its typedefs and types well formed?
+// Question 7 of a descriptor, the types of `%auto` names aside: are its typedefs and types well formed?
 pub fn types_well(d: &[u8], scratch: &mut [u8]) -> bool
     requires { ⌜ (isReadable (now d) ≡ true) × (length (now d) ≤ fileBytes) ⌝ }
     requires { ⌜ (length (valuesFrom (now d) (text "%typedef") 0) ≤ typedefs) × (fitFrom (length (now scratch)) (now d) (text "%typedef") 0 ≡ true) ⌝ }
     requires { ⌜ fitFrom (length (now scratch)) (now d) (text "%type") 0 ≡ true ⌝ }
-    ensures { λ r. ⌜ r ≡ isTypedWell intBounds (fieldsOf (readOf (now (d .entry)))) ⌝ }
+    ensures { λ r. ⌜ r ≡ areTypesDefined intBounds (fieldsOf (readOf (now (d .entry)))) ⌝ }
 {
     if !names_good(d, &mut *scratch) {
         return false;

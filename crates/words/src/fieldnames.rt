@@ -11,7 +11,7 @@ impl Rule {
 
     pub const DOC: usize = 1;
 
-    // Lists of names; the last of them stands behind the others.
+    // Lists of names; two more stand behind the others.
     pub const MANDATORY: usize = 2;
 
     pub const PROHIBIT: usize = 3;
@@ -30,8 +30,10 @@ impl Rule {
 
     pub const SINGULAR: usize = 10;
 
+    pub const AUTO: usize = 11;
+
     // How many there are: the number of every other name.
-    pub const COUNT: usize = 11;
+    pub const COUNT: usize = 12;
 }
 
 // The number of a name.
@@ -40,6 +42,6 @@ pub fn rule_of(name: &[u8]) -> usize
 {
     word_place(
         name,
-        b"%rec %doc %mandatory %prohibit %allowed %unique %key %size %typedef %type %singular",
+        b"%rec %doc %mandatory %prohibit %allowed %unique %key %size %typedef %type %singular %auto",
     )
 }

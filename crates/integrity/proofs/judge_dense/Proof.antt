@@ -10,13 +10,13 @@ use Rattle.format.specs.Lines.{isEnded}
 use Rattle.format.proofs.Dense.{dense-text}
 use Rattle.format.proofs.Judging.{textNo}
 use Rattle.integrity.proofs.Staging.{text-no, text-ended, lines-no}
-use Rattle.integrity.proofs.Joints.{number-dense}
+use Rattle.integrity.proofs.Densing.{number-dense}
 use borrow.Author.Needs.{needs}
 use Rattle.integrity.proofs.judge_dense.Statement.{statement}
 use Rattle.integrity.proofs.judge_dense.Tie as tie
 use Rattle.integrity.proofs.judge_dense.Reads as reads
 use Rattle.integrity.proofs.judge_dense.Lts as lts
-use Rattle.integrity.proofs.dense.make_dense.Reads as make-dense-reads
+use Rattle.joints.proofs.make_dense.Reads as make-dense-reads
 use Rattle.integrity.proofs.is_text.Reads as is-text-reads
 use Rattle.integrity.proofs.judge_lines.Reads as judge-lines-reads
 use Rattle.records.proofs.is_readable.Reads as is-readable-reads

@@ -39,7 +39,8 @@ types-defined-requires c κs =
     let at-pre = c .before .before .before .before .before .before .before .before .before .pre in
     let at-args = c .before .before .before .before .before .before .before .before .before .args in
     let at-described-well = c .before .before .before .described-well in
-    ((((at-args .afters .now, at-pre .1 .1 .0), at-pre .0), (at-pre .1 .0 .0, omega (arith, at-described-well .ensures .1))))
+    let at-if1 = c .before .if1 in
+    ((((at-args .afters .now, at-pre .1 .1 .0), at-pre .0), ((at-pre .1 .0 .0, sym (at-described-well .ensures .0) ∙ not-false (at-described-well .result) (at-if1 .left)), omega (arith, at-described-well .ensures .1))))
 
 returns-2 : tie.Need-returns-2
 returns-2 c =

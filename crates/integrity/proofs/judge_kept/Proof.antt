@@ -9,7 +9,7 @@ use Rattle.integrity.proofs.judge_kept.Statement.{statement}
 use Rattle.integrity.proofs.judge_kept.Tie as tie
 use Rattle.integrity.proofs.judge_kept.Reads as reads
 use Rattle.integrity.proofs.judge_kept.Lts as lts
-use Rattle.integrity.proofs.dense.may_join.Reads as may-join-reads
+use Rattle.joints.proofs.may_join.Reads as may-join-reads
 use Rattle.integrity.proofs.judge.Reads as judge-reads
 use Rattle.integrity.proofs.judge_dense.Reads as judge-dense-reads
 use Rattle.writing.proofs.put_bytes.Reads as put-bytes-reads

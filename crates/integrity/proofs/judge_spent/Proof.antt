@@ -7,7 +7,7 @@ use Rattle.integrity.proofs.judge_spent.Statement.{statement}
 use Rattle.integrity.proofs.judge_spent.Tie as tie
 use Rattle.integrity.proofs.judge_spent.Reads as reads
 use Rattle.integrity.proofs.judge_spent.Lts as lts
-use Rattle.integrity.proofs.dense.may_join.Reads as may-join-reads
+use Rattle.joints.proofs.may_join.Reads as may-join-reads
 use Rattle.integrity.proofs.judge.Reads as judge-reads
 use Rattle.integrity.proofs.judge_dense.Reads as judge-dense-reads
 

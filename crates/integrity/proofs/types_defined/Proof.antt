@@ -1,23 +1,17 @@
 -- `integrity::types_defined` meets its contract. The invariant: the types of all descriptors are well formed where those from row k on are. The measure is the number of rows left.
 use borrow.Author.Tests.{not-true, not-false}
 use borrow.Author.Needs.{needs}
-use Prim.Native.Nat.{_-_, _≤_}
+use Prim.Native.Nat.{_-_}
 use native.Mathlib.Omega.{arith}
 use mathlib.Core.Path.{_≡_, refl}
 use lib.ListN.{length, getD}
-use Rattle.format.specs.Bytes.{text}
-use Rattle.format.specs.Limits.{valueBytes}
-use Rattle.words.specs.Spans.{span}
 use Rattle.words.proofs.Spans.{span-length}
-use Rattle.records.specs.Walk.{recordIn}
-use Rattle.format.proofs.Limits.{rules-few}
-use Rattle.integrity.proofs.Holding.{values-fit}
-use Rattle.integrity.proofs.Granting.{TypesAt, types-start, types-end, types-row, types-fit, types-stop, types-on}
+use Rattle.integrity.proofs.Granting.{TypesAt, types-start, types-end, types-row, types-formed, types-stop, types-on}
 use Rattle.integrity.proofs.types_defined.Statement.{statement}
 use Rattle.integrity.proofs.types_defined.Tie as tie
 use Rattle.integrity.proofs.types_defined.Reads as reads
 use Rattle.integrity.proofs.types_defined.Lts as lts
-use Rattle.typedefs.proofs.types_well.Reads as types-well-reads
+use Rattle.integrity.proofs.typed_well.Reads as typed-well-reads
 
 abbrev Inv-loop : tie.InvT-loop
 Inv-loop s starts ends count scratch₀ k₀ scratch k = TypesAt s starts ends count k × (length scratch ≡ length scratch₀)
@@ -29,7 +23,7 @@ loop-holds : tie.Need-loop-holds Inv-loop μ-loop
 loop-holds c =
     let at-args = c .before .before .before .before .args in
     let at-pre = c .before .before .before .before .pre in
-    (types-start (at-args .s .now) (at-args .starts .now) (at-args .ends .now) (at-args .count) (at-pre .0 .0) (at-pre .1 .0), refl)
+    (types-start (at-args .s .now) (at-args .starts .now) (at-args .ends .now) (at-args .count) (at-pre .0 .0) (at-pre .1 .0 .0) (at-pre .1 .0 .1), refl)
 
 mul-a : tie.Need-mul-a Inv-loop μ-loop
 mul-a c = search needs
@@ -49,38 +43,35 @@ shared-slice-read-e c =
     let at-loop = c .before .before .before .loop in
     omega (arith, at-loop-test .taken, at-loop .inv .0 .rows .ended)
 
-sub-types-well : tie.Need-sub-types-well Inv-loop μ-loop
-sub-types-well c =
+sub-typed-well : tie.Need-sub-typed-well Inv-loop μ-loop
+sub-typed-well c =
     let at-loop = c .before .before .before .loop in
     let at-loop-test = c .before .before .loop-test in
     let r = types-row (at-loop .inv .0) (at-loop-test .taken) in omega (arith, r .filled)
 
-part-types-well-start : tie.Need-part-types-well-start Inv-loop μ-loop
-part-types-well-start c =
+part-typed-well-start : tie.Need-part-typed-well-start Inv-loop μ-loop
+part-typed-well-start c =
     let at-loop = c .before .before .before .loop in
     let at-loop-test = c .before .before .loop-test in
     let r = types-row (at-loop .inv .0) (at-loop-test .taken) in omega (arith, r .filled)
 
-part-types-well-end : tie.Need-part-types-well-end Inv-loop μ-loop
-part-types-well-end c =
+part-typed-well-end : tie.Need-part-typed-well-end Inv-loop μ-loop
+part-typed-well-end c =
     let at-loop = c .before .before .before .loop in
     let at-loop-test = c .before .before .loop-test in
     let r = types-row (at-loop .inv .0) (at-loop-test .taken) in omega (arith, r .within, r .inside)
 
-types-well-requires : tie.Need-types-well-requires Inv-loop μ-loop
-types-well-requires c κs =
+typed-well-requires : tie.Need-typed-well-requires Inv-loop μ-loop
+typed-well-requires c κs =
     let at-loop = c .before .before .before .before .before .loop in
     let at-loop-test = c .before .before .before .before .loop-test in
     let at-args = c .before .before .before .before .before .before .before .before .before .before .args in
     let at-pre = c .before .before .before .before .before .before .before .before .before .before .pre in
     let r = types-row (at-loop .inv .0) (at-loop-test .taken) in
-    let f = types-fit (at-loop .inv .0) (at-loop-test .taken) in
     let a = getD (at-args .starts .now) (at-loop .k) 0 in
     let e = getD (at-args .ends .now) (at-loop .k) 0 in
-    let d = recordIn (span a e (at-args .s .now)) in
     let short = span-length (at-args .s .now) a e (omega (arith, r .filled)) (omega (arith, r .within, r .inside)) in
-    let room : valueBytes ≤ length (at-loop .scratch) = omega (arith, at-pre .1 .1, at-loop .inv .1) in
-    (((r .own, omega (arith, short, at-pre .0 .1, r .within, r .inside)), ((rules-few d (f .few (r .head)) .typedefs-few, values-fit (length (at-loop .scratch)) room (text "%typedef") d (f .fits)), values-fit (length (at-loop .scratch)) room (text "%type") d (f .fits))))
+    ((types-formed (at-loop .inv .0) (at-loop-test .taken), omega (arith, short, at-pre .0 .1, r .within, r .inside)), omega (arith, at-pre .1 .1, at-loop .inv .1))
 
 same-length : tie.Need-same-length Inv-loop μ-loop
 same-length c =
@@ -92,9 +83,9 @@ returns : tie.Need-returns Inv-loop μ-loop
 returns c =
     let at-loop = c .before .before .before .before .before .before .before .before .before .loop in
     let at-loop-test = c .before .before .before .before .before .before .before .before .loop-test in
-    let at-types-well = c .before .before .before .types-well in
+    let at-typed-well = c .before .before .before .typed-well in
     let at-if1 = c .if1 in
-    types-stop (at-loop .inv .0) (at-loop-test .taken) (at-types-well .result) (at-types-well .ensures) (not-true (at-types-well .result) (at-if1 .taken))
+    types-stop (at-loop .inv .0) (at-loop-test .taken) (at-typed-well .result) (at-typed-well .ensures) (not-true (at-typed-well .result) (at-if1 .taken))
 
 add-k : tie.Need-add-k Inv-loop μ-loop
 add-k c = search needs
@@ -106,10 +97,10 @@ loop-again : tie.Need-loop-again Inv-loop μ-loop
 loop-again c =
     let at-loop = c .before .before .before .before .before .before .before .before .before .loop in
     let at-loop-test = c .before .before .before .before .before .before .before .before .loop-test in
-    let at-types-well = c .before .before .before .types-well in
+    let at-typed-well = c .before .before .before .typed-well in
     let at-if1 = c .if1 in
     let at-scratch = c .before .before .scratch in
-    (types-on (at-loop .inv .0) (at-loop-test .taken) (at-types-well .result) (at-types-well .ensures) (not-false (at-types-well .result) (at-if1 .left)), omega (arith, at-scratch .given, at-loop .inv .1))
+    (types-on (at-loop .inv .0) (at-loop-test .taken) (at-typed-well .result) (at-typed-well .ensures) (not-false (at-typed-well .result) (at-if1 .left)), omega (arith, at-scratch .given, at-loop .inv .1))
 
 same-length-2 : tie.Need-same-length-2 Inv-loop μ-loop
 same-length-2 c =
@@ -133,10 +124,10 @@ types-defined-spec =
     shared-slice-read-a
     mul-e
     shared-slice-read-e
-    sub-types-well
-    part-types-well-start
-    part-types-well-end
-    types-well-requires
+    sub-typed-well
+    part-typed-well-start
+    part-typed-well-end
+    typed-well-requires
     same-length
     returns
     add-k

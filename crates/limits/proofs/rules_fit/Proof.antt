@@ -40,7 +40,7 @@ loop-holds c =
     let at-pre = c .before .before .pre in
     let at-args = c .before .before .args in
     let e = at-new .ensures in
-    (omega arith, at-pre .0, omega (arith, e .0, e .1, e .2, e .3, e .4, e .5, e .6), ap (λ (x : Descriptor). countFrom x (fieldsOf (readOf (at-args .d .now)))) (counts-path noCounts (at-new .result) (sym (e .0)) (sym (e .1)) (sym (e .2)) (sym (e .3)) (sym (e .4)) (sym (e .5)) (sym (e .6))))
+    (omega arith, at-pre .0, omega (arith, e .0, e .1, e .2, e .3, e .4, e .5, e .6, e .7), ap (λ (x : Descriptor). countFrom x (fieldsOf (readOf (at-args .d .now)))) (counts-path noCounts (at-new .result) (sym (e .0)) (sym (e .1)) (sym (e .2)) (sym (e .3)) (sym (e .4)) (sym (e .5)) (sym (e .6)) (sym (e .7))))
 
 sub-next-field : tie.Need-sub-next-field Inv-loop μ-loop
 sub-next-field c = search needs

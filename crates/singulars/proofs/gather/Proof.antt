@@ -15,7 +15,7 @@ use Rattle.singulars.proofs.gather.Reads as reads
 use Rattle.singulars.proofs.gather.Lts as lts
 use Rattle.records.proofs.next_field.Reads as next-field-reads
 use Rattle.singulars.proofs.entry.Reads as entry-reads
-use Rattle.singulars.proofs.place_of.Reads as place-of-reads
+use Rattle.dictionary.proofs.wordsets.place_of.Reads as place-of-reads
 
 abbrev Inv-loop : tie.InvT-loop
 Inv-loop d words sets w s entries₀ count i₀ n₀ entries i n = (length entries ≡ length entries₀) × (n ≤ i) × Enters (singular (recordIn d)) s entries n i
@@ -112,8 +112,9 @@ part-place-of-end c =
 
 place-of-requires : tie.Need-place-of-requires Inv-loop μ-loop
 place-of-requires c κs =
+    let at-args = c .before .before .before .before .before .before .before .before .before .before .before .before .args in
     let at-pre = c .before .before .before .before .before .before .before .before .before .before .before .before .pre in
-    at-pre .0
+    (singular (recordIn (at-args .d .now)), at-pre .0)
 
 same-length-2 : tie.Need-same-length-2 Inv-loop μ-loop
 same-length-2 c =
@@ -131,7 +132,7 @@ returns-2 c =
     let at-pre = c .before .before .before .before .before .before .before .before .before .before .before .before .before .before .before .pre in
     let at-if2 = c .if2 in
     let h = next-told (at-args .s .now) (at-loop .i) (at-next-field .result) (at-next-field .ensures) (at-f .given .1) in
-    enters-full (singular (recordIn (at-args .d .now))) (at-args .s .now) (at-loop .entries) (at-loop .n) (at-loop .i) (at-loop .inv .2) _ _ _ _ h (at-place-of .result) (at-place-of .ensures) (omega (arith, at-if1 .taken, at-pre .0 .count)) (omega (arith, at-if2 .taken))
+    enters-full (singular (recordIn (at-args .d .now))) (at-args .s .now) (at-loop .entries) (at-loop .n) (at-loop .i) (at-loop .inv .2) _ _ _ _ h (at-place-of .result) (at-place-of .ensures (singular (recordIn (at-args .d .now))) (at-pre .0)) (omega (arith, at-if1 .taken, at-pre .0 .count)) (omega (arith, at-if2 .taken))
 
 add-entry : tie.Need-add-entry Inv-loop μ-loop
 add-entry c =
@@ -202,7 +203,7 @@ loop-again c =
     let at-pre = c .before .before .before .before .before .before .before .before .before .before .before .before .before .before .before .before .pre in
     let at-if2 = c .before .if2 in
     let h = next-told (at-args .s .now) (at-loop .i) (at-next-field .result) (at-next-field .ensures) (at-f .given .1) in
-    (length-set (at-loop .entries) (at-loop .n) (at-entry .result) ∙ at-loop .inv .0, omega (arith, at-loop .inv .1, h .moves, h .begins), enters-more (singular (recordIn (at-args .d .now))) (at-args .s .now) (at-loop .entries) (at-loop .n) (at-loop .i) (at-loop .inv .2) _ _ _ _ h (at-place-of .result) (at-place-of .ensures) (omega (arith, at-if1 .taken, at-pre .0 .count)) (omega (arith, at-if2 .left)) (at-pre .1 .1) (at-entry .result) (at-entry .ensures))
+    (length-set (at-loop .entries) (at-loop .n) (at-entry .result) ∙ at-loop .inv .0, omega (arith, at-loop .inv .1, h .moves, h .begins), enters-more (singular (recordIn (at-args .d .now))) (at-args .s .now) (at-loop .entries) (at-loop .n) (at-loop .i) (at-loop .inv .2) _ _ _ _ h (at-place-of .result) (at-place-of .ensures (singular (recordIn (at-args .d .now))) (at-pre .0)) (omega (arith, at-if1 .taken, at-pre .0 .count)) (omega (arith, at-if2 .left)) (at-pre .1 .1) (at-entry .result) (at-entry .ensures))
 
 add-i-2 : tie.Need-add-i-2 Inv-loop μ-loop
 add-i-2 c =
@@ -233,7 +234,7 @@ loop-again-2 c =
     let at-if1 = c .if1 in
     let at-pre = c .before .before .before .before .before .before .before .before .before .before .before .before .before .before .pre in
     let h = next-told (at-args .s .now) (at-loop .i) (at-next-field .result) (at-next-field .ensures) (at-f .given .1) in
-    (at-loop .inv .0, omega (arith, at-loop .inv .1, h .moves, h .begins), enters-skip (singular (recordIn (at-args .d .now))) (at-args .s .now) (at-loop .entries) (at-loop .n) (at-loop .i) (at-loop .inv .2) _ _ _ _ h (at-place-of .result) (at-place-of .ensures) (omega (arith, at-if1 .left, at-pre .0 .count)))
+    (at-loop .inv .0, omega (arith, at-loop .inv .1, h .moves, h .begins), enters-skip (singular (recordIn (at-args .d .now))) (at-args .s .now) (at-loop .entries) (at-loop .n) (at-loop .i) (at-loop .inv .2) _ _ _ _ h (at-place-of .result) (at-place-of .ensures (singular (recordIn (at-args .d .now))) (at-pre .0)) (omega (arith, at-if1 .left, at-pre .0 .count)))
 
 pub gather-spec : {M : Type 1} → statement M
 gather-spec =

@@ -10,7 +10,7 @@ use Rattle.sorting.proofs.fill_bucket.Tie as tie
 use Rattle.sorting.proofs.fill_bucket.Reads as reads
 use Rattle.sorting.proofs.fill_bucket.Lts as lts
 use Rattle.sorting.proofs.settle.Reads as settle-reads
-use Rattle.sorting.proofs.wide.Reads as wide-reads
+use Rattle.sorting.proofs.broad.Reads as broad-reads
 
 abbrev Inv-loop : tie.InvT-loop
 Inv-loop entries₀ next₀ b e left₀ entries next left = (Moved entries₀ entries) × (length next ≡ length next₀)
@@ -24,17 +24,17 @@ loop-holds c = (none, refl)
 sub-left : tie.Need-sub-left Inv-loop μ-loop
 sub-left c = search needs
 
-mul-wide : tie.Need-mul-wide Inv-loop μ-loop
-mul-wide c = search needs
+mul-broad : tie.Need-mul-broad Inv-loop μ-loop
+mul-broad c = search needs
 
-slice-read-wide : tie.Need-slice-read-wide Inv-loop μ-loop
-slice-read-wide c =
+slice-read-broad : tie.Need-slice-read-broad Inv-loop μ-loop
+slice-read-broad c =
     let at-loop = c .before .before .loop in
     let at-pre = c .before .before .before .before .before .pre in
     omega (arith, at-loop .inv .1, at-pre .0, at-pre .1)
 
-wide-requires : tie.Need-wide-requires Inv-loop μ-loop
-wide-requires c κs = search needs
+broad-requires : tie.Need-broad-requires Inv-loop μ-loop
+broad-requires c κs = search needs
 
 same-length : tie.Need-same-length Inv-loop μ-loop
 same-length c =
@@ -113,9 +113,9 @@ fill-bucket-spec =
     μ-loop
     loop-holds
     sub-left
-    mul-wide
-    slice-read-wide
-    wide-requires
+    mul-broad
+    slice-read-broad
+    broad-requires
     same-length
     same-length-2
     returns

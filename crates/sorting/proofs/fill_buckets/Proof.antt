@@ -11,7 +11,7 @@ use Rattle.sorting.proofs.fill_buckets.Tie as tie
 use Rattle.sorting.proofs.fill_buckets.Reads as reads
 use Rattle.sorting.proofs.fill_buckets.Lts as lts
 use Rattle.sorting.proofs.fill_bucket.Reads as fill-bucket-reads
-use Rattle.sorting.proofs.wide.Reads as wide-reads
+use Rattle.sorting.proofs.broad.Reads as broad-reads
 
 abbrev Inv-loop : tie.InvT-loop
 Inv-loop entries₀ starts next₀ b₀ entries next b = (Moved entries₀ entries) × (length next ≡ length next₀) × (b ≤ 1024)
@@ -22,17 +22,17 @@ abbrev μ-loop : tie.MeasureT-loop
 loop-holds : tie.Need-loop-holds Inv-loop μ-loop
 loop-holds c = (none, refl, omega arith)
 
-add-wide : tie.Need-add-wide Inv-loop μ-loop
-add-wide c = search needs
+add-broad : tie.Need-add-broad Inv-loop μ-loop
+add-broad c = search needs
 
-mul-wide : tie.Need-mul-wide Inv-loop μ-loop
-mul-wide c = search needs
+mul-broad : tie.Need-mul-broad Inv-loop μ-loop
+mul-broad c = search needs
 
-shared-slice-read-wide : tie.Need-shared-slice-read-wide Inv-loop μ-loop
-shared-slice-read-wide c = search needs
+shared-slice-read-broad : tie.Need-shared-slice-read-broad Inv-loop μ-loop
+shared-slice-read-broad c = search needs
 
-wide-requires : tie.Need-wide-requires Inv-loop μ-loop
-wide-requires c κs = search needs
+broad-requires : tie.Need-broad-requires Inv-loop μ-loop
+broad-requires c κs = search needs
 
 fill-bucket-requires : tie.Need-fill-bucket-requires Inv-loop μ-loop
 fill-bucket-requires c κs =
@@ -77,10 +77,10 @@ fill-buckets-spec =
     Inv-loop
     μ-loop
     loop-holds
-    add-wide
-    mul-wide
-    shared-slice-read-wide
-    wide-requires
+    add-broad
+    mul-broad
+    shared-slice-read-broad
+    broad-requires
     fill-bucket-requires
     add-b
     loop-less

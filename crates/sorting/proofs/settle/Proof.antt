@@ -9,7 +9,7 @@ use Rattle.sorting.proofs.settle.Reads as reads
 use Rattle.sorting.proofs.settle.Lts as lts
 use Rattle.sorting.proofs.bucket.Reads as bucket-reads
 use Rattle.sorting.proofs.swap.Reads as swap-reads
-use Rattle.sorting.proofs.wide.Reads as wide-reads
+use Rattle.sorting.proofs.broad.Reads as broad-reads
 
 returns : tie.Need-returns
 returns c = none
@@ -23,14 +23,14 @@ slice-read-bucket c = search needs
 bucket-requires : tie.Need-bucket-requires
 bucket-requires c κs = search needs
 
-mul-wide : tie.Need-mul-wide
-mul-wide c = search needs
+mul-broad : tie.Need-mul-broad
+mul-broad c = search needs
 
-slice-read-wide : tie.Need-slice-read-wide
-slice-read-wide c = search needs
+slice-read-broad : tie.Need-slice-read-broad
+slice-read-broad c = search needs
 
-wide-requires : tie.Need-wide-requires
-wide-requires c κs = search needs
+broad-requires : tie.Need-broad-requires
+broad-requires c κs = search needs
 
 returns-2 : tie.Need-returns-2
 returns-2 c = none
@@ -62,9 +62,9 @@ same-length-2 c = search needs
 returns-3 : tie.Need-returns-3
 returns-3 c =
     let at-args = c .before .before .before .before .before .before .before .before .before .before .before .before .before .args in
-    let at-wide = c .before .before .before .before .before .before .wide in
+    let at-broad = c .before .before .before .before .before .before .broad in
     let at-swap = c .before .before .swap in
-    moved-swapped (at-args .entries .now) _ (at-args .i) (at-wide .result) (omega arith) (omega arith) (at-swap .ensures)
+    moved-swapped (at-args .entries .now) _ (at-args .i) (at-broad .result) (omega arith) (omega arith) (at-swap .ensures)
 
 pub settle-spec : {M : Type 1} → statement M
 settle-spec =
@@ -74,9 +74,9 @@ settle-spec =
     mul-bucket
     slice-read-bucket
     bucket-requires
-    mul-wide
-    slice-read-wide
-    wide-requires
+    mul-broad
+    slice-read-broad
+    broad-requires
     returns-2
     mul-next
     slice-read-next

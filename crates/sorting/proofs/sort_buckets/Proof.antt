@@ -9,7 +9,7 @@ use Rattle.sorting.proofs.sort_buckets.Tie as tie
 use Rattle.sorting.proofs.sort_buckets.Reads as reads
 use Rattle.sorting.proofs.sort_buckets.Lts as lts
 use Rattle.sorting.proofs.sort_bucket.Reads as sort-bucket-reads
-use Rattle.sorting.proofs.wide.Reads as wide-reads
+use Rattle.sorting.proofs.broad.Reads as broad-reads
 
 abbrev Inv-loop : tie.InvT-loop
 Inv-loop s entries₀ words starts b₀ entries b = (Moved entries₀ entries) × (b ≤ 1024)
@@ -20,26 +20,26 @@ abbrev μ-loop : tie.MeasureT-loop
 loop-holds : tie.Need-loop-holds Inv-loop μ-loop
 loop-holds c = (none, omega arith)
 
-mul-wide : tie.Need-mul-wide Inv-loop μ-loop
-mul-wide c = search needs
+mul-broad : tie.Need-mul-broad Inv-loop μ-loop
+mul-broad c = search needs
 
-shared-slice-read-wide : tie.Need-shared-slice-read-wide Inv-loop μ-loop
-shared-slice-read-wide c = search needs
+shared-slice-read-broad : tie.Need-shared-slice-read-broad Inv-loop μ-loop
+shared-slice-read-broad c = search needs
 
-wide-requires : tie.Need-wide-requires Inv-loop μ-loop
-wide-requires c κs = search needs
+broad-requires : tie.Need-broad-requires Inv-loop μ-loop
+broad-requires c κs = search needs
 
 add-b : tie.Need-add-b Inv-loop μ-loop
 add-b c = search needs
 
-mul-wide-2 : tie.Need-mul-wide-2 Inv-loop μ-loop
-mul-wide-2 c = search needs
+mul-broad-2 : tie.Need-mul-broad-2 Inv-loop μ-loop
+mul-broad-2 c = search needs
 
-shared-slice-read-wide-2 : tie.Need-shared-slice-read-wide-2 Inv-loop μ-loop
-shared-slice-read-wide-2 c = search needs
+shared-slice-read-broad-2 : tie.Need-shared-slice-read-broad-2 Inv-loop μ-loop
+shared-slice-read-broad-2 c = search needs
 
-wide-requires-2 : tie.Need-wide-requires-2 Inv-loop μ-loop
-wide-requires-2 c κs = search needs
+broad-requires-2 : tie.Need-broad-requires-2 Inv-loop μ-loop
+broad-requires-2 c κs = search needs
 
 sort-bucket-requires : tie.Need-sort-bucket-requires Inv-loop μ-loop
 sort-bucket-requires c κs = (omega arith, omega arith)
@@ -88,13 +88,13 @@ sort-buckets-spec =
     Inv-loop
     μ-loop
     loop-holds
-    mul-wide
-    shared-slice-read-wide
-    wide-requires
+    mul-broad
+    shared-slice-read-broad
+    broad-requires
     add-b
-    mul-wide-2
-    shared-slice-read-wide-2
-    wide-requires-2
+    mul-broad-2
+    shared-slice-read-broad-2
+    broad-requires-2
     sort-bucket-requires
     loop-less
     loop-again

@@ -1,4 +1,4 @@
--- `sorting::sum_counts` returns: each place is less than 65536. The measure is what is left of the counts.
+-- `sorting::sum_counts` returns: each place is less than 32768. The measure is what is left of the counts.
 use borrow.Author.Needs.{needs}
 use Prim.Native.Nat.{_-_, _<_}
 use native.Mathlib.Omega.{arith}
@@ -10,7 +10,7 @@ use Rattle.sorting.proofs.sum_counts.Reads as reads
 use Rattle.sorting.proofs.sum_counts.Lts as lts
 
 abbrev Inv-loop : tie.InvT-loop
-Inv-loop counts₀ total₀ b₀ counts total b = (length counts ≡ length counts₀) × (total < 65536)
+Inv-loop counts₀ total₀ b₀ counts total b = (length counts ≡ length counts₀) × (total < 32768)
 
 abbrev μ-loop : tie.MeasureT-loop
 μ-loop counts₀ total₀ b₀ counts total b = length counts - b

@@ -1,11 +1,11 @@
--- `descriptors::shapes::all_names` meets its contract: there is a word, and all are names.
+-- `descriptors::shapes::all_names` meets its contract: there is a word, and all may stand in the list.
 use mathlib.Core.Path.{sym, ap, _∙_}
 use lib.ListN.{length}
-use Rattle.format.specs.Lines.{isName}
 use Rattle.format.specs.Rules.{several}
 use Rattle.format.specs.Words.{words}
 use Rattle.words.specs.Spans.{span}
 use Rattle.words.proofs.Finding.{found, not-found}
+use Rattle.descriptors.specs.Contents.{listable}
 use Rattle.descriptors.proofs.Wording.{several-some}
 use borrow.Author.Needs.{needs}
 use Rattle.descriptors.proofs.shapes.all_names.Statement.{statement}
@@ -29,7 +29,7 @@ returns c =
     let at-args = c .before .before .before .before .args in
     let at-next-word = c .before .before .next-word in
     let at-enum-told2 = c .enum-told2 in
-    sym (ap (several isName) (not-found (at-args .s .now) (at-next-word .ensures) (at-enum-told2 .given .1)))
+    sym (ap (several (listable (at-args .special))) (not-found (at-args .s .now) (at-next-word .ensures) (at-enum-told2 .given .1)))
 
 each-name-requires : tie.Need-each-name-requires
 each-name-requires c κs = search needs
@@ -43,7 +43,7 @@ returns-2 c =
     let s = at-args .s .now in
     let g = at-enum-told .given in
     let f = found s (at-next-word .ensures) (g .1) in
-    at-each-name .ensures ∙ sym (several-some (words s) (span (g .0 .0) (g .0 .1 .0) s) (words (span (g .0 .1 .0) (length s) s)) (f .2) isName)
+    at-each-name .ensures ∙ sym (several-some (words s) (span (g .0 .0) (g .0 .1 .0) s) (words (span (g .0 .1 .0) (length s) s)) (f .2) (listable (at-args .special)))
 
 pub all-names-spec : {M : Type 1} → statement M
 all-names-spec =

@@ -1,27 +1,27 @@
--- `descriptors::shapes::each_name` meets its contract. The invariant: all words are names if all of the rest are, and only then. The measure is the rest.
+-- `descriptors::shapes::each_name` meets its contract. The invariant: all words may stand in the list if all of the rest may, and only then. The measure is the rest.
 use borrow.Author.Needs.{needs}
 use borrow.Author.Tests.{not-true, not-false}
 use native.Mathlib.Omega.{arith}
 use mathlib.Core.Path.{_≡_, refl, sym, ap, _∙_}
 use lib.ListN.{length}
 use Rattle.format.specs.Bytes.{all}
-use Rattle.format.specs.Lines.{isName}
 use Rattle.format.specs.Words.{words}
 use Rattle.words.specs.Spans.{span}
 use Rattle.words.proofs.Finding.{found, not-found}
+use Rattle.descriptors.specs.Contents.{listable}
 use Rattle.descriptors.proofs.Folds.{all-more, all-stop}
 use Rattle.descriptors.proofs.shapes.each_name.Statement.{statement}
 use Rattle.descriptors.proofs.shapes.each_name.Tie as tie
 use Rattle.descriptors.proofs.shapes.each_name.Reads as reads
 use Rattle.descriptors.proofs.shapes.each_name.Lts as lts
-use Rattle.words.proofs.is_name.Reads as is-name-reads
+use Rattle.descriptors.proofs.shapes.is_listable.Reads as is-listable-reads
 use Rattle.words.proofs.next_word.Reads as next-word-reads
 
 abbrev Inv-loop : tie.InvT-loop
-Inv-loop s rest₀ rest = all isName (words s) ≡ all isName (words rest)
+Inv-loop s special rest₀ rest = all (listable special) (words s) ≡ all (listable special) (words rest)
 
 abbrev μ-loop : tie.MeasureT-loop
-μ-loop s rest₀ rest = length rest
+μ-loop s special rest₀ rest = length rest
 
 loop-holds : tie.Need-loop-holds Inv-loop μ-loop
 loop-holds c = refl
@@ -37,46 +37,48 @@ enum-told c = search needs
 
 returns : tie.Need-returns Inv-loop μ-loop
 returns c =
+    let at-args = c .before .before .before .before .before .args in
     let at-loop = c .before .before .before .loop in
     let at-next-word = c .before .before .next-word in
     let at-enum-told = c .enum-told in
-    sym (at-loop .inv ∙ ap (all isName) (not-found (at-loop .rest .now) (at-next-word .ensures) (at-enum-told .given .1)))
+    sym (at-loop .inv ∙ ap (all (listable (at-args .special))) (not-found (at-loop .rest .now) (at-next-word .ensures) (at-enum-told .given .1)))
 
-sub-is-name : tie.Need-sub-is-name Inv-loop μ-loop
-sub-is-name c =
+sub-is-listable : tie.Need-sub-is-listable Inv-loop μ-loop
+sub-is-listable c =
     let at-loop = c .before .before .before .before .loop in
     let at-next-word = c .before .before .before .next-word in
     let at-w = c .before .w in
     let f = found (at-loop .rest .now) (at-next-word .ensures) (at-w .given .1) in omega (arith, f .0)
 
-part-is-name-start : tie.Need-part-is-name-start Inv-loop μ-loop
-part-is-name-start c =
+part-is-listable-start : tie.Need-part-is-listable-start Inv-loop μ-loop
+part-is-listable-start c =
     let at-loop = c .before .before .before .before .loop in
     let at-next-word = c .before .before .before .next-word in
     let at-w = c .before .w in
     let f = found (at-loop .rest .now) (at-next-word .ensures) (at-w .given .1) in omega (arith, f .0)
 
-part-is-name-end : tie.Need-part-is-name-end Inv-loop μ-loop
-part-is-name-end c =
+part-is-listable-end : tie.Need-part-is-listable-end Inv-loop μ-loop
+part-is-listable-end c =
     let at-loop = c .before .before .before .before .loop in
     let at-next-word = c .before .before .before .next-word in
     let at-w = c .before .w in
     let f = found (at-loop .rest .now) (at-next-word .ensures) (at-w .given .1) in f .1
 
-is-name-requires : tie.Need-is-name-requires Inv-loop μ-loop
-is-name-requires c κs = search needs
+is-listable-requires : tie.Need-is-listable-requires Inv-loop μ-loop
+is-listable-requires c κs = search needs
 
 returns-2 : tie.Need-returns-2 Inv-loop μ-loop
 returns-2 c =
     let at-w = c .before .before .before .before .w in
+    let at-args = c .before .before .before .before .before .before .before .before .before .args in
     let at-loop = c .before .before .before .before .before .before .before .loop in
     let at-next-word = c .before .before .before .before .before .before .next-word in
-    let at-is-name = c .before .is-name in
+    let at-is-listable = c .before .is-listable in
     let at-if1 = c .if1 in
     let s = at-loop .rest .now in
     let g = at-w .given in
     let f = found s (at-next-word .ensures) (g .1) in
-    sym (at-loop .inv ∙ all-stop isName (words s) (span (g .0 .0) (g .0 .1 .0) s) (words (span (g .0 .1 .0) (length s) s)) (f .2) (sym (at-is-name .ensures) ∙ not-true (at-is-name .result) (at-if1 .taken)))
+    sym (at-loop .inv ∙ all-stop (listable (at-args .special)) (words s) (span (g .0 .0) (g .0 .1 .0) s) (words (span (g .0 .1 .0) (length s) s)) (f .2) (sym (at-is-listable .ensures) ∙ not-true (at-is-listable .result) (at-if1 .taken)))
 
 sub-rest : tie.Need-sub-rest Inv-loop μ-loop
 sub-rest c =
@@ -105,14 +107,15 @@ loop-less c =
 loop-again : tie.Need-loop-again Inv-loop μ-loop
 loop-again c =
     let at-w = c .before .before .before .before .before .w in
+    let at-args = c .before .before .before .before .before .before .before .before .before .before .args in
     let at-loop = c .before .before .before .before .before .before .before .before .loop in
     let at-next-word = c .before .before .before .before .before .before .before .next-word in
-    let at-is-name = c .before .before .is-name in
+    let at-is-listable = c .before .before .is-listable in
     let at-if1 = c .before .if1 in
     let s = at-loop .rest .now in
     let g = at-w .given in
     let f = found s (at-next-word .ensures) (g .1) in
-    at-loop .inv ∙ all-more isName (words s) (span (g .0 .0) (g .0 .1 .0) s) (words (span (g .0 .1 .0) (length s) s)) (f .2) (sym (at-is-name .ensures) ∙ not-false (at-is-name .result) (at-if1 .left))
+    at-loop .inv ∙ all-more (listable (at-args .special)) (words s) (span (g .0 .0) (g .0 .1 .0) s) (words (span (g .0 .1 .0) (length s) s)) (f .2) (sym (at-is-listable .ensures) ∙ not-false (at-is-listable .result) (at-if1 .left))
 
 pub each-name-spec : {M : Type 1} → statement M
 each-name-spec =
@@ -125,10 +128,10 @@ each-name-spec =
     enum-known-w
     enum-told
     returns
-    sub-is-name
-    part-is-name-start
-    part-is-name-end
-    is-name-requires
+    sub-is-listable
+    part-is-listable-start
+    part-is-listable-end
+    is-listable-requires
     returns-2
     sub-rest
     part-rest-start

@@ -3,7 +3,7 @@ use native.Mathlib.Omega.{arith}
 use mathlib.Core.Path.{refl}
 use Rattle.format.specs.Bytes.{text}
 use Rattle.descriptors.specs.declared.shapes.Content.{Content}
-use Rattle.descriptors.proofs.Contents.{rec-asks, doc-asks, mandatory-asks, prohibit-asks, allowed-asks, unique-asks, key-asks, size-asks, typedef-asks, type-asks, singular-asks, asks-at, above, asks-none}
+use Rattle.descriptors.proofs.Contents.{rec-asks, doc-asks, mandatory-asks, prohibit-asks, allowed-asks, unique-asks, key-asks, size-asks, typedef-asks, type-asks, singular-asks, auto-asks, asks-at, above, asks-none}
 use borrow.Author.Needs.{needs}
 use Rattle.descriptors.proofs.shapes.special_content.Statement.{statement}
 use Rattle.descriptors.proofs.shapes.special_content.Tie as tie
@@ -93,13 +93,20 @@ returns-11 c =
 
 returns-12 : tie.Need-returns-12
 returns-12 c =
+    let at-args = c .before .before .before .args in
+    let at-rule-of = c .before .rule-of in
+    let at-match = c .match in
+    asks-at (at-args .name .now) (text "%auto") Content.Ordinary (at-rule-of .result) 11 (at-rule-of .ensures) refl (omega arith) refl auto-asks (at-match .keys12)
+
+returns-13 : tie.Need-returns-13
+returns-13 c =
     let at-rule-of = c .before .rule-of in
     let at-match = c .match in
     let at-args = c .before .before .before .args in
     let at-pre = c .before .before .before .pre in
     let r = at-rule-of .result in
     let h = at-match .rest in
-    asks-none (at-args .name .now) r at-pre (at-rule-of .ensures) (above r 10 (above r 9 (above r 8 (above r 7 (above r 6 (above r 5 (above r 4 (above r 3 (above r 2 (above r 1 (above r 0 (omega arith) (h .0 .0 .0 .0 .0 .0 .0 .0 .0 .0 .1)) (h .0 .0 .0 .0 .0 .0 .0 .0 .0 .1)) (h .0 .0 .0 .0 .0 .0 .0 .0 .1)) (h .0 .0 .0 .0 .0 .0 .0 .1)) (h .0 .0 .0 .0 .0 .0 .1)) (h .0 .0 .0 .0 .0 .1)) (h .0 .0 .0 .0 .1)) (h .0 .0 .0 .1)) (h .0 .0 .1)) (h .0 .1)) (h .1))
+    asks-none (at-args .name .now) r at-pre (at-rule-of .ensures) (above r 11 (above r 10 (above r 9 (above r 8 (above r 7 (above r 6 (above r 5 (above r 4 (above r 3 (above r 2 (above r 1 (above r 0 (omega arith) (h .0 .0 .0 .0 .0 .0 .0 .0 .0 .0 .0 .1)) (h .0 .0 .0 .0 .0 .0 .0 .0 .0 .0 .1)) (h .0 .0 .0 .0 .0 .0 .0 .0 .0 .1)) (h .0 .0 .0 .0 .0 .0 .0 .0 .1)) (h .0 .0 .0 .0 .0 .0 .0 .1)) (h .0 .0 .0 .0 .0 .0 .1)) (h .0 .0 .0 .0 .0 .1)) (h .0 .0 .0 .0 .1)) (h .0 .0 .0 .1)) (h .0 .0 .1)) (h .0 .1)) (h .1))
 
 pub special-content-spec : {M : Type 1} → statement M
 special-content-spec =
@@ -117,4 +124,5 @@ special-content-spec =
     returns-9
     returns-10
     returns-11
-    returns-12)
+    returns-12
+    returns-13)

@@ -1,0 +1,5 @@
+-- The names of `%auto` lists, the bounds of their numbers, and the fields that are added.
+pub mod Listed
+pub mod Types
+pub mod Bounds
+pub mod Adding
