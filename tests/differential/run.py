@@ -251,8 +251,8 @@ class Tests:
             self.edits(text + bytes(90), len(text), 1)
 
     def chosen(self):
-        """Files about the ends of int, about singular names and about %auto lists, and an edit of each."""
-        for runs in (*samples.int_ends(), *samples.singulars(), *samples.autos()):
+        """Files about the ends of int, about sizes, about singular names and about %auto lists, and an edit of each."""
+        for runs in (*samples.int_ends(), *samples.accents(), *samples.singulars(), *samples.autos()):
             text = frames.whole(runs)
             self.compare('check', text, len(text))
             self.edits(text + bytes(90), len(text), 1)

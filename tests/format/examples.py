@@ -1,6 +1,6 @@
 #!/usr/bin/env python3
 """The examples of docs/FORMAT.md: each file, and each request on the receipt book, is refused with the number that stands there; a damaged file cut into parts shows the
-numbers that stand there; the directory of a file is the one that stands there, a run of requests answers what stands there, and inserts get the numbers that stand there; and where GNU recutils is there, recfix finds a fault in the files of which the page says so.
+numbers that stand there; the directory of a file is the one that stands there, a run of requests answers what stands there, inserts get the numbers that stand there, and the name of the section on sizes has the characters that stand there; and where GNU recutils is there, recfix finds a fault in the files of which the page says so.
 
 Usage: python3 tests/format/examples.py     (after `rt staticlib recfile`; needs cc)
 """
@@ -39,6 +39,22 @@ def recfix(text):
         with open(path, 'wb') as f:
             f.write(text)
         return subprocess.run(['recfix', path], capture_output=True, check=False).returncode != 0
+
+
+def sizes(lib, section):
+    """The section's file passes; its name has the bytes and characters that stand there; with one character less the file is refused with 12, and recfix takes it from so many bytes on."""
+    text = indented(section[section.index('This file passes'):].split('\n'))
+    name = bytes.fromhex(re.search(r'its name, `([0-9A-F ]+)`', section).group(1))
+    characters, length = map(int, re.search(r'has (\d+) characters in (\d+) bytes', section).groups())
+    if not text.endswith(b' ' + name + b'\n') or (len(name.decode()), len(name)) != (characters, length):
+        sys.exit('the name of the section on sizes is %r' % name)
+    for n in range(1, length + 2):
+        sized = text.replace(b'size %d' % characters, b'size %d' % n)
+        got = lib.recfile_check(sized, size(len(sized)), size(len(sized)))
+        if got != (0 if characters <= n else 12):
+            sys.exit('the file of the section on sizes is refused with %d at size %d' % (got, n))
+        if shutil.which('recfix') and recfix(sized) == (length <= n):
+            sys.exit('recfix finds another fault at size %d than the page says' % n)
 
 
 def parts(lib, section):
@@ -128,6 +144,7 @@ def main():
         if shutil.which('recfix') and recfix(text) == (number in SILENT):
             sys.exit('recfix finds another fault in the example of %s than the page says' % number)
         files += 1
+    sizes(lib, page[page.index('## Sizes'):page.index('## What a file is refused for')])
     parts(lib, page[page.index('## Finding the fault by hand'):])
     directory(lib, page[page.index('## The directory of sets'):page.index('## What a call is refused for')])
 

@@ -3,7 +3,7 @@
 
 Usage: tests/model/definitions.py [SEED [COUNT]]       (from the repository's root; needs rt)
 
-It states what recfile.py answers as equations about the definitions, which the checker must prove by computing both sides: the verdict of COUNT files and of those about the ends of int, about singular names and about %auto lists; the numbers,
+It states what recfile.py answers as equations about the definitions, which the checker must prove by computing both sides: the verdict of COUNT files and of those about the ends of int, about sizes, about singular names and about %auto lists; the numbers,
 lengths and buffer of COUNT / 2 lists of edits, runs of requests among them; what COUNT / 2 runs of requests answer; the directory of COUNT / 2 files, filled and after an edit that is given it; and
 COUNT / 4 lists of edits, some of them given the directory and some of them runs of requests, and COUNT / 4 lists of inserts that omit names of %auto lists, run on the buffer and on the plain file.
 The equations go into a copy of the crate in a temporary folder.
@@ -274,7 +274,7 @@ class Equations:
 def main(seed=1, count=300):
     e = Equations(seed)
     passing = e.files(count)
-    chosen = e.chosen('end', samples.int_ends()) + e.chosen('singular', samples.singulars()) + e.chosen('auto', samples.autos())
+    chosen = e.chosen('end', samples.int_ends()) + e.chosen('accent', samples.accents()) + e.chosen('singular', samples.singulars()) + e.chosen('auto', samples.autos())
     e.edit_lists(passing, count // 2)
     e.sendings(passing, count // 2)
     e.directories(passing, count // 2)

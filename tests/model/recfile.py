@@ -224,7 +224,7 @@ def meets(t, value):
     if kind == 'line':
         return b'\n' not in value
     if kind == 'size':
-        return len(value) <= t[1]
+        return len(re.sub(rb'[\x80-\xbf]', b'', value)) <= t[1]
     if kind == 'enum':
         return bare in t[1]
     if kind == 'bool':

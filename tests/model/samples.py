@@ -35,6 +35,27 @@ def int_ends():
                 yield from (described(b'%type: A int', (1, front), (n - len(front + end), digit), (1, end)) for n in (4096, 4097))
 
 
+def accents():
+    """Files, as runs, about sizes at n and n + 1 characters: characters of one to four bytes, continuation bytes without one, values in several lines, as long as a value may be, and what other questions say."""
+    def sized(n, *value, rules=b''):
+        return [(1, b'%%rec: S\n%%type: A size %d\n' % n + rules + b'\nA: '), *value, (1, b'\n')]
+
+    for text in ('é', '€', '𝄞', 'aé€𝄞', '€ é ', 'élémentaire', 'Ærøskøbing', '\u00a0', '\u07ff\u0800\uffff\U00010000'):
+        yield from (sized(n, (1, text.encode())) for n in (len(text) - 1, len(text), len(text.encode()) - 1))
+    # any byte, sound or not: alone, behind a letter and behind another
+    for b in (33, 126, 128, 143, 144, 159, 160, 175, 176, 190, 191, 192, 193, 223, 224, 239, 240, 247, 248, 254, 255):
+        yield sized(0, (1, bytes([b])))
+        yield sized(1, (1, b'a' + bytes([b])))
+    yield from (sized(2, (1, v)) for v in (b'\xa9\xc3\xc3', b'\xc3\xc3\xc3', b'\xe2\x82a\xac', b'\x80\x80\x80a', b'\xff\xfe\xbf', b'\xc3\n+ \xa9', b'\xc3\\\n\xa9a', b'\xc3\xa9\n+\n+', b'\xc3\xa9\n+ \x80'))
+    # bytes that are no character at all, and the limit of a value in bytes
+    yield from (sized(0, (n, b'\x80')) for n in (4096, 4097))
+    yield from (sized(n, (k, 'é'.encode())) for n, k in ((2047, 2048), (2048, 2048), (2049, 2049)))
+    for rules in (b'%size: 2\n', b'%type: A size 0x1\n', b'%type: A size 3\n', b'%type: A line\n', b'%type: A int\n', b'%typedef: T size 0\n%type: A T\n', b'%mandatory: B\n'):
+        yield sized(1, (1, 'é'.encode()), rules=rules)
+    for rule in (b'%key: A\n', b'%singular: A\n'):
+        yield from (sized(n, (1, 'é\n\nA: é'.encode()), rules=rule) for n in (0, 1))
+
+
 def singulars():
     """Files, as runs, about singular names: few and many fields, at both sides of being alike, in one record and in two, however the values are written."""
     def described(rules, records):

@@ -223,6 +223,11 @@ def ends():
         case(runs)
 
 
+def accents():
+    for runs in samples.accents():
+        case(runs)
+
+
 def singulars():
     for runs in samples.singulars():
         case(runs)
@@ -243,9 +248,9 @@ def random_files(count):
         case(samples.Samples(seed).file())
 
 
-for make in (lengths, bytes_and_lines, limits, descriptors, types, values, ends, rules, singulars, autos, marked):
+for make in (lengths, bytes_and_lines, limits, descriptors, types, values, ends, accents, rules, singulars, autos, marked):
     make()
-random_files(700)
+random_files(630)
 alike_keys(120)
 
 numbers, stdin = [], b''

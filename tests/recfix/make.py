@@ -54,7 +54,7 @@ COINCIDE = [
     # types
     *typed('int', '1', '-1', '0', '0x1F', '010', 'x', '', ' 1', '1.5', '0x', '1 2', '2147483648', '-0x80000001', '123456789012', '9223372036854775807', '-9223372036854775808'),
     *typed('range 5', '0', '5', '6', '-1', 'x'), *typed('range -2 3', '-2', '-3', '3', '4'), *typed('range MIN 3', '-100', '4'), *typed('range 3 MAX', '3', '2', '1000'),
-    *typed('real', '1.5', '-1.5', '1', 'x', '1.5.5'), *typed('line', 'a b', 'a\n+ b', ''), *typed('size 3', 'abc', 'abcd', ''), *typed('bool', 'yes', 'no', '0', '1', 'true', 'false', 'x', '2'),
+    *typed('real', '1.5', '-1.5', '1', 'x', '1.5.5'), *typed('line', 'a b', 'a\n+ b', ''), *typed('size 3', 'abc', 'abcd', '', 'é', 'éa', 'éééé', '€', 'abcé'), *typed('size 2', 'é', '€€€'), *typed('bool', 'yes', 'no', '0', '1', 'true', 'false', 'x', '2'),
     *typed('enum a b', 'a', 'b', 'c', 'ab'), *typed('enum a (c) b', 'a', 'b', 'c'), *typed('field', 'A', '%A', '1', 'A B'), *typed('uuid', '01234567-89ab-cdef-0123-456789abcdef', '01234567-89AB-CDEF-0123-456789ABCDEF', 'x', '01234567-89ab-cdef-0123-456789abcdeg'),
     *typed('range 0x10', '16', '17'), *typed('range 010', '8', '9'), *typed('range 5 1', '3'), *typed('range 1 2 3', '1'), *typed('size 0x3', 'abc', 'abcd'), *typed('size -1', 'x'), *typed('enum a (b', 'a'), *typed('enum a) b', 'a'), *typed('enum -a', '-a'), *typed('enum 1', '1'),
     *typed('foo', '1'), *typed('size', '1'), *typed('range', '1'), *typed('enum', '1'), *typed('range x', '1'),
@@ -81,6 +81,7 @@ DIFFER = {
     'recfix takes typedefs called by a kind, and defined twice': [described('%typedef: int bool\n'), described('%typedef: T int\n%typedef: T bool\n%type: A T\n')],
     'ints have no bounds in recfix, and 8 and 9 may follow a 0': typed('int', '9223372036854775808', '-9223372036854775809', '0x8000000000000000', '08', '09'),
     'the ends of ranges and the numbers of sizes have 32 bits in recfix': [*typed('range 3 MAX', '2147483648'), *typed('range MIN 3', '-2147483649'), *typed('range 4294967297', '5'), *typed('size 4294967297', 'abc'), described('%size: < 4294967297\n', 'A: 1\n\nA: 2\n')],
+    'recfix counts the bytes of a size': [*typed('size 1', 'é', '€', '𝄞'), *typed('size 3', 'éé', 'abé', 'é\n+ a')],
     'a real without digits, or with none before the dot': typed('real', '.5', '-', ''),
     'blanks around a uuid': typed('uuid', ' 01234567-89ab-cdef-0123-456789abcdef'),
 }

@@ -216,6 +216,11 @@ def numbers(r):
     for value in (b'9223372036854775807', b'-9223372036854775808', b'-0x8000000000000000', b'-01000000000000000000000', b'9223372036854775808', b'-9223372036854775809', b'0x8000000000000000', b'18446744073709551616', b'123456789012'):
         r.edit(*(setting(b'S', 0, name, 0, value) for name in (b'A', b'B', b'C', b'D')))
     r.look_around()
+    # 112 and 0 at both sides of a size, which counts characters
+    r.start(b'%rec: S\n%type: A size 2\n\nA:\n', room=400)
+    for value in (*map(str.encode, ('é', 'éé', 'ééa', '€€', '€€€', '𝄞𝄞', 'a𝄞é', 'é\n', 'é\na')), b'\x80' * 9, b'\xff\xfe\xbf', b'\xff\xfe\xc0'):
+        r.edit(setting(b'S', 0, b'A', 0, value), add(b'S', 0, b'A', value), insert(b'S', (b'B', value), (b'A', value)), rename(b'S', 1, b'B', 0, b'A'), delete(b'S', 1))
+    r.look_around()
     r.start(b'%rec: S\n%size: >= 1\n\nA: 1\n\n# c\n\n%rec: T\n\n', room=400, behind=b'behind')
     r.edit(delete(b'S', 0), insert(b'S', (b'A', b'2')), delete(b'S', 0), delete(b'S', 0), insert(b'T', (b'A', b'a\nb'), (b'B', b'')), insert(b'', (b'Z', b'z')), insert(b'T', (b'C', b'c')), delete(b'', 0), delete(b'T', 0))
     r.look_around()

@@ -54,7 +54,10 @@ module _ {A : Type 0} (p : A → Bool) where
   none-any [] h = refl
   none-any (x ∷ xs) h = ap (λ (b : Bool). b || any p xs) (h .0) ∙ none-any xs (h .1)
 
--- two tests of all, one that always passes, and two alike
+-- a test that follows from another; two tests of all, one that always passes, and two alike
+pub all-imp : {A : Type 0} (p q : A → Bool) → ((x : A) → p x ≡ true → q x ≡ true) → (xs : List A) → all p xs ≡ true → all q xs ≡ true
+all-imp p q h xs e = each-all q xs (each-imp (λ x. p x ≡ true) (λ x. q x ≡ true) h xs (all-each p xs e))
+
 both-swap : (a b c d : Bool) → (a && b && (c && d)) ≡ (a && c && (b && d))
 both-swap true true c d = refl
 both-swap true false c d = sym (and-false c)

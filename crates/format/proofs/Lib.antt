@@ -43,6 +43,7 @@ pub mod Dense
 pub mod Splices
 pub mod Least
 pub mod Wider
+pub mod Characters
 pub mod Table
 pub mod Cases
 pub mod Lookups

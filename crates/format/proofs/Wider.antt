@@ -19,10 +19,10 @@ use Rattle.format.specs.Sets.{RecSet, valuesOf, setsOf}
 use Rattle.format.specs.Limits.{fileBytes}
 use Rattle.format.specs.Words.{isGap, words, trim, firstWord, afterWord, isTypeName}
 use Rattle.format.specs.Numbers.{Int, plus, minus, Bounds, intBounds, unsigned, upTo, intOf, isAtMost, notBelow0, numberOf}
-use Rattle.format.specs.Types.{Kind, Typed, Typedef, bare, endOf, ranged, rangeOf, sizeOf, plainKind, isSymbol, enumIn, uncomment, beforeComment, typeOf, lookup, follow, kindOf, isInRange, meets}
+use Rattle.format.specs.Types.{Kind, Typed, Typedef, bare, endOf, ranged, rangeOf, sizeOf, plainKind, isSymbol, enumIn, uncomment, beforeComment, typeOf, lookup, follow, kindOf, isInRange, sizeCount, meets}
 use Rattle.format.specs.Rules.{orderOf, sizeBy, sizeRule, meetsSize, typedefOf, typedefsOf, TypeRule, typedNames, endKind, typeRuleOf, typeRules, isTyped, Shape, shapes, isShaped, isWellFormed, isTypedefName, distinct, spanOf, isCounted, autosCounted, auto, areTypesDefined, isTypedWell}
 use Rattle.format.specs.Questions.{Row, firstNo, File, fileOf, fitsLimits, describesOnce, nameOf, describesWell, typesWell, eachRecord, noneProhibited, allAllowed, allPresent, noneRepeated, allTyped, keysDistinct, sizeMet, singularMet, descriptorRows, ruleRows, verdictIn, verdict}
-use Rattle.format.proofs.Elements.{Each, each-imp, each-both, all-each, each-all, all-both}
+use Rattle.format.proofs.Elements.{Each, each-imp, each-both, all-each, each-all, all-imp, all-both}
 use Rattle.format.proofs.Listing.{same-true}
 use Rattle.format.proofs.Least.{Above, Rise, first-above}
 
@@ -173,7 +173,7 @@ or-each true b c d h k e = ap (λ (x : Bool). x || d) (h refl)
 or-each false true c d h k e = refl
 or-each false false c d h k e = k e
 
-or-later : (a b c : Bool) → (b ≡ true → c ≡ true) → (a || b) ≡ true → (a || c) ≡ true
+pub or-later : (a b c : Bool) → (b ≡ true → c ≡ true) → (a || b) ≡ true → (a || c) ≡ true
 or-later a b c h e = or-each a a b c (λ x. x) h e
 
 all-from : {A : Type 0} (p q t : A → Bool) → ((x : A) → p x ≡ true → q x ≡ true → t x ≡ true) → (xs : List A) → all p xs ≡ true → all q xs ≡ true → all t xs ≡ true
@@ -183,9 +183,6 @@ all-from p q t h xs e f =
 all-same : {A : Type 0} (p q t : A → Bool) → ((x : A) → p x ≡ true → q x ≡ t x) → (xs : List A) → all p xs ≡ true → all q xs ≡ all t xs
 all-same p q t h [] e = refl
 all-same p q t h (x ∷ xs) e = let k = and-eq-true-iff (p x) (all p xs) .0 e in (λ i. h x (k .0) i && all-same p q t h xs (k .1) i)
-
-all-imp : {A : Type 0} (p q : A → Bool) → ((x : A) → p x ≡ true → q x ≡ true) → (xs : List A) → all p xs ≡ true → all q xs ≡ true
-all-imp p q h xs e = all-from p p q (λ x a b. h x a) xs e e
 
 -- the five tests of a descriptor's types
 five : (a b c d e : Bool) → (a && b && c && d && e) ≡ true → (a ≡ true) × (b ≡ true) × (c ≡ true) × (d ≡ true) × (e ≡ true)
@@ -263,7 +260,7 @@ module _ (n w : Bounds) (wide : Wider n w) where
   int-covers = (λ v e. again-some (intOf n (trim v)) (intOf w (trim v)) (int-again (trim v)) e, refl)
 
   size-covers : (k m : ℕ) → k ≡ m → Covers (Kind.size k) (Kind.size m)
-  size-covers k m h = (λ v e. subst (λ (x : ℕ). leb (length v) x ≡ true) h e, refl)
+  size-covers k m h = (λ v e. subst (λ (x : ℕ). leb (sizeCount v) x ≡ true) h e, refl)
 
   in-range : (a b c d : Int) → Lower a c → Upper b d → (x y : Option Int) → Again Equal x y → isInRange a b x ≡ true → isInRange c d y ≡ true
   in-range a b c d l u none y h e = absurd (false≢true e)

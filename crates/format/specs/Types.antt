@@ -5,8 +5,8 @@ use mathlib.Core.List.{List, [], _∷_, map}
 use mathlib.Core.Option.{Option, none, some, Option·map}
 use lib.Dec.{leb, eqb}
 use lib.ListN.{length}
-use Rattle.format.specs.Lists.{onlyIf, onward, isFilled, front, behind}
-use Rattle.format.specs.Bytes.{Bytes, text, pick, isLetter, isDigit, isNewline, all, any, isSpelt, same, among, isSome}
+use Rattle.format.specs.Lists.{onlyIf, onward, isFilled, filter, front, behind}
+use Rattle.format.specs.Bytes.{Bytes, text, pick, within, isLetter, isDigit, isNewline, all, any, isSpelt, same, among, isSome}
 use Rattle.format.specs.Lines.{isName}
 use Rattle.format.specs.Words.{isGap, notGap, words, split, trim, isTypeName}
 use Rattle.format.specs.Numbers.{Int, plus, minus, Bounds, isDigitOf, intOf, isAtMost, numberOf, isReal}
@@ -141,13 +141,20 @@ isUuid s = let gs : List Bytes = split 45 s in same (map length gs) (8 ∷ 4 ∷
 abbrev pub truths : List Bytes
 truths = map text ("yes" ∷ "no" ∷ "0" ∷ "1" ∷ "true" ∷ "false" ∷ [])
 
--- "`line` (no newline); `size` n (at most n bytes)", "Blanks and newlines around a value are ignored for all kinds but `line` and `size`."
+-- "From now on `size` counts the bytes outside hex 80 to BF, which in UTF-8 is the count of characters." (document 02, order 7)
+abbrev pub isContinuation : ℕ → Bool
+isContinuation c = within 128 191 c
+
+abbrev pub sizeCount : Bytes → ℕ
+sizeCount v = length (filter (λ (c : ℕ). not (isContinuation c)) v)
+
+-- "`line` (no newline)", "Blanks and newlines around a value are ignored for all kinds but `line` and `size`."
 abbrev pub meets : Bounds → Kind → Bytes → Bool
 meets b int v = isSome (intOf b (trim v))
 meets b (range low high) v = isInRange low high (intOf b (trim v))
 meets b real v = isReal (trim v)
 meets b line v = not (any isNewline v)
-meets b (size n) v = leb (length v) n
+meets b (size n) v = leb (sizeCount v) n
 meets b (enum ws) v = among (trim v) ws
 meets b bool v = among (trim v) truths
 meets b field v = isName (trim v)

@@ -6,7 +6,7 @@ ghost use lib.Dec.{eqb};
 ghost use lib.ListN.{length, getD};
 ghost use Rattle.format.specs.Bytes.{among, isSome};
 ghost use Rattle.format.specs.Numbers.{intBounds, areDigits, intOf};
-ghost use Rattle.format.specs.Types.{isInRange, truths, isUuid};
+ghost use Rattle.format.specs.Types.{isInRange, truths, isUuid, isContinuation, sizeCount};
 ghost use Rattle.words.specs.Spans.{span};
 ghost use Rattle.numbers.specs.Meaning.{intIn};
 ghost use Rattle.typing.specs.Meaning.{Sound, meetsIn};
@@ -82,6 +82,28 @@ fn in_range(a: Whole, b: Whole, w: &[u8]) -> bool
     }
 }
 
+// Is this byte one from hex 80 to BF, which a size leaves out?
+fn is_continuation(c: u8) -> bool
+    ensures { λ r. ⌜ r ≡ isContinuation c ⌝ }
+{
+    c >= 128 && c <= 191
+}
+
+// The size of a value: how many of its bytes are no continuation.
+fn size_count(v: &[u8]) -> usize
+    ensures { λ r. ⌜ r ≡ sizeCount (now (v .entry)) ⌝ }
+{
+    let mut i = 0;
+    let mut n = 0;
+    while i < v.len() {
+        if !is_continuation(v[i]) {
+            n += 1;
+        }
+        i += 1;
+    }
+    n
+}
+
 // Does a value meet the type that was read from text? An alias has to be followed first.
 pub fn meets(k: Shape, text: &[u8], v: &[u8]) -> bool
     requires { ⌜ Sound (now text) k ⌝ }
@@ -95,7 +117,7 @@ pub fn meets(k: Shape, text: &[u8], v: &[u8]) -> bool
         Shape::Range(low, high) => in_range(low, high, &v[a..e]),
         Shape::Real => numbers::is_real(&v[a..e]),
         Shape::Line => lines::line_len(v) == v.len(),
-        Shape::Size(n) => v.len() as u64 <= n,
+        Shape::Size(n) => size_count(v) as u64 <= n,
         Shape::Enum { start, end } => has_symbol(&text[start..end], &v[a..e]),
         Shape::Bool => is_truth(&v[a..e]),
         Shape::Field => words::is_name(&v[a..e]),

@@ -3,7 +3,7 @@ use mathlib.Core.Path.{sym, ap, _∙_}
 use mathlib.Core.Bool.{false}
 use Prim.Native.Nat.{ℕ}
 use native.Mathlib.Omega.{arith}
-use lib.Dec.{eqb}
+use lib.Dec.{leb, eqb}
 use lib.ListN.{length}
 use Rattle.format.specs.Bytes.{Bytes, among, isSome}
 use Rattle.format.specs.Lines.{isName}
@@ -27,6 +27,7 @@ use Rattle.typing.proofs.values.is_truth.Reads as is-truth-reads
 use Rattle.typing.proofs.values.is_uuid.Reads as is-uuid-reads
 use Rattle.words.proofs.is_name.Reads as is-name-reads
 use Rattle.words.proofs.trimmed.Reads as trimmed-reads
+use Rattle.typing.proofs.values.size_count.Reads as size-count-reads
 
 trimmed-requires : tie.Need-trimmed-requires
 trimmed-requires c κs = search needs
@@ -84,6 +85,9 @@ line-len-requires c κs = search needs
 
 enum-known-k-2 : tie.Need-enum-known-k-2
 enum-known-k-2 c = search needs
+
+size-count-requires : tie.Need-size-count-requires
+size-count-requires c κs = search needs
 
 enum-known-k-3 : tie.Need-enum-known-k-3
 enum-known-k-3 c = search needs
@@ -210,9 +214,10 @@ returns-4 c =
 
 returns-5 : tie.Need-returns-5
 returns-5 c =
-    let at-args = c .before .before .before .before .before .before .args in
-    let at-k2 = c .before .k2 in
-    meets-shape (at-args .text .now) (at-args .v .now) (at-k2 .given .1)
+    let at-args = c .before .before .before .before .before .before .before .args in
+    let at-k2 = c .before .before .k2 in
+    let at-size-count = c .size-count in
+    ap (λ (n : ℕ). leb n (at-k2 .given .0 .0)) (at-size-count .ensures) ∙ meets-shape (at-args .text .now) (at-args .v .now) (at-k2 .given .1)
 
 returns-6 : tie.Need-returns-6
 returns-6 c =
@@ -275,6 +280,7 @@ meets-spec =
     enum-told-3
     line-len-requires
     enum-known-k-2
+    size-count-requires
     enum-known-k-3
     sub-has-symbol
     part-has-symbol-start
