@@ -1,8 +1,8 @@
 -- What a name asks of its value: a name is one of the rows, or no row's, or does not start with `%`.
 use Prim.Native.Nat.{ℕ, suc, _+_, _≤_, _<_}
 use native.Mathlib.Omega.{arith}
-use mathlib.Core.Path.{_≡_, refl, ap, _∙_, subst}
-use mathlib.Core.Bool.{Bool, true, false, _&&_, _||_, not, or-false}
+use mathlib.Core.Path.{_≡_, refl, sym, ap, _∙_, subst}
+use mathlib.Core.Bool.{Bool, true, false, _&&_, _||_, not, true≢false, or-false}
 use mathlib.Core.List.{List, [], _∷_, map}
 use lib.ListN.{length, getD}
 use Rattle.format.specs.Lines.{isName, isSpecial}
@@ -12,9 +12,12 @@ use Rattle.format.specs.Rules.{Shape, shapes}
 use Rattle.format.proofs.Elements.{Each}
 use Rattle.format.proofs.Listing.{same-true}
 use Rattle.words.specs.RuleNames.{placeIn, ruleNames}
-use Rattle.words.proofs.RuleNames.{is-placed}
-use Rattle.descriptors.specs.Contents.{listable, holds, Asks}
+use Rattle.words.proofs.RuleNames.{is-placed, not-placed}
+use Rattle.descriptors.specs.Contents.{listable, holds, isFree, asksName, asksSize, Asks}
 use Rattle.descriptors.specs.declared.shapes.Content.{Content}
+use Rattle.descriptors.proofs.shapes.Content.{the-type}
+use denote.Enum.Declared.{tagOf}
+use types.Run.{OneOf, miss}
 
 -- a word in a list of names
 pub listable-not : (b : Bool) (w : Bytes) → isName w ≡ false → listable b w ≡ false
@@ -27,40 +30,40 @@ listable-name false w e = ap (λ (x : Bool). x && not (isSpecial w)) e
 
 -- the rows
 pub rec-asks : Asks (text "%rec") Content.TypeName
-rec-asks v k = or-false (holds Content.TypeName v)
+rec-asks = record { shaped = λ v k. or-false (holds Content.TypeName v); key = refl; size = refl }
 
 pub doc-asks : Asks (text "%doc") Content.Free
-doc-asks v k = refl
+doc-asks = record { shaped = λ v k. refl; key = refl; size = refl }
 
 pub mandatory-asks : Asks (text "%mandatory") Content.Names
-mandatory-asks v k = or-false (holds Content.Names v)
+mandatory-asks = record { shaped = λ v k. or-false (holds Content.Names v); key = refl; size = refl }
 
 pub prohibit-asks : Asks (text "%prohibit") Content.Names
-prohibit-asks v k = or-false (holds Content.Names v)
+prohibit-asks = record { shaped = λ v k. or-false (holds Content.Names v); key = refl; size = refl }
 
 pub allowed-asks : Asks (text "%allowed") Content.Names
-allowed-asks v k = or-false (holds Content.Names v)
+allowed-asks = record { shaped = λ v k. or-false (holds Content.Names v); key = refl; size = refl }
 
 pub unique-asks : Asks (text "%unique") Content.Names
-unique-asks v k = or-false (holds Content.Names v)
+unique-asks = record { shaped = λ v k. or-false (holds Content.Names v); key = refl; size = refl }
 
 pub key-asks : Asks (text "%key") Content.Name
-key-asks v k = or-false (holds Content.Name v)
+key-asks = record { shaped = λ v k. or-false (holds Content.Name v); key = refl; size = refl }
 
 pub size-asks : Asks (text "%size") Content.Size
-size-asks v k = or-false (holds Content.Size v)
+size-asks = record { shaped = λ v k. or-false (holds Content.Size v); key = refl; size = refl }
 
 pub typedef-asks : Asks (text "%typedef") Content.Free
-typedef-asks v k = refl
+typedef-asks = record { shaped = λ v k. refl; key = refl; size = refl }
 
 pub type-asks : Asks (text "%type") Content.Free
-type-asks v k = refl
+type-asks = record { shaped = λ v k. refl; key = refl; size = refl }
 
 pub singular-asks : Asks (text "%singular") Content.Names
-singular-asks v k = or-false (holds Content.Names v)
+singular-asks = record { shaped = λ v k. or-false (holds Content.Names v); key = refl; size = refl }
 
 pub auto-asks : Asks (text "%auto") Content.Ordinary
-auto-asks v k = or-false (holds Content.Ordinary v)
+auto-asks = record { shaped = λ v k. or-false (holds Content.Ordinary v); key = refl; size = refl }
 
 -- a name that has the place of one of them
 pub asks-at : (n m : Bytes) (c : Content) (r k : ℕ) → r ≡ placeIn n ruleNames → getD ruleNames k [] ≡ m → k < length ruleNames → same m m ≡ true → Asks m c → r ≡ k → Asks n c
@@ -83,10 +86,66 @@ no-row n v [] h = refl
 no-row n v (x ∷ xs) h = ap (λ (b : Bool). (b && x .fits v) || any (λ (y : Shape). same n (y .name) && y .fits v) xs) (h .0) ∙ no-row n v xs (h .1)
 
 pub asks-none : (n : Bytes) (r : ℕ) → isSpecial n ≡ true → r ≡ placeIn n ruleNames → length ruleNames ≤ r → Asks n Content.Fault
-asks-none n r s e h v k =
-    ap (λ (b : Bool). not b || any (λ (x : Shape). same n (x .name) && x .fits v) (shapes intBounds)) s
-    ∙ no-row n v (shapes intBounds) (rows-passed n (shapes intBounds) (omega (arith, e, h)))
+asks-none n r s e h =
+    record {
+      shaped =
+          λ v k.
+          ap (λ (b : Bool). not b || any (λ (x : Shape). same n (x .name) && x .fits v) (shapes intBounds)) s
+          ∙ no-row n v (shapes intBounds) (rows-passed n (shapes intBounds) (omega (arith, e, h)));
+      key = not-placed n (text "%key") ruleNames r 6 e refl (λ q. omega (arith, h, q));
+      size = not-placed n (text "%size") ruleNames r 7 e refl (λ q. omega (arith, h, q));
+    }
 
 -- one that does not start with `%`
+not-special : (m n : Bytes) → isSpecial m ≡ true → isSpecial n ≡ false → same m n ≡ false
+not-special m n e f = go (same m n) refl
+  where
+    go : (b : Bool) → same m n ≡ b → b ≡ false
+    go false q = refl
+    go true q = sym e ∙ ap isSpecial (same-true m n q) ∙ f
+
 pub asks-plain : (n : Bytes) → isSpecial n ≡ false → Asks n Content.Free
-asks-plain n e v k = ap (λ (b : Bool). not b || any (λ (x : Shape). same n (x .name) && x .fits v) (shapes intBounds)) e
+asks-plain n e =
+    record {
+      shaped = λ v k. ap (λ (b : Bool). not b || any (λ (x : Shape). same n (x .name) && x .fits v) (shapes intBounds)) e;
+      key = not-special (text "%key") n refl e;
+      size = not-special (text "%size") n refl e;
+    }
+
+-- any value is what is asked where nothing is
+pub free-holds : (c : Content) (v : Bytes) → isFree c ≡ true → true ≡ holds c v
+free-holds Content.Free v e = refl
+free-holds Content.TypeName v e = absurd (true≢false (sym e))
+free-holds Content.Names v e = absurd (true≢false (sym e))
+free-holds Content.Ordinary v e = absurd (true≢false (sym e))
+free-holds Content.Name v e = absurd (true≢false (sym e))
+free-holds Content.Size v e = absurd (true≢false (sym e))
+free-holds Content.Fault v e = absurd (true≢false (sym e))
+
+-- what is asked is another thing
+pub not-free : (c : Content) → OneOf (1 ∷ 2 ∷ 3 ∷ 4 ∷ 5 ∷ 6 ∷ []) (tagOf the-type c) → false ≡ isFree c
+not-free Content.Free h = absurd (miss (1 ∷ 2 ∷ 3 ∷ 4 ∷ 5 ∷ 6 ∷ []) 0 tt h)
+not-free Content.TypeName h = refl
+not-free Content.Names h = refl
+not-free Content.Ordinary h = refl
+not-free Content.Name h = refl
+not-free Content.Size h = refl
+not-free Content.Fault h = refl
+
+pub not-name : (c : Content) → OneOf (0 ∷ 1 ∷ 2 ∷ 3 ∷ 5 ∷ 6 ∷ []) (tagOf the-type c) → false ≡ asksName c
+not-name Content.Free h = refl
+not-name Content.TypeName h = refl
+not-name Content.Names h = refl
+not-name Content.Ordinary h = refl
+not-name Content.Name h = absurd (miss (0 ∷ 1 ∷ 2 ∷ 3 ∷ 5 ∷ 6 ∷ []) 4 tt h)
+not-name Content.Size h = refl
+not-name Content.Fault h = refl
+
+pub not-size : (c : Content) → OneOf (0 ∷ 1 ∷ 2 ∷ 3 ∷ 4 ∷ 6 ∷ []) (tagOf the-type c) → false ≡ asksSize c
+not-size Content.Free h = refl
+not-size Content.TypeName h = refl
+not-size Content.Names h = refl
+not-size Content.Ordinary h = refl
+not-size Content.Name h = refl
+not-size Content.Size h = absurd (miss (0 ∷ 1 ∷ 2 ∷ 3 ∷ 4 ∷ 6 ∷ []) 5 tt h)
+not-size Content.Fault h = refl

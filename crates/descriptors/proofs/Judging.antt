@@ -1,14 +1,17 @@
 -- When a descriptor is well formed; and question 6 as a walk over the descriptors that keeps the names it has met: each is well formed and called like none before it.
+use Prim.Native.Nat.{ℕ, suc}
+use native.Mathlib.Omega.{arith}
 use mathlib.Core.Path.{_≡_, refl, sym, ap, _∙_}
-use mathlib.Core.Bool.{Bool, true, false, _&&_, _||_, not, and-eq-true-iff}
+use mathlib.Core.Bool.{Bool, true, false, _&&_, _||_, not, true≢false, and-eq-true-iff}
 use mathlib.Core.List.{List, [], _∷_, _++_, map}
+use borrow.Author.Tests.{leb-true, leb-false, le-leb, lt-leb}
 use lib.Dec.{leb}
 use lib.ListN.{length}
 use Rattle.format.specs.Bytes.{Bytes, text, pick, all, same, among}
 use Rattle.format.specs.Limits.{descriptors}
 use Rattle.format.specs.Numbers.{intBounds}
 use Rattle.format.specs.Questions.{fitsRecord, fitsRules}
-use Rattle.format.specs.Records.{Record}
+use Rattle.format.specs.Records.{Field, Record}
 use Rattle.format.specs.Rules.{isShaped, isWellFormed, distinct}
 use Rattle.format.specs.Sets.{valuesOf}
 use Rattle.format.proofs.Elements.{all-alike, all-both}
@@ -17,23 +20,76 @@ use Rattle.format.proofs.Walking.{isHead, headName, heads, headNames, walkFits,
 use Rattle.records.proofs.Rows.{heads-asked}
 use Rattle.descriptors.specs.Names.{passes}
 
--- does a name occur at most once
-abbrev pub isOnce : Bytes → Record → Bool
-isOnce n r = leb (length (valuesOf n r)) 1
+-- may a name occur once more, or, where it was met, not again
+abbrev pub atMostOnce : Bool → Bytes → Record → Bool
+atMostOnce met n r = leb (length (valuesOf n r)) (pick met 0 1)
 
-module _ (r : Record) where
-  pub formed : all (isShaped intBounds) r ≡ true → isOnce (text "%key") r ≡ true → isWellFormed intBounds r ≡ isOnce (text "%size") r
-  formed p q = λ i. (p i && q i) && isOnce (text "%size") r
+-- are fields well formed behind some of their descriptor, among which a key and a size were met or not
+abbrev pub formedFrom : Bool → Bool → Record → Bool
+formedFrom keyed sized r = (all (isShaped intBounds) r && atMostOnce keyed (text "%key") r) && atMostOnce sized (text "%size") r
 
-  pub keys-twice : isOnce (text "%key") r ≡ false → isWellFormed intBounds r ≡ false
-  keys-twice q = go (all (isShaped intBounds) r)
+suc-leb : (a b : ℕ) → leb (suc a) (suc b) ≡ leb a b
+suc-leb a b = go (leb a b) refl
+  where
+    go : (t : Bool) → leb a b ≡ t → leb (suc a) (suc b) ≡ t
+    go true e = le-leb (suc a) (suc b) (let h = leb-true a b e in omega (arith, h))
+    go false e = lt-leb (suc a) (suc b) (let h = leb-false a b e in omega (arith, h))
+
+-- one field more: a name that was met and is its own occurs twice; else the others are asked
+module _ (met : Bool) (n : Bytes) (f : Field) (fs : Record) where
+  once-by : (t : Bool) → same n (f .name) ≡ t → atMostOnce met n (f ∷ fs) ≡ leb (length (pick t (f .value ∷ valuesOf n fs) (valuesOf n fs))) (pick met 0 1)
+  once-by t e = ap (λ (b : Bool). leb (length (pick b (f .value ∷ valuesOf n fs) (valuesOf n fs))) (pick met 0 1)) e
+
+  once-stop : (t : Bool) → same n (f .name) ≡ t → (met && t) ≡ true → atMostOnce met n (f ∷ fs) ≡ false
+  once-stop t e h =
+      let g = and-eq-true-iff met t .0 h in
+      once-by true (e ∙ g .1)
+      ∙ ap (λ (b : Bool). leb (suc (length (valuesOf n fs))) (pick b 0 1)) (g .0)
+      ∙ lt-leb (suc (length (valuesOf n fs))) 0 (omega arith)
+
+  once-more : (t : Bool) → same n (f .name) ≡ t → (met && t) ≡ false → atMostOnce met n (f ∷ fs) ≡ atMostOnce (met || t) n fs
+  once-more t e h = once-by t e ∙ go met t h
     where
-      go : (b : Bool) → ((b && isOnce (text "%key") r) && isOnce (text "%size") r) ≡ false
-      go true = ap (λ (x : Bool). x && isOnce (text "%size") r) q
-      go false = refl
+      go : (a b : Bool) → (a && b) ≡ false → leb (length (pick b (f .value ∷ valuesOf n fs) (valuesOf n fs))) (pick a 0 1) ≡ atMostOnce (a || b) n fs
+      go true true q = absurd (true≢false q)
+      go true false q = refl
+      go false true q = suc-leb (length (valuesOf n fs)) 0
+      go false false q = refl
 
-  pub not-shaped : all (isShaped intBounds) r ≡ false → isWellFormed intBounds r ≡ false
-  not-shaped p = ap (λ (b : Bool). (b && isOnce (text "%key") r) && isOnce (text "%size") r) p
+pub formed-done : (keyed sized : Bool) (r : Record) → r ≡ [] → formedFrom keyed sized r ≡ true
+formed-done keyed sized r e = ap (formedFrom keyed sized) e ∙ go keyed sized
+  where
+    go : (a b : Bool) → formedFrom a b [] ≡ true
+    go true true = refl
+    go true false = refl
+    go false true = refl
+    go false false = refl
+
+neither : (a b : Bool) → (a || b) ≡ false → (a ≡ false) × (b ≡ false)
+neither true b e = absurd (true≢false e)
+neither false b e = (refl, e)
+
+module _ (keyed sized : Bool) (r : Record) (f : Field) (fs : Record) (e : r ≡ f ∷ fs) where
+  pub formed-stop : isShaped intBounds f ≡ false → formedFrom keyed sized r ≡ false
+  formed-stop p = ap (formedFrom keyed sized) e ∙ ap (λ (b : Bool). ((b && all (isShaped intBounds) fs) && atMostOnce keyed (text "%key") (f ∷ fs)) && atMostOnce sized (text "%size") (f ∷ fs)) p
+
+  module _ (key size : Bool) (p : same (text "%key") (f .name) ≡ key) (q : same (text "%size") (f .name) ≡ size) where
+    pub formed-twice : ((keyed && key) || (sized && size)) ≡ true → formedFrom keyed sized r ≡ false
+    formed-twice h = ap (formedFrom keyed sized) e ∙ go (keyed && key) refl h
+      where
+        last : (b : Bool) → (b && false) ≡ false
+        last true = refl
+        last false = refl
+
+        go : (b : Bool) → (keyed && key) ≡ b → (b || (sized && size)) ≡ true → formedFrom keyed sized (f ∷ fs) ≡ false
+        go true g t = ap (λ (b : Bool). (all (isShaped intBounds) (f ∷ fs) && b) && atMostOnce sized (text "%size") (f ∷ fs)) (once-stop keyed (text "%key") f fs key p g) ∙ ap (λ (b : Bool). b && atMostOnce sized (text "%size") (f ∷ fs)) (last (all (isShaped intBounds) (f ∷ fs)))
+        go false t g = ap (λ (b : Bool). (all (isShaped intBounds) (f ∷ fs) && atMostOnce keyed (text "%key") (f ∷ fs)) && b) (once-stop sized (text "%size") f fs size q g) ∙ last (all (isShaped intBounds) (f ∷ fs) && atMostOnce keyed (text "%key") (f ∷ fs))
+
+    pub formed-more : isShaped intBounds f ≡ true → ((keyed && key) || (sized && size)) ≡ false → formedFrom keyed sized r ≡ formedFrom (keyed || key) (sized || size) fs
+    formed-more g h =
+        let k = neither (keyed && key) (sized && size) h in
+        ap (formedFrom keyed sized) e
+        ∙ (λ i. ((g i && all (isShaped intBounds) fs) && once-more keyed (text "%key") f fs key p (k .0) i) && once-more sized (text "%size") f fs size q (k .1) i)
 
 -- what is found of a descriptor tells whether it passes behind others: w that it is well formed, t that its name m is taken
 module _ (r : Record) (seen : List Bytes) (w : Bool) (e : w ≡ isWellFormed intBounds r) where

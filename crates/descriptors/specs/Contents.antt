@@ -4,7 +4,7 @@ use mathlib.Core.Path.{_≡_}
 use mathlib.Core.Bool.{Bool, true, false}
 use mathlib.Core.List.{[], _∷_}
 use lib.ListN.{length}
-use Rattle.format.specs.Bytes.{Bytes, isSome}
+use Rattle.format.specs.Bytes.{Bytes, text, same, isSome}
 use Rattle.format.specs.Lines.{isName}
 use Rattle.format.specs.Numbers.{intBounds}
 use Rattle.format.specs.Rules.{sizeRule, one, several, nameList, isOrdinary, isShaped}
@@ -34,6 +34,36 @@ holds Content.Name v = one isName (words v)
 holds Content.Size v = isSome (sizeRule intBounds (words v))
 holds Content.Fault v = false
 
--- a name asks this, whatever the value and the count are
-abbrev pub Asks : Bytes → Content → Type 0
-Asks n c = (v : Bytes) (k : ℕ) → isShaped intBounds (fieldOf n v k) ≡ holds c v
+-- is nothing asked, one name, or a size
+abbrev pub isFree : Content → Bool
+isFree Content.Free = true
+isFree Content.TypeName = false
+isFree Content.Names = false
+isFree Content.Ordinary = false
+isFree Content.Name = false
+isFree Content.Size = false
+isFree Content.Fault = false
+
+abbrev pub asksName : Content → Bool
+asksName Content.Free = false
+asksName Content.TypeName = false
+asksName Content.Names = false
+asksName Content.Ordinary = false
+asksName Content.Name = true
+asksName Content.Size = false
+asksName Content.Fault = false
+
+abbrev pub asksSize : Content → Bool
+asksSize Content.Free = false
+asksSize Content.TypeName = false
+asksSize Content.Names = false
+asksSize Content.Ordinary = false
+asksSize Content.Name = false
+asksSize Content.Size = true
+asksSize Content.Fault = false
+
+-- a name asks this, whatever the value and the count are; `%key` alone asks one name, and `%size` alone a size
+pub record Asks (n : Bytes) (c : Content) : Type 0 where
+  pub shaped : (v : Bytes) (k : ℕ) → isShaped intBounds (fieldOf n v k) ≡ holds c v
+  pub key : same (text "%key") n ≡ asksName c
+  pub size : same (text "%size") n ≡ asksSize c

@@ -1,8 +1,7 @@
 // Descriptors: is each field of one shaped as its name asks, and are no two sets called alike?
 ghost use mathlib.Core.Path.{_≡_};
 ghost use mathlib.Core.Bool.{true, false};
-ghost use Prim.Native.Nat.{ℕ, _≤_};
-ghost use lib.Dec.{leb};
+ghost use Prim.Native.Nat.{_≤_};
 ghost use lib.ListN.{length};
 ghost use Rattle.format.specs.Pieces.{readOf};
 ghost use Rattle.format.proofs.Records.{records};
@@ -11,8 +10,7 @@ ghost use Rattle.format.specs.Lines.{isName, isSpecial};
 ghost use Rattle.format.specs.Limits.{valueBytes, descriptors};
 ghost use Rattle.format.specs.Numbers.{intBounds};
 ghost use Rattle.format.specs.Records.{fieldsOf};
-ghost use Rattle.format.specs.Rules.{one, several, isShaped, isWellFormed};
-ghost use Rattle.format.specs.Sets.{valuesOf};
+ghost use Rattle.format.specs.Rules.{one, several, isWellFormed};
 ghost use Rattle.format.specs.Questions.{fitsRecord};
 ghost use Rattle.format.specs.Words.{words, firstWord, isTypeName};
 ghost use Rattle.format.proofs.Walking.{walkFits, walkWell};
@@ -20,8 +18,7 @@ ghost use Rattle.lines.specs.Value.{valueFrom};
 ghost use Rattle.records.specs.Places.{isReadable};
 ghost use Rattle.records.specs.Heads.{HeadParts};
 ghost use Rattle.words.specs.Spans.{span};
-ghost use Rattle.descriptors.specs.Sizes.{fieldOf};
-ghost use Rattle.descriptors.specs.Contents.{OnlyWord, listable, holds, Asks};
+ghost use Rattle.descriptors.specs.Contents.{OnlyWord, listable, holds, isFree, asksName, asksSize, Asks};
 ghost use Rattle.descriptors.specs.Names.{namesAt, Inside, NamedBy, Told};
 use super::sizes::is_size;
 use super::sizes::size_rule;
@@ -118,6 +115,36 @@ pub enum Content {
     Fault,
 }
 
+// Is nothing asked?
+fn is_free(c: Content) -> bool
+    ensures { λ r. ⌜ r ≡ isFree c ⌝ }
+{
+    match c {
+        Content::Free => true,
+        _ => false,
+    }
+}
+
+// Is one name asked, as it is of `%key` fields alone?
+fn asks_name(c: Content) -> bool
+    ensures { λ r. ⌜ r ≡ asksName c ⌝ }
+{
+    match c {
+        Content::Name => true,
+        _ => false,
+    }
+}
+
+// Is a size asked, as it is of `%size` fields alone?
+fn asks_size(c: Content) -> bool
+    ensures { λ r. ⌜ r ≡ asksSize c ⌝ }
+{
+    match c {
+        Content::Size => true,
+        _ => false,
+    }
+}
+
 // What a name that starts with `%` asks of its value.
 fn special_content(name: &[u8]) -> Content
     requires { ⌜ isSpecial (now name) ≡ true ⌝ }
@@ -167,24 +194,28 @@ pub fn text_holds(c: Content, s: &[u8]) -> bool
     }
 }
 
-// Is a field shaped as its name asks? Its value begins where value does, and is decoded into the scratch.
-pub fn field_shaped(name: &[u8], value: &[u8], scratch: &mut [u8]) -> bool
+// Is a value what is asked? It begins where value does, and is decoded into the scratch where something is asked of it.
+fn value_holds(c: Content, value: &[u8], scratch: &mut [u8]) -> bool
     requires { ⌜ length (valueFrom (now value)) ≤ length (now scratch) ⌝ }
-    ensures { λ r. ⌜ ((k : ℕ) → r ≡ isShaped intBounds (fieldOf (now (name .entry)) (valueFrom (now (value .entry))) k)) × (length (now (scratch .exit)) ≡ length (now (scratch .entry))) ⌝ }
+    ensures { λ r. ⌜ (r ≡ holds c (valueFrom (now (value .entry)))) × (length (now (scratch .exit)) ≡ length (now (scratch .entry))) ⌝ }
 {
-    let c = content_of(name);
+    if is_free(c) {
+        return true;
+    }
     let n = lines::copy_value(value, scratch);
     text_holds(c, &scratch[..n])
 }
 
-// Are all fields of a record shaped as their names ask?
-fn all_shaped(d: &[u8], scratch: &mut [u8]) -> bool
+// Is a descriptor well formed, `%typedef` and `%type` fields aside: are its fields shaped as their names ask, and is there at most one `%key` and one `%size`?
+pub fn well_formed(d: &[u8], scratch: &mut [u8]) -> bool
     requires { ⌜ isReadable (now d) ≡ true ⌝ }
     requires { ⌜ fitsRecord (fieldsOf (readOf (now d))) ≡ true ⌝ }
     requires { ⌜ valueBytes ≤ length (now scratch) ⌝ }
-    ensures { λ r. ⌜ (r ≡ all (isShaped intBounds) (fieldsOf (readOf (now (d .entry))))) × (length (now (scratch .exit)) ≡ length (now (scratch .entry))) ⌝ }
+    ensures { λ r. ⌜ (r ≡ isWellFormed intBounds (fieldsOf (readOf (now (d .entry))))) × (length (now (scratch .exit)) ≡ length (now (scratch .entry))) ⌝ }
 {
     let mut i = 0;
+    let mut keyed = false;
+    let mut sized = false;
     loop {
         let n = records::next_field(&d[i..]);
         let NextField::At {
@@ -196,43 +227,19 @@ fn all_shaped(d: &[u8], scratch: &mut [u8]) -> bool
         else {
             return true;
         };
-        if !field_shaped(&d[i + start..i + named], &d[i + value..i + end], scratch) {
+        let c = content_of(&d[i + start..i + named]);
+        if !value_holds(c, &d[i + value..i + end], scratch) {
             return false;
         }
+        let key = asks_name(c);
+        let size = asks_size(c);
+        if (keyed & key) | (sized & size) {
+            return false;
+        }
+        keyed = keyed | key;
+        sized = sized | size;
         i += end;
     }
-}
-
-// Does a name occur at most once among the fields of a record?
-fn at_most_once(d: &[u8], name: &[u8]) -> bool
-    requires { ⌜ isReadable (now d) ≡ true ⌝ }
-    ensures { λ r. ⌜ r ≡ leb (length (valuesOf (now (name .entry)) (fieldsOf (readOf (now (d .entry)))))) 1 ⌝ }
-{
-    let f = records::find_field(d, name, 1);
-    match f {
-        FoundField::At {
-            start: _,
-            value: _,
-            end: _,
-        } => false,
-        FoundField::Missing => true,
-    }
-}
-
-// Is a descriptor well formed, `%typedef` and `%type` fields aside?
-pub fn well_formed(d: &[u8], scratch: &mut [u8]) -> bool
-    requires { ⌜ isReadable (now d) ≡ true ⌝ }
-    requires { ⌜ fitsRecord (fieldsOf (readOf (now d))) ≡ true ⌝ }
-    requires { ⌜ valueBytes ≤ length (now scratch) ⌝ }
-    ensures { λ r. ⌜ (r ≡ isWellFormed intBounds (fieldsOf (readOf (now (d .entry))))) × (length (now (scratch .exit)) ≡ length (now (scratch .entry))) ⌝ }
-{
-    if !all_shaped(d, scratch) {
-        return false;
-    }
-    if !at_most_once(d, b"%key") {
-        return false;
-    }
-    at_most_once(d, b"%size")
 }
 
 // Where the first `%rec` value of a descriptor stands in it.
