@@ -8,6 +8,7 @@ ghost use Rattle.format.specs.Calls.{answered};
 ghost use Rattle.records.specs.Places.{isReadable};
 ghost use Rattle.directory.specs.Blocks.{blockFrom, nextEntry, listIn, entryIn, startIn};
 ghost use Rattle.directory.specs.Rows.{InDirectory, startOf, entryOf, countedIn, Does};
+use editor::Text;
 use format::Answer;
 use format::Entry;
 use format::File;
@@ -159,7 +160,9 @@ pub fn edit_core(buf: &mut [u8], used: usize, req: &[u8], room: usize) -> Done
             sets: 0,
         };
     }
-    let answer = editor::edit_passing(buf, used, req, &mut copy);
+    let mut added = [0u8; Text::ROOM];
+    let p = editor::plan(buf, used, req, &mut copy, &mut added);
+    let answer = editor::settle(p, buf, used, req, &added, &mut copy);
     Done {
         answer,
         used: answer.value_or(used),

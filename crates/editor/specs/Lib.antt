@@ -1,3 +1,4 @@
--- What a run of requests is to the code.
+-- What a plan of a request and a run of requests are to the code.
+pub mod Plans
 pub mod Runs
 pub mod Overs

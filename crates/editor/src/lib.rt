@@ -2,7 +2,7 @@
 ghost use mathlib.Core.Path.{_≡_};
 ghost use mathlib.Core.Bool.{true};
 ghost use Prim.Native.Nat.{_≤_};
-ghost use lib.ListN.{length};
+ghost use lib.ListN.{length, take};
 ghost use Rattle.format.specs.Limits.{fileBytes};
 ghost use Rattle.format.specs.Requests.{requestsIn};
 ghost use Rattle.format.specs.Calls.{answered, checkAnswer, editAnswer, filledBy};
@@ -10,11 +10,12 @@ ghost use Rattle.format.specs.Runs.{runAnswer};
 ghost use Rattle.format.proofs.Judging.{textNo};
 ghost use Rattle.format.proofs.Results.{editNo};
 ghost use Rattle.edits.specs.Splices.{madeBy, Sound};
+ghost use Rattle.numbering.specs.Adding.{addedRoom};
+ghost use Rattle.editor.specs.Plans.{Planned};
 ghost use Rattle.editor.specs.Runs.{isRun, Sends};
 ghost use Rattle.editor.specs.Overs.{overNo};
 use edits::Located;
 use edits::Splice;
-use edits::Text;
 use format::Answer;
 use format::File;
 use format::Refusal;
@@ -22,6 +23,8 @@ use requests::RequestOf;
 use runs::First;
 
 mod runs;
+
+pub use edits::Text;
 
 // The number of the text that a splice makes of s, questions 2 to 14 and 30. It is made in a copy.
 fn result_no(x: Splice, s: &[u8], req: &[u8], added: &[u8], copy: &mut [u8]) -> u32
@@ -64,20 +67,35 @@ fn over_no(n: usize, room: usize) -> u32
     Refusal::LARGE
 }
 
-// One request to a file that passes, in the first `used` bytes of buf, with room for a copy of it. A refusal writes nothing.
-pub fn edit_passing(buf: &mut [u8], used: usize, req: &[u8], copy: &mut [u8]) -> Answer
+// What a request to a file that passes does, which is in the first `used` bytes of buf, or the number of the first of questions 20 to 25 and 31 that says no. The text of fields that an insert gets is put into
+// `added`; the copy is spent. The two steps of an edit are calls of their own, so that the room which this one takes on the stack is free again when the result is judged.
+pub fn plan(buf: &[u8], used: usize, req: &[u8], copy: &mut [u8], added: &mut [u8]) -> Located
     requires { ⌜ checkAnswer (now buf) used ≡ 0 ⌝ }
-    requires { ⌜ fileBytes ≤ length (now copy) ⌝ }
-    ensures { λ r. ⌜ filledBy r (now (buf .exit)) ≡ editAnswer (now (buf .entry)) used (now (req .entry)) ⌝ }
+    requires { ⌜ (fileBytes ≤ length (now copy)) × (addedRoom ≤ length (now added)) ⌝ }
+    ensures { λ r. ⌜ Planned (take used (now (buf .entry))) (now (req .entry)) (now (added .exit)) r ⌝ }
 {
     let r = requests::request_of(req);
     let RequestOf::Is(q) = r else {
-        return Answer::Refused(Refusal::FORM);
+        return Located::Refused(Refusal::FORM);
     };
-    let mut added = [0u8; Text::ROOM];
-    let l = edits::locate(&buf[..used], req, q, &mut *copy, &mut added);
+    edits::locate(&buf[..used], req, q, copy, added)
+}
+
+// A planned request carried out, if what it makes passes. A refusal writes nothing.
+pub fn settle(
+    plan: Located,
+    buf: &mut [u8],
+    used: usize,
+    req: &[u8],
+    added: &[u8],
+    copy: &mut [u8],
+) -> Answer
+    requires { ⌜ (checkAnswer (now buf) used ≡ 0) × Planned (take used (now buf)) (now req) (now added) plan ⌝ }
+    requires { ⌜ fileBytes ≤ length (now copy) ⌝ }
+    ensures { λ r. ⌜ filledBy r (now (buf .exit)) ≡ editAnswer (now (buf .entry)) used (now (req .entry)) ⌝ }
+{
     let room = buf.len();
-    match l {
+    match plan {
         Located::Refused(k) => {
             return Answer::Refused(k);
         }
@@ -85,11 +103,11 @@ pub fn edit_passing(buf: &mut [u8], used: usize, req: &[u8], copy: &mut [u8]) ->
             return Answer::Refused(over_no(n, room));
         }
         Located::At(x) => {
-            let n = edit_no(x, &buf[..used], req, &added, room, &mut *copy);
+            let n = edit_no(x, &buf[..used], req, added, room, &mut *copy);
             if n != 0 {
                 return Answer::Refused(n);
             }
-            let new = edits::carry_out(x, buf, used, req, &added);
+            let new = edits::carry_out(x, buf, used, req, added);
             return Answer::Value(new);
         }
     }
@@ -104,7 +122,9 @@ fn edit_judged(buf: &mut [u8], used: usize, req: &[u8], k: u32, copy: &mut [u8])
     if k != 0 {
         return Answer::Refused(k);
     }
-    edit_passing(buf, used, req, &mut *copy)
+    let mut added = [0u8; Text::ROOM];
+    let p = plan(buf, used, req, &mut *copy, &mut added);
+    settle(p, buf, used, req, &added, &mut *copy)
 }
 
 // One request to the file in the first `used` bytes of buf. A refusal writes nothing.

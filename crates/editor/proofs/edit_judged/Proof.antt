@@ -8,7 +8,8 @@ use Rattle.editor.proofs.edit_judged.Statement.{statement}
 use Rattle.editor.proofs.edit_judged.Tie as tie
 use Rattle.editor.proofs.edit_judged.Reads as reads
 use Rattle.editor.proofs.edit_judged.Lts as lts
-use Rattle.editor.proofs.edit_passing.Reads as edit-passing-reads
+use Rattle.editor.proofs.plan.Reads as plan-reads
+use Rattle.editor.proofs.settle.Reads as settle-reads
 
 returns : tie.Need-returns
 unfolding checkAnswer
@@ -18,8 +19,17 @@ returns c =
     let at-pre = c .before .before .before .before .pre in
     sym (answer-file (at-args .buf .now) (at-args .used) (at-args .req .now) (at-args .k) (omega (arith, at-if1 .taken)) (at-pre .0))
 
-edit-passing-requires : tie.Need-edit-passing-requires
-edit-passing-requires c κs = search needs
+slice-aggregate-plan : tie.Need-slice-aggregate-plan
+slice-aggregate-plan c = search needs
+
+plan-requires : tie.Need-plan-requires
+plan-requires c κs = search needs
+
+slice-aggregate-settle : tie.Need-slice-aggregate-settle
+slice-aggregate-settle c = search needs
+
+settle-requires : tie.Need-settle-requires
+settle-requires c κs = search needs
 
 same-length : tie.Need-same-length
 same-length c = search needs
@@ -32,4 +42,13 @@ returns-2 c = search needs
 
 pub edit-judged-spec : {M : Type 1} → statement M
 edit-judged-spec =
-    tie.close (tie.spec returns edit-passing-requires same-length same-length-2 returns-2)
+    tie.close
+    (tie.spec
+    returns
+    slice-aggregate-plan
+    plan-requires
+    slice-aggregate-settle
+    settle-requires
+    same-length
+    same-length-2
+    returns-2)
