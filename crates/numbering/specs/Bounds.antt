@@ -5,15 +5,18 @@ use mathlib.Core.Bool.{true}
 use mathlib.Core.List.{List, [], _∷_}
 use mathlib.Core.Option.{Option, none, some}
 use lib.Dec.{ltb}
-use lib.ListN.{getD, set}
+use lib.ListN.{length, getD, set}
 use Rattle.format.specs.Bytes.{Bytes, text, pick, same, among}
+use Rattle.format.specs.Limits.{listWords}
 use Rattle.format.specs.Numbers.{Int, intBounds, intOf}
 use Rattle.format.specs.Records.{Field, Record}
-use Rattle.format.specs.Rules.{typedNames, Span}
+use Rattle.format.specs.Rules.{typedNames, Span, auto}
 use Rattle.format.specs.Words.{trim}
 use Rattle.format.specs.Numbering.{above, from, largest}
 use Rattle.records.specs.Named.{valuesFrom}
+use Rattle.records.specs.Walk.{recordIn}
 use Rattle.words.specs.RuleNames.{placeIn}
+use Rattle.numbering.specs.declared.bounds.Bounds.{Bounds}
 use Rattle.numbering.specs.Types.{typeSpan}
 
 -- how many numbers there are: those above any int
@@ -67,6 +70,17 @@ floorOf d r n = max (largest (fieldFloor n) r) (largest (typeFloor d n) (valuesF
 abbrev pub limitOf : Bytes → Bytes → ℕ
 limitOf d n = lowest (typeLimit d n) (valuesFrom d (text "%type") 0)
 
+-- the limits among bounds are limits, and there is a floor and a limit for each place
+abbrev pub Limited : List Bytes → Bounds → Type 0
+Limited ws b = (listWords ≤ length (b .floors)) × (listWords ≤ length (b .limits)) × AreLimits ws (b .limits)
+
 -- each name of a list has a number at its place
 abbrev pub Holds : List Bytes → (Bytes → ℕ) → List ℕ → Type 0
 Holds ws f l = (n : Bytes) → among n ws ≡ true → getD l (placeIn n ws) 0 ≡ f n
+
+-- the floors and the limits of the names of `%auto` lists
+pub record AreBounds (d : Bytes) (r : Record) (b : Bounds) : Type 0 where
+  pub floors : Holds (auto (recordIn d)) (floorOf d r) (b .floors)
+  pub limits : Holds (auto (recordIn d)) (limitOf d) (b .limits)
+  pub floor-room : listWords ≤ length (b .floors)
+  pub limit-room : listWords ≤ length (b .limits)

@@ -1,14 +1,9 @@
--- The names of `%auto` lists are few, and they are names.
-use Prim.Native.Nat.{_≤_}
-use mathlib.Core.Path.{_≡_}
-use mathlib.Core.Bool.{true}
-use lib.ListN.{length}
-use Rattle.format.specs.Bytes.{Bytes, all}
-use Rattle.format.specs.Limits.{listWords}
-use Rattle.format.specs.Lines.{isName}
+-- The names of a descriptor's `%auto` lists, to be looked up.
+use Rattle.format.specs.Bytes.{Bytes}
 use Rattle.format.specs.Rules.{auto}
 use Rattle.records.specs.Walk.{recordIn}
+use Rattle.dictionary.specs.Numbered.{IsWords}
+use Rattle.numbering.specs.declared.listed.Listed.{Listed}
 
-pub record AutoListed (d : Bytes) : Type 0 where
-  pub few : length (auto (recordIn d)) ≤ listWords
-  pub names : all isName (auto (recordIn d)) ≡ true
+abbrev pub IsListed : Bytes → Listed → Type 0
+IsListed d l = IsWords d (auto (recordIn d)) (l .entries) (l .sets) (l .words)

@@ -14,12 +14,13 @@ ghost use Rattle.format.specs.Rules.{auto};
 ghost use Rattle.records.specs.Walk.{recordIn};
 ghost use Rattle.requests.specs.Pairs.{pairsFrom, pairsAt};
 ghost use Rattle.dictionary.specs.Known.{Described};
-ghost use Rattle.dictionary.specs.Numbered.{IsWords};
-ghost use Rattle.numbering.specs.Bounds.{numbers, AreLimits};
+ghost use Rattle.numbering.specs.Listed.{IsListed};
+ghost use Rattle.numbering.specs.Bounds.{numbers, Limited};
 ghost use Rattle.numbering.specs.Adding.{addedRoom, addedMost, State, pairBy, stepped, stepAll, unadded, Seen, Marked, Sums, SummedAs, AddedAs};
 use super::Added;
+use super::bounds::Bounds;
+use super::listed::Listed;
 use dictionary::wordsets;
-use dictionary::wordsets::Words;
 use format::Record;
 use records::FoundField;
 use requests::Pair;
@@ -79,24 +80,20 @@ pub(crate) enum Summed {
 }
 
 // The places of the lists that have a field, with those of one name more.
-fn mark(d: &[u8], words: &[u32], sets: &[u64], w: Words, seen: u64, name: &[u8]) -> u64
-    requires { ⌜ IsWords (now d) (auto (recordIn (now d))) (now words) (now sets) w ⌝ }
+fn mark(d: &[u8], l: Listed, seen: u64, name: &[u8]) -> u64
+    requires { ⌜ IsListed (now d) l ⌝ }
     ensures { λ r. ⌜ Marked (auto (recordIn (now (d .entry)))) (now (name .entry)) seen r ⌝ }
 {
+    let entries = l.entries;
+    let sets = l.sets;
+    let w = l.words;
     let t = w.table;
-    seen | terms::find_joined(d, words, t, sets, name)
+    seen | terms::find_joined(d, &entries, t, &sets, name)
 }
 
 // The places of the lists that the pairs of a request have.
-pub(crate) fn mark_pairs(
-    d: &[u8],
-    words: &[u32],
-    sets: &[u64],
-    w: Words,
-    req: &[u8],
-    from: usize,
-) -> u64
-    requires { ⌜ IsWords (now d) (auto (recordIn (now d))) (now words) (now sets) w ⌝ }
+pub(crate) fn mark_pairs(d: &[u8], l: Listed, req: &[u8], from: usize) -> u64
+    requires { ⌜ IsListed (now d) l ⌝ }
     requires { ⌜ (length (now req) ≤ fileBytes) × (from ≤ length (now req)) × (isSome (pairsFrom (now req) from) ≡ true) ⌝ }
     ensures { λ r. ⌜ Seen (auto (recordIn (now (d .entry)))) (pairNames (pairsAt (now (req .entry)) from)) r ⌝ }
 {
@@ -114,7 +111,7 @@ pub(crate) fn mark_pairs(
         };
         let a = name.start;
         let b = name.end;
-        seen = mark(d, words, sets, w, seen, &req[a..b]);
+        seen = mark(d, l, seen, &req[a..b]);
         i = next;
     }
 }
@@ -130,54 +127,38 @@ fn stays_short(short: bool, name: &[u8]) -> bool
 }
 
 // One word of the lists more: it has a field, or gets one with its floor as number, if that is below its limit.
-fn add_word(
-    d: &[u8],
-    words: &[u32],
-    sets: &[u64],
-    w: Words,
-    name: &[u8],
-    floors: &[u64],
-    limits: &[u64],
-    sum: Sum,
-    out: &mut [u8],
-) -> Summed
-    requires { ⌜ IsWords (now d) (auto (recordIn (now d))) (now words) (now sets) w ⌝ }
-    requires { ⌜ (listWords ≤ length (now floors)) × (listWords ≤ length (now limits)) × AreLimits (auto (recordIn (now d))) (now limits) ⌝ }
+fn add_word(d: &[u8], l: Listed, name: &[u8], bounds: Bounds, sum: Sum, out: &mut [u8]) -> Summed
+    requires { ⌜ IsListed (now d) l ⌝ }
+    requires { ⌜ Limited (auto (recordIn (now d))) bounds ⌝ }
     requires { ⌜ (among (now name) (auto (recordIn (now d))) ≡ true) × (length (now name) ≤ valueBytes) × (addedRoom ≤ length (now out)) ⌝ }
     requires { ⌜ ((s : State) × Sums (auto (recordIn (now d))) s (now out) sum × (s .passed < listWords)) ⌝ }
-    ensures { λ r. ⌜ ((s : State) → Sums (auto (recordIn (now (d .entry)))) s (now (out .entry)) sum → SummedAs (auto (recordIn (now (d .entry)))) (stepped (pairBy (auto (recordIn (now (d .entry)))) (now (floors .entry)) (now (limits .entry))) s (now (name .entry))) (now (out .exit)) r) ⌝ }
+    ensures { λ r. ⌜ ((s : State) → Sums (auto (recordIn (now (d .entry)))) s (now (out .entry)) sum → SummedAs (auto (recordIn (now (d .entry)))) (stepped (pairBy (auto (recordIn (now (d .entry)))) (bounds .floors) (bounds .limits)) s (now (name .entry))) (now (out .exit)) r) ⌝ }
 {
-    let k = wordsets::place_of(d, words, sets, w, name);
+    let entries = l.entries;
+    let sets = l.sets;
+    let k = wordsets::place_of(d, &entries, &sets, l.words, name);
     if terms::has(sum.seen, k as u64) {
         return Summed::Is(sum);
     }
+    let floors = bounds.floors;
+    let limits = bounds.limits;
     let number = floors[k];
     if limits[k] <= number {
         return Summed::Numberless;
     }
     let short = stays_short(sum.short, name);
     let len = put_number(name, number, short, sum.len, out);
-    let seen = mark(d, words, sets, w, sum.seen, name);
+    let seen = mark(d, l, sum.seen, name);
     Summed::Is(Sum { len, short, seen })
 }
 
 // The words of a text more.
-fn add_words(
-    d: &[u8],
-    words: &[u32],
-    sets: &[u64],
-    w: Words,
-    s: &[u8],
-    floors: &[u64],
-    limits: &[u64],
-    sum: Sum,
-    out: &mut [u8],
-) -> Summed
-    requires { ⌜ IsWords (now d) (auto (recordIn (now d))) (now words) (now sets) w ⌝ }
-    requires { ⌜ (listWords ≤ length (now floors)) × (listWords ≤ length (now limits)) × AreLimits (auto (recordIn (now d))) (now limits) ⌝ }
+fn add_words(d: &[u8], l: Listed, s: &[u8], bounds: Bounds, sum: Sum, out: &mut [u8]) -> Summed
+    requires { ⌜ IsListed (now d) l ⌝ }
+    requires { ⌜ Limited (auto (recordIn (now d))) bounds ⌝ }
     requires { ⌜ (all (λ n. among n (auto (recordIn (now d)))) (wordsOf (now s)) ≡ true) × (length (now s) ≤ valueBytes) × (addedRoom ≤ length (now out)) ⌝ }
     requires { ⌜ ((t : State) × Sums (auto (recordIn (now d))) t (now out) sum × (t .passed + length (wordsOf (now s)) ≤ listWords)) ⌝ }
-    ensures { λ r. ⌜ ((t : State) → Sums (auto (recordIn (now (d .entry)))) t (now (out .entry)) sum → t .passed + length (wordsOf (now (s .entry))) ≤ listWords → SummedAs (auto (recordIn (now (d .entry)))) (stepAll (pairBy (auto (recordIn (now (d .entry)))) (now (floors .entry)) (now (limits .entry))) t (wordsOf (now (s .entry)))) (now (out .exit)) r) ⌝ }
+    ensures { λ r. ⌜ ((t : State) → Sums (auto (recordIn (now (d .entry)))) t (now (out .entry)) sum → t .passed + length (wordsOf (now (s .entry))) ≤ listWords → SummedAs (auto (recordIn (now (d .entry)))) (stepAll (pairBy (auto (recordIn (now (d .entry)))) (bounds .floors) (bounds .limits)) t (wordsOf (now (s .entry)))) (now (out .exit)) r) ⌝ }
 {
     let mut sums = sum;
     let mut rest = s;
@@ -186,17 +167,7 @@ fn add_words(
         let Word::At { start, end } = x else {
             return Summed::Is(sums);
         };
-        let y = add_word(
-            d,
-            words,
-            sets,
-            w,
-            &rest[start..end],
-            floors,
-            limits,
-            sums,
-            &mut *out,
-        );
+        let y = add_word(d, l, &rest[start..end], bounds, sums, &mut *out);
         let Summed::Is(next) = y else {
             return Summed::Numberless;
         };
@@ -208,20 +179,17 @@ fn add_words(
 // All words of the lists of a descriptor. seen: the places of those that have a field before.
 pub(crate) fn add_lists(
     d: &[u8],
-    words: &[u32],
-    sets: &[u64],
-    w: Words,
-    floors: &[u64],
-    limits: &[u64],
+    l: Listed,
+    bounds: Bounds,
     seen: u64,
     scratch: &mut [u8],
     out: &mut [u8],
 ) -> Summed
-    requires { ⌜ IsWords (now d) (auto (recordIn (now d))) (now words) (now sets) w ⌝ }
+    requires { ⌜ IsListed (now d) l ⌝ }
     requires { ⌜ Described (now d) × (valueBytes ≤ length (now scratch)) × (addedRoom ≤ length (now out)) ⌝ }
-    requires { ⌜ (listWords ≤ length (now floors)) × (listWords ≤ length (now limits)) × AreLimits (auto (recordIn (now d))) (now limits) ⌝ }
+    requires { ⌜ Limited (auto (recordIn (now d))) bounds ⌝ }
     requires { ⌜ ((ns : List Bytes) × Seen (auto (recordIn (now d))) ns seen) ⌝ }
-    ensures { λ r. ⌜ ((ns : List Bytes) → Seen (auto (recordIn (now (d .entry)))) ns seen → SummedAs (auto (recordIn (now (d .entry)))) (stepAll (pairBy (auto (recordIn (now (d .entry)))) (now (floors .entry)) (now (limits .entry))) (unadded ns) (auto (recordIn (now (d .entry))))) (now (out .exit)) r) ⌝ }
+    ensures { λ r. ⌜ ((ns : List Bytes) → Seen (auto (recordIn (now (d .entry)))) ns seen → SummedAs (auto (recordIn (now (d .entry)))) (stepAll (pairBy (auto (recordIn (now (d .entry)))) (bounds .floors) (bounds .limits)) (unadded ns) (auto (recordIn (now (d .entry))))) (now (out .exit)) r) ⌝ }
 {
     let mut sums = Sum {
         len: 0,
@@ -240,17 +208,7 @@ pub(crate) fn add_lists(
             return Summed::Is(sums);
         };
         let n = lines::copy_value(&d[i + value..], &mut *scratch);
-        let y = add_words(
-            d,
-            words,
-            sets,
-            w,
-            &scratch[..n],
-            floors,
-            limits,
-            sums,
-            &mut *out,
-        );
+        let y = add_words(d, l, &scratch[..n], bounds, sums, &mut *out);
         let Summed::Is(next) = y else {
             return Summed::Numberless;
         };

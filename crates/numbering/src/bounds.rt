@@ -14,28 +14,31 @@ ghost use Rattle.records.specs.Places.{isReadable};
 ghost use Rattle.records.specs.Walk.{recordIn};
 ghost use Rattle.records.specs.Named.{valuesFrom};
 ghost use Rattle.numbers.specs.Meaning.{intIn};
-ghost use Rattle.typedefs.specs.Names.{AreNames};
-ghost use Rattle.typedefs.specs.Typedefs.{AreTypedefs};
 ghost use Rattle.dictionary.specs.Known.{Described};
-ghost use Rattle.dictionary.specs.Numbered.{IsWords};
+ghost use Rattle.numbering.specs.Listed.{IsListed};
 ghost use Rattle.numbering.specs.Types.{spanIn, fitsIn};
-ghost use Rattle.numbering.specs.Bounds.{numbers, floorIn, limitIn, aboveIn, typeFloor, typeLimit, fieldFloor, lowest, joinedAt, Joins, AreLimits, floorOf, limitOf, Holds};
+ghost use Rattle.numbering.specs.Bounds.{numbers, floorIn, limitIn, aboveIn, typeFloor, typeLimit, fieldFloor, lowest, joinedAt, Joins, AreLimits, AreBounds};
+use super::listed::Listed;
 use super::types::kind_at;
 use dictionary::wordsets;
-use dictionary::wordsets::Words;
+use format::Descriptor;
 use numbers::IntOf;
 use numbers::Whole;
 use records::FoundField;
 use records::NextField;
-use typedefs::Names;
-use typedefs::Typedefs;
 use typing::Shape;
 
 // How many numbers there are: the limit of a name that has no range.
-pub(crate) struct Limit {}
+struct Limit {}
 
 impl Limit {
-    pub(crate) const ALL: u64 = 9223372036854775808;
+    const ALL: u64 = 9223372036854775808;
+}
+
+// The ends of a range.
+struct Range {
+    low: Whole,
+    high: Whole,
 }
 
 // A floor that is not below the lower end of a range.
@@ -110,45 +113,33 @@ fn exceed_value(floor: u64, v: &[u8]) -> u64
 }
 
 // The bounds at place k by the ends of a range, if the place is one of so many.
-fn narrow_place(
-    k: usize,
-    count: usize,
-    low: Whole,
-    high: Whole,
-    floors: &mut [u64],
-    limits: &mut [u64],
-)
+fn narrow_place(k: usize, count: usize, range: Range, floors: &mut [u64], limits: &mut [u64])
     requires { ⌜ (count ≤ length (now floors)) × (count ≤ length (now limits)) ⌝ }
-    ensures { λ _. ⌜ (now (floors .exit) ≡ joinedAt max count k (from (intIn low)) (now (floors .entry))) × (now (limits .exit) ≡ joinedAt min count k (above (intIn high)) (now (limits .entry))) ⌝ }
+    ensures { λ _. ⌜ (now (floors .exit) ≡ joinedAt max count k (from (intIn (range .low))) (now (floors .entry))) × (now (limits .exit) ≡ joinedAt min count k (above (intIn (range .high))) (now (limits .entry))) ⌝ }
 {
     if k < count {
+        let low = range.low;
+        let high = range.high;
         floors[k] = raise(floors[k], low);
         limits[k] = lower(limits[k], high);
     }
 }
 
 // The same of the names that are the parts, between commas, of a word.
-fn narrow_parts(
-    d: &[u8],
-    words: &[u32],
-    sets: &[u64],
-    w: Words,
-    s: &[u8],
-    low: Whole,
-    high: Whole,
-    floors: &mut [u64],
-    limits: &mut [u64],
-)
-    requires { ⌜ IsWords (now d) (auto (recordIn (now d))) (now words) (now sets) w ⌝ }
+fn narrow_parts(d: &[u8], l: Listed, s: &[u8], range: Range, floors: &mut [u64], limits: &mut [u64])
+    requires { ⌜ IsListed (now d) l ⌝ }
     requires { ⌜ (listWords ≤ length (now floors)) × (listWords ≤ length (now limits)) × AreLimits (auto (recordIn (now d))) (now limits) ⌝ }
-    ensures { λ _. ⌜ Joins max (auto (recordIn (now (d .entry)))) (λ n. pick (among n (split 44 (now (s .entry)))) (from (intIn low)) 0) (now (floors .entry)) (now (floors .exit)) × Joins min (auto (recordIn (now (d .entry)))) (λ n. pick (among n (split 44 (now (s .entry)))) (above (intIn high)) numbers) (now (limits .entry)) (now (limits .exit)) ⌝ }
+    ensures { λ _. ⌜ Joins max (auto (recordIn (now (d .entry)))) (λ n. pick (among n (split 44 (now (s .entry)))) (from (intIn (range .low))) 0) (now (floors .entry)) (now (floors .exit)) × Joins min (auto (recordIn (now (d .entry)))) (λ n. pick (among n (split 44 (now (s .entry)))) (above (intIn (range .high))) numbers) (now (limits .entry)) (now (limits .exit)) ⌝ }
 {
+    let entries = l.entries;
+    let sets = l.sets;
+    let w = l.words;
     let count = w.count;
     let mut rest = s;
     loop {
         let e = words::part_end(rest, b',');
-        let k = wordsets::place_of(d, words, sets, w, &rest[..e]);
-        narrow_place(k, count, low, high, &mut *floors, &mut *limits);
+        let k = wordsets::place_of(d, &entries, &sets, w, &rest[..e]);
+        narrow_place(k, count, range, &mut *floors, &mut *limits);
         if e == rest.len() {
             return;
         }
@@ -157,68 +148,36 @@ fn narrow_parts(
 }
 
 // The same of the names that a `%type` field's text is about.
-fn narrow_names(
-    d: &[u8],
-    words: &[u32],
-    sets: &[u64],
-    w: Words,
-    s: &[u8],
-    low: Whole,
-    high: Whole,
-    floors: &mut [u64],
-    limits: &mut [u64],
-)
-    requires { ⌜ IsWords (now d) (auto (recordIn (now d))) (now words) (now sets) w ⌝ }
+fn narrow_names(d: &[u8], l: Listed, s: &[u8], range: Range, floors: &mut [u64], limits: &mut [u64])
+    requires { ⌜ IsListed (now d) l ⌝ }
     requires { ⌜ (listWords ≤ length (now floors)) × (listWords ≤ length (now limits)) × AreLimits (auto (recordIn (now d))) (now limits) ⌝ }
-    ensures { λ _. ⌜ Joins max (auto (recordIn (now (d .entry)))) (λ n. pick (among n (typedNames (now (s .entry)))) (from (intIn low)) 0) (now (floors .entry)) (now (floors .exit)) × Joins min (auto (recordIn (now (d .entry)))) (λ n. pick (among n (typedNames (now (s .entry)))) (above (intIn high)) numbers) (now (limits .entry)) (now (limits .exit)) ⌝ }
+    ensures { λ _. ⌜ Joins max (auto (recordIn (now (d .entry)))) (λ n. pick (among n (typedNames (now (s .entry)))) (from (intIn (range .low))) 0) (now (floors .entry)) (now (floors .exit)) × Joins min (auto (recordIn (now (d .entry)))) (λ n. pick (among n (typedNames (now (s .entry)))) (above (intIn (range .high))) numbers) (now (limits .entry)) (now (limits .exit)) ⌝ }
 {
     let t = &s[words::gap_end(s)..];
     let e = words::word_end(t);
-    narrow_parts(d, words, sets, w, &t[..e], low, high, floors, limits);
+    narrow_parts(d, l, &t[..e], range, floors, limits);
 }
 
-// The bounds by the type of the value at a place, which is of a kind.
-fn narrow(
-    d: &[u8],
-    words: &[u32],
-    sets: &[u64],
-    w: Words,
-    kind: Shape,
-    value: usize,
-    scratch: &mut [u8],
-    floors: &mut [u64],
-    limits: &mut [u64],
-)
-    requires { ⌜ IsWords (now d) (auto (recordIn (now d))) (now words) (now sets) w ⌝ }
-    requires { ⌜ (value ≤ length (now d)) × (length (valueFrom (drop value (now d))) ≤ length (now scratch)) ⌝ }
+// The bounds by a `%type` field of a text and a kind.
+fn narrow(d: &[u8], l: Listed, s: &[u8], kind: Shape, floors: &mut [u64], limits: &mut [u64])
+    requires { ⌜ IsListed (now d) l ⌝ }
     requires { ⌜ (listWords ≤ length (now floors)) × (listWords ≤ length (now limits)) × AreLimits (auto (recordIn (now d))) (now limits) ⌝ }
-    ensures { λ _. ⌜ Joins max (auto (recordIn (now (d .entry)))) (λ n. pick (among n (typedNames (valueFrom (drop value (now (d .entry)))))) (floorIn (spanIn kind)) 0) (now (floors .entry)) (now (floors .exit)) × Joins min (auto (recordIn (now (d .entry)))) (λ n. pick (among n (typedNames (valueFrom (drop value (now (d .entry)))))) (limitIn (spanIn kind)) numbers) (now (limits .entry)) (now (limits .exit)) ⌝ }
+    ensures { λ _. ⌜ Joins max (auto (recordIn (now (d .entry)))) (λ n. pick (among n (typedNames (now (s .entry)))) (floorIn (spanIn kind)) 0) (now (floors .entry)) (now (floors .exit)) × Joins min (auto (recordIn (now (d .entry)))) (λ n. pick (among n (typedNames (now (s .entry)))) (limitIn (spanIn kind)) numbers) (now (limits .entry)) (now (limits .exit)) ⌝ }
 {
     let Shape::Range(low, high) = kind else {
         return;
     };
-    let n = lines::copy_value(&d[value..], &mut *scratch);
-    narrow_names(d, words, sets, w, &scratch[..n], low, high, floors, limits);
+    narrow_names(d, l, s, Range { low, high }, floors, limits);
 }
 
 // The bounds by all types of a descriptor.
-fn narrow_all(
-    d: &[u8],
-    words: &[u32],
-    sets: &[u64],
-    w: Words,
-    names: Names,
-    defs: Typedefs,
-    scratch: &mut [u8],
-    floors: &mut [u64],
-    limits: &mut [u64],
-)
-    requires { ⌜ IsWords (now d) (auto (recordIn (now d))) (now words) (now sets) w ⌝ }
-    requires { ⌜ Described (now d) × AreNames (now d) names × AreTypedefs (now d) (names .places) defs ⌝ }
-    requires { ⌜ valueBytes ≤ length (now scratch) ⌝ }
+fn narrow_all(d: &[u8], l: Listed, scratch: &mut [u8], floors: &mut [u64], limits: &mut [u64])
+    requires { ⌜ Described (now d) × IsListed (now d) l × (valueBytes ≤ length (now scratch)) ⌝ }
     requires { ⌜ (listWords ≤ length (now floors)) × (listWords ≤ length (now limits)) × AreLimits (auto (recordIn (now d))) (now limits) ⌝ }
     ensures { λ _. ⌜ Joins max (auto (recordIn (now (d .entry)))) (λ n. largest (typeFloor (now (d .entry)) n) (valuesFrom (now (d .entry)) (text "%type") 0)) (now (floors .entry)) (now (floors .exit)) × Joins min (auto (recordIn (now (d .entry)))) (λ n. lowest (typeLimit (now (d .entry)) n) (valuesFrom (now (d .entry)) (text "%type") 0)) (now (limits .entry)) (now (limits .exit)) ⌝ }
 {
+    let names = typedefs::read_names(d);
+    let defs = typedefs::read_typedefs(d, names, &mut *scratch);
     let mut i = 0;
     loop {
         let v = records::next_named(&d[i..], b"%type");
@@ -231,17 +190,8 @@ fn narrow_all(
             return;
         };
         let kind = kind_at(d, names, defs, i + value, &mut *scratch);
-        narrow(
-            d,
-            words,
-            sets,
-            w,
-            kind,
-            i + value,
-            &mut *scratch,
-            &mut *floors,
-            &mut *limits,
-        );
+        let n = lines::copy_value(&d[i + value..], &mut *scratch);
+        narrow(d, l, &scratch[..n], kind, &mut *floors, &mut *limits);
         i += end;
     }
 }
@@ -265,20 +215,15 @@ fn raise_place(
 }
 
 // The floors by all fields of a part.
-fn raise_all(
-    d: &[u8],
-    words: &[u32],
-    sets: &[u64],
-    w: Words,
-    s: &[u8],
-    scratch: &mut [u8],
-    floors: &mut [u64],
-)
-    requires { ⌜ IsWords (now d) (auto (recordIn (now d))) (now words) (now sets) w ⌝ }
+fn raise_all(d: &[u8], l: Listed, s: &[u8], scratch: &mut [u8], floors: &mut [u64])
+    requires { ⌜ IsListed (now d) l ⌝ }
     requires { ⌜ (isReadable (now s) ≡ true) × (length (now s) ≤ fileBytes) × (all (fitsIn (length (now scratch))) (recordIn (now s)) ≡ true) ⌝ }
     requires { ⌜ listWords ≤ length (now floors) ⌝ }
     ensures { λ _. ⌜ Joins max (auto (recordIn (now (d .entry)))) (λ n. largest (fieldFloor n) (recordIn (now (s .entry)))) (now (floors .entry)) (now (floors .exit)) ⌝ }
 {
+    let entries = l.entries;
+    let sets = l.sets;
+    let w = l.words;
     let count = w.count;
     let mut i = 0;
     loop {
@@ -292,32 +237,27 @@ fn raise_all(
         else {
             return;
         };
-        let k = wordsets::place_of(d, words, sets, w, &s[i + start..i + named]);
+        let k = wordsets::place_of(d, &entries, &sets, w, &s[i + start..i + named]);
         raise_place(s, i + value, k, count, &mut *scratch, &mut *floors);
         i += end;
     }
 }
 
-// The bounds of all names, by the fields of a part and the types of a descriptor.
-pub(crate) fn bound(
-    d: &[u8],
-    words: &[u32],
-    sets: &[u64],
-    w: Words,
-    s: &[u8],
-    scratch: &mut [u8],
-    floors: &mut [u64],
-    limits: &mut [u64],
-)
-    requires { ⌜ IsWords (now d) (auto (recordIn (now d))) (now words) (now sets) w ⌝ }
-    requires { ⌜ Described (now d) × (valueBytes ≤ length (now scratch)) ⌝ }
+// The floors and the limits of the names, each at its place in the lists.
+pub(crate) struct Bounds {
+    pub floors: [u64; Descriptor::WORDS],
+    pub limits: [u64; Descriptor::WORDS],
+}
+
+// Those by the fields of a part and the types of a descriptor.
+pub(crate) fn bounds_of(d: &[u8], l: Listed, s: &[u8], scratch: &mut [u8]) -> Bounds
+    requires { ⌜ Described (now d) × IsListed (now d) l × (valueBytes ≤ length (now scratch)) ⌝ }
     requires { ⌜ (isReadable (now s) ≡ true) × (length (now s) ≤ fileBytes) × (all (fitsIn (length (now scratch))) (recordIn (now s)) ≡ true) ⌝ }
-    requires { ⌜ (listWords ≤ length (now floors)) × (listWords ≤ length (now limits)) ⌝ }
-    requires { ⌜ Holds (auto (recordIn (now d))) (λ n. 0) (now floors) × Holds (auto (recordIn (now d))) (λ n. numbers) (now limits) ⌝ }
-    ensures { λ _. ⌜ Holds (auto (recordIn (now (d .entry)))) (floorOf (now (d .entry)) (recordIn (now (s .entry)))) (now (floors .exit)) × Holds (auto (recordIn (now (d .entry)))) (limitOf (now (d .entry))) (now (limits .exit)) ⌝ }
+    ensures { λ r. ⌜ AreBounds (now (d .entry)) (recordIn (now (s .entry))) r ⌝ }
 {
-    let names = typedefs::read_names(d);
-    let defs = typedefs::read_typedefs(d, names, &mut *scratch);
-    raise_all(d, words, sets, w, s, &mut *scratch, &mut *floors);
-    narrow_all(d, words, sets, w, names, defs, scratch, floors, limits);
+    let mut floors = [0u64; Descriptor::WORDS];
+    let mut limits = [Limit::ALL; Descriptor::WORDS];
+    raise_all(d, l, s, &mut *scratch, &mut floors);
+    narrow_all(d, l, scratch, &mut floors, &mut limits);
+    Bounds { floors, limits }
 }

@@ -13,10 +13,10 @@ ghost use Rattle.records.specs.Named.{valuesFrom};
 ghost use Rattle.typedefs.specs.Names.{AreNames};
 ghost use Rattle.typedefs.specs.Typedefs.{AreTypedefs};
 ghost use Rattle.dictionary.specs.Known.{Described};
-ghost use Rattle.dictionary.specs.Numbered.{IsWords};
+ghost use Rattle.numbering.specs.Listed.{IsListed};
 ghost use Rattle.numbering.specs.Types.{spanIn, typeSpan, HasType, isTypeCounted};
+use super::listed::Listed;
 use dictionary::wordsets;
-use dictionary::wordsets::Words;
 use records::FoundField;
 use typedefs::Names;
 use typedefs::Typedefs;
@@ -56,14 +56,17 @@ fn is_counted(kind: Shape) -> bool
 }
 
 // Is a part, between commas, of a word among the names of `%auto` lists?
-fn part_listed(d: &[u8], words: &[u32], sets: &[u64], w: Words, s: &[u8]) -> bool
-    requires { ⌜ IsWords (now d) (auto (recordIn (now d))) (now words) (now sets) w ⌝ }
+fn part_listed(d: &[u8], l: Listed, s: &[u8]) -> bool
+    requires { ⌜ IsListed (now d) l ⌝ }
     ensures { λ r. ⌜ r ≡ any (λ n. among n (auto (recordIn (now (d .entry))))) (split 44 (now (s .entry))) ⌝ }
 {
+    let entries = l.entries;
+    let sets = l.sets;
+    let w = l.words;
     let mut rest = s;
     loop {
         let e = words::part_end(rest, b',');
-        if wordsets::place_of(d, words, sets, w, &rest[..e]) < w.count {
+        if wordsets::place_of(d, &entries, &sets, w, &rest[..e]) < w.count {
             return true;
         }
         if e == rest.len() {
@@ -74,26 +77,18 @@ fn part_listed(d: &[u8], words: &[u32], sets: &[u64], w: Words, s: &[u8]) -> boo
 }
 
 // Is one of the names that a `%type` field's text is about?
-fn name_listed(d: &[u8], words: &[u32], sets: &[u64], w: Words, s: &[u8]) -> bool
-    requires { ⌜ IsWords (now d) (auto (recordIn (now d))) (now words) (now sets) w ⌝ }
+fn name_listed(d: &[u8], l: Listed, s: &[u8]) -> bool
+    requires { ⌜ IsListed (now d) l ⌝ }
     ensures { λ r. ⌜ r ≡ any (λ n. among n (auto (recordIn (now (d .entry))))) (typedNames (now (s .entry))) ⌝ }
 {
     let t = &s[words::gap_end(s)..];
     let e = words::word_end(t);
-    part_listed(d, words, sets, w, &t[..e])
+    part_listed(d, l, &t[..e])
 }
 
 // Is the type of the value at a place int or range, or about no name of an `%auto` list?
-fn type_counted(
-    d: &[u8],
-    words: &[u32],
-    sets: &[u64],
-    w: Words,
-    kind: Shape,
-    value: usize,
-    scratch: &mut [u8],
-) -> bool
-    requires { ⌜ IsWords (now d) (auto (recordIn (now d))) (now words) (now sets) w ⌝ }
+fn type_counted(d: &[u8], l: Listed, kind: Shape, value: usize, scratch: &mut [u8]) -> bool
+    requires { ⌜ IsListed (now d) l ⌝ }
     requires { ⌜ (value ≤ length (now d)) × (length (valueFrom (drop value (now d))) ≤ length (now scratch)) ⌝ }
     ensures { λ r. ⌜ r ≡ (isSome (spanIn kind) || not (any (λ n. among n (auto (recordIn (now (d .entry))))) (typedNames (valueFrom (drop value (now (d .entry))))))) ⌝ }
 {
@@ -101,20 +96,12 @@ fn type_counted(
         return true;
     }
     let n = lines::copy_value(&d[value..], &mut *scratch);
-    !name_listed(d, words, sets, w, &scratch[..n])
+    !name_listed(d, l, &scratch[..n])
 }
 
 // Is every type?
-fn all_counted(
-    d: &[u8],
-    words: &[u32],
-    sets: &[u64],
-    w: Words,
-    names: Names,
-    defs: Typedefs,
-    scratch: &mut [u8],
-) -> bool
-    requires { ⌜ IsWords (now d) (auto (recordIn (now d))) (now words) (now sets) w ⌝ }
+fn all_counted(d: &[u8], l: Listed, names: Names, defs: Typedefs, scratch: &mut [u8]) -> bool
+    requires { ⌜ IsListed (now d) l ⌝ }
     requires { ⌜ Described (now d) × AreNames (now d) names × AreTypedefs (now d) (names .places) defs ⌝ }
     requires { ⌜ valueBytes ≤ length (now scratch) ⌝ }
     ensures { λ r. ⌜ r ≡ all (isTypeCounted (now (d .entry))) (valuesFrom (now (d .entry)) (text "%type") 0) ⌝ }
@@ -131,7 +118,7 @@ fn all_counted(
             return true;
         };
         let kind = kind_at(d, names, defs, i + value, &mut *scratch);
-        if !type_counted(d, words, sets, w, kind, i + value, &mut *scratch) {
+        if !type_counted(d, l, kind, i + value, &mut *scratch) {
             return false;
         }
         i += end;
@@ -139,18 +126,12 @@ fn all_counted(
 }
 
 // The same of a descriptor.
-pub(crate) fn types_counted(
-    d: &[u8],
-    words: &[u32],
-    sets: &[u64],
-    w: Words,
-    scratch: &mut [u8],
-) -> bool
-    requires { ⌜ IsWords (now d) (auto (recordIn (now d))) (now words) (now sets) w ⌝ }
+pub(crate) fn types_counted(d: &[u8], l: Listed, scratch: &mut [u8]) -> bool
+    requires { ⌜ IsListed (now d) l ⌝ }
     requires { ⌜ Described (now d) × (valueBytes ≤ length (now scratch)) ⌝ }
     ensures { λ r. ⌜ r ≡ all (isTypeCounted (now (d .entry))) (valuesFrom (now (d .entry)) (text "%type") 0) ⌝ }
 {
     let names = typedefs::read_names(d);
     let defs = typedefs::read_typedefs(d, names, &mut *scratch);
-    all_counted(d, words, sets, w, names, defs, &mut *scratch)
+    all_counted(d, l, names, defs, &mut *scratch)
 }

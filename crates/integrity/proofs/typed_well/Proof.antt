@@ -10,7 +10,6 @@ use Rattle.format.specs.Numbers.{intBounds}
 use Rattle.format.specs.Rules.{autosCounted}
 use Rattle.format.proofs.Limits.{rules-few}
 use Rattle.records.specs.Walk.{recordIn}
-use Rattle.numbering.proofs.Granted.{auto-listed}
 use Rattle.integrity.proofs.Granting.{defined-part}
 use Rattle.integrity.proofs.Holding.{values-fit}
 use Rattle.integrity.proofs.typed_well.Statement.{statement}
@@ -47,8 +46,7 @@ autos-counted-requires c κs =
     let at-types-well = c .before .before .before .before .types-well in
     let at-scratch = c .before .before .before .scratch in
     let at-if1 = c .before .if1 in
-    let described = defined-part (at-args .d .now) (at-pre .0 .0) (at-pre .0 .1) (sym (at-types-well .ensures) ∙ not-false (at-types-well .result) (at-if1 .left)) in
-    ((described, auto-listed (at-args .d .now) described), omega (arith, at-scratch .given, at-pre .1))
+    (defined-part (at-args .d .now) (at-pre .0 .0) (at-pre .0 .1) (sym (at-types-well .ensures) ∙ not-false (at-types-well .result) (at-if1 .left)), omega (arith, at-scratch .given, at-pre .1))
 
 same-length-2 : tie.Need-same-length-2
 same-length-2 c = search needs

@@ -8,14 +8,13 @@ use Rattle.format.proofs.Records.{records}
 use Rattle.records.specs.Named.{NamedNext}
 use Rattle.requests.specs.Pairs.{pairsAt}
 use Rattle.numbering.proofs.Completing.{none-added}
-use Rattle.numbering.proofs.Granted.{auto-listed}
 use borrow.Author.Needs.{needs}
 use Rattle.numbering.proofs.add_numbers.Statement.{statement}
 use Rattle.numbering.proofs.add_numbers.Tie as tie
 use Rattle.numbering.proofs.add_numbers.Reads as reads
 use Rattle.numbering.proofs.add_numbers.Lts as lts
-use Rattle.dictionary.proofs.wordsets.read.Reads as read-reads
 use Rattle.numbering.proofs.add_listed.Reads as add-listed-reads
+use Rattle.numbering.proofs.listed.read.Reads as read-reads
 use Rattle.records.proofs.next_named.Reads as next-named-reads
 
 slice-aggregate-next-named : tie.Need-slice-aggregate-next-named
@@ -39,36 +38,14 @@ returns c =
     let at-next-named = c .before .before .next-named in
     ([], (none-added (at-args .d .now) (records (readOf (at-args .part .now))) (pairsAt (at-args .req .now) (at-args .from)) (subst (NamedNext (at-args .d .now) (text "%auto") 0) (at-enum-told2 .given .1) (at-next-named .ensures) .value), record { len-is = refl; inside = omega arith; text = refl; short = refl }))
 
-slice-aggregate-read : tie.Need-slice-aggregate-read
-slice-aggregate-read c = search needs
-
-slice-aggregate-read-2 : tie.Need-slice-aggregate-read-2
-slice-aggregate-read-2 c = search needs
-
-slice-aggregate-read-3 : tie.Need-slice-aggregate-read-3
-slice-aggregate-read-3 c = search needs
-
 read-requires : tie.Need-read-requires
-read-requires c κs =
-    let at-pre = c .before .before .before .before .before .before .before .before .before .before .before .pre in
-    let at-args = c .before .before .before .before .before .before .before .before .before .before .before .args in
-    let l = auto-listed (at-args .d .now) (at-pre .0 .0) in
-    ((at-pre .0 .0 .reads, at-pre .0 .0 .short), ((l .few, omega arith, omega arith), l .names))
-
-slice-aggregate-add-listed : tie.Need-slice-aggregate-add-listed
-slice-aggregate-add-listed c = search needs
-
-slice-aggregate-add-listed-2 : tie.Need-slice-aggregate-add-listed-2
-slice-aggregate-add-listed-2 c = search needs
-
-slice-aggregate-add-listed-3 : tie.Need-slice-aggregate-add-listed-3
-slice-aggregate-add-listed-3 c = search needs
+read-requires c κs = search needs
 
 add-listed-requires : tie.Need-add-listed-requires
 add-listed-requires c κs =
-    let at-read = c .before .before .before .before .before .before .read in
-    let at-pre = c .before .before .before .before .before .before .before .before .before .before .before .before .before .before .before .before .before .before .pre in
-    (at-read .ensures, ((at-pre .0 .0, omega arith, omega (arith, at-pre .0 .1)), (at-pre .1 .0, at-pre .1 .1)))
+    let at-pre = c .before .before .before .before .before .before .before .before .before .before .pre in
+    let at-read = c .before .read in
+    ((at-pre .0 .0, at-read .ensures, at-pre .0 .1), (at-pre .1 .0, at-pre .1 .1))
 
 same-length : tie.Need-same-length
 same-length c = search needs
@@ -85,13 +62,7 @@ add-numbers-spec =
     enum-told
     enum-told-2
     returns
-    slice-aggregate-read
-    slice-aggregate-read-2
-    slice-aggregate-read-3
     read-requires
-    slice-aggregate-add-listed
-    slice-aggregate-add-listed-2
-    slice-aggregate-add-listed-3
     add-listed-requires
     same-length
     returns-2)

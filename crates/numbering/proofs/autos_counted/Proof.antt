@@ -1,5 +1,4 @@
 -- `numbering::autos_counted` meets its contract: without a list there is nothing to ask; else the types are asked one by one.
-use native.Mathlib.Omega.{arith}
 use mathlib.Core.Path.{sym, _∙_, subst}
 use Rattle.format.specs.Bytes.{text}
 use Rattle.records.specs.Named.{NamedNext}
@@ -9,7 +8,7 @@ use Rattle.numbering.proofs.autos_counted.Statement.{statement}
 use Rattle.numbering.proofs.autos_counted.Tie as tie
 use Rattle.numbering.proofs.autos_counted.Reads as reads
 use Rattle.numbering.proofs.autos_counted.Lts as lts
-use Rattle.dictionary.proofs.wordsets.read.Reads as read-reads
+use Rattle.numbering.proofs.listed.read.Reads as read-reads
 use Rattle.numbering.proofs.types.types_counted.Reads as types-counted-reads
 use Rattle.records.proofs.next_named.Reads as next-named-reads
 
@@ -19,7 +18,7 @@ slice-aggregate-next-named c = search needs
 next-named-requires : tie.Need-next-named-requires
 next-named-requires c κs =
     let at-pre = c .before .before .before .pre in
-    at-pre .0 .0 .reads
+    at-pre .0 .reads
 
 enum-told : tie.Need-enum-told
 enum-told c = search needs
@@ -34,25 +33,8 @@ returns c =
     let at-next-named = c .before .before .next-named in
     none-counted-all (at-args .d .now) (subst (NamedNext (at-args .d .now) (text "%auto") 0) (at-enum-told2 .given .1) (at-next-named .ensures) .value)
 
-slice-aggregate-read : tie.Need-slice-aggregate-read
-slice-aggregate-read c = search needs
-
-slice-aggregate-read-2 : tie.Need-slice-aggregate-read-2
-slice-aggregate-read-2 c = search needs
-
-slice-aggregate-read-3 : tie.Need-slice-aggregate-read-3
-slice-aggregate-read-3 c = search needs
-
 read-requires : tie.Need-read-requires
-read-requires c κs =
-    let at-pre = c .before .before .before .before .before .before .before .before .before .pre in
-    ((at-pre .0 .0 .reads, at-pre .0 .0 .short), ((at-pre .0 .1 .few, omega arith, omega arith), at-pre .0 .1 .names))
-
-slice-aggregate-types-counted : tie.Need-slice-aggregate-types-counted
-slice-aggregate-types-counted c = search needs
-
-slice-aggregate-types-counted-2 : tie.Need-slice-aggregate-types-counted-2
-slice-aggregate-types-counted-2 c = search needs
+read-requires c κs = search needs
 
 types-counted-requires : tie.Need-types-counted-requires
 types-counted-requires c κs = search needs
@@ -63,9 +45,9 @@ same-length c = search needs
 returns-2 : tie.Need-returns-2
 returns-2 c =
     let at-types-counted = c .before .before .types-counted in
-    let at-args = c .before .before .before .before .before .before .before .before .before .before .before .before .before .before .before .before .before .before .args in
-    let at-pre = c .before .before .before .before .before .before .before .before .before .before .before .before .before .before .before .before .before .before .pre in
-    at-types-counted .ensures ∙ sym (autos-counted (at-args .d .now) (at-pre .0 .0))
+    let at-args = c .before .before .before .before .before .before .before .before .before .before .before .args in
+    let at-pre = c .before .before .before .before .before .before .before .before .before .before .before .pre in
+    at-types-counted .ensures ∙ sym (autos-counted (at-args .d .now) (at-pre .0))
 
 pub autos-counted-spec : {M : Type 1} → statement M
 autos-counted-spec =
@@ -76,12 +58,7 @@ autos-counted-spec =
     enum-told
     enum-told-2
     returns
-    slice-aggregate-read
-    slice-aggregate-read-2
-    slice-aggregate-read-3
     read-requires
-    slice-aggregate-types-counted
-    slice-aggregate-types-counted-2
     types-counted-requires
     same-length
     returns-2)

@@ -17,6 +17,12 @@ use Rattle.numbering.proofs.adding.put_number.Reads as put-number-reads
 use Rattle.numbering.proofs.adding.stays_short.Reads as stays-short-reads
 use Rattle.terms.proofs.has.Reads as has-reads
 
+slice-aggregate-place-of : tie.Need-slice-aggregate-place-of
+slice-aggregate-place-of c = search needs
+
+slice-aggregate-place-of-2 : tie.Need-slice-aggregate-place-of-2
+slice-aggregate-place-of-2 c = search needs
+
 place-of-requires : tie.Need-place-of-requires
 place-of-requires c κs =
     let at-args = c .before .before .before .before .before .before .before .args in
@@ -29,7 +35,7 @@ has-requires c κs =
     let at-place-of = c .place-of in
     let at-pre = c .before .before .before .before .before .before .before .before .pre in
     let ws = auto (recordIn (at-args .d .now)) in
-    let f = pairBy ws (at-args .floors .now) (at-args .limits .now) in
+    let f = pairBy ws (at-args .bounds .floors) (at-args .bounds .limits) in
     let p = at-place-of .ensures ws (at-pre .0) in
     let l = place-inside ws (at-args .name .now) (at-place-of .result) p (at-pre .1 .1 .0 .0) in
     omega (arith, l, at-pre .0 .few)
@@ -42,51 +48,51 @@ returns c =
     let at-has = c .before .has in
     let at-if1 = c .if1 in
     let ws = auto (recordIn (at-args .d .now)) in
-    let f = pairBy ws (at-args .floors .now) (at-args .limits .now) in
+    let f = pairBy ws (at-args .bounds .floors) (at-args .bounds .limits) in
     let p = at-place-of .ensures ws (at-pre .0) in
     let l = place-inside ws (at-args .name .now) (at-place-of .result) p (at-pre .1 .1 .0 .0) in
     λ s h. sums-seen ws f s (at-args .out .now) (at-args .sum) h (at-args .name .now) (at-pre .1 .1 .0 .0) (at-place-of .result) p (sym (at-has .ensures) ∙ at-if1 .taken)
 
 mul-number : tie.Need-mul-number
 mul-number c =
-    let at-args = c .before .before .before .before .before .before .before .before .before .before .args in
-    let at-place-of = c .before .before .place-of in
-    let at-pre = c .before .before .before .before .before .before .before .before .before .before .pre in
+    let at-args = c .before .before .before .before .before .before .before .before .before .before .before .before .args in
+    let at-place-of = c .before .before .before .before .place-of in
+    let at-pre = c .before .before .before .before .before .before .before .before .before .before .before .before .pre in
     let ws = auto (recordIn (at-args .d .now)) in
-    let f = pairBy ws (at-args .floors .now) (at-args .limits .now) in
+    let f = pairBy ws (at-args .bounds .floors) (at-args .bounds .limits) in
     let p = at-place-of .ensures ws (at-pre .0) in
     let l = place-inside ws (at-args .name .now) (at-place-of .result) p (at-pre .1 .1 .0 .0) in
     omega (arith, l, at-pre .0 .few)
 
-shared-slice-read-number : tie.Need-shared-slice-read-number
-shared-slice-read-number c =
-    let at-args = c .before .before .before .before .before .before .before .before .before .before .before .args in
-    let at-place-of = c .before .before .before .place-of in
-    let at-pre = c .before .before .before .before .before .before .before .before .before .before .before .pre in
+array-read-number : tie.Need-array-read-number
+array-read-number c =
+    let at-args = c .before .before .before .before .before .before .before .before .before .before .before .before .args in
+    let at-place-of = c .before .before .before .before .place-of in
+    let at-pre = c .before .before .before .before .before .before .before .before .before .before .before .before .pre in
     let ws = auto (recordIn (at-args .d .now)) in
-    let f = pairBy ws (at-args .floors .now) (at-args .limits .now) in
+    let f = pairBy ws (at-args .bounds .floors) (at-args .bounds .limits) in
     let p = at-place-of .ensures ws (at-pre .0) in
     let l = place-inside ws (at-args .name .now) (at-place-of .result) p (at-pre .1 .1 .0 .0) in
     omega (arith, l, at-pre .0 .few, at-pre .1 .0 .0)
 
 mul-if2 : tie.Need-mul-if2
 mul-if2 c =
-    let at-args = c .before .before .before .before .before .before .before .before .before .before .before .args in
-    let at-place-of = c .before .before .before .place-of in
-    let at-pre = c .before .before .before .before .before .before .before .before .before .before .before .pre in
-    let ws = auto (recordIn (at-args .d .now)) in
-    let f = pairBy ws (at-args .floors .now) (at-args .limits .now) in
-    let p = at-place-of .ensures ws (at-pre .0) in
-    let l = place-inside ws (at-args .name .now) (at-place-of .result) p (at-pre .1 .1 .0 .0) in
-    omega (arith, l, at-pre .0 .few)
-
-shared-slice-read-if2 : tie.Need-shared-slice-read-if2
-shared-slice-read-if2 c =
     let at-args = c .before .before .before .before .before .before .before .before .before .before .before .before .args in
     let at-place-of = c .before .before .before .before .place-of in
     let at-pre = c .before .before .before .before .before .before .before .before .before .before .before .before .pre in
     let ws = auto (recordIn (at-args .d .now)) in
-    let f = pairBy ws (at-args .floors .now) (at-args .limits .now) in
+    let f = pairBy ws (at-args .bounds .floors) (at-args .bounds .limits) in
+    let p = at-place-of .ensures ws (at-pre .0) in
+    let l = place-inside ws (at-args .name .now) (at-place-of .result) p (at-pre .1 .1 .0 .0) in
+    omega (arith, l, at-pre .0 .few)
+
+array-read-if2 : tie.Need-array-read-if2
+array-read-if2 c =
+    let at-args = c .before .before .before .before .before .before .before .before .before .before .before .before .args in
+    let at-place-of = c .before .before .before .before .place-of in
+    let at-pre = c .before .before .before .before .before .before .before .before .before .before .before .before .pre in
+    let ws = auto (recordIn (at-args .d .now)) in
+    let f = pairBy ws (at-args .bounds .floors) (at-args .bounds .limits) in
     let p = at-place-of .ensures ws (at-pre .0) in
     let l = place-inside ws (at-args .name .now) (at-place-of .result) p (at-pre .1 .1 .0 .0) in
     omega (arith, l, at-pre .0 .few, at-pre .1 .0 .1)
@@ -100,10 +106,10 @@ returns-2 c =
     let at-if1 = c .before .before .before .if1 in
     let at-if2 = c .if2 in
     let ws = auto (recordIn (at-args .d .now)) in
-    let f = pairBy ws (at-args .floors .now) (at-args .limits .now) in
+    let f = pairBy ws (at-args .bounds .floors) (at-args .bounds .limits) in
     let p = at-place-of .ensures ws (at-pre .0) in
     let l = place-inside ws (at-args .name .now) (at-place-of .result) p (at-pre .1 .1 .0 .0) in
-    λ s h. sums-none ws f s (at-args .out .now) (at-args .sum) h (at-args .name .now) (at-pre .1 .1 .0 .0) (at-place-of .result) p (sym (at-has .ensures) ∙ at-if1 .left) (pair-none ws (at-args .floors .now) (at-args .limits .now) (at-args .name .now) (at-place-of .result) p (at-if2 .taken))
+    λ s h. sums-none ws f s (at-args .out .now) (at-args .sum) h (at-args .name .now) (at-pre .1 .1 .0 .0) (at-place-of .result) p (sym (at-has .ensures) ∙ at-if1 .left) (pair-none ws (at-args .bounds .floors) (at-args .bounds .limits) (at-args .name .now) (at-place-of .result) p (at-if2 .taken))
 
 stays-short-requires : tie.Need-stays-short-requires
 stays-short-requires c κs = search needs
@@ -116,11 +122,11 @@ put-number-requires c κs =
     let at-if2 = c .before .before .if2 in
     let at-stays-short = c .before .stays-short in
     let ws = auto (recordIn (at-args .d .now)) in
-    let f = pairBy ws (at-args .floors .now) (at-args .limits .now) in
+    let f = pairBy ws (at-args .bounds .floors) (at-args .bounds .limits) in
     let p = at-place-of .ensures ws (at-pre .0) in
     let l = place-inside ws (at-args .name .now) (at-place-of .result) p (at-pre .1 .1 .0 .0) in
-    let number = getD (at-args .floors .now) (at-place-of .result) 0 in
-    let small = small-floor ws (at-args .limits .now) (at-pre .1 .0 .2) (at-args .name .now) (at-pre .1 .1 .0 .0) (at-place-of .result) p number (at-if2 .left) in
+    let number = getD (at-args .bounds .floors) (at-place-of .result) 0 in
+    let small = small-floor ws (at-args .bounds .limits) (at-pre .1 .0 .2) (at-args .name .now) (at-pre .1 .1 .0 .0) (at-place-of .result) p number (at-if2 .left) in
     let s = at-pre .1 .1 .1 in
     ((at-pre .1 .1 .0 .1, small, room-most ws (s .0) (at-args .out .now) (at-args .sum) (s .1) (s .2) (at-args .name .now) number small), room-more ws (s .0) (at-args .out .now) (at-args .sum) (s .1) (s .2) (at-args .name .now) number small (at-stays-short .result) (at-stays-short .ensures) (at-pre .1 .1 .0 .2))
 
@@ -144,24 +150,26 @@ returns-3 c =
     let at-stays-short = c .before .before .before .before .before .stays-short in
     let at-mark = c .mark in
     let ws = auto (recordIn (at-args .d .now)) in
-    let f = pairBy ws (at-args .floors .now) (at-args .limits .now) in
+    let f = pairBy ws (at-args .bounds .floors) (at-args .bounds .limits) in
     let p = at-place-of .ensures ws (at-pre .0) in
     let l = place-inside ws (at-args .name .now) (at-place-of .result) p (at-pre .1 .1 .0 .0) in
-    let number = getD (at-args .floors .now) (at-place-of .result) 0 in
-    let small = small-floor ws (at-args .limits .now) (at-pre .1 .0 .2) (at-args .name .now) (at-pre .1 .1 .0 .0) (at-place-of .result) p number (at-if2 .left) in
-    λ s h. sums-more ws f s (at-args .out .now) (at-args .sum) h (at-args .name .now) (at-pre .1 .1 .0 .0) (at-place-of .result) p (sym (at-has .ensures) ∙ at-if1 .left) number small (pair-some ws (at-args .floors .now) (at-args .limits .now) (at-args .name .now) (at-place-of .result) p (at-if2 .left)) (at-pre .1 .1 .0 .1) (at-put-number .result) (at-put-number .ensures .0) (at-stays-short .result) (at-stays-short .ensures) (at-mark .result) (at-mark .ensures) (at-put-number .last .1 .1 .1 .1 .0) (at-put-number .ensures .1)
+    let number = getD (at-args .bounds .floors) (at-place-of .result) 0 in
+    let small = small-floor ws (at-args .bounds .limits) (at-pre .1 .0 .2) (at-args .name .now) (at-pre .1 .1 .0 .0) (at-place-of .result) p number (at-if2 .left) in
+    λ s h. sums-more ws f s (at-args .out .now) (at-args .sum) h (at-args .name .now) (at-pre .1 .1 .0 .0) (at-place-of .result) p (sym (at-has .ensures) ∙ at-if1 .left) number small (pair-some ws (at-args .bounds .floors) (at-args .bounds .limits) (at-args .name .now) (at-place-of .result) p (at-if2 .left)) (at-pre .1 .1 .0 .1) (at-put-number .result) (at-put-number .ensures .0) (at-stays-short .result) (at-stays-short .ensures) (at-mark .result) (at-mark .ensures) (at-put-number .last .1 .1 .1 .1 .0) (at-put-number .ensures .1)
 
 pub add-word-spec : {M : Type 1} → statement M
 add-word-spec =
     tie.close
     (tie.spec
+    slice-aggregate-place-of
+    slice-aggregate-place-of-2
     place-of-requires
     has-requires
     returns
     mul-number
-    shared-slice-read-number
+    array-read-number
     mul-if2
-    shared-slice-read-if2
+    array-read-if2
     returns-2
     stays-short-requires
     put-number-requires

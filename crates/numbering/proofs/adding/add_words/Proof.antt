@@ -22,16 +22,16 @@ use Rattle.numbering.proofs.adding.add_word.Reads as add-word-reads
 use Rattle.words.proofs.next_word.Reads as next-word-reads
 
 abbrev Inv-loop : tie.InvT-loop
-Inv-loop d words sets w s floors limits out₀ sums₀ rest₀ out sums rest = (length rest ≤ length s) × (all (λ (n : Bytes). among n (auto (recordIn d))) (wordsOf rest) ≡ true) × (length out ≡ length out₀) × ((t : State) → Sums (auto (recordIn d)) t out₀ sums₀ → t .passed + length (wordsOf s) ≤ 64 → Going (pairBy (auto (recordIn d)) floors limits) (auto (recordIn d)) out sums (wordsOf rest) (stepAll (pairBy (auto (recordIn d)) floors limits) t (wordsOf s)))
+Inv-loop d l s bounds out₀ sums₀ rest₀ out sums rest = (length rest ≤ length s) × (all (λ (n : Bytes). among n (auto (recordIn d))) (wordsOf rest) ≡ true) × (length out ≡ length out₀) × ((t : State) → Sums (auto (recordIn d)) t out₀ sums₀ → t .passed + length (wordsOf s) ≤ 64 → Going (pairBy (auto (recordIn d)) (bounds .floors) (bounds .limits)) (auto (recordIn d)) out sums (wordsOf rest) (stepAll (pairBy (auto (recordIn d)) (bounds .floors) (bounds .limits)) t (wordsOf s)))
 
 abbrev μ-loop : tie.MeasureT-loop
-μ-loop d words sets w s floors limits out₀ sums₀ rest₀ out sums rest = length rest
+μ-loop d l s bounds out₀ sums₀ rest₀ out sums rest = length rest
 
 loop-holds : tie.Need-loop-holds Inv-loop μ-loop
 loop-holds c =
-    let at-pre = c .before .before .before .before .before .before .before .pre in
-    let at-args = c .before .before .before .before .before .before .before .args in
-    (omega arith, at-pre .1 .1 .0 .0, refl, λ t h l. going-start (pairBy (auto (recordIn (at-args .d .now))) (at-args .floors .now) (at-args .limits .now)) (auto (recordIn (at-args .d .now))) (at-args .out .now) (at-args .sum) (wordsOf (at-args .s .now)) t h l)
+    let at-pre = c .before .before .before .pre in
+    let at-args = c .before .before .before .args in
+    (omega arith, at-pre .1 .1 .0 .0, refl, λ t h l. going-start (pairBy (auto (recordIn (at-args .d .now))) (at-args .bounds .floors) (at-args .bounds .limits)) (auto (recordIn (at-args .d .now))) (at-args .out .now) (at-args .sum) (wordsOf (at-args .s .now)) t h l)
 
 next-word-requires : tie.Need-next-word-requires Inv-loop μ-loop
 next-word-requires c κs = search needs
@@ -49,12 +49,12 @@ same-length c =
 
 returns : tie.Need-returns Inv-loop μ-loop
 returns c =
-    let at-args = c .before .before .before .before .before .before .before .before .before .before .before .args in
+    let at-args = c .before .before .before .before .before .before .before .args in
     let at-loop = c .before .before .before .loop in
     let at-next-word = c .before .before .next-word in
     let at-enum-told = c .enum-told in
     let ws = auto (recordIn (at-args .d .now)) in
-    let f = pairBy ws (at-args .floors .now) (at-args .limits .now) in
+    let f = pairBy ws (at-args .bounds .floors) (at-args .bounds .limits) in
     λ t h l. going-end f ws (at-loop .out) (at-loop .sums) (wordsOf (at-loop .rest .now)) (stepAll f t (wordsOf (at-args .s .now))) (at-loop .inv .3 t h l) (not-found (at-loop .rest .now) (at-next-word .ensures) (at-enum-told .given .1))
 
 sub-add-word : tie.Need-sub-add-word Inv-loop μ-loop
@@ -83,13 +83,13 @@ part-add-word-end c =
 
 add-word-requires : tie.Need-add-word-requires Inv-loop μ-loop
 add-word-requires c κs =
-    let at-args = c .before .before .before .before .before .before .before .before .before .before .before .before .before .before .args in
+    let at-args = c .before .before .before .before .before .before .before .before .before .before .args in
     let at-loop = c .before .before .before .before .before .before .loop in
     let at-next-word = c .before .before .before .before .before .next-word in
     let at-x = c .before .before .before .x in
-    let at-pre = c .before .before .before .before .before .before .before .before .before .before .before .before .before .before .pre in
+    let at-pre = c .before .before .before .before .before .before .before .before .before .before .pre in
     let ws = auto (recordIn (at-args .d .now)) in
-    let f = pairBy ws (at-args .floors .now) (at-args .limits .now) in
+    let f = pairBy ws (at-args .bounds .floors) (at-args .bounds .limits) in
     let w = found (at-loop .rest .now) (at-next-word .ensures) (at-x .given .1) in
     let g = first-passes (λ (n : Bytes). among n ws) (wordsOf (at-loop .rest .now)) _ _ (w .2) (at-loop .inv .1) in
     let t = at-pre .1 .1 .1 in
@@ -110,17 +110,17 @@ same-length-2 c =
 
 returns-2 : tie.Need-returns-2 Inv-loop μ-loop
 returns-2 c =
-    let at-args = c .before .before .before .before .before .before .before .before .before .before .before .before .before .before .before .before .before .before .before .args in
+    let at-args = c .before .before .before .before .before .before .before .before .before .before .before .before .before .before .before .args in
     let at-loop = c .before .before .before .before .before .before .before .before .before .before .before .loop in
     let at-next-word = c .before .before .before .before .before .before .before .before .before .before .next-word in
     let at-x = c .before .before .before .before .before .before .before .before .x in
     let at-add-word = c .before .before .before .before .add-word in
     let at-enum-told2 = c .enum-told2 in
     let ws = auto (recordIn (at-args .d .now)) in
-    let f = pairBy ws (at-args .floors .now) (at-args .limits .now) in
+    let f = pairBy ws (at-args .bounds .floors) (at-args .bounds .limits) in
     let w = found (at-loop .rest .now) (at-next-word .ensures) (at-x .given .1) in
     λ t h l. let go = at-loop .inv .3 t h l in
-    going-none f ws (at-loop .out) (at-loop .sums) (wordsOf (at-loop .rest .now)) (stepAll f t (wordsOf (at-args .s .now))) go (span (at-x .given .0 .0) (at-x .given .0 .1 .0) (at-loop .rest .now) ∷ []) (wordsOf (span (at-x .given .0 .1 .0) (length (at-loop .rest .now)) (at-loop .rest .now))) (w .2) (at-add-word .last .1 .1 .1 .1 .1 .1 .1 .1 .0) (at-add-word .result) (at-add-word .ensures (go .reached) (go .sums)) (at-enum-told2 .given .1)
+    going-none f ws (at-loop .out) (at-loop .sums) (wordsOf (at-loop .rest .now)) (stepAll f t (wordsOf (at-args .s .now))) go (span (at-x .given .0 .0) (at-x .given .0 .1 .0) (at-loop .rest .now) ∷ []) (wordsOf (span (at-x .given .0 .1 .0) (length (at-loop .rest .now)) (at-loop .rest .now))) (w .2) (at-add-word .last .1 .1 .1 .1 .1 .0) (at-add-word .result) (at-add-word .ensures (go .reached) (go .sums)) (at-enum-told2 .given .1)
 
 sub-rest : tie.Need-sub-rest Inv-loop μ-loop
 sub-rest c =
@@ -151,7 +151,7 @@ loop-less c =
 
 loop-again : tie.Need-loop-again Inv-loop μ-loop
 loop-again c =
-    let at-args = c .before .before .before .before .before .before .before .before .before .before .before .before .before .before .before .before .before .before .before .before .before .args in
+    let at-args = c .before .before .before .before .before .before .before .before .before .before .before .before .before .before .before .before .before .args in
     let at-loop = c .before .before .before .before .before .before .before .before .before .before .before .before .before .loop in
     let at-next-word = c .before .before .before .before .before .before .before .before .before .before .before .before .next-word in
     let at-x = c .before .before .before .before .before .before .before .before .before .before .x in
@@ -159,14 +159,14 @@ loop-again c =
     let at-add-word = c .before .before .before .before .before .before .add-word in
     let at-y = c .before .before .y in
     let ws = auto (recordIn (at-args .d .now)) in
-    let f = pairBy ws (at-args .floors .now) (at-args .limits .now) in
+    let f = pairBy ws (at-args .bounds .floors) (at-args .bounds .limits) in
     let w = found (at-loop .rest .now) (at-next-word .ensures) (at-x .given .1) in
     let g = first-passes (λ (n : Bytes). among n ws) (wordsOf (at-loop .rest .now)) _ _ (w .2) (at-loop .inv .1) in (
       omega (arith, at-loop .inv .0),
       g .1,
       at-out .given ∙ at-loop .inv .2,
       λ t h l. let go = at-loop .inv .3 t h l in
-          going-on f ws (at-loop .out) (at-loop .sums) (wordsOf (at-loop .rest .now)) (stepAll f t (wordsOf (at-args .s .now))) go (span (at-x .given .0 .0) (at-x .given .0 .1 .0) (at-loop .rest .now) ∷ []) (wordsOf (span (at-x .given .0 .1 .0) (length (at-loop .rest .now)) (at-loop .rest .now))) (w .2) (at-add-word .last .1 .1 .1 .1 .1 .1 .1 .1 .0) (at-add-word .result) (at-add-word .ensures (go .reached) (go .sums)) (at-y .given .0 .0) (at-y .given .1),
+          going-on f ws (at-loop .out) (at-loop .sums) (wordsOf (at-loop .rest .now)) (stepAll f t (wordsOf (at-args .s .now))) go (span (at-x .given .0 .0) (at-x .given .0 .1 .0) (at-loop .rest .now) ∷ []) (wordsOf (span (at-x .given .0 .1 .0) (length (at-loop .rest .now)) (at-loop .rest .now))) (w .2) (at-add-word .last .1 .1 .1 .1 .1 .0) (at-add-word .result) (at-add-word .ensures (go .reached) (go .sums)) (at-y .given .0 .0) (at-y .given .1),
     )
 
 pub add-words-spec : {M : Type 1} → statement M

@@ -19,15 +19,15 @@ use Rattle.numbering.proofs.adding.mark.Reads as mark-reads
 use Rattle.requests.proofs.pair_at.Reads as pair-at-reads
 
 abbrev Inv-loop : tie.InvT-loop
-Inv-loop d words sets w req from seen₀ i₀ seen i = (i ≤ length req) × (isSome (pairsFrom req i) ≡ true) × MarksLeft (auto (recordIn d)) (pairsAt req from) (pairsAt req i) seen
+Inv-loop d l req from seen₀ i₀ seen i = (i ≤ length req) × (isSome (pairsFrom req i) ≡ true) × MarksLeft (auto (recordIn d)) (pairsAt req from) (pairsAt req i) seen
 
 abbrev μ-loop : tie.MeasureT-loop
-μ-loop d words sets w req from seen₀ i₀ seen i = length req - i
+μ-loop d l req from seen₀ i₀ seen i = length req - i
 
 loop-holds : tie.Need-loop-holds Inv-loop μ-loop
 loop-holds c =
-    let at-pre = c .before .before .before .before .pre in
-    let at-args = c .before .before .before .before .args in
+    let at-pre = c .before .before .pre in
+    let at-args = c .before .before .args in
     (at-pre .1 .1, at-pre .1 .2, marks-start (auto (recordIn (at-args .d .now))) (pairsAt (at-args .req .now) (at-args .from)))
 
 pair-at-requires : tie.Need-pair-at-requires Inv-loop μ-loop
@@ -41,7 +41,7 @@ enum-told c = search needs
 
 returns : tie.Need-returns Inv-loop μ-loop
 returns c =
-    let at-args = c .before .before .before .before .before .before .before .before .args in
+    let at-args = c .before .before .before .before .before .before .args in
     let at-loop = c .before .before .before .loop in
     let at-pair-at = c .before .before .pair-at in
     let at-enum-told = c .enum-told in
@@ -49,7 +49,7 @@ returns c =
 
 sub-mark : tie.Need-sub-mark Inv-loop μ-loop
 sub-mark c =
-    let at-args = c .before .before .before .before .before .before .before .before .before .args in
+    let at-args = c .before .before .before .before .before .before .before .args in
     let at-loop = c .before .before .before .before .loop in
     let at-pair-at = c .before .before .before .pair-at in
     let at-p = c .before .p in
@@ -58,7 +58,7 @@ sub-mark c =
 
 part-mark-start : tie.Need-part-mark-start Inv-loop μ-loop
 part-mark-start c =
-    let at-args = c .before .before .before .before .before .before .before .before .before .args in
+    let at-args = c .before .before .before .before .before .before .before .args in
     let at-loop = c .before .before .before .before .loop in
     let at-pair-at = c .before .before .before .pair-at in
     let at-p = c .before .p in
@@ -67,7 +67,7 @@ part-mark-start c =
 
 part-mark-end : tie.Need-part-mark-end Inv-loop μ-loop
 part-mark-end c =
-    let at-args = c .before .before .before .before .before .before .before .before .before .args in
+    let at-args = c .before .before .before .before .before .before .before .args in
     let at-loop = c .before .before .before .before .loop in
     let at-pair-at = c .before .before .before .pair-at in
     let at-p = c .before .p in
@@ -76,12 +76,12 @@ part-mark-end c =
 
 mark-requires : tie.Need-mark-requires Inv-loop μ-loop
 mark-requires c κs =
-    let at-pre = c .before .before .before .before .before .before .before .before .before .before .pre in
+    let at-pre = c .before .before .before .before .before .before .before .before .pre in
     at-pre .0
 
 loop-less : tie.Need-loop-less Inv-loop μ-loop
 loop-less c =
-    let at-args = c .before .before .before .before .before .before .before .before .before .before .before .args in
+    let at-args = c .before .before .before .before .before .before .before .before .before .args in
     let at-loop = c .before .before .before .before .before .before .loop in
     let at-pair-at = c .before .before .before .before .before .pair-at in
     let at-p = c .before .before .before .p in
@@ -90,7 +90,7 @@ loop-less c =
 
 loop-again : tie.Need-loop-again Inv-loop μ-loop
 loop-again c =
-    let at-args = c .before .before .before .before .before .before .before .before .before .before .before .args in
+    let at-args = c .before .before .before .before .before .before .before .before .before .args in
     let at-loop = c .before .before .before .before .before .before .loop in
     let at-pair-at = c .before .before .before .before .before .pair-at in
     let at-p = c .before .before .before .p in

@@ -29,13 +29,13 @@ gap-end-requires c κs = search needs
 sub-t : tie.Need-sub-t
 sub-t c =
     let at-gap-end = c .gap-end in
-    let at-args = c .before .before .before .before .before .before .before .args in
+    let at-args = c .before .before .before .before .before .args in
     omega (arith, at-gap-end .ensures, run-le isGap (at-args .s .now))
 
 part-t-start : tie.Need-part-t-start
 part-t-start c =
     let at-gap-end = c .gap-end in
-    let at-args = c .before .before .before .before .before .before .before .args in
+    let at-args = c .before .before .before .before .before .args in
     omega (arith, at-gap-end .ensures, run-le isGap (at-args .s .now))
 
 part-t-end : tie.Need-part-t-end
@@ -47,7 +47,7 @@ word-end-requires c κs = search needs
 slice-aggregate-narrow-parts : tie.Need-slice-aggregate-narrow-parts
 slice-aggregate-narrow-parts c =
     let at-gap-end = c .before .before .before .gap-end in
-    let at-args = c .before .before .before .before .before .before .before .before .before .before .args in
+    let at-args = c .before .before .before .before .before .before .before .before .args in
     let at-word-end = c .before .word-end in
     let t = span (at-gap-end .result) (length (at-args .s .now)) (at-args .s .now) in
     sym (length-take-le (at-word-end .result) t (omega (arith, at-word-end .ensures, run-le notGap t)))
@@ -63,13 +63,13 @@ same-length-2 c = search needs
 
 returns : tie.Need-returns
 returns c =
-    let at-args = c .before .before .before .before .before .before .before .before .before .before .before .before .before .before .before .before .before .args in
+    let at-args = c .before .before .before .before .before .before .before .before .before .before .before .before .before .before .before .args in
     let at-gap-end = c .before .before .before .before .before .before .before .before .before .before .gap-end in
     let at-word-end = c .before .before .before .before .before .before .before .before .word-end in
     let at-narrow-parts = c .before .before .before .before .narrow-parts in
     let e = first-span (at-args .s .now) (at-gap-end .result) (at-word-end .result) (at-gap-end .ensures) (at-word-end .ensures) in
     let ws = auto (recordIn (at-args .d .now)) in
-    (λ n h. at-narrow-parts .ensures .0 n h ∙ ap (λ (x : Bytes). max (getD (at-args .floors .now) (placeIn n ws) 0) (pick (among n (split 44 x)) (from (intIn (at-args .low))) 0)) e, λ n h. at-narrow-parts .ensures .1 n h ∙ ap (λ (x : Bytes). min (getD (at-args .limits .now) (placeIn n ws) 0) (pick (among n (split 44 x)) (above (intIn (at-args .high))) numbers)) e)
+    (λ n h. at-narrow-parts .ensures .0 n h ∙ ap (λ (x : Bytes). max (getD (at-args .floors .now) (placeIn n ws) 0) (pick (among n (split 44 x)) (from (intIn (at-args .range .low))) 0)) e, λ n h. at-narrow-parts .ensures .1 n h ∙ ap (λ (x : Bytes). min (getD (at-args .limits .now) (placeIn n ws) 0) (pick (among n (split 44 x)) (above (intIn (at-args .range .high))) numbers)) e)
 
 pub narrow-names-spec : {M : Type 1} → statement M
 narrow-names-spec =

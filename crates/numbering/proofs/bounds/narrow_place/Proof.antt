@@ -53,13 +53,13 @@ returns c =
     let at-raise = c .before .before .raise in
     let at-if1 = c .before .before .before .before .if1 in
     let at-lower = c .lower in
-    (joined-here max (at-args .count) (at-args .k) (from (intIn (at-args .low))) (at-args .floors .now) (at-raise .result) (at-if1 .taken) (at-raise .ensures), joined-here min (at-args .count) (at-args .k) (above (intIn (at-args .high))) (at-args .limits .now) (at-lower .result) (at-if1 .taken) (at-lower .ensures))
+    (joined-here max (at-args .count) (at-args .k) (from (intIn (at-args .range .low))) (at-args .floors .now) (at-raise .result) (at-if1 .taken) (at-raise .ensures), joined-here min (at-args .count) (at-args .k) (above (intIn (at-args .range .high))) (at-args .limits .now) (at-lower .result) (at-if1 .taken) (at-lower .ensures))
 
 returns-2 : tie.Need-returns-2
 returns-2 c =
     let at-args = c .before .before .before .args in
     let at-if1 = c .if1 in
-    (joined-none max (at-args .count) (at-args .k) (from (intIn (at-args .low))) (at-args .floors .now) (at-if1 .left), joined-none min (at-args .count) (at-args .k) (above (intIn (at-args .high))) (at-args .limits .now) (at-if1 .left))
+    (joined-none max (at-args .count) (at-args .k) (from (intIn (at-args .range .low))) (at-args .floors .now) (at-if1 .left), joined-none min (at-args .count) (at-args .k) (above (intIn (at-args .range .high))) (at-args .limits .now) (at-if1 .left))
 
 pub narrow-place-spec : {M : Type 1} → statement M
 narrow-place-spec =

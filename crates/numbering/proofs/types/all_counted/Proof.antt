@@ -22,15 +22,15 @@ use Rattle.numbering.proofs.types.type_counted.Reads as type-counted-re
 use Rattle.records.proofs.next_named.Reads as next-named-reads
 
 abbrev Inv-loop : tie.InvT-loop
-Inv-loop d words sets w names defs scratch₀ i₀ t13 scratch i = (i ≤ length d) × (isReadable (drop i d) ≡ true) × TypedFrom d i × (length scratch ≡ length scratch₀) × (all (isTypeCounted d) (valuesFrom d (text "%type") 0) ≡ all (isTypeCounted d) (valuesFrom d (text "%type") i))
+Inv-loop d l names defs scratch₀ i₀ t11 scratch i = (i ≤ length d) × (isReadable (drop i d) ≡ true) × TypedFrom d i × (length scratch ≡ length scratch₀) × (all (isTypeCounted d) (valuesFrom d (text "%type") 0) ≡ all (isTypeCounted d) (valuesFrom d (text "%type") i))
 
 abbrev μ-loop : tie.MeasureT-loop
-μ-loop d words sets w names defs scratch₀ i₀ t13 scratch i = length d - i
+μ-loop d l names defs scratch₀ i₀ t11 scratch i = length d - i
 
 loop-holds : tie.Need-loop-holds Inv-loop μ-loop
 loop-holds c =
-    let at-pre = c .before .before .before .before .pre in
-    let at-args = c .before .before .before .before .args in
+    let at-pre = c .before .before .pre in
+    let at-args = c .before .before .args in
     (omega arith, at-pre .1 .0 .0 .reads, typed-start (at-args .d .now) (at-pre .1 .0 .0), refl, refl)
 
 sub-next-named : tie.Need-sub-next-named Inv-loop μ-loop
@@ -47,7 +47,7 @@ slice-aggregate-next-named c = search needs
 
 next-named-requires : tie.Need-next-named-requires Inv-loop μ-loop
 next-named-requires c κs =
-    let at-args = c .before .before .before .before .before .before .before .args in
+    let at-args = c .before .before .before .before .before .args in
     let at-loop = c .before .before .loop in
     part-readable (at-args .d .now) (at-loop .i) (at-loop .inv .1)
 
@@ -65,14 +65,14 @@ same-length c =
 returns : tie.Need-returns Inv-loop μ-loop
 returns c =
     let at-loop = c .before .before .before .before .before .loop in
-    let at-args = c .before .before .before .before .before .before .before .before .before .before .args in
+    let at-args = c .before .before .before .before .before .before .before .before .args in
     let at-next-named = c .before .before .next-named in
     let at-enum-told = c .enum-told in
     sym (at-loop .inv .4 ∙ ap (all (isTypeCounted (at-args .d .now))) (value-told (at-args .d .now) (text "%type") (at-loop .i) (at-next-named .result) (at-next-named .ensures) (at-enum-told .given .1)))
 
 add-kind-at : tie.Need-add-kind-at Inv-loop μ-loop
 add-kind-at c =
-    let at-args = c .before .before .before .before .before .before .before .before .before .before .before .args in
+    let at-args = c .before .before .before .before .before .before .before .before .before .args in
     let at-loop = c .before .before .before .before .before .before .loop in
     let at-next-named = c .before .before .before .next-named in
     let at-v = c .before .v in
@@ -81,17 +81,17 @@ add-kind-at c =
 
 kind-at-requires : tie.Need-kind-at-requires Inv-loop μ-loop
 kind-at-requires c κs =
-    let at-args = c .before .before .before .before .before .before .before .before .before .before .before .before .args in
+    let at-args = c .before .before .before .before .before .before .before .before .before .before .args in
     let at-loop = c .before .before .before .before .before .before .before .loop in
     let at-next-named = c .before .before .before .before .next-named in
     let at-v = c .before .before .v in
-    let at-pre = c .before .before .before .before .before .before .before .before .before .before .before .before .pre in
+    let at-pre = c .before .before .before .before .before .before .before .before .before .before .pre in
     let h = value-told (at-args .d .now) (text "%type") (at-loop .i) (at-next-named .result) (at-next-named .ensures) (at-v .given .1) in
     (at-pre .1 .0, (typed-here (at-args .d .now) (at-loop .i) _ _ h (at-loop .inv .2), omega (arith, at-loop .inv .3, at-pre .1 .1)))
 
 add-type-counted : tie.Need-add-type-counted Inv-loop μ-loop
 add-type-counted c =
-    let at-args = c .before .before .before .before .before .before .before .before .before .before .before .before .before .before .before .args in
+    let at-args = c .before .before .before .before .before .before .before .before .before .before .before .before .before .args in
     let at-loop = c .before .before .before .before .before .before .before .before .before .before .loop in
     let at-next-named = c .before .before .before .before .before .before .before .next-named in
     let at-v = c .before .before .before .before .before .v in
@@ -100,11 +100,11 @@ add-type-counted c =
 
 type-counted-requires : tie.Need-type-counted-requires Inv-loop μ-loop
 type-counted-requires c κs =
-    let at-args = c .before .before .before .before .before .before .before .before .before .before .before .before .before .before .before .before .args in
+    let at-args = c .before .before .before .before .before .before .before .before .before .before .before .before .before .before .args in
     let at-loop = c .before .before .before .before .before .before .before .before .before .before .before .loop in
     let at-next-named = c .before .before .before .before .before .before .before .before .next-named in
     let at-v = c .before .before .before .before .before .before .v in
-    let at-pre = c .before .before .before .before .before .before .before .before .before .before .before .before .before .before .before .before .pre in
+    let at-pre = c .before .before .before .before .before .before .before .before .before .before .before .before .before .before .pre in
     let at-scratch = c .before .before .scratch in
     let h = value-told (at-args .d .now) (text "%type") (at-loop .i) (at-next-named .result) (at-next-named .ensures) (at-v .given .1) in
     let t = typed-here (at-args .d .now) (at-loop .i) _ _ h (at-loop .inv .2) in
@@ -119,7 +119,7 @@ same-length-2 c =
 
 returns-2 : tie.Need-returns-2 Inv-loop μ-loop
 returns-2 c =
-    let at-args = c .before .before .before .before .before .before .before .before .before .before .before .before .before .before .before .before .before .before .before .before .args in
+    let at-args = c .before .before .before .before .before .before .before .before .before .before .before .before .before .before .before .before .before .before .args in
     let at-loop = c .before .before .before .before .before .before .before .before .before .before .before .before .before .before .before .loop in
     let at-next-named = c .before .before .before .before .before .before .before .before .before .before .before .before .next-named in
     let at-v = c .before .before .before .before .before .before .before .before .before .before .v in
@@ -131,17 +131,17 @@ returns-2 c =
 
 add-i : tie.Need-add-i Inv-loop μ-loop
 add-i c =
-    let at-args = c .before .before .before .before .before .before .before .before .before .before .before .before .before .before .before .before .before .before .before .before .args in
+    let at-args = c .before .before .before .before .before .before .before .before .before .before .before .before .before .before .before .before .before .before .args in
     let at-loop = c .before .before .before .before .before .before .before .before .before .before .before .before .before .before .before .loop in
     let at-next-named = c .before .before .before .before .before .before .before .before .before .before .before .before .next-named in
     let at-v = c .before .before .before .before .before .before .before .before .before .before .v in
-    let at-good = c .before .before .before .before .before .before .before .before .before .before .before .before .before .before .before .before .before .before .before .before .good in
+    let at-good = c .before .before .before .before .before .before .before .before .before .before .before .before .before .before .before .before .before .before .good in
     let h = value-told (at-args .d .now) (text "%type") (at-loop .i) (at-next-named .result) (at-next-named .ensures) (at-v .given .1) in
     omega (arith, h .inside, at-good .0 .0)
 
 loop-less : tie.Need-loop-less Inv-loop μ-loop
 loop-less c =
-    let at-args = c .before .before .before .before .before .before .before .before .before .before .before .before .before .before .before .before .before .before .before .before .args in
+    let at-args = c .before .before .before .before .before .before .before .before .before .before .before .before .before .before .before .before .before .before .args in
     let at-loop = c .before .before .before .before .before .before .before .before .before .before .before .before .before .before .before .loop in
     let at-next-named = c .before .before .before .before .before .before .before .before .before .before .before .before .next-named in
     let at-v = c .before .before .before .before .before .before .before .before .before .before .v in
@@ -150,7 +150,7 @@ loop-less c =
 
 loop-again : tie.Need-loop-again Inv-loop μ-loop
 loop-again c =
-    let at-args = c .before .before .before .before .before .before .before .before .before .before .before .before .before .before .before .before .before .before .before .before .args in
+    let at-args = c .before .before .before .before .before .before .before .before .before .before .before .before .before .before .before .before .before .before .args in
     let at-loop = c .before .before .before .before .before .before .before .before .before .before .before .before .before .before .before .loop in
     let at-next-named = c .before .before .before .before .before .before .before .before .before .before .before .before .next-named in
     let at-v = c .before .before .before .before .before .before .before .before .before .before .v in

@@ -24,13 +24,13 @@ gap-end-requires c κs = search needs
 sub-t : tie.Need-sub-t
 sub-t c =
     let at-gap-end = c .gap-end in
-    let at-args = c .before .before .before .before .before .args in
+    let at-args = c .before .before .before .args in
     omega (arith, at-gap-end .ensures, run-le isGap (at-args .s .now))
 
 part-t-start : tie.Need-part-t-start
 part-t-start c =
     let at-gap-end = c .gap-end in
-    let at-args = c .before .before .before .before .before .args in
+    let at-args = c .before .before .before .args in
     omega (arith, at-gap-end .ensures, run-le isGap (at-args .s .now))
 
 part-t-end : tie.Need-part-t-end
@@ -42,7 +42,7 @@ word-end-requires c κs = search needs
 slice-aggregate-part-listed : tie.Need-slice-aggregate-part-listed
 slice-aggregate-part-listed c =
     let at-gap-end = c .before .before .before .gap-end in
-    let at-args = c .before .before .before .before .before .before .before .before .args in
+    let at-args = c .before .before .before .before .before .before .args in
     let at-word-end = c .before .word-end in
     let t = span (at-gap-end .result) (length (at-args .s .now)) (at-args .s .now) in
     sym (length-take-le (at-word-end .result) t (omega (arith, at-word-end .ensures, run-le notGap t)))
@@ -53,7 +53,7 @@ part-listed-requires c κs = search needs
 returns : tie.Need-returns
 returns c =
     let at-part-listed = c .part-listed in
-    let at-args = c .before .before .before .before .before .before .before .before .before .args in
+    let at-args = c .before .before .before .before .before .before .before .args in
     let at-gap-end = c .before .before .before .before .gap-end in
     let at-word-end = c .before .before .word-end in
     at-part-listed .ensures ∙ ap (λ (x : Bytes). any (λ (n : Bytes). among n (auto (recordIn (at-args .d .now)))) (split 44 x)) (first-span (at-args .s .now) (at-gap-end .result) (at-word-end .result) (at-gap-end .ensures) (at-word-end .ensures))

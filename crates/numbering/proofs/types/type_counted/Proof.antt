@@ -24,7 +24,7 @@ is-counted-requires c κs = search needs
 
 returns : tie.Need-returns
 returns c =
-    let at-args = c .before .before .before .before .before .before .args in
+    let at-args = c .before .before .before .before .args in
     let at-is-counted = c .before .is-counted in
     let at-if1 = c .if1 in
     sym (ap (λ (t : Bool). t || not (any (λ (n : Bytes). among n (auto (recordIn (at-args .d .now)))) (typedNames (valueFrom (drop (at-args .value) (at-args .d .now)))))) (sym (at-is-counted .ensures) ∙ at-if1 .taken))
@@ -40,20 +40,20 @@ part-copy-value-end c = search needs
 
 copy-value-requires : tie.Need-copy-value-requires
 copy-value-requires c κs =
-    let at-args = c .before .before .before .before .before .before .before .before .args in
-    let at-pre = c .before .before .before .before .before .before .before .before .pre in
+    let at-args = c .before .before .before .before .before .before .args in
+    let at-pre = c .before .before .before .before .before .before .pre in
     subst (λ (x : Bytes). length (valueFrom x) ≤ length (at-args .scratch .now)) (sym (rest (at-args .d .now) (at-args .value))) (at-pre .1 .1)
 
 slice-reshare-prefix-name-listed : tie.Need-slice-reshare-prefix-name-listed
 slice-reshare-prefix-name-listed c =
-    let at-args = c .before .before .before .before .before .before .before .before .before .before .before .args in
+    let at-args = c .before .before .before .before .before .before .before .before .before .args in
     let at-copy-value = c .before .before .copy-value in
-    let at-pre = c .before .before .before .before .before .before .before .before .before .before .before .pre in
+    let at-pre = c .before .before .before .before .before .before .before .before .before .pre in
     decoded-inside (valueFrom (span (at-args .value) (length (at-args .d .now)) (at-args .d .now))) (at-args .scratch .now) _ (at-copy-value .result) (at-copy-value .ensures .0) (at-copy-value .ensures .1) (subst (λ (x : Bytes). length (valueFrom x) ≤ length (at-args .scratch .now)) (sym (rest (at-args .d .now) (at-args .value))) (at-pre .1 .1))
 
 slice-aggregate-name-listed : tie.Need-slice-aggregate-name-listed
 slice-aggregate-name-listed c =
-    let at-args = c .before .before .before .before .before .before .before .before .before .before .before .before .args in
+    let at-args = c .before .before .before .before .before .before .before .before .before .before .args in
     let at-copy-value = c .before .before .before .copy-value in
     decoded-length (valueFrom (span (at-args .value) (length (at-args .d .now)) (at-args .d .now))) (at-args .scratch .now) _ (at-copy-value .result) (at-copy-value .ensures .0) (at-copy-value .ensures .1)
 
@@ -65,7 +65,7 @@ same-length c = search needs
 
 returns-2 : tie.Need-returns-2
 returns-2 c =
-    let at-args = c .before .before .before .before .before .before .before .before .before .before .before .before .before .args in
+    let at-args = c .before .before .before .before .before .before .before .before .before .before .before .args in
     let at-copy-value = c .before .before .before .before .copy-value in
     let at-name-listed = c .name-listed in
     let at-is-counted = c .before .before .before .before .before .before .before .before .is-counted in

@@ -13,20 +13,20 @@ use Rattle.typedefs.proofs.read_typedefs.Reads as read-typedefs-reads
 
 read-names-requires : tie.Need-read-names-requires
 read-names-requires c κs =
-    let at-pre = c .before .before .before .before .pre in
-    let at-args = c .before .before .before .before .args in
+    let at-pre = c .before .before .pre in
+    let at-args = c .before .before .args in
     ((at-pre .1 .0 .reads, at-pre .1 .0 .short), (typedefs-few (at-args .d .now) (at-pre .1 .0), typedefs-named (at-args .d .now) (at-pre .1 .0)))
 
 read-typedefs-requires : tie.Need-read-typedefs-requires
 read-typedefs-requires c κs =
     let at-read-names = c .before .read-names in
-    let at-args = c .before .before .before .before .before .before .args in
-    let at-pre = c .before .before .before .before .before .before .pre in
+    let at-args = c .before .before .before .before .args in
+    let at-pre = c .before .before .before .before .pre in
     (at-read-names .ensures, typedefs-fit (at-args .d .now) (at-pre .1 .0) (length (at-args .scratch .now)) (at-pre .1 .1))
 
 all-counted-requires : tie.Need-all-counted-requires
 all-counted-requires c κs =
-    let at-pre = c .before .before .before .before .before .before .before .before .before .before .pre in
+    let at-pre = c .before .before .before .before .before .before .before .before .pre in
     let at-read-names = c .before .before .before .before .before .read-names in
     let at-read-typedefs = c .before .before .before .read-typedefs in
     let at-scratch = c .before .before .scratch in
