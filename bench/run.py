@@ -25,7 +25,7 @@ FILL, LISTED = 1.3, 1.15
 REQUESTS, RUN = 64, 0.6
 NUMBERED = 1.5
 # instructions a byte of the check before `%auto` was known, and how much more a file without it may take
-UNNUMBERED, SPARED = {'book 64 KB': 57.5, 'keys 64 KB': 72.0}, 1.02
+UNNUMBERED, SPARED = {'book 64 KB': 57.5, 'keys 64 KB': 72.0, '64 descriptors of docs': 218.4, '64 descriptors of plain fields': 516.6}, 1.02
 LONG_KEYS = {'keys with a common front': True, 'keys with a common end': False}
 FASTER = {'book 1 KB': 150, 'book 8 KB': 250, 'book 64 KB': 700}
 
@@ -146,7 +146,7 @@ def counted(files):
     if not shutil.which('valgrind'):
         print('instructions: valgrind is not here\n')
         return
-    a_byte = {name: instructions(files[name][0], 'check') / files[name][1] for name in ('book 64 KB', 'keys 64 KB', *LONG_KEYS)}
+    a_byte = {name: instructions(files[name][0], 'check') / files[name][1] for name in (*UNNUMBERED, *LONG_KEYS)}
     for name, before in UNNUMBERED.items():
         ratio = a_byte[name] / before
         print('instructions, check, %s: %.1f a byte, %.3f times those without a look for `%%auto` (at most %.2f): %s' % (name, a_byte[name], ratio, SPARED, verdict(ratio <= SPARED)), flush=True)
@@ -241,8 +241,9 @@ def main():
     against_recutils(files)
     in_memory(files)
     growth(files)
-    counted(files)
-    text = shapes.sets()['64 sets of few records']
+    sets = shapes.sets()
+    counted({**files, **{name: (kept(name, text), len(text), 64) for name, text in sets.items() if name in UNNUMBERED}})
+    text = sets['64 sets of few records']
     directories({**files, 'sets 64 KB': (kept('sets', text), len(text), 64)})
     room = REQUESTS * len(b'\nId: 999900\nPage: front\n')
     sendings(kept('book with room', shapes.book(shapes.LIMIT - room)[0]))

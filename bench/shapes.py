@@ -339,6 +339,8 @@ def sets():
         '64 sets of large descriptors': each(lists(PAIRS[:64], b'unique', b'prohibit') + types(b','.join(PAIRS[100:285]), [b'int']), b'A: 5\n\n'),
         '64 sets of aliases': each(chain(b'int') + types(b'A', [b'T0'] * 32), b'A: 5\n\n'),
         '64 sets of an enum': each(types(b'A', [enum(PAIRS[:320])]), b'A: ' + PAIRS[319] + b'\n\n'),
+        '64 descriptors of docs': each(b'%doc: t\n' * 100, b''),
+        '64 descriptors of plain fields': each(b'F: t\n' * 160, b''),
         '64 empty sets behind a large default set': b'A:\n\n' * 16000 + each(b'', b''),
         '64 empty sets of a rule each behind it': b'A:\n\n' * 15600 + each(b'%type: A int\n%key: A\n', b''),
         '64 empty sets before a large one': full(each(b'%key: K\n', b'', 63) + HEAD, [b'A:\n'], 1),

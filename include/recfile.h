@@ -18,7 +18,7 @@
  * - A pointer to bytes or to entries may be NULL where its length is 0. `number` and `start` are never NULL: they point to a
  *   uint32_t and a size_t, aligned, writable and readable.
  * - What a call writes overlaps nothing else that it is given: an `out` that lies over `buf` overwrites the file.
- * - The stack has room. An edit takes at most 172 KiB, every other call 160 KiB, as measured by bench/run.py.
+ * - The stack has room. A call takes at most 160 KiB of it, as measured by bench/run.py.
  *
  * What the caller can rely on: no call allocates, keeps anything between calls, or reads or writes outside the buffers it is
  * given and its own stack. So calls may run at once, in threads or one interrupting another, as long as none of them writes what
