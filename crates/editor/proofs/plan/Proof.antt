@@ -1,16 +1,14 @@
 -- `editor::plan` meets its contract: the request is none, or where it acts was located.
-use native.Mathlib.Omega.{arith}
 use mathlib.Core.Path.{refl, sym, ap, _∙_, subst}
-use mathlib.Core.Option.{Option, none, some}
+use mathlib.Core.Option.{Option, none}
 use lib.ListN.{take}
 use Rattle.format.specs.Calls.{checkAnswer}
 use Rattle.format.specs.Requests.{Request}
 use Rattle.requests.specs.Kinds.{requestAnswer, Inside}
 use Rattle.requests.proofs.Filling.{request-bytes}
 use Rattle.edits.specs.declared.Located.{Located}
-use Rattle.edits.specs.Places.{askedBy}
 use Rattle.editor.specs.Plans.{plannedBy}
-use Rattle.editor.proofs.Editing.{file-inside, file-length, file-small, file-readable, file-sets}
+use Rattle.editor.proofs.Editing.{file-length, file-small, file-readable, file-sets}
 use borrow.Author.Needs.{needs}
 use Rattle.editor.proofs.plan.Statement.{statement}
 use Rattle.editor.proofs.plan.Tie as tie

@@ -1,6 +1,6 @@
 -- `numbering::bounds::narrow_all` meets its contract. The invariant: what is at the places, put together with what the types from here on say, is what was there, put together with what all say. The measure is what is left of the text.
 use borrow.Author.Needs.{needs}
-use Prim.Native.Nat.{ℕ, _+_, _-_, _≤_, min, max}
+use Prim.Native.Nat.{_+_, _-_, _≤_, min, max}
 use native.Mathlib.Omega.{arith}
 use mathlib.Core.Path.{_≡_, refl, sym, ap, _∙_, subst}
 use mathlib.Core.Bool.{true}
