@@ -1,21 +1,20 @@
-// Records: the next one of a part of the file, its next field, and the search for a set, a record and an occurrence.
+// Records: the next one of a part of the file, its next field, and the search for a set, a record and an occurrence. What is asked of a value where it stands is in `values`.
 ghost use mathlib.Core.Path.{_≡_};
 ghost use mathlib.Core.Bool.{true};
-ghost use Prim.Native.Nat.{_≤_};
-ghost use lib.ListN.{length, drop};
 ghost use Rattle.format.specs.Pieces.{readOf};
-ghost use Rattle.format.specs.Lists.{front, behind};
 ghost use Rattle.format.specs.Bytes.{text, same};
-ghost use Rattle.format.specs.Words.{isGap, notGap, firstWord};
-ghost use Rattle.lines.specs.Value.{valueFrom};
 ghost use Rattle.records.specs.Places.{isReadable, placesOf, firstPlace, headPlace, setPlace, recordPlace, fieldPlace};
 ghost use Rattle.records.specs.Sets.{leading, firstSet};
 ghost use Rattle.records.specs.Walk.{runFrom, opensSet};
-ghost use Rattle.records.specs.Gaps.{gapIs};
 ghost use Rattle.records.specs.Fields.{FieldNext};
 ghost use Rattle.records.specs.Named.{NamedNext};
-use lines::Decoded;
 use lines::Next;
+
+mod values;
+
+pub use values::pass;
+pub use values::word_is;
+pub use values::word_start;
 
 // Is a part empty or ended by a newline, and has every line of it a form?
 pub fn is_readable(s: &[u8]) -> bool
@@ -361,65 +360,6 @@ pub fn find_field(s: &[u8], name: &[u8], o: usize) -> FoundField
         left -= 1;
         i += end;
     }
-}
-
-// Where the gaps that the value from i on begins with have been passed, or the bytes that are no gaps.
-pub fn pass(s: &[u8], i: usize, gaps: bool) -> usize
-    requires { ⌜ i ≤ length (now s) ⌝ }
-    ensures { λ r. ⌜ (valueFrom (drop r (now (s .entry))) ≡ behind (gapIs gaps) (valueFrom (drop i (now (s .entry))))) × (i ≤ r) × (r ≤ length (now (s .entry))) ⌝ }
-{
-    let mut at = i;
-    loop {
-        let d = lines::value_byte(s, at);
-        let Decoded::Byte { byte, next } = d else {
-            return at;
-        };
-        if words::is_gap(byte) == gaps {
-            at = next;
-        } else {
-            return at;
-        }
-    }
-}
-
-// Is the word that the value from i on begins with this one?
-pub fn word_here(s: &[u8], i: usize, word: &[u8]) -> bool
-    ensures { λ r. ⌜ r ≡ same (now (word .entry)) (front notGap (valueFrom (drop i (now (s .entry))))) ⌝ }
-{
-    let mut at = i;
-    let mut n = 0;
-    loop {
-        let d = lines::value_byte(s, at);
-        let Decoded::Byte { byte, next } = d else {
-            return n == word.len();
-        };
-        if words::is_gap(byte) {
-            return n == word.len();
-        }
-        if n == word.len() {
-            return false;
-        }
-        if word[n] != byte {
-            return false;
-        }
-        n += 1;
-        at = next;
-    }
-}
-
-// The place in a value, which begins where s does, of its first word: the place behind the gaps before it.
-pub fn word_start(s: &[u8]) -> usize
-    ensures { λ r. ⌜ valueFrom (drop r (now (s .entry))) ≡ behind isGap (valueFrom (now (s .entry))) ⌝ }
-{
-    pass(s, 0, true)
-}
-
-// Is the first word of the value that begins where s does this one?
-pub fn word_is(s: &[u8], word: &[u8]) -> bool
-    ensures { λ r. ⌜ r ≡ same (now (word .entry)) (firstWord (valueFrom (now (s .entry)))) ⌝ }
-{
-    let i = pass(s, 0, true);
-    word_here(s, i, word)
 }
 
 // Does a descriptor, which fills s, open the set of a name?

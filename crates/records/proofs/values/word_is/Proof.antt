@@ -1,15 +1,15 @@
--- `records::word_is` meets its contract: behind the gaps the first word is compared.
+-- `records::values::word_is` meets its contract: behind the gaps the first word is compared.
 use mathlib.Core.Path.{ap, _∙_}
 use Rattle.format.specs.Lists.{front}
 use Rattle.format.specs.Bytes.{same}
 use Rattle.format.specs.Words.{notGap}
 use borrow.Author.Needs.{needs}
-use Rattle.records.proofs.word_is.Statement.{statement}
-use Rattle.records.proofs.word_is.Tie as tie
-use Rattle.records.proofs.word_is.Reads as reads
-use Rattle.records.proofs.word_is.Lts as lts
-use Rattle.records.proofs.pass.Reads as pass-reads
-use Rattle.records.proofs.word_here.Reads as word-here-reads
+use Rattle.records.proofs.values.word_is.Statement.{statement}
+use Rattle.records.proofs.values.word_is.Tie as tie
+use Rattle.records.proofs.values.word_is.Reads as reads
+use Rattle.records.proofs.values.word_is.Lts as lts
+use Rattle.records.proofs.values.pass.Reads as pass-reads
+use Rattle.records.proofs.values.word_here.Reads as word-here-reads
 
 pass-requires : tie.Need-pass-requires
 pass-requires c κs = search needs

@@ -1,4 +1,4 @@
--- `records::pass` meets its contract. The invariant: what is behind the passed bytes of the value from at on is behind those of the value from i on.
+-- `records::values::pass` meets its contract. The invariant: what is behind the passed bytes of the value from at on is behind those of the value from i on.
 -- The measure is what is left of the length.
 use borrow.Author.Needs.{needs}
 use Prim.Native.Nat.{_-_, _≤_}
@@ -11,10 +11,10 @@ use Rattle.lines.specs.Value.{valueFrom}
 use Rattle.lines.proofs.Decoding.{ended, goes-on}
 use Rattle.records.specs.Gaps.{gapIs}
 use Rattle.records.proofs.Words.{gap-is, byte-passed, byte-left}
-use Rattle.records.proofs.pass.Statement.{statement}
-use Rattle.records.proofs.pass.Tie as tie
-use Rattle.records.proofs.pass.Reads as reads
-use Rattle.records.proofs.pass.Lts as lts
+use Rattle.records.proofs.values.pass.Statement.{statement}
+use Rattle.records.proofs.values.pass.Tie as tie
+use Rattle.records.proofs.values.pass.Reads as reads
+use Rattle.records.proofs.values.pass.Lts as lts
 use Rattle.lines.proofs.value_byte.Reads as value-byte-reads
 use Rattle.words.proofs.is_gap.Reads as is-gap-reads
 

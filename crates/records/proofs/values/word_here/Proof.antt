@@ -1,4 +1,4 @@
--- `records::word_here` meets its contract. The invariant: the word from n on is the same as the first word of the value from at on if the whole ones are, and only then.
+-- `records::values::word_here` meets its contract. The invariant: the word from n on is the same as the first word of the value from at on if the whole ones are, and only then.
 -- The measure is what is left of the length.
 use borrow.Author.Needs.{needs}
 use Prim.Native.Nat.{_-_, _≤_}
@@ -11,10 +11,10 @@ use Rattle.format.specs.Words.{notGap}
 use Rattle.lines.specs.Value.{valueFrom}
 use Rattle.lines.proofs.Decoding.{ended, goes-on}
 use Rattle.records.proofs.Words.{word-ended, word-on, same-ended, same-over, same-other, same-byte}
-use Rattle.records.proofs.word_here.Statement.{statement}
-use Rattle.records.proofs.word_here.Tie as tie
-use Rattle.records.proofs.word_here.Reads as reads
-use Rattle.records.proofs.word_here.Lts as lts
+use Rattle.records.proofs.values.word_here.Statement.{statement}
+use Rattle.records.proofs.values.word_here.Tie as tie
+use Rattle.records.proofs.values.word_here.Reads as reads
+use Rattle.records.proofs.values.word_here.Lts as lts
 use Rattle.lines.proofs.value_byte.Reads as value-byte-reads
 use Rattle.words.proofs.is_gap.Reads as is-gap-reads
 
