@@ -9,8 +9,8 @@ use lib.Seq.{take-append-seam, drop-append-seam}
 use Rattle.format.specs.Bytes.{Bytes}
 use Rattle.format.specs.Lists.{onward}
 use Rattle.format.specs.Requests.{shortAt, requestsFrom, requestsIn, short, runBytes}
-use Rattle.format.specs.Calls.{Answer, valueOr, over}
-use Rattle.format.specs.Runs.{Single, Ran, singly, taken, editsOf, Numbered, numbersTold, numbered, runAnswer, Call, standsFor, singles, run}
+use Rattle.format.specs.Calls.{Answer, numberIn, valueOr, Filled, over}
+use Rattle.format.specs.Runs.{Single, singleAnswer, Ran, singly, taken, editsOf, Numbered, numbersTold, numbered, runAnswer, Call, standsFor, singles, run}
 use Rattle.format.proofs.Encoding.{short-back}
 use Rattle.format.proofs.Demand.{run-singly}
 
@@ -83,6 +83,12 @@ run-leaves buffer used s old = (length-of (taken (length old) s), refl, refl)
     length-of : (x : Option (List Bytes)) → valueOr used (numbered x buffer used old .result) ≡ singly (editsOf x) buffer used .length
     length-of none = refl
     length-of (some qs) = refl
+
+-- "one number per request": the first is the first request's, and the others are those of the rest, sent to what it left
+pub run-numbers : (e : Single) (es : List Single) (buffer : Bytes) (used : ℕ) → let a : Filled = singleAnswer e buffer used in
+    numbersTold (singly (e ∷ es) buffer used .told) ≡ numberIn (a .result) ∷ numbersTold (singly es (a .out) (valueOr used (a .result)) .told)
+unfolding singly
+run-numbers e es buffer used = refl
 
 -- wherever in a list a run comes, its requests may stand in its place, each a call of its own; none where it is refused
 singles-append : (cs ds : List Call) → singles (cs ++ ds) ≡ singles cs ++ singles ds

@@ -9,18 +9,18 @@ use mathlib.Core.List.{List, [], _∷_, _++_}
 use lib.Dec.{leb, eqb}
 use lib.ListN.{length, take, drop, replicate}
 use borrow.Author.Tests.{leb-true, le-leb, lt-leb}
 use Rattle.format.specs.Lists.{filter, flat}
 use Rattle.format.specs.Bytes.{Bytes, text, pick, within, all, among}
 use Rattle.format.specs.Pieces.{pieces}
 use Rattle.format.specs.Records.{Field, Record}
 use Rattle.format.specs.Sets.{RecSet, setsOf}
 use Rattle.format.specs.Numbers.{Bounds, intBounds}
 use Rattle.format.specs.Types.{Kind, isContinuation, sizeCount, meets}
 use Rattle.format.specs.Rules.{TypeRule, typeRules, isTyped}
 use Rattle.format.specs.Questions.{Row, firstNo, File, fileOf, eachRecord, allTyped, questions, verdictIn, verdict}
 use Rattle.format.proofs.Elements.{all-imp}
 use Rattle.format.proofs.Least.{Above, Rise, first-above}
-use Rattle.format.proofs.Wider.{or-later}
+use Rattle.laws.proofs.Wider.{or-later}
 
 -- well-formed UTF-8
 
