@@ -1,6 +1,6 @@
 #!/usr/bin/env python3
-"""The examples of docs/FORMAT.md: each file, and each request on the receipt book, is refused with the number that stands there; a damaged file cut into parts shows the
-numbers that stand there; the directory of a file is the one that stands there, a run of requests answers what stands there, inserts get the numbers that stand there, and the name of the section on sizes has the characters that stand there; and where GNU recutils is there, recfix finds a fault in the files of which the page says so.
+"""The examples of docs/FORMAT.md: each file, and each request on the receipt book, is refused with the number that stands there; the commands that cut a damaged file into parts print
+what stands there, and lead to the fault of others; the directory of a file is the one that stands there, a run of requests answers what stands there, inserts get the numbers that stand there, and the name of the section on sizes has the characters that stand there; and where GNU recutils is there, recfix finds a fault in the files of which the page says so.
 
 Usage: python3 tests/format/examples.py     (after `rt staticlib recfile`; needs cc)
 """
@@ -57,16 +57,63 @@ def sizes(lib, section):
             sys.exit('recfix finds another fault at size %d than the page says' % n)
 
 
-def parts(lib, section):
-    """The file of the section on finding a fault, cut behind its blank lines, is judged as the lines behind it say."""
+# the number of the file on standard input, as the listing program's first line
+LISTING = r"""
+#include <recfile.h>
+#include <stdio.h>
+
+int main(void)
+{
+    static uint8_t book[RECFILE_MAX_FILE + 1];
+    printf("check %u\n", (unsigned)recfile_check(book, sizeof book, fread(book, 1, sizeof book, stdin)));
+    return 0;
+}
+"""
+
+
+def numbered(lines):
+    """Lines as a file, and the numbers of those that are marked by a `!`, which is no part of them."""
+    return b''.join(line.removeprefix(b'!') + b'\n' for line in lines), [k + 1 for k, line in enumerate(lines) if line.startswith(b'!')]
+
+
+def parts(section, archive):
+    """The commands of the section on finding a fault print of its file what stands behind them, and lead to the fault of some others."""
+    commands = indented(section[section.index('a comment takes on none:'):].split('\n')).decode()
+    by_line = re.search(r'`(sed -n .* card\.rec)`', section).group(1)
+    sizeless = re.search(r'`(sed .* card\.rec > )sizeless\.rec`', section).group(1)
     file = indented(section[section.index('Of this file'):].split('\n'))
     shown = indented(section[section.index('it prints'):].split('\n')).decode()
-    lines, out = file.split(b'\n')[:-1], ''
-    for k in [i + 1 for i, line in enumerate(lines) if not line.strip()] + [len(lines)]:
-        part = b''.join(line + b'\n' for line in lines[:k])
-        out += '%d check %d\n' % (k, lib.recfile_check(part, size(len(part)), size(len(part))))
-    if out != shown:
-        sys.exit('the parts of the damaged file are judged\n%sand the page says\n%s' % (out, shown))
+    whole = commands.split('\n')[0]
+
+    with tempfile.TemporaryDirectory() as folder:
+        os.makedirs(os.path.join(folder, 'target', 'bin'))
+        listing, card = os.path.join(folder, 'target', 'bin', 'listing'), os.path.join(folder, 'card.rec')
+        subprocess.run(['cc', '-I' + os.path.join(ROOT, 'include'), '-x', 'c', '-', '-x', 'none', archive, '-o', listing], input=LISTING.encode(), check=True)
+
+        def printed(text, script):
+            with open(card, 'wb') as f:
+                f.write(text)
+            return subprocess.run(['sh', '-c', script], cwd=folder, capture_output=True, check=True).stdout.decode()
+
+        def wanted(text, script, out):
+            got = printed(text, script)
+            if got != out:
+                sys.exit('of the file %r the commands of the page print\n%sand not\n%s' % (text, got, out))
+
+        wanted(file, commands, shown)
+
+        # a comment's backslash takes on nothing, a field's a line of any form; a line of blanks is blank
+        text, ends = numbered([b'%rec: S', b'%key: A', b'# a \\', b'!', b'A: 1\\', b'', b'B: 2\\', b'#\\', b'', b'! \t', b'C: 3', b'# \\', b'!', b'!A: 4'])
+        wanted(text, commands, ''.join('%d check %d\n' % (k, 10 if k > 10 else 0) for k in ends))
+        text, ends = numbered([b'!A: 1', b'!# \\', b'B: 2\\', b'#\\', b'!C: 3', b'+ 3\\', b'!', b'!', b'!D 4'])
+        wanted(text, whole + '\n' + by_line, ''.join('%d\n' % k for k in ends))
+
+        # 14 hides 30 in the parts; a `%size:` that is part of a value stays
+        text = b'%rec: S\n%size: 3\n%singular: A\n\nA: 1\n\nA: 1\n\nA: 2\n'
+        wanted(text, commands, '4 check 14\n6 check 14\n8 check 14\n9 check 30\n')
+        wanted(text, whole + '\n' + sizeless + 'parts.rec; mv parts.rec card.rec\n' + commands, '4 check 0\n6 check 0\n8 check 30\n9 check 30\n')
+        text = b'# \\\n%size: 1\\\n\nA: 1\\\n%size: 2\n%size: 3\n'
+        wanted(text, whole + '\n' + sizeless + 'parts.rec; cat parts.rec', '# \\\n%doc: 1\\\n\nA: 1\\\n%size: 2\n%doc: 3\n')
 
 
 def filled(lib, text, entries):
@@ -145,7 +192,7 @@ def main():
             sys.exit('recfix finds another fault in the example of %s than the page says' % number)
         files += 1
     sizes(lib, page[page.index('## Sizes'):page.index('## What a file is refused for')])
-    parts(lib, page[page.index('## Finding the fault by hand'):])
+    parts(page[page.index('## Finding the fault by hand'):], archive)
     directory(lib, page[page.index('## The directory of sets'):page.index('## What a call is refused for')])
 
     def edit(text, room, request):
