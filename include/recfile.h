@@ -26,7 +26,7 @@
  *
  * The archive needs memcpy and memset of what it is linked with, and nothing else. It is for x86-64 machines, wherever
  * `rt staticlib recfile` makes it: ELF, System V calling convention, position independent, no instruction beyond the first
- * x86-64's (SSE2 is one of those).
+ * x86-64's (SSE2 is one of those). A size_t has 64 bits there; where it has not, this header does not compile.
  */
 #ifndef RECFILE_H
 #define RECFILE_H
@@ -37,12 +37,15 @@
 /* The version of this header. An archive made of the same sources belongs to it. */
 #define RECFILE_VERSION_MAJOR 1
 #define RECFILE_VERSION_MINOR 4
-#define RECFILE_VERSION_PATCH 0
-#define RECFILE_VERSION "1.4.0"
+#define RECFILE_VERSION_PATCH 1
+#define RECFILE_VERSION "1.4.1"
 
 #ifdef __cplusplus
 extern "C" {
 #endif
+
+/* An array of -1 elements, an error, where the archive cannot be called. */
+typedef char recfile_needs_size_t_of_64_bits[sizeof(size_t) == 8 ? 1 : -1];
 
 /* Why a call is refused. */
 enum recfile_refusal {
@@ -97,8 +100,8 @@ enum recfile_refusal {
 /* The most that there may be, in bytes or in number. */
 enum recfile_limit {
     RECFILE_MAX_FILE = 65536,         /* bytes of a file, of a request, of a record's text */
-    RECFILE_MAX_NAME = 64,            /* bytes of a field's own name; one that a descriptor lists may be longer */
-    RECFILE_MAX_VALUE = 4096,         /* bytes of a field's value */
+    RECFILE_MAX_NAME = 64,            /* bytes of a field's own name; one that a descriptor lists may be longer, a set's too */
+    RECFILE_MAX_VALUE = 4096,         /* bytes of a field's value, and so of a set's name, which is one word of its %rec */
     RECFILE_MAX_FIELDS = 256,         /* fields of a record */
     RECFILE_MAX_DESCRIPTORS = 64,     /* descriptors of a file */
     RECFILE_MAX_TYPEDEFS = 32,        /* %typedef fields of a descriptor */
@@ -110,7 +113,8 @@ enum recfile_limit {
 };
 
 /* A request is tagged fields: a tag (1 byte), a length (2 bytes, high byte first), the contents. The first is the kind, and each
- * kind has its tags in one order. */
+ * kind has its tags in one order. Two bytes are enough for any record's number: a file has at most 16,384 records, since the
+ * shortest and the blank line behind it have 4 bytes. */
 enum recfile_tag {
     RECFILE_TAG_KIND = 1,             /* 1 byte */
     RECFILE_TAG_SET = 2,              /* the set's name, empty for the default set */
@@ -138,8 +142,9 @@ size_t recfile_count(const uint8_t *buf, size_t len, size_t used,
                      const uint8_t *set, size_t set_len, uint32_t *number);
 
 /* Puts the name of the file's set of a number at the front of `out` and returns its length; the bytes of `out` behind it stay.
- * Set 0 is the default set, whose name is empty and which every file has; the others follow in the order of the file. Refused
- * (1 to 14, 30, 21, 27): returns 0, and `out` stays as it is. */
+ * Set 0 is the default set, whose name is empty and which every file has; the others follow in the order of the file. An `out` of
+ * RECFILE_MAX_VALUE bytes is long enough for every name; one of RECFILE_MAX_NAME, which bounds the names of fields, is not (27).
+ * Refused (1 to 14, 30, 21, 27): returns 0, and `out` stays as it is. */
 size_t recfile_set_name(const uint8_t *buf, size_t len, size_t used, size_t set,
                         uint8_t *out, size_t out_len, uint32_t *number);
 
@@ -175,7 +180,11 @@ size_t recfile_write(const uint8_t *request, size_t request_len,
  *
  * An insert need not have the names of the set's %auto lists. Each that it omits is added in front of its own fields, once and in
  * the order of the lists, with a number in decimal: the least one from 0 on that is above every int in the fields of that name in
- * the set and that meets the name's types. The caller reads it with recfile_fetch or recfile_view, as the set's last record. */
+ * the set and that meets the name's types. The caller reads it with recfile_fetch or recfile_view, as the set's last record.
+ *
+ * An insert writes an empty line beside its record (none into an empty file), and a delete takes out the record's fields but no
+ * blank line and no comment. So a record that is inserted and later deleted leaves that line behind, a byte, and a file in which
+ * records come and go grows by one each time. No call takes blank lines out. */
 size_t recfile_edit(uint8_t *buf, size_t len, size_t used,
                     const uint8_t *request, size_t request_len, uint32_t *number);
 
@@ -209,7 +218,8 @@ typedef struct {
 size_t recfile_fill(const uint8_t *buf, size_t len, size_t used,
                     recfile_entry *entries, size_t entries_len, uint32_t *number);
 
-/* recfile_edit, with a directory. Refused (1 to 14, 30, 28): returns `used`, and neither the buffer nor the list is changed. Else it
+/* recfile_edit, with a directory. `entries_len` is the list's length, or the number of sets that recfile_fill returned and no edit
+ * changes: either is right. Refused (1 to 14, 30, 28): returns `used`, and neither the buffer nor the list is changed. Else it
  * does and returns what recfile_edit does, refusals included, and then puts the entries of the file as it stands at the front of
  * the list, as recfile_fill would: after a refusal (20 to 26, 31, 104, 108 to 114, 130) those of the file that was there. */
 size_t recfile_edit_listed(uint8_t *buf, size_t len, size_t used,
@@ -217,7 +227,9 @@ size_t recfile_edit_listed(uint8_t *buf, size_t len, size_t used,
                            recfile_entry *entries, size_t entries_len, uint32_t *number);
 
 /* The number of records of the set at a position in a directory: the `count` of that entry. It sees no file: an entry behind the
- * last set's gives what it happens to hold. Refused where the list has no such entry (21): returns 0. */
+ * last set's gives what it happens to hold. So `entries_len` is best the number of sets that recfile_fill returned, and not the
+ * list's length: then every position behind the last set is refused. Refused where `entries_len` is not above the position (21):
+ * returns 0. */
 size_t recfile_count_at(const recfile_entry *entries, size_t entries_len, size_t position, uint32_t *number);
 
 #ifdef __cplusplus

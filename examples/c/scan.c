@@ -9,7 +9,8 @@
 #include <stdio.h>
 #include <string.h>
 
-static uint8_t book[65536];
+/* A byte more than a file may have: of a longer book more than RECFILE_MAX_FILE bytes are read, and it is refused (RECFILE_REFUSED_LENGTH), not cut. */
+static uint8_t book[RECFILE_MAX_FILE + 1];
 static recfile_entry directory[RECFILE_MAX_DESCRIPTORS + 1];
 
 /* A field of a request whose contents are text. */

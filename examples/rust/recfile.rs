@@ -48,6 +48,9 @@ fn accepted<T>(value: T, number: u32) -> Result<T, Refused> {
     if number == 0 { Ok(value) } else { Err(Refused(number)) }
 }
 
+/// The most bytes of a file.
+pub const MAX_FILE: usize = 65536;
+
 /// The most sets that a file has, the default set included.
 pub const MAX_SETS: usize = 65;
 

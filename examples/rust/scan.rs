@@ -11,11 +11,12 @@ use recfile::{kind, Entry, File, Refused, Request, Run};
 use std::io::Read;
 
 fn main() -> Result<(), Refused> {
-    let mut book = vec![0u8; 65536];
-    let mut text = Vec::new();
-    std::io::stdin().take(65536).read_to_end(&mut text).expect("standard input");
-    book[..text.len()].copy_from_slice(&text);
-    let mut file = File::new(&mut book, text.len());
+    // a byte more than a file may have: of a longer book more than MAX_FILE bytes are read, and it is refused (1), not cut
+    let room = recfile::MAX_FILE + 1;
+    let mut book = Vec::new();
+    let used = std::io::stdin().take(room as u64).read_to_end(&mut book).expect("standard input");
+    book.resize(room, 0);
+    let mut file = File::new(&mut book, used);
     file.check()?;
 
     let mut directory = [Entry::default(); recfile::MAX_SETS];

@@ -76,13 +76,13 @@ def main():
         if got != {name: value for name, value in header.items() if name.startswith(prefix)}:
             sys.exit('the constants of `%s` in examples/rust/recfile.rs are not those of the header' % module)
 
+    for name in ('MAX_FILE', 'MAX_REQUESTS'):
+        if int(re.search(r'^pub const %s: usize = (\d+);' % name, wrapper, flags=re.M).group(1)) != header[name]:
+            sys.exit('%s in examples/rust/recfile.rs is not the header\'s' % name)
+
     sets = int(re.search(r'^pub const MAX_SETS: usize = (\d+);', wrapper, flags=re.M).group(1))
     if sets != header['MAX_DESCRIPTORS'] + 1:
         sys.exit('MAX_SETS in examples/rust/recfile.rs is not one more than the header\'s descriptors')
-
-    requests = int(re.search(r'^pub const MAX_REQUESTS: usize = (\d+);', wrapper, flags=re.M).group(1))
-    if requests != header['MAX_REQUESTS']:
-        sys.exit('MAX_REQUESTS in examples/rust/recfile.rs is not the header\'s')
 
     text = read('include', 'recfile.h')
     entry = re.findall(r'size_t (\w+);', re.search(r'typedef struct \{\n(.*?)\} recfile_entry;', text, flags=re.S).group(1))
