@@ -1,6 +1,8 @@
 #!/usr/bin/env python3
-"""The examples of docs/FORMAT.md: each file, and each request on the receipt book, is refused with the number that stands there; the commands that cut a damaged file into parts print
-what stands there, and lead to the fault of others; the directory of a file is the one that stands there, a run of requests answers what stands there, inserts get the numbers that stand there, and the name of the section on sizes has the characters that stand there; and where GNU recutils is there, recfix finds a fault in the files of which the page says so.
+"""The examples of docs/FORMAT.md: each file, and each request on the receipt book, is refused with the number that stands there.
+
+So are the other things of the page: the commands that cut a damaged file into parts, and what they lead to; the directory of a file; a run of requests; the numbers that inserts get; what an insert and a delete
+leave; the most records of a file and bytes of a set's name; the characters of the name in the section on sizes. Where GNU recutils is there, recfix finds a fault in the files of which the page says so.
 
 Usage: python3 tests/format/examples.py     (after `rt staticlib recfile`; needs cc)
 """
@@ -147,6 +149,35 @@ def numbers(section, edit):
         sys.exit('the numbered file is %r, the page says %r' % (file, wanted))
 
 
+def left_behind(section, book, edit):
+    """The record that the section inserts into the book and deletes leaves an empty line behind."""
+    before, between, after = map(int, re.search(r'the receipt book, (\d+) bytes, .* makes (\d+), and the delete of that record (\d+)\.', section).groups())
+    insert, delete = map(bytes.fromhex, ('01 0001 01 02 0004 5363616E 04 0002 4964 06 0001 32 04 0004 50616765 06 0001 70', '01 0001 02 02 0004 5363616E 03 0002 0001'))
+    _, longer = edit(book, 65536, insert)
+    _, left = edit(longer, 65536, delete)
+    if (len(book), len(longer), len(left)) != (before, between, after) or left != book + b'\n':
+        sys.exit('an insert and a delete leave %r' % left)
+    # into the default set without a record: in front, with an empty line behind it unless the file is empty
+    insert, delete = map(bytes.fromhex, ('01 0001 01 02 0000 04 0001 41 06 0001 31', '01 0001 02 02 0000 03 0002 0000'))
+    for file, there, left in ((b'', b'A: 1\n', b''), (b'# c\n', b'A: 1\n\n# c\n', b'\n# c\n'), (b'\n', b'A: 1\n\n\n', b'\n\n'), (b'B: 2\n', b'B: 2\n\nA: 1\n', b'\nA: 1\n')):
+        if edit(file, 65536, insert) != (0, there) or edit(there, 65536, delete) != (0, left):
+            sys.exit('an insert into %r and a delete leave %r' % (file, edit(there, 65536, delete)))
+
+
+def most(lib, section):
+    """A file has at most so many records, and a set's name so many bytes, as the section says."""
+    length, records = (int(n.replace(',', '')) for n in re.search(r'one word of a value, of up to ([\d,]+)\..*at most ([\d,]+) records', section).groups())
+    file, number = b'A:\n\n' * (records - 1) + b'A:\n', ctypes.c_uint32(77)
+    count = lib.recfile_count(file, size(len(file)), size(len(file)), b'', size(0), ctypes.byref(number))
+    if (count, number.value) != (records, 0) or len(file) + 4 <= 65536:
+        sys.exit('a file of %d bytes has %d records (%d)' % (len(file), count, number.value))
+    for n, answer in ((length, 0), (length + 1, 4)):
+        file, out = b'%rec: ' + b'S' * n + b'\n', ctypes.create_string_buffer(length)
+        got = lib.recfile_set_name(file, size(len(file)), size(len(file)), size(1), out, size(length), ctypes.byref(number))
+        if (number.value, got, out.raw) != ((answer, length, b'S' * length) if answer == 0 else (answer, 0, bytes(length))):
+            sys.exit('the name of a set, of %d bytes: %d' % (n, number.value))
+
+
 def run_of_requests(lib, section, book):
     """The run of the section's table on the book leaves a file of the length that stands there, and these answers; and what is refused there is refused."""
     rows = re.findall(r'^\| `([0-9A-F ]+)` \|.*\| (\d+) \|$', section, flags=re.M)
@@ -174,7 +205,8 @@ def main():
     archive, shared = (os.path.join(ROOT, 'target', *p) for p in (('staticlib', 'librecfile.a'), ('librecfile.so',)))
     subprocess.run(['cc', '-shared', '-o', shared, '-Wl,--whole-archive', archive, '-Wl,--no-whole-archive'], check=True)
     lib = ctypes.CDLL(shared)
-    lib.recfile_edit.restype = lib.recfile_edit_run.restype = lib.recfile_fill.restype = size
+    for call in (lib.recfile_count, lib.recfile_set_name, lib.recfile_edit, lib.recfile_edit_run, lib.recfile_fill):
+        call.restype = size
     with open(os.path.join(ROOT, 'docs', 'FORMAT.md'), encoding='utf-8') as f:
         page = f.read()
 
@@ -200,7 +232,9 @@ def main():
         used = lib.recfile_edit(buf, size(room), size(len(text)), request, size(len(request)), ctypes.byref(number))
         return number.value, buf.raw[:used]
 
+    most(lib, page[page.index('## Records and sets'):page.index('## Sizes')])
     book, requests = indented(page[page.index('## Records and sets'):].split('\n')), 0
+    left_behind(page[page.index('## Requests'):page.index('## Numbers for omitted names')], book, edit)
     run_of_requests(lib, page[page.index('## Runs of requests'):page.index('## The directory of sets')], book)
     numbers(page[page.index('## Numbers for omitted names'):page.index('## Runs of requests')], edit)
     page = page[page.index('## What a call is refused for'):]
