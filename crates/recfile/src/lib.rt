@@ -9,6 +9,14 @@ use format::Answer;
 use format::Entry;
 use lookup::Seen;
 
+// What C is told of an answer: its number, or another where it is refused, and the refusal's through a pointer.
+fn tell(a: Answer, other: usize, number: &mut u32) -> usize
+    ensures { λ r. ⌜ (r ≡ valueOr other (answered a)) × (now (number .exit) ≡ numberIn (answered a)) ⌝ }
+{
+    *number = a.number();
+    a.value_or(other)
+}
+
 // The number of the first question that says no of the file in the first `used` bytes of a buffer, else 0.
 #[no_mangle]
 pub extern "C" fn recfile_check(buf: &[u8], used: usize) -> u32
@@ -23,8 +31,7 @@ pub extern "C" fn recfile_count(buf: &[u8], used: usize, set: &[u8], number: &mu
     ensures { λ r. ⌜ (r ≡ valueOr 0 (countAnswer (now (buf .entry)) used (now (set .entry)))) × (now (number .exit) ≡ numberIn (countAnswer (now (buf .entry)) used (now (set .entry)))) ⌝ }
 {
     let count = lookup::count(buf, used, set);
-    *number = count.number();
-    count.value_or(0)
+    tell(count, 0, number)
 }
 
 // The length of the value that was put into out, 0 where it is refused.
@@ -44,8 +51,7 @@ pub extern "C" fn recfile_fetch(
         × (now (out .exit) ≡ fetchAnswer (now (buf .entry)) used (now (set .entry)) row (now (name .entry)) occurrence (now (out .entry)) .out) ⌝ }
 {
     let fetched = lookup::fetch(buf, used, set, row, name, occurrence, &mut *out);
-    *number = fetched.number();
-    fetched.value_or(0)
+    tell(fetched, 0, number)
 }
 
 // The length of the name of a set, by its place in the file, that was put into out, 0 where it is refused.
@@ -62,8 +68,7 @@ pub extern "C" fn recfile_set_name(
         × (now (out .exit) ≡ nameAnswer (now (buf .entry)) used set (now (out .entry)) .out) ⌝ }
 {
     let named = lookup::set_name(buf, used, set, &mut *out);
-    *number = named.number();
-    named.value_or(0)
+    tell(named, 0, number)
 }
 
 // The length of the part of the file that a record stands in, and where that begins; both 0 where it is refused.
@@ -84,13 +89,11 @@ pub extern "C" fn recfile_view(
     match v {
         Seen::At { start: a, end } => {
             *start = a;
-            *number = 0;
-            end - a
+            tell(Answer::Value(end - a), 0, number)
         }
         Seen::Refused(k) => {
             *start = 0;
-            *number = k;
-            0
+            tell(Answer::Refused(k), 0, number)
         }
     }
 }
@@ -103,8 +106,7 @@ pub extern "C" fn recfile_write(request: &[u8], out: &mut [u8], number: &mut u32
         × (now (out .exit) ≡ writeAnswer (now (request .entry)) (now (out .entry)) .out) ⌝ }
 {
     let written = requests::write_record(request, &mut *out);
-    *number = written.number();
-    written.value_or(0)
+    tell(written, 0, number)
 }
 
 // One edit: the file's length after it, which is `used` where it is refused.
@@ -120,16 +122,7 @@ pub extern "C" fn recfile_edit(
         × (now (buf .exit) ≡ editAnswer (now (buf .entry)) used (now (request .entry)) .out) ⌝ }
 {
     let edited = editor::edit(&mut *buf, used, request);
-    *number = edited.number();
-    edited.value_or(used)
-}
-
-// What C is told of an answer: its number, or another where it is refused, and the refusal's through a pointer.
-fn tell(a: Answer, other: usize, number: &mut u32) -> usize
-    ensures { λ r. ⌜ (r ≡ valueOr other (answered a)) × (now (number .exit) ≡ numberIn (answered a)) ⌝ }
-{
-    *number = a.number();
-    a.value_or(other)
+    tell(edited, used, number)
 }
 
 // A run of requests, each an edit of what the one before left: the file's length after the last. A number for each goes into the front of answers; `*number` says whether the run was refused.

@@ -7,17 +7,13 @@ use Rattle.recfile.proofs.recfile_edit.Tie as tie
 use Rattle.recfile.proofs.recfile_edit.Reads as reads
 use Rattle.recfile.proofs.recfile_edit.Lts as lts
 use Rattle.editor.proofs.edit.Reads as edit-reads
-use Rattle.format.proofs.Answer.number.Reads as number-reads
-use Rattle.format.proofs.Answer.value_or.Reads as value-or-reads
+use Rattle.recfile.proofs.tell.Reads as tell-reads
 
 edit-requires : tie.Need-edit-requires
 edit-requires c κs = search needs
 
-number-requires : tie.Need-number-requires
-number-requires c κs = search needs
-
-value-or-requires : tie.Need-value-or-requires
-value-or-requires c κs = search needs
+tell-requires : tie.Need-tell-requires
+tell-requires c κs = search needs
 
 same-length : tie.Need-same-length
 same-length c = search needs
@@ -26,10 +22,8 @@ returns : tie.Need-returns
 returns c =
     let at-edit = c .before .before .before .before .edit in
     let at-args = c .before .before .before .before .before .before .before .before .args in
-    let at-value-or = c .value-or in
-    let at-number = c .before .number in
-    let h = filled-told (at-edit .result) _ (at-args .used) _ (at-edit .ensures) in (at-value-or .ensures ∙ h .0, at-number .ensures ∙ h .1, h .2)
+    let at-tell = c .tell in
+    let h = filled-told (at-edit .result) _ (at-args .used) _ (at-edit .ensures) in (at-tell .ensures .0 ∙ h .0, at-tell .ensures .1 ∙ h .1, h .2)
 
 pub recfile-edit-spec : {M : Type 1} → statement M
-recfile-edit-spec =
-    tie.close (tie.spec edit-requires number-requires value-or-requires same-length returns)
+recfile-edit-spec = tie.close (tie.spec edit-requires tell-requires same-length returns)
