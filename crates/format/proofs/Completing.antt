@@ -30,7 +30,7 @@ module _ (P : Bytes → Type 0) where
   each-firsts [] h = tt
   each-firsts (n ∷ ns) h = (h .0, each-filter P _ (firsts ns) (each-firsts ns (h .1)))
 
-  each-omitted : (rules : Record) (new : List Pair) → Each P (auto rules) → Each P (omitted rules new)
+  pub each-omitted : (rules : Record) (new : List Pair) → Each P (auto rules) → Each P (omitted rules new)
   each-omitted rules new h = each-filter P _ (firsts (auto rules)) (each-firsts (auto rules) h)
 
 -- the names of a set's lists are ordinary

@@ -8,7 +8,7 @@ use mathlib.Core.Option.{Option, some}
 use lib.Dec.{leb, ltb}
 use lib.ListN.{length, take, drop, getD, length-map, length-append, length-drop}
 use lib.Seq.{drop-at}
-use borrow.Author.Tests.{eq-eqb, lt-ltb, le-leb, lt-leb}
+use borrow.Author.Tests.{eq-eqb, lt-ltb, le-ltb, le-leb, lt-leb}
 use Rattle.format.specs.Bytes.{Bytes, pick, all, same, among, isSome}
 use Rattle.format.specs.Lists.{filter, onlyIf, keep, kept, onward}
 use Rattle.format.specs.Pieces.{Piece, bytesOf, readOf}
@@ -192,7 +192,7 @@ entries-fresh buffer used old qs v h =
 
 -- The count at a position is the count that reads everything, of that set's name: no two sets of a file that passes have one name.
 
-same-self : (x : Bytes) → same x x ≡ true
+pub same-self : (x : Bytes) → same x x ≡ true
 same-self [] = refl
 same-self (x ∷ s) = rw (eq-eqb x x refl) (same-self s)
 
@@ -251,3 +251,17 @@ count-at buffer used old v h i l =
     member-count [] j = refl
     member-count (s ∷ ss) zero = refl
     member-count (s ∷ ss) (suc j) = member-count ss j
+
+-- "For every list of edits, each given the directory, from a freshly filled one, that count equals the one that reads everything": at each position, of the name that the set there has.
+pub count-after : (buffer : Bytes) (used : ℕ) (old : List Entry) (qs : List Bytes) → verdict buffer used ≡ 0 → length (listIn buffer used) ≤ length old
+    → let cs : List Single = map (Single.listed (length old)) qs in let r : Ran = singly cs buffer used in let ss : List RecSet = setsIn (r .buffer) (r .length) in
+    (i : ℕ) → i < length ss → countAtAnswer (entriesAfter cs buffer used (fillAnswer buffer used old .entries)) i ≡ countAnswer (r .buffer) (r .length) (getD (map nameOf ss) i [])
+count-after buffer used old qs v h i l =
+    let r : Ran = singly (map (Single.listed (length old)) qs) buffer used in
+    let there = entries-on qs buffer used old v h in
+    ap (λ (es : List Entry). countAtAnswer es i) (entries-fresh buffer used old qs v h) ∙ count-at (r .buffer) (r .length) old (there .0) (subst (λ (k : ℕ). k ≤ length old) (sym (there .1 .0)) h) i l
+
+-- "21 past the list's end"
+pub count-past : (entries : List Entry) (i : ℕ) → length entries ≤ i → countAtAnswer entries i ≡ Answer.refusal 21
+unfolding countAtAnswer
+count-past entries i h = ap (λ (b : Bool). answer (pick b 0 21) (getD (map countIn entries) i 0)) (le-ltb i (length entries) h)

@@ -47,4 +47,5 @@ pub mod Cases
 pub mod Digits
 pub mod Numbering
 pub mod Completing
+pub mod Numberless
 pub mod Overlong
