@@ -41,7 +41,7 @@ entriesIn (g ∷ gs) = entryFrom 0 0 g ∷ entriesFrom (groupSize g) gs
 unfoldable pub directoryOf : List Piece → List Entry
 directoryOf ps = entriesIn (groups ps)
 
--- "28 if it has fewer entries"
+-- "Refused: 28, with no byte or entry changed, if the file passes the check but has more sets than the list has entries"
 abbrev pub listNo : ℕ → ℕ → ℕ
 listNo entries sets = pick (leb sets entries) 0 28
 
@@ -80,6 +80,6 @@ keptAnswer buffer used request old =
     let f : Filled = listedAnswer (length old) buffer used request in
     record { result = f .result; out = f .out; entries = fillAnswer (f .out) (valueOr used (f .result)) old .entries }
 
--- "the count at a position .., 21 past the list's end"
+-- "A set's count is then read at its position in the list, without the file; 21 past the list's end."
 unfoldable pub countAtAnswer : List Entry → ℕ → Answer
 countAtAnswer entries i = answer (pick (ltb i (length entries)) 0 21) (getD (map (λ (e : Entry). e .count) entries) i 0)
