@@ -16,6 +16,7 @@ use Rattle.format.specs.Words.{trim}
 use Rattle.format.specs.Numbers.{Int, plus, minus, Bounds, intBounds, intOf, isAtMost}
 use Rattle.format.specs.Types.{Kind, isInRange, meets}
 use Rattle.format.specs.Rules.{auto, TypeRule, typeRules, isTyped, distinct, kindsOf, Span, allInts, spanOf, isCounted}
+use Rattle.format.specs.Questions.{valuesIn}
 use Rattle.format.specs.Written.{Pair, newField, isLegalValue}
 use Rattle.format.specs.Numbering.{firsts, pairNames, omitted, intsOf, above, from, largest, leastIn, nextNumber, decimal, numbered, every, added, completed}
 use Rattle.format.proofs.Elements.{Each, all-each, each-all, each-imp, any-none, none-any}
@@ -168,6 +169,28 @@ module _ (b : Bounds) (m : ℕ) (fits : m ≤ b .greatest) where
 
 -- "The value is the least int above every int in that field in the set, not below 0, that meets the field's types."
 
+-- "A field holding no int, blanks and newlines around it aside, doesn't count toward this.": what is asked of each value is asked of the ints among them
+abbrev pub AboveInt : ℕ → Option Int → Type 0
+AboveInt m none = Unit {0}
+AboveInt m (some x) = IsAbove m x
+
+module _ (m : ℕ) (g : Bytes → Option Int) where
+  keep-above : (x : Option Int) (xs : List Int) → AboveInt m x → Each (IsAbove m) xs → Each (IsAbove m) (keep x xs)
+  keep-above none xs h k = k
+  keep-above (some x) xs h k = (h, k)
+
+  above-keep : (x : Option Int) (xs : List Int) → Each (IsAbove m) (keep x xs) → AboveInt m x × Each (IsAbove m) xs
+  above-keep none xs h = (tt, h)
+  above-keep (some x) xs h = h
+
+  kept-above : (vs : List Bytes) → Each (λ (v : Bytes). AboveInt m (g v)) vs → Each (IsAbove m) (kept g vs)
+  kept-above [] h = tt
+  kept-above (v ∷ vs) h = keep-above (g v) (kept g vs) (h .0) (kept-above vs (h .1))
+
+  above-kept : (vs : List Bytes) → Each (IsAbove m) (kept g vs) → Each (λ (v : Bytes). AboveInt m (g v)) vs
+  above-kept [] h = tt
+  above-kept (v ∷ vs) h = let k = above-keep (g v) (kept g vs) h in (k .0, above-kept vs (k .1))
+
 module _ (b : Bounds) (s : RecSet) (n : Bytes) where
   abbrev rules : List TypeRule
   rules = typeRules b (s .rules)
@@ -175,7 +198,7 @@ module _ (b : Bounds) (s : RecSet) (n : Bytes) where
   -- a number whose text is a value for the name
   pub record Suits (m : ℕ) : Type 0 where
     pub isInt : m ≤ b .greatest
-    pub isAbove : Each (IsAbove m) (intsOf b n (s .members))
+    pub isAbove : Each (λ (v : Bytes). AboveInt m (intOf b (trim v))) (valuesIn n (s .members))
     pub isMet : isTyped b rules (newField (record { name = n; value = decimal m })) ≡ true
 
   abbrev spans : List Span
@@ -186,12 +209,12 @@ module _ (b : Bounds) (s : RecSet) (n : Bytes) where
 
   suits-fits : (m : ℕ) → Suits m → Fits spans (intsOf b n (s .members)) m
   suits-fits m h =
-      (((refl, le-leb m (b .greatest) (h .isInt)), kinds-within b m (h .isInt) (kindsOf n rules) (sym (typed-kinds b (written m) rules) ∙ h .isMet)), h .isAbove)
+      (((refl, le-leb m (b .greatest) (h .isInt)), kinds-within b m (h .isInt) (kindsOf n rules) (sym (typed-kinds b (written m) rules) ∙ h .isMet)), kept-above m (λ (v : Bytes). intOf b (trim v)) (valuesIn n (s .members)) (h .isAbove))
 
   fits-suits : isCounted b rules n ≡ true → (m : ℕ) → Fits spans (intsOf b n (s .members)) m → Suits m
   fits-suits c m h =
       let i : m ≤ b .greatest = leb-true m (b .greatest) (h .0 .0 .1) in
-      record { isInt = i; isAbove = h .1; isMet = typed-kinds b (written m) rules ∙ within-kinds b m i (kindsOf n rules) c (h .0 .1) }
+      record { isInt = i; isAbove = above-kept m (λ (v : Bytes). intOf b (trim v)) (valuesIn n (s .members)) (h .1); isMet = typed-kinds b (written m) rules ∙ within-kinds b m i (kindsOf n rules) c (h .0 .1) }
 
   least-suits : isCounted b rules n ≡ true → (x : Option ℕ) → LeastOf (Fits spans (intsOf b n (s .members))) x → LeastOf Suits x
   least-suits c none h = λ m k. h m (suits-fits m k)
@@ -238,7 +261,7 @@ none-omitted rules new e =
     (each-imp (λ (n : Bytes). among n (pairNames new) ≡ true) (λ (n : Bytes). not (among n (pairNames new)) ≡ false) (λ n q. ap not q) (auto rules) (all-each (λ (n : Bytes). among n (pairNames new)) (auto rules) e)))
 
 -- no name is added twice, nor one that the request has
-filter-distinct : (p : Bytes → Bool) (xs : List Bytes) → distinct xs ≡ true → distinct (filter p xs) ≡ true
+pub filter-distinct : (p : Bytes → Bool) (xs : List Bytes) → distinct xs ≡ true → distinct (filter p xs) ≡ true
 filter-distinct p [] e = refl
 filter-distinct p (x ∷ xs) e =
     let h = and-eq-true-iff (not (among x xs)) (distinct xs) .0 e in
@@ -249,7 +272,7 @@ filter-distinct p (x ∷ xs) e =
     go true k d = and-eq-true-iff (not (among x (filter p xs))) (distinct (filter p xs)) .1 (k, d)
     go false k d = d
 
-firsts-distinct : (ns : List Bytes) → distinct (firsts ns) ≡ true
+pub firsts-distinct : (ns : List Bytes) → distinct (firsts ns) ≡ true
 firsts-distinct [] = refl
 firsts-distinct (n ∷ ns) =
     let p : Bytes → Bool = λ (m : Bytes). not (same n m) in
