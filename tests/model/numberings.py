@@ -3,8 +3,8 @@
 
 Usage: python3 tests/model/numberings.py [SEED COUNT]     (from the repository's root; needs rt where a COUNT is given)
 
-The computed examples of crates/format/proofs/Numberings.antt have the answers of recfile.py. What that answers of COUNT random inserts is stated as equations like those, which the checker must
-prove by computing both sides; they go behind the examples, in a copy of the crate in a temporary folder.
+The computed examples of crates/laws/proofs/Numberings.antt have the answers of recfile.py. What that answers of COUNT random inserts is stated as equations like those, which the checker must
+prove by computing both sides; they go behind the examples, in a copy of the crate and the definitions in a temporary folder.
 """
 import collections
 import os
@@ -17,7 +17,7 @@ import tempfile
 import recfile
 import samples
 
-EXAMPLES = 'crates/format/proofs/Numberings.antt'
+EXAMPLES = 'crates/laws/proofs/Numberings.antt'
 TEXT = r'"((?:[^"\\]|\\.)*)"'
 ESCAPES = {'n': '\n', 't': '\t', '\\': '\\', '"': '"'}
 
@@ -75,12 +75,13 @@ def agrees(page, seed, count):
         sorts['31' if not whole else 'completed' if whole.count(b'\n') > new.count(b'\n') else 'itself'] += 1
         page += '\nrandom-%d : holds (makes %s) ≡ true\n%srandom-%d = refl\n' % (k, ' '.join(map(literal, (rules, records, new, whole))), unfolding, k)
     with tempfile.TemporaryDirectory() as folder:
-        shutil.copytree('crates/format', folder + '/crates/format', ignore=shutil.ignore_patterns('must-fail'))
+        for crate in ('format', 'laws'):
+            shutil.copytree('crates/' + crate, folder + '/crates/' + crate, ignore=shutil.ignore_patterns('must-fail'))
         with open(folder + '/crates.txt', 'w') as f:
-            f.write('format:\n')
+            f.write('format:\nlaws: format\n')
         with open(os.path.join(folder, EXAMPLES), 'w', encoding='utf-8') as f:
             f.write(page)
-        said = subprocess.run(['rt', 'dev', 'format'], cwd=folder, capture_output=True, text=True, check=False)
+        said = subprocess.run(['rt', 'dev', 'laws'], cwd=folder, capture_output=True, text=True, check=False)
     errors = [line for line in (said.stdout + said.stderr).splitlines() if ': error' in line]
     for line in errors[:10]:
         print(line[:300])
