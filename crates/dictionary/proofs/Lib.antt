@@ -13,3 +13,4 @@ pub mod Typing
 pub mod Counting
 pub mod Making
 pub mod Knowing
+pub mod SetRules

@@ -21,6 +21,8 @@ pub mod Unfielding
 pub mod Splicing
 pub mod RecordEdits
 pub mod SetEnds
+pub mod SetOf
+pub mod Checked
 pub mod Sets
 pub mod SetInserts
 pub mod Applied

@@ -15,18 +15,17 @@ use Rattle.format.specs.Records.{Record, fieldsOf}
 use Rattle.format.specs.Sets.{valuesOf, RecSet, setsOf}
 use Rattle.format.specs.Words.{firstWord}
 use Rattle.format.specs.Plain.{indexOf, setAt, membersAt, membersIn}
-use Rattle.records.specs.Places.{isReadable, Placed, placesOf, isDescriptor, firstPlace, namesSet, headOf, descriptorHead, headPlace, setPlace, recordBy, recordPlace, countBefore}
+use Rattle.records.specs.Places.{isReadable, Placed, placesOf, isDescriptor, firstPlace, namesSet, headOf, descriptorHead, headPlace, recordBy, recordPlace, countBefore}
 use Rattle.records.specs.declared.Place.{Place}
 use Rattle.records.specs.declared.NextRecord.{NextRecord}
 use Rattle.records.specs.Walk.{recordIn}
 use Rattle.records.specs.declared.Head.{Head}
 use Rattle.records.specs.declared.FoundHead.{FoundHead}
-use Rattle.records.specs.declared.FoundSet.{FoundSet}
 use Rattle.records.specs.declared.FoundRecord.{FoundRecord}
 use Rattle.records.proofs.Walks.{places-records}
 use Rattle.records.proofs.Shifts.{raise, fieldsIn, raise-fields}
 use Rattle.records.proofs.Readings.{reads-of, reads-readable, places-read}
-use Rattle.records.proofs.Searches.{placesAt, places-all, Stand, Meets, meets-first, head-default, head-named, beginOf, set-begin}
+use Rattle.records.proofs.Searches.{placesAt, places-all, Stand, Meets, meets-first, head-default, head-named}
 
 -- the place of a set, one further on or here
 abbrev pub stepOn : Option ℕ → Option ℕ
@@ -136,23 +135,19 @@ pub record-told : (s : Bytes) (k : ℕ) (x : FoundRecord) {y : FoundRecord} → 
 record-told s k x {y} e f g = subst (RecordTold s (membersAt 0 (setsOf (readOf s))) k) (sym f ∙ g) (record-member s k e)
 
 -- The records of the set of a name begin where its descriptor's block ends: they are the first set of the part from there on.
-pub record SetFound (s n : Bytes) (ss : List RecSet) (a : ℕ) : Type 0 where
+pub record SetFrom (s n : Bytes) (ss : List RecSet) (a : ℕ) : Type 0 where
   pub index : ℕ
   pub there : indexOf n ss ≡ some index
   pub inside : a ≤ length s
   pub readable : isReadable (drop a s) ≡ true
   pub members : membersOf n ss ≡ membersAt 0 (setsOf (readOf (drop a s)))
 
-abbrev pub SetTold : Bytes → Bytes → List RecSet → FoundSet → Type 0
-SetTold s n ss FoundSet.Missing = indexOf n ss ≡ none
-SetTold s n ss (FoundSet.At a) = SetFound s n ss a
-
--- The same of its head: its rules are the fields of the descriptor's own part. The default set has none, and its head an empty part.
+-- The head of the set: its rules are the fields of the descriptor's own part. The default set has none, and its head an empty part.
 abbrev pub headPart : Bytes → Head → Bytes
 headPart s h = take (h .end - h .start) (drop (h .start) s)
 
 pub record HeadFound (s n : Bytes) (ss : List RecSet) (h : Head) : Type 0 where
-  pub set : SetFound s n ss (h .begin)
+  pub set : SetFrom s n ss (h .begin)
   pub ordered : h .start ≤ h .end
   pub within : h .end ≤ h .begin
   pub own-readable : isReadable (headPart s h) ≡ true
@@ -170,7 +165,7 @@ members-step : (d : RecSet) (ds : List RecSet) (x : Option ℕ) → membersIn (d
 members-step d ds none = refl
 members-step d ds (some i) = refl
 
-set-on : (s n : Bytes) (d : RecSet) (ds : List RecSet) (a : ℕ) → same n (d .name) ≡ false → SetFound s n ds a → SetFound s n (d ∷ ds) a
+set-on : (s n : Bytes) (d : RecSet) (ds : List RecSet) (a : ℕ) → same n (d .name) ≡ false → SetFrom s n ds a → SetFrom s n (d ∷ ds) a
 set-on s n d ds a e h =
     record {
       index = suc (h .index);
@@ -263,14 +258,3 @@ head-members s n e = subst (λ (ss : List RecSet). HeadTold s n ss (headPlace n 
 -- the same of an answer, once its form is known
 pub head-told : (s n : Bytes) (x : FoundHead) {y : FoundHead} → isReadable s ≡ true → x ≡ headPlace n (placesOf s) → x ≡ y → HeadTold s n (setsOf (readOf s)) y
 head-told s n x {y} e f g = subst (HeadTold s n (setsOf (readOf s))) (sym f ∙ g) (head-members s n e)
-
-set-of-head : (s n : Bytes) (ss : List RecSet) (x : FoundHead) → HeadTold s n ss x → SetTold s n ss (beginOf x)
-set-of-head s n ss FoundHead.Missing h = h
-set-of-head s n ss (FoundHead.At q) h = h .set
-
-pub set-members : (s n : Bytes) → isReadable s ≡ true → SetTold s n (setsOf (readOf s)) (setPlace n (placesOf s))
-set-members s n e = subst (SetTold s n (setsOf (readOf s))) (sym (set-begin n (placesOf s))) (set-of-head s n (setsOf (readOf s)) (headPlace n (placesOf s)) (head-members s n e))
-
--- the same of an answer, once its form is known
-pub set-told : (s n : Bytes) (x : FoundSet) {y : FoundSet} → isReadable s ≡ true → x ≡ setPlace n (placesOf s) → x ≡ y → SetTold s n (setsOf (readOf s)) y
-set-told s n x {y} e f g = subst (SetTold s n (setsOf (readOf s))) (sym f ∙ g) (set-members s n e)

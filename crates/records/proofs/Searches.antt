@@ -12,30 +12,18 @@ use Rattle.format.specs.Pieces.{Piece}
 use Rattle.format.specs.Records.{Record, fieldsOf}
 use Rattle.format.specs.Sets.{valuesOf}
 use Rattle.lines.proofs.Cuts.{rest}
-use Rattle.records.specs.Places.{isReadable, Placed, placesOf, isDescriptor, placeOf, firstPlace, namesSet, headOf, descriptorHead, headPlace, descriptorPlace, setPlace, recordBy, recordPlace, countBefore}
+use Rattle.records.specs.Places.{isReadable, Placed, placesOf, isDescriptor, placeOf, firstPlace, namesSet, descriptorHead, headPlace, recordBy, recordPlace, countBefore}
 use Rattle.records.specs.Walk.{opensSet}
 use Rattle.records.specs.declared.Place.{Place}
 use Rattle.records.specs.declared.NextRecord.{NextRecord}
 use Rattle.records.specs.declared.Head.{Head}
 use Rattle.records.specs.declared.FoundHead.{FoundHead}
-use Rattle.records.specs.declared.FoundSet.{FoundSet}
 use Rattle.records.specs.declared.FoundRecord.{FoundRecord}
 use Rattle.records.proofs.Shifts.{raise, raise-none, raise-twice}
 use Rattle.records.proofs.Readings.{Reads, reads-of}
 use Rattle.records.proofs.FirstPlaces.{First, first-place}
 
 -- the set of no name is the default set, and stands first
-pub set-default : (n : Bytes) (ps : List Placed) → length n ≡ 0 → setPlace n ps ≡ FoundSet.At 0
-unfolding setPlace
-set-default [] ps e = refl
-set-default (c ∷ n) ps e = absurd (omega arith)
-
-pub set-named : (n : Bytes) (ps : List Placed) → (length n ≡ 0 → ⊥) → setPlace n ps ≡ descriptorPlace n ps
-unfolding setPlace
-set-named [] ps h = absurd (h refl)
-set-named (c ∷ n) ps h = refl
-
--- the same of the whole head, of which the records begin at its last number
 pub head-default : (n : Bytes) (ps : List Placed) → length n ≡ 0 → headPlace n ps ≡ FoundHead.At (record { start = 0; end = 0; begin = 0 })
 unfolding headPlace
 head-default [] ps e = refl
@@ -45,23 +33,6 @@ pub head-named : (n : Bytes) (ps : List Placed) → (length n ≡ 0 → ⊥) →
 unfolding headPlace
 head-named [] ps h = absurd (h refl)
 head-named (c ∷ n) ps h = refl
-
-abbrev pub beginOf : FoundHead → FoundSet
-beginOf (FoundHead.At h) = FoundSet.At (h .begin)
-beginOf FoundHead.Missing = FoundSet.Missing
-
-begin-by : (b : Bool) (p : Placed) (x : FoundHead) (y : FoundSet) → y ≡ beginOf x → pick b (FoundSet.At (p .after)) y ≡ beginOf (pick b (FoundHead.At (headOf p)) x)
-begin-by true p x y e = refl
-begin-by false p x y e = e
-
-descriptor-begin : (n : Bytes) (ps : List Placed) → descriptorPlace n ps ≡ beginOf (descriptorHead n ps)
-descriptor-begin n [] = refl
-descriptor-begin n (p ∷ ps) = begin-by (namesSet n (valuesOf (text "%rec") (p .fields))) p (descriptorHead n ps) (descriptorPlace n ps) (descriptor-begin n ps)
-
-pub set-begin : (n : Bytes) (ps : List Placed) → setPlace n ps ≡ beginOf (headPlace n ps)
-unfolding setPlace headPlace
-set-begin [] ps = refl
-set-begin (c ∷ n) ps = descriptor-begin (c ∷ n) ps
 
 -- a descriptor at q in the part from byte i on
 abbrev pub headAt : ℕ → Place → Head

@@ -21,12 +21,13 @@ use Rattle.format.specs.Edits.{Edit, editPieces}
 use Rattle.format.specs.Plain.{indexOf, membersAt}
 use Rattle.format.proofs.Elements.{Filled}
 use Rattle.format.proofs.Splices.{spliced, gapBytes, front-bytes}
-use Rattle.records.specs.Places.{isReadable, Placed, placesOf, isDescriptor, namesSet, descriptorPlace, setPlace}
+use Rattle.records.specs.Places.{isReadable, Placed, placesOf, isDescriptor, namesSet, headOf, descriptorHead, headPlace}
 use Rattle.records.specs.Sets.{setEnd}
-use Rattle.records.specs.declared.FoundSet.{FoundSet}
+use Rattle.records.specs.declared.Head.{Head}
+use Rattle.records.specs.declared.FoundHead.{FoundHead}
 use Rattle.records.proofs.Shifts.{fieldsIn}
 use Rattle.records.proofs.Readings.{readable-reads, places-read}
-use Rattle.records.proofs.Searches.{placesAt, set-default, set-named}
+use Rattle.records.proofs.Searches.{placesAt, head-default, head-named}
 use Rattle.records.proofs.Members.{stepOn, indexBy, Stands, stands, others, othersBy, others-enter, members-on, firstMembers, other-index, sets-places}
 use Rattle.records.proofs.SetEnds.{end-whole}
 use Rattle.records.proofs.Splicing.{cut, insert-bytes}
@@ -48,9 +49,9 @@ last-in p (q ∷ ps) r =
     subst (λ (ms : List Record). EndsAt (p ∷ q ∷ ps) (lastAt (r ∷ ms)) (pick (isDescriptor q) (p .after) z)) (sym (members-on q ps)) (last-by p q ps r (firstMembers ps) z (isDescriptor q) (last-in q ps (q .fields)))
 
 -- The last record of the set of a name, else its descriptor, ends where the records from its beginning on do: ms are the records before the sets ds.
-abbrev Lasts : Bytes → Bytes → List Placed → List Record → List RecSet → FoundSet → Type 0
-Lasts s n ps ms ds FoundSet.Missing = Unit {0}
-Lasts s n ps ms ds (FoundSet.At a) = (i : ℕ) × (indexOf n ds ≡ some i) × EndsAt ps (past ms (lastOf ds i)) (setEnd a (placesAt s a))
+abbrev Lasts : Bytes → Bytes → List Placed → List Record → List RecSet → FoundHead → Type 0
+Lasts s n ps ms ds FoundHead.Missing = Unit {0}
+Lasts s n ps ms ds (FoundHead.At head) = (i : ℕ) × (indexOf n ds ≡ some i) × EndsAt ps (past ms (lastOf ds i)) (setEnd (head .begin) (placesAt s (head .begin)))
 
 -- a descriptor is a record
 closed : (r : Record) (v : Bytes) (vs : List Bytes) (rs : List Record) → valuesOf (text "%rec") r ≡ v ∷ vs → close r rs ≡ r ∷ rs
@@ -58,21 +59,21 @@ closed [] v vs rs e = absurd (let z : _≡_ {A = ℕ} 0 1 = cc in omega arith)
 closed (f ∷ fs) v vs rs e = refl
 
 module _ (s n : Bytes) where
-  lasts-member : (p : Placed) (ps : List Placed) (ms : List Record) (ds : List RecSet) (x : FoundSet) → Lasts s n ps ms ds x → Lasts s n (p ∷ ps) (p .fields ∷ ms) ds x
-  lasts-member p ps ms ds FoundSet.Missing h = tt
-  lasts-member p ps ms ds (FoundSet.At a) h = h
+  lasts-member : (p : Placed) (ps : List Placed) (ms : List Record) (ds : List RecSet) (x : FoundHead) → Lasts s n ps ms ds x → Lasts s n (p ∷ ps) (p .fields ∷ ms) ds x
+  lasts-member p ps ms ds FoundHead.Missing h = tt
+  lasts-member p ps ms ds (FoundHead.At head) h = h
 
   module _ (p : Placed) (ps : List Placed) (v : Bytes) (vs : List Bytes) (is : valuesOf (text "%rec") (p .fields) ≡ v ∷ vs) (behind : ps ≡ placesAt s (p .after)) (ds : List RecSet) where
     abbrev opened : RecSet
     opened = record { name = firstWord v; rules = p .fields; members = firstMembers ps }
 
-    lasts-other : (x : FoundSet) → same n (firstWord v) ≡ false → Lasts s n ps (firstMembers ps) ds x → Lasts s n (p ∷ ps) [] (opened ∷ ds) x
-    lasts-other FoundSet.Missing e h = tt
-    lasts-other (FoundSet.At a) e h =
+    lasts-other : (x : FoundHead) → same n (firstWord v) ≡ false → Lasts s n ps (firstMembers ps) ds x → Lasts s n (p ∷ ps) [] (opened ∷ ds) x
+    lasts-other FoundHead.Missing e h = tt
+    lasts-other (FoundHead.At head) e h =
         let k : ℕ = past (firstMembers ps) (lastOf ds (h .0)) in
-        (suc (h .0), other-index n opened ds e ∙ ap stepOn (h .1), subst (λ (rs : List Record). EndsAt (p ∷ ps) (past rs k) (setEnd a (placesAt s a))) (sym (closed (p .fields) v vs [] is)) (h .2))
+        (suc (h .0), other-index n opened ds e ∙ ap stepOn (h .1), subst (λ (rs : List Record). EndsAt (p ∷ ps) (past rs k) (setEnd (head .begin) (placesAt s (head .begin)))) (sym (closed (p .fields) v vs [] is)) (h .2))
 
-    lasts-named : (t : Bool) (x : FoundSet) → same n (firstWord v) ≡ t → Lasts s n ps (firstMembers ps) ds x → Lasts s n (p ∷ ps) [] (opened ∷ ds) (pick t (FoundSet.At (p .after)) x)
+    lasts-named : (t : Bool) (x : FoundHead) → same n (firstWord v) ≡ t → Lasts s n ps (firstMembers ps) ds x → Lasts s n (p ∷ ps) [] (opened ∷ ds) (pick t (FoundHead.At (headOf p)) x)
     lasts-named true x e h = (
       0,
       ap (λ (b : Bool). indexBy b (indexOf n ds)) e,
@@ -81,27 +82,27 @@ module _ (s n : Bytes) where
     )
     lasts-named false x e h = lasts-other x e h
 
-  lasts-by : (vs : List Bytes) (p : Placed) (ps : List Placed) (x : FoundSet) → valuesOf (text "%rec") (p .fields) ≡ vs → ps ≡ placesAt s (p .after) → Lasts s n ps (firstMembers ps) (others (sets (fieldsIn ps))) x
-      → Lasts s n (p ∷ ps) (pick (isFilled vs) [] (p .fields ∷ firstMembers ps)) (othersBy vs (p .fields) (sets (fieldsIn ps))) (pick (namesSet n vs) (FoundSet.At (p .after)) x)
+  lasts-by : (vs : List Bytes) (p : Placed) (ps : List Placed) (x : FoundHead) → valuesOf (text "%rec") (p .fields) ≡ vs → ps ≡ placesAt s (p .after) → Lasts s n ps (firstMembers ps) (others (sets (fieldsIn ps))) x
+      → Lasts s n (p ∷ ps) (pick (isFilled vs) [] (p .fields ∷ firstMembers ps)) (othersBy vs (p .fields) (sets (fieldsIn ps))) (pick (namesSet n vs) (FoundHead.At (headOf p)) x)
   lasts-by [] p ps x e b h = lasts-member p ps (firstMembers ps) (others (sets (fieldsIn ps))) x h
   lasts-by (v ∷ vs) p ps x e b h = lasts-named p ps v vs e b (others (sets (fieldsIn ps))) (same n (firstWord v)) x refl h
 
-  lasts : (ps : List Placed) → Stands s ps → Lasts s n ps (firstMembers ps) (others (sets (fieldsIn ps))) (descriptorPlace n ps)
+  lasts : (ps : List Placed) → Stands s ps → Lasts s n ps (firstMembers ps) (others (sets (fieldsIn ps))) (descriptorHead n ps)
   lasts [] h = tt
   lasts (p ∷ ps) h =
       let vs : List Bytes = valuesOf (text "%rec") (p .fields) in
       let ss : List RecSet = sets (fieldsIn ps) in
-      let x : FoundSet = descriptorPlace n (p ∷ ps) in
+      let x : FoundHead = descriptorHead n (p ∷ ps) in
       subst (λ (ds : List RecSet). Lasts s n (p ∷ ps) (firstMembers (p ∷ ps)) ds x) (sym (others-enter vs (p .fields) ss))
-      (subst (λ (ms : List Record). Lasts s n (p ∷ ps) ms (othersBy vs (p .fields) ss) x) (sym (members-on p ps)) (lasts-by vs p ps (descriptorPlace n ps) refl (h .1) (lasts ps (h .2))))
+      (subst (λ (ms : List Record). Lasts s n (p ∷ ps) ms (othersBy vs (p .fields) ss) x) (sym (members-on p ps)) (lasts-by vs p ps (descriptorHead n ps) refl (h .1) (lasts ps (h .2))))
 
   -- the default set in front
-  lasts-all : (ps : List Placed) (ss : List RecSet) (a : ℕ) → GoodSets ss → same n [] ≡ false → Lasts s n ps (membersAt 0 ss) (others ss) (FoundSet.At a) → (j : ℕ) × (indexOf n ss ≡ some (suc j)) × EndsAt ps (lastOf ss (suc j)) (setEnd a (placesAt s a))
-  lasts-all ps [] a g e h = absurd g
-  lasts-all ps (d ∷ ds) a g e h = (
+  lasts-all : (ps : List Placed) (ss : List RecSet) (head : Head) → GoodSets ss → same n [] ≡ false → Lasts s n ps (membersAt 0 ss) (others ss) (FoundHead.At head) → (j : ℕ) × (indexOf n ss ≡ some (suc j)) × EndsAt ps (lastOf ss (suc j)) (setEnd (head .begin) (placesAt s (head .begin)))
+  lasts-all ps [] head g e h = absurd g
+  lasts-all ps (d ∷ ds) head g e h = (
     h .0,
     other-index n d ds (ap (same n) (g .0) ∙ e) ∙ ap stepOn (h .1),
-    subst (λ (r : Record). EndsAt ps (past (close r []) (past (d .members) (lastOf ds (h .0)))) (setEnd a (placesAt s a))) (sym (g .1)) (h .2),
+    subst (λ (r : Record). EndsAt ps (past (close r []) (past (d .members) (lastOf ds (h .0)))) (setEnd (head .begin) (placesAt s (head .begin)))) (sym (g .1)) (h .2),
   )
 
 -- the default set: its last record, or its beginning where it has none
@@ -177,25 +178,26 @@ module _ (s : Bytes) (new : List Pair) (e : isReadable s ≡ true) where
   default-inserted : InsertTold s (setEnd 0 (placesOf s)) new (insertedAt s 0 new)
   default-inserted = default-by ss (membersAt 0 ss) good refl (ap (membersAt 0) (sym (sets-places s))) refl
 
-  named-inserted : (n : Bytes) (a i : ℕ) → same n [] ≡ false → Lasts s n (placesOf s) (membersAt 0 ss) (others ss) (FoundSet.At a) → indexOf n ss ≡ some i → InsertTold s (setEnd a (placesAt s a)) new (insertedAt s i new)
-  named-inserted n a i q h f =
-      let l = lasts-all s n (placesOf s) ss a good q h in
+  named-inserted : (n : Bytes) (head : Head) (i : ℕ) → same n [] ≡ false → Lasts s n (placesOf s) (membersAt 0 ss) (others ss) (FoundHead.At head) → indexOf n ss ≡ some i → InsertTold s (setEnd (head .begin) (placesAt s (head .begin))) new (insertedAt s i new)
+  named-inserted n head i q h f =
+      let l = lasts-all s n (placesOf s) ss head good q h in
       let x : suc (l .0) ≡ i = Option·some-injective (suc (l .0)) i (sym (l .1) ∙ f) in
       let last : HasLast ss (suc (l .0)) = has-last ss good (l .0) (index-has n ss (suc (l .0)) (l .1)) in
-      subst (λ (j : ℕ). InsertTold s (setEnd a (placesAt s a)) new (insertedAt s j new)) x
-      (subst (InsertTold s (setEnd a (placesAt s a)) new) (ap bytesOf (sym (insert-last new (suc (l .0)) (readOf s) last))) (last-inserted (lastOf ss (suc (l .0))) (setEnd a (placesAt s a)) (l .2)))
+      subst (λ (j : ℕ). InsertTold s (setEnd (head .begin) (placesAt s (head .begin))) new (insertedAt s j new)) x
+      (subst (InsertTold s (setEnd (head .begin) (placesAt s (head .begin))) new) (ap bytesOf (sym (insert-last new (suc (l .0)) (readOf s) last))) (last-inserted (lastOf ss (suc (l .0))) (setEnd (head .begin) (placesAt s (head .begin))) (l .2)))
 
-  -- into the set that is found at a
-  pub insert-told : (set : Bytes) (a i : ℕ) → setPlace set (placesOf s) ≡ FoundSet.At a → indexOf set (setsOf (readOf s)) ≡ some i → InsertTold s (a + setEnd 0 (placesOf (drop a s))) new (insertedAt s i new)
-  insert-told [] a i f d =
-      let p : FoundSet.At 0 ≡ FoundSet.At a = sym (set-default [] (placesOf s) refl) ∙ f in
-      let x : 0 ≡ a = cc in
-      let y : 0 ≡ i = Option·some-injective 0 i (sym (default-index ss good) ∙ d) in
+  -- into the set of (head .begin) head
+  pub insert-told : (set : Bytes) (head : Head) (i : ℕ) → headPlace set (placesOf s) ≡ FoundHead.At head → indexOf set (setsOf (readOf s)) ≡ some i → InsertTold s (head .begin + setEnd 0 (placesOf (drop (head .begin) s))) new (insertedAt s i new)
+  insert-told [] head i f d =
+      let p : FoundHead.At (record { start = 0; end = 0; begin = 0 }) ≡ FoundHead.At head = sym (head-default [] (placesOf s) refl) ∙ f in
+      let y : _≡_ {A = Head} (record { start = 0; end = 0; begin = 0 }) head = cc in
+      let x : 0 ≡ head .begin = ap (λ (z : Head). z .begin) y in
+      let w : 0 ≡ i = Option·some-injective 0 i (sym (default-index ss good) ∙ d) in
       let z : InsertTold s (0 + setEnd 0 (placesOf s)) new (insertedAt s 0 new) = subst (λ (k : ℕ). InsertTold s k new (insertedAt s 0 new)) (omega arith) default-inserted in
-      subst (λ (j : ℕ). InsertTold s (a + setEnd 0 (placesOf (drop a s))) new (insertedAt s j new)) y (subst (λ (b : ℕ). InsertTold s (b + setEnd 0 (placesOf (drop b s))) new (insertedAt s 0 new)) x z)
-  insert-told (c ∷ n) a i f d =
+      subst (λ (j : ℕ). InsertTold s (head .begin + setEnd 0 (placesOf (drop (head .begin) s))) new (insertedAt s j new)) w (subst (λ (b : ℕ). InsertTold s (b + setEnd 0 (placesOf (drop b s))) new (insertedAt s 0 new)) x z)
+  insert-told (c ∷ n) head i f d =
       let m : Bytes = c ∷ n in
-      let q : descriptorPlace m (placesOf s) ≡ FoundSet.At a = sym (set-named m (placesOf s) (λ q. omega arith)) ∙ f in
-      let h : Lasts s m (placesOf s) (membersAt 0 ss) (others ss) (FoundSet.At a) =
-      subst (λ (ds : List RecSet). Lasts s m (placesOf s) (membersAt 0 ds) (others ds) (FoundSet.At a)) (sym (sets-places s)) (subst (Lasts s m (placesOf s) (firstMembers (placesOf s)) (others (sets (fieldsIn (placesOf s))))) q (lasts s m (placesOf s) (stands s e))) in
-      subst (λ (k : ℕ). InsertTold s k new (insertedAt s i new)) (end-whole s a) (named-inserted m a i refl h d)
+      let q : descriptorHead m (placesOf s) ≡ FoundHead.At head = sym (head-named m (placesOf s) (λ q. omega arith)) ∙ f in
+      let h : Lasts s m (placesOf s) (membersAt 0 ss) (others ss) (FoundHead.At head) =
+      subst (λ (ds : List RecSet). Lasts s m (placesOf s) (membersAt 0 ds) (others ds) (FoundHead.At head)) (sym (sets-places s)) (subst (Lasts s m (placesOf s) (firstMembers (placesOf s)) (others (sets (fieldsIn (placesOf s))))) q (lasts s m (placesOf s) (stands s e))) in
+      subst (λ (k : ℕ). InsertTold s k new (insertedAt s i new)) (end-whole s (head .begin)) (named-inserted m head i refl h d)

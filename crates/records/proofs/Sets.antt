@@ -8,8 +8,9 @@ use lib.ListN.{length, take, drop, length-drop}
 use Rattle.format.specs.Bytes.{Bytes, pick}
 use Rattle.lines.proofs.Cuts.{rest}
 use Rattle.records.specs.Places.{isReadable, Placed, placesOf, isDescriptor, countBefore}
-use Rattle.records.specs.Sets.{setEnd, leading, setAt, firstSet}
+use Rattle.records.specs.Sets.{setEnd, leading, setAt, firstSet, setBehind}
 use Rattle.records.specs.declared.Place.{Place}
+use Rattle.records.specs.declared.Head.{Head}
 use Rattle.records.specs.declared.MemberRun.{MemberRun}
 use Rattle.records.specs.declared.RecordSet.{RecordSet}
 use Rattle.records.specs.declared.NextSet.{NextSet}
@@ -110,6 +111,10 @@ module _ (s : Bytes) (a : ℕ) (r : MemberRun) (e : r ≡ leading (placesOf (tak
 
   pub members-inside : a ≤ length s → isReadable (drop a s) ≡ true → a + r .end ≤ length s
   members-inside h i = omega (arith, members-end, end-inside (drop a s) i, length-drop a s)
+
+-- the same of the records behind a head
+pub members-behind : (s : Bytes) (h : Head) (r : MemberRun) → r ≡ leading (placesOf (take (length s - h .begin) (drop (h .begin) s))) → record { start = h .start; end = h .end; begin = h .begin; after = h .begin + r .end; count = r .count } ≡ setBehind s h
+members-behind s h r e = ap (λ (m : MemberRun). record { start = h .start; end = h .end; begin = h .begin; after = h .begin + m .end; count = m .count }) (members-are s (h .begin) r e)
 
 -- The next set of a part, record by record.
 module _ (s : Bytes) (i : ℕ) where

@@ -18,7 +18,6 @@ use Rattle.records.specs.declared.Place.{Place}
 use Rattle.records.specs.declared.NextRecord.{NextRecord}
 use Rattle.records.specs.declared.Head.{Head}
 use Rattle.records.specs.declared.FoundHead.{FoundHead}
-use Rattle.records.specs.declared.FoundSet.{FoundSet}
 use Rattle.records.specs.declared.FoundRecord.{FoundRecord}
 use Rattle.records.specs.declared.FoundField.{FoundField}
 
@@ -82,17 +81,9 @@ abbrev pub descriptorHead : Bytes → List Placed → FoundHead
 descriptorHead n [] = FoundHead.Missing
 descriptorHead n (p ∷ ps) = pick (namesSet n (valuesOf (text "%rec") (p .fields))) (FoundHead.At (headOf p)) (descriptorHead n ps)
 
+-- the head of the set of a name; the default set, which has no descriptor, stands first
 unfoldable pub headPlace : Bytes → List Placed → FoundHead
 headPlace n ps = pick (same n []) (FoundHead.At (record { start = 0; end = 0; begin = 0 })) (descriptorHead n ps)
-
--- the byte behind its block
-abbrev pub descriptorPlace : Bytes → List Placed → FoundSet
-descriptorPlace n [] = FoundSet.Missing
-descriptorPlace n (p ∷ ps) = pick (namesSet n (valuesOf (text "%rec") (p .fields))) (FoundSet.At (p .after)) (descriptorPlace n ps)
-
--- where the records of a set begin: those of the default set at byte 0
-unfoldable pub setPlace : Bytes → List Placed → FoundSet
-setPlace n ps = pick (same n []) (FoundSet.At 0) (descriptorPlace n ps)
 
 -- "a record number beyond the last is no record": the k-th record before any descriptor
 abbrev pub recordBy : Bool → ℕ → Placed → (ℕ → FoundRecord) → FoundRecord

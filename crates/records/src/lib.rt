@@ -1,10 +1,12 @@
 // Records: the next one of a part of the file, its next field, and the search for a set, a record and an occurrence. What is asked of a value where it stands is in `values`.
 ghost use mathlib.Core.Path.{_≡_};
 ghost use mathlib.Core.Bool.{true};
+ghost use Prim.Native.Nat.{_≤_};
+ghost use lib.ListN.{length, drop};
 ghost use Rattle.format.specs.Pieces.{readOf};
 ghost use Rattle.format.specs.Bytes.{text, same};
-ghost use Rattle.records.specs.Places.{isReadable, placesOf, firstPlace, headPlace, setPlace, recordPlace, fieldPlace};
-ghost use Rattle.records.specs.Sets.{leading, firstSet};
+ghost use Rattle.records.specs.Places.{isReadable, placesOf, firstPlace, headPlace, recordPlace, fieldPlace};
+ghost use Rattle.records.specs.Sets.{leading, firstSet, setBehind, setPlace};
 ghost use Rattle.records.specs.Walk.{runFrom, opensSet};
 ghost use Rattle.records.specs.Fields.{FieldNext};
 ghost use Rattle.records.specs.Named.{NamedNext};
@@ -423,19 +425,37 @@ pub fn find_head(s: &[u8], name: &[u8]) -> FoundHead
     }
 }
 
-// Where the records of a set begin.
+// The set behind a head: its records go from where they begin to the byte behind the last block.
+pub fn set_behind(s: &[u8], head: Head) -> RecordSet
+    requires { ⌜ (head .begin ≤ length (now s))
+        × (isReadable (drop (head .begin) (now s)) ≡ true) ⌝ }
+    ensures { λ r. ⌜ r ≡ setBehind (now (s .entry)) head ⌝ }
+{
+    let begin = head.begin;
+    let m = next_members(&s[begin..]);
+    let after = begin + m.end;
+    RecordSet {
+        start: head.start,
+        end: head.end,
+        begin,
+        after,
+        count: m.count,
+    }
+}
+
+// The set of a name. Who wants one record of it walks from its head on, and not over all of them.
 pub enum FoundSet {
-    At(usize),
+    At(RecordSet),
     Missing,
 }
 
 pub fn find_set(s: &[u8], name: &[u8]) -> FoundSet
     requires { ⌜ isReadable (now s) ≡ true ⌝ }
-    ensures { λ r. ⌜ r ≡ setPlace (now (name .entry)) (placesOf (now (s .entry))) ⌝ }
+    ensures { λ r. ⌜ r ≡ setPlace (now (name .entry)) (now (s .entry)) ⌝ }
 {
     let h = find_head(s, name);
     match h {
-        FoundHead::At(p) => FoundSet::At(p.begin),
+        FoundHead::At(p) => FoundSet::At(set_behind(s, p)),
         FoundHead::Missing => FoundSet::Missing,
     }
 }
