@@ -24,7 +24,7 @@ use Rattle.records.specs.Places.{isReadable}
 use Rattle.records.specs.Walk.{recordIn}
 use Rattle.records.specs.declared.Place.{Place}
 use Rattle.records.proofs.Readings.{reads-of, reads-readable}
-use Rattle.records.proofs.Members.{recordOf, hasRecord, hasOccurrence, SetFound, RecordFound}
+use Rattle.records.proofs.Members.{recordOf, hasRecord, hasOccurrence, SetFrom, RecordFound}
 use Rattle.records.proofs.RecordEdits.{ownPart}
 use Rattle.edits.specs.Places.{placeNo}
 
@@ -71,7 +71,7 @@ module _ (room : ℕ) (s set : Bytes) where
   no-set e h = by-answers e (ap isSome h) refl refl refl refl refl
 
   -- The set is found at a.
-  module _ (a : ℕ) (f : SetFound s set (setsOf (readOf s)) a) where
+  module _ (a : ℕ) (f : SetFrom s set (setsOf (readOf s)) a) where
     there : isSome (indexOf set sets) ≡ true
     there = ap isSome (f .there)
 

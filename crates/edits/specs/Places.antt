@@ -16,11 +16,10 @@ use Rattle.format.specs.Plain.{Plain, plainOf}
 use Rattle.format.proofs.Questions.{asked}
 use Rattle.format.proofs.Results.{placeRows}
 use Rattle.words.specs.declared.Span.{Span}
-use Rattle.records.specs.Places.{placesOf, headPlace, setPlace}
+use Rattle.records.specs.Places.{placesOf, headPlace}
 use Rattle.records.specs.Walk.{recordIn}
 use Rattle.records.specs.declared.Head.{Head}
 use Rattle.records.specs.declared.FoundHead.{FoundHead}
-use Rattle.records.specs.declared.FoundSet.{FoundSet}
 use Rattle.requests.specs.Fields.{bytesOf}
 use Rattle.requests.specs.Kinds.{editOf}
 use Rattle.requests.specs.declared.kinds.Change.{Change as ReadChange}
@@ -51,13 +50,13 @@ Locates s req added q (Located.At x) = ((room : ℕ) → placeNo room s q ≡ 0)
 Locates s req added q (Located.Refused k) = ((room : ℕ) → placeNo room s q ≡ k) × (0 < k)
 Locates s req added q (Located.Over n) = ((room : ℕ) → placeNo room s q ≡ 0) × OverAs n (length (piecesText (resultTo s q .pieces))) (fitsLimits (resultTo s q .sets))
 
--- the same of an act on a record of the set whose records begin at a, which nothing is added to
-abbrev pub LocatesIn : Bytes → Bytes → ℕ → Edit → Located → Type 0
-LocatesIn s req a edit x = (set added : Bytes) → setPlace set (placesOf s) ≡ FoundSet.At a → Locates s req added (record { set = set; edit = edit }) x
-
--- and of an insert into the set of a head
+-- the same of an edit of the set of a head
 abbrev pub LocatesAt : Bytes → Bytes → Bytes → Head → Edit → Located → Type 0
 LocatesAt s req added h edit x = (set : Bytes) → headPlace set (placesOf s) ≡ FoundHead.At h → Locates s req added (record { set = set; edit = edit }) x
+
+-- and of an act on a record, which nothing is added to
+abbrev pub LocatesIn : Bytes → Bytes → Head → Edit → Located → Type 0
+LocatesIn s req h edit x = (added : Bytes) → LocatesAt s req added h edit x
 
 -- h is the head of a set
 abbrev pub IsHead : Bytes → Head → Type 0

@@ -15,6 +15,7 @@ use super::Splice;
 use format::Refusal;
 use records::FoundField;
 use records::FoundRecord;
+use records::Head;
 use records::NextField;
 use requests::Act;
 use requests::Change;
@@ -86,12 +87,14 @@ fn locate_change(own: &[u8], req: &[u8], name: Span, field: Span, change: Change
     }
 }
 
-// An act on record `row` of the set whose records begin at `begin`.
-pub(crate) fn locate_act(s: &[u8], req: &[u8], begin: usize, row: usize, act: Act) -> Located
-    requires { ⌜ (isReadable (now s) ≡ true) × (begin ≤ length (now s)) × (isReadable (drop begin (now s)) ≡ true) ⌝ }
+// An act on record `row` of the set of a head.
+pub(crate) fn locate_act(s: &[u8], req: &[u8], head: Head, row: usize, act: Act) -> Located
+    requires { ⌜ (isReadable (now s) ≡ true) × (head .begin ≤ length (now s))
+        × (isReadable (drop (head .begin) (now s)) ≡ true) ⌝ }
     requires { ⌜ (length (now req) ≤ fileBytes) × InAct (now req) act ⌝ }
-    ensures { λ r. ⌜ LocatesIn (now (s .entry)) (now (req .entry)) begin (Edit.on row (actOf (now (req .entry)) act)) r ⌝ }
+    ensures { λ r. ⌜ LocatesIn (now (s .entry)) (now (req .entry)) head (Edit.on row (actOf (now (req .entry)) act)) r ⌝ }
 {
+    let begin = head.begin;
     let f = records::find_record(&s[begin..], row);
     let FoundRecord::At(p) = f else {
         return Located::Refused(Refusal::RECORD);

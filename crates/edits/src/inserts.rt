@@ -124,11 +124,11 @@ pub(crate) fn locate_insert(
     let Weighed::Sums { len, count: _ } = w else {
         return Located::Refused(Refusal::ILLEGAL);
     };
-    let start = head.start;
-    let end = head.end;
-    let begin = head.begin;
-    let m = records::next_members(&s[begin..]);
-    let at = begin + m.end;
-    let a = complete(&s[start..end], &s[begin..at], req, from, copy, added);
-    located(s.len(), at, from, len, a)
+    let p = records::set_behind(s, head);
+    let start = p.start;
+    let end = p.end;
+    let begin = p.begin;
+    let after = p.after;
+    let a = complete(&s[start..end], &s[begin..after], req, from, copy, added);
+    located(s.len(), after, from, len, a)
 }

@@ -40,7 +40,7 @@ pub fn locate(s: &[u8], req: &[u8], q: Request, copy: &mut [u8], added: &mut [u8
             return locate_insert(s, req, head, start, copy, added);
         }
         Edit::On { row, act } => {
-            return locate_act(s, req, head.begin, row, act);
+            return locate_act(s, req, head, row, act);
         }
     }
 }

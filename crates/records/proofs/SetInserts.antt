@@ -186,7 +186,7 @@ module _ (s : Bytes) (new : List Pair) (e : isReadable s ≡ true) where
       subst (λ (j : ℕ). InsertTold s (setEnd (head .begin) (placesAt s (head .begin))) new (insertedAt s j new)) x
       (subst (InsertTold s (setEnd (head .begin) (placesAt s (head .begin))) new) (ap bytesOf (sym (insert-last new (suc (l .0)) (readOf s) last))) (last-inserted (lastOf ss (suc (l .0))) (setEnd (head .begin) (placesAt s (head .begin))) (l .2)))
 
-  -- into the set of (head .begin) head
+  -- into the set of a head
   pub insert-told : (set : Bytes) (head : Head) (i : ℕ) → headPlace set (placesOf s) ≡ FoundHead.At head → indexOf set (setsOf (readOf s)) ≡ some i → InsertTold s (head .begin + setEnd 0 (placesOf (drop (head .begin) s))) new (insertedAt s i new)
   insert-told [] head i f d =
       let p : FoundHead.At (record { start = 0; end = 0; begin = 0 }) ≡ FoundHead.At head = sym (head-default [] (placesOf s) refl) ∙ f in

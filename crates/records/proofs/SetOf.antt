@@ -52,7 +52,8 @@ abbrev pub SetOfTold : Bytes → Bytes → FoundSet → Type 0
 SetOfTold s n FoundSet.Missing = indexOf n (setsOf (readOf s)) ≡ none
 SetOfTold s n (FoundSet.At p) = SetOf s n p
 
-members-at : (i : ℕ) (ss : List RecSet) → membersAt i ss ≡ setAt i ss .members
+-- the records of a set, asked for by its place
+pub members-at : (i : ℕ) (ss : List RecSet) → membersAt i ss ≡ setAt i ss .members
 members-at i [] = refl
 members-at zero (s ∷ ss) = refl
 members-at (suc i) (s ∷ ss) = members-at i ss

@@ -155,7 +155,7 @@ nth-raised a [] k p e = absurd (Option·none-ne-some p e)
 nth-raised a (q ∷ ps) zero p e = ap {B = Option Placed} (λ x. some (raise a x)) (Option·some-injective q p e)
 nth-raised a (q ∷ ps) (suc k) p e = nth-raised a ps k p e
 
--- Record k of the set of (head .begin) head, found itself at q from where its records begin: its number in the whole file, and its place.
+-- Record k of the set of a head, found itself at q from where its records begin: its number in the whole file, and its place.
 pub record Located (s n : Bytes) (k start end : ℕ) : Type 0 where
   pub index : ℕ
   pub set : indexOf n (setsOf (readOf s)) ≡ some index

@@ -36,7 +36,7 @@ find-record-requires : tie.Need-find-record-requires
 find-record-requires c κs =
     let at-pre = c .before .before .before .pre in
     let at-args = c .before .before .before .args in
-    (part-readable (at-args .s .now) (at-args .begin) (at-pre .0 .2))
+    (part-readable (at-args .s .now) (at-args .head .begin) (at-pre .0 .2))
 
 enum-known-f : tie.Need-enum-known-f
 enum-known-f c = search needs
@@ -52,8 +52,8 @@ returns c =
     let at-enum-told = c .enum-told in
     let a = at-args in
     let p = at-pre .0 in
-    let g = record-placed (a .s .now) (a .begin) (a .row) (at-find-record .result) (at-find-record .ensures) (at-enum-told .given .1) in
-    record-missing (a .s .now) (a .begin) (a .row) (p .0) (p .1) (p .2) (a .req .now) (actOf (a .req .now) (a .act)) g
+    let g = record-placed (a .s .now) (a .head .begin) (a .row) (at-find-record .result) (at-find-record .ensures) (at-enum-told .given .1) in
+    record-missing (a .s .now) (a .head) (a .row) (p .0) (p .1) (p .2) (a .req .now) (actOf (a .req .now) (a .act)) g
 
 add-first : tie.Need-add-first
 add-first c =
@@ -64,8 +64,8 @@ add-first c =
     let at-good = c .before .before .before .before .before .before .before .before .good in
     let a = at-args in
     let p = at-pre .0 in
-    let g = record-placed (a .s .now) (a .begin) (a .row) (at-find-record .result) (at-find-record .ensures) (at-f .given .1) in
-    let i = record-inside (a .s .now) (a .begin) (a .row) (p .0) (p .1) (p .2) (at-f .given .0 .0) g in
+    let g = record-placed (a .s .now) (a .head .begin) (a .row) (at-find-record .result) (at-find-record .ensures) (at-f .given .1) in
+    let i = record-inside (a .s .now) (a .head) (a .row) (p .0) (p .1) (p .2) (at-f .given .0 .0) g in
     omega (arith, at-good .1 .0 .0, i .0, i .1)
 
 add-last : tie.Need-add-last
@@ -77,8 +77,8 @@ add-last c =
     let at-good = c .before .before .before .before .before .before .before .before .before .good in
     let a = at-args in
     let p = at-pre .0 in
-    let g = record-placed (a .s .now) (a .begin) (a .row) (at-find-record .result) (at-find-record .ensures) (at-f .given .1) in
-    let i = record-inside (a .s .now) (a .begin) (a .row) (p .0) (p .1) (p .2) (at-f .given .0 .0) g in
+    let g = record-placed (a .s .now) (a .head .begin) (a .row) (at-find-record .result) (at-find-record .ensures) (at-f .given .1) in
+    let i = record-inside (a .s .now) (a .head) (a .row) (p .0) (p .1) (p .2) (at-f .given .0 .0) g in
     omega (arith, at-good .1 .0 .0, i .0, i .1)
 
 enum-told-2 : tie.Need-enum-told-2
@@ -93,8 +93,8 @@ returns-2 c =
     let at-enum-told2 = c .enum-told2 in
     let a = at-args in
     let p = at-pre .0 in
-    let g = record-placed (a .s .now) (a .begin) (a .row) (at-find-record .result) (at-find-record .ensures) (at-f .given .1) in
-    act-as (a .s .now) (a .req .now) (a .begin) (a .row) (Located.At (Splice.Unfield (a .begin + at-f .given .0 .0 .start) (a .begin + at-f .given .0 .0 .end))) (at-enum-told2 .given .1) (delete-located (a .s .now) (a .begin) (a .row) (p .0) (p .1) (p .2) (at-f .given .0 .0) g (a .req .now))
+    let g = record-placed (a .s .now) (a .head .begin) (a .row) (at-find-record .result) (at-find-record .ensures) (at-f .given .1) in
+    act-as (a .s .now) (a .req .now) (a .head) (a .row) (Located.At (Splice.Unfield (a .head .begin + at-f .given .0 .0 .start) (a .head .begin + at-f .given .0 .0 .end))) (at-enum-told2 .given .1) (delete-located (a .s .now) (a .head) (a .row) (p .0) (p .1) (p .2) (at-f .given .0 .0) g (a .req .now))
 
 enum-known-act : tie.Need-enum-known-act
 enum-known-act c = search needs
@@ -118,8 +118,8 @@ returns-3 c =
     let a = at-args in
     let p = at-pre .0 in
     let h = at-act .given in
-    let g = record-placed (a .s .now) (a .begin) (a .row) (at-find-record .result) (at-find-record .ensures) (at-f .given .1) in
-    act-as (a .s .now) (a .req .now) (a .begin) (a .row) (Located.Refused 25) (h .1) (add-illegal (a .s .now) (a .begin) (a .row) (p .0) (p .1) (p .2) (at-f .given .0 .0) g (a .req .now) (pairOf (a .req .now) (h .0 .0) (h .0 .1 .0)) (sym (at-is-legal-pair .ensures) ∙ not-true (at-is-legal-pair .result) (at-if1 .taken)))
+    let g = record-placed (a .s .now) (a .head .begin) (a .row) (at-find-record .result) (at-find-record .ensures) (at-f .given .1) in
+    act-as (a .s .now) (a .req .now) (a .head) (a .row) (Located.Refused 25) (h .1) (add-illegal (a .s .now) (a .head) (a .row) (p .0) (p .1) (p .2) (at-f .given .0 .0) g (a .req .now) (pairOf (a .req .now) (h .0 .0) (h .0 .1 .0)) (sym (at-is-legal-pair .ensures) ∙ not-true (at-is-legal-pair .result) (at-if1 .taken)))
 
 returns-4 : tie.Need-returns-4
 returns-4 c =
@@ -133,9 +133,9 @@ returns-4 c =
     let a = at-args in
     let p = at-pre .0 in
     let h = at-act .given in
-    let g = record-placed (a .s .now) (a .begin) (a .row) (at-find-record .result) (at-find-record .ensures) (at-f .given .1) in
+    let g = record-placed (a .s .now) (a .head .begin) (a .row) (at-find-record .result) (at-find-record .ensures) (at-f .given .1) in
     let i = subst (InAct (a .req .now)) (h .1) (at-pre .1 .1) in
-    act-as (a .s .now) (a .req .now) (a .begin) (a .row) (Located.At (Splice.Field (a .begin + at-f .given .0 .0 .end) 0 (h .0 .0) (h .0 .1 .0))) (h .1) (add-located (a .s .now) (a .begin) (a .row) (p .0) (p .1) (p .2) (at-f .given .0 .0) g (a .req .now) (h .0 .0) (h .0 .1 .0) (at-pre .1 .0) (i .0) (i .1) (sym (at-is-legal-pair .ensures) ∙ not-false (at-is-legal-pair .result) (at-if1 .left)))
+    act-as (a .s .now) (a .req .now) (a .head) (a .row) (Located.At (Splice.Field (a .head .begin + at-f .given .0 .0 .end) 0 (h .0 .0) (h .0 .1 .0))) (h .1) (add-located (a .s .now) (a .head) (a .row) (p .0) (p .1) (p .2) (at-f .given .0 .0) g (a .req .now) (h .0 .0) (h .0 .1 .0) (at-pre .1 .0) (i .0) (i .1) (sym (at-is-legal-pair .ensures) ∙ not-false (at-is-legal-pair .result) (at-if1 .left)))
 
 enum-known-act-2 : tie.Need-enum-known-act-2
 enum-known-act-2 c = search needs
@@ -148,8 +148,8 @@ sub-find-field c =
     let at-f = c .before .before .before .before .before .before .f in
     let a = at-args in
     let p = at-pre .0 in
-    let g = record-placed (a .s .now) (a .begin) (a .row) (at-find-record .result) (at-find-record .ensures) (at-f .given .1) in
-    let i = record-inside (a .s .now) (a .begin) (a .row) (p .0) (p .1) (p .2) (at-f .given .0 .0) g in
+    let g = record-placed (a .s .now) (a .head .begin) (a .row) (at-find-record .result) (at-find-record .ensures) (at-f .given .1) in
+    let i = record-inside (a .s .now) (a .head) (a .row) (p .0) (p .1) (p .2) (at-f .given .0 .0) g in
     omega (arith, i .0)
 
 part-find-field-start : tie.Need-part-find-field-start
@@ -160,8 +160,8 @@ part-find-field-start c =
     let at-f = c .before .before .before .before .before .before .f in
     let a = at-args in
     let p = at-pre .0 in
-    let g = record-placed (a .s .now) (a .begin) (a .row) (at-find-record .result) (at-find-record .ensures) (at-f .given .1) in
-    let i = record-inside (a .s .now) (a .begin) (a .row) (p .0) (p .1) (p .2) (at-f .given .0 .0) g in
+    let g = record-placed (a .s .now) (a .head .begin) (a .row) (at-find-record .result) (at-find-record .ensures) (at-f .given .1) in
+    let i = record-inside (a .s .now) (a .head) (a .row) (p .0) (p .1) (p .2) (at-f .given .0 .0) g in
     omega (arith, i .0)
 
 part-find-field-end : tie.Need-part-find-field-end
@@ -172,8 +172,8 @@ part-find-field-end c =
     let at-f = c .before .before .before .before .before .before .f in
     let a = at-args in
     let p = at-pre .0 in
-    let g = record-placed (a .s .now) (a .begin) (a .row) (at-find-record .result) (at-find-record .ensures) (at-f .given .1) in
-    let i = record-inside (a .s .now) (a .begin) (a .row) (p .0) (p .1) (p .2) (at-f .given .0 .0) g in
+    let g = record-placed (a .s .now) (a .head .begin) (a .row) (at-find-record .result) (at-find-record .ensures) (at-f .given .1) in
+    let i = record-inside (a .s .now) (a .head) (a .row) (p .0) (p .1) (p .2) (at-f .given .0 .0) g in
     omega (arith, i .1)
 
 sub-find-field-2 : tie.Need-sub-find-field-2
@@ -205,8 +205,8 @@ find-field-requires c κs =
     let at-f = c .before .before .before .before .before .before .before .before .f in
     let a = at-args in
     let p = at-pre .0 in
-    let g = record-placed (a .s .now) (a .begin) (a .row) (at-find-record .result) (at-find-record .ensures) (at-f .given .1) in
-    (record-readable (a .s .now) (a .begin) (a .row) (p .0) (p .1) (p .2) (at-f .given .0 .0) g)
+    let g = record-placed (a .s .now) (a .head .begin) (a .row) (at-find-record .result) (at-find-record .ensures) (at-f .given .1) in
+    (record-readable (a .s .now) (a .head) (a .row) (p .0) (p .1) (p .2) (at-f .given .0 .0) g)
 
 enum-known-g : tie.Need-enum-known-g
 enum-known-g c = search needs
@@ -226,8 +226,8 @@ returns-5 c =
     let a = at-args in
     let p = at-pre .0 in
     let h = at-act2 .given in
-    let g = record-placed (a .s .now) (a .begin) (a .row) (at-find-record .result) (at-find-record .ensures) (at-f .given .1) in
-    act-as (a .s .now) (a .req .now) (a .begin) (a .row) (Located.Refused 23) (h .1) (field-missing (a .s .now) (a .begin) (a .row) (p .0) (p .1) (p .2) (at-f .given .0 .0) g (a .req .now) (bytesOf (a .req .now) (h .0 .0)) (h .0 .1 .0) (changeOf (a .req .now) (h .0 .1 .1 .0)) (sym (at-find-field .ensures) ∙ at-enum-told3 .given .1))
+    let g = record-placed (a .s .now) (a .head .begin) (a .row) (at-find-record .result) (at-find-record .ensures) (at-f .given .1) in
+    act-as (a .s .now) (a .req .now) (a .head) (a .row) (Located.Refused 23) (h .1) (field-missing (a .s .now) (a .head) (a .row) (p .0) (p .1) (p .2) (at-f .given .0 .0) g (a .req .now) (bytesOf (a .req .now) (h .0 .0)) (h .0 .1 .0) (changeOf (a .req .now) (h .0 .1 .1 .0)) (sym (at-find-field .ensures) ∙ at-enum-told3 .given .1))
 
 add-locate-change : tie.Need-add-locate-change
 add-locate-change c =
@@ -243,12 +243,12 @@ add-locate-change c =
     let p = at-pre .0 in
     let h = at-act2 .given in
     let k = at-g .given in
-    let g = record-placed (a .s .now) (a .begin) (a .row) (at-find-record .result) (at-find-record .ensures) (at-f .given .1) in
-    let i = field-inside (a .s .now) (a .begin) (a .row) (p .0) (p .1) (p .2) (at-f .given .0 .0) g (bytesOf (a .req .now) (h .0 .0)) (h .0 .1 .0) (k .0 .0) (k .0 .1 .0) (k .0 .1 .1 .0) (sym (at-find-field .ensures) ∙ k .1) in
+    let g = record-placed (a .s .now) (a .head .begin) (a .row) (at-find-record .result) (at-find-record .ensures) (at-f .given .1) in
+    let i = field-inside (a .s .now) (a .head) (a .row) (p .0) (p .1) (p .2) (at-f .given .0 .0) g (bytesOf (a .req .now) (h .0 .0)) (h .0 .1 .0) (k .0 .0) (k .0 .1 .0) (k .0 .1 .1 .0) (sym (at-find-field .ensures) ∙ k .1) in
     omega (arith, at-good .1 .0 .0, i .0, i .1)
 
-add-t34 : tie.Need-add-t34
-add-t34 c =
+add-t35 : tie.Need-add-t35
+add-t35 c =
     let at-args = c .before .before .before .before .before .before .before .before .before .before .before .before .before .before .before .before .before .before .args in
     let at-pre = c .before .before .before .before .before .before .before .before .before .before .before .before .before .before .before .before .before .before .pre in
     let at-act2 = c .before .before .before .before .before .before .before .act2 in
@@ -261,8 +261,8 @@ add-t34 c =
     let p = at-pre .0 in
     let h = at-act2 .given in
     let k = at-g .given in
-    let g = record-placed (a .s .now) (a .begin) (a .row) (at-find-record .result) (at-find-record .ensures) (at-f .given .1) in
-    let i = field-inside (a .s .now) (a .begin) (a .row) (p .0) (p .1) (p .2) (at-f .given .0 .0) g (bytesOf (a .req .now) (h .0 .0)) (h .0 .1 .0) (k .0 .0) (k .0 .1 .0) (k .0 .1 .1 .0) (sym (at-find-field .ensures) ∙ k .1) in
+    let g = record-placed (a .s .now) (a .head .begin) (a .row) (at-find-record .result) (at-find-record .ensures) (at-f .given .1) in
+    let i = field-inside (a .s .now) (a .head) (a .row) (p .0) (p .1) (p .2) (at-f .given .0 .0) g (bytesOf (a .req .now) (h .0 .0)) (h .0 .1 .0) (k .0 .0) (k .0 .1 .0) (k .0 .1 .1 .0) (sym (at-find-field .ensures) ∙ k .1) in
     omega (arith, at-good .1 .0 .0, i .0, i .1)
 
 sub-locate-change : tie.Need-sub-locate-change
@@ -273,8 +273,8 @@ sub-locate-change c =
     let at-f = c .before .before .before .before .before .before .before .before .before .before .before .before .f in
     let a = at-args in
     let p = at-pre .0 in
-    let g = record-placed (a .s .now) (a .begin) (a .row) (at-find-record .result) (at-find-record .ensures) (at-f .given .1) in
-    let i = record-inside (a .s .now) (a .begin) (a .row) (p .0) (p .1) (p .2) (at-f .given .0 .0) g in
+    let g = record-placed (a .s .now) (a .head .begin) (a .row) (at-find-record .result) (at-find-record .ensures) (at-f .given .1) in
+    let i = record-inside (a .s .now) (a .head) (a .row) (p .0) (p .1) (p .2) (at-f .given .0 .0) g in
     omega (arith, i .0)
 
 part-locate-change-start : tie.Need-part-locate-change-start
@@ -285,8 +285,8 @@ part-locate-change-start c =
     let at-f = c .before .before .before .before .before .before .before .before .before .before .before .before .f in
     let a = at-args in
     let p = at-pre .0 in
-    let g = record-placed (a .s .now) (a .begin) (a .row) (at-find-record .result) (at-find-record .ensures) (at-f .given .1) in
-    let i = record-inside (a .s .now) (a .begin) (a .row) (p .0) (p .1) (p .2) (at-f .given .0 .0) g in
+    let g = record-placed (a .s .now) (a .head .begin) (a .row) (at-find-record .result) (at-find-record .ensures) (at-f .given .1) in
+    let i = record-inside (a .s .now) (a .head) (a .row) (p .0) (p .1) (p .2) (at-f .given .0 .0) g in
     omega (arith, i .0)
 
 part-locate-change-end : tie.Need-part-locate-change-end
@@ -297,8 +297,8 @@ part-locate-change-end c =
     let at-f = c .before .before .before .before .before .before .before .before .before .before .before .before .f in
     let a = at-args in
     let p = at-pre .0 in
-    let g = record-placed (a .s .now) (a .begin) (a .row) (at-find-record .result) (at-find-record .ensures) (at-f .given .1) in
-    let i = record-inside (a .s .now) (a .begin) (a .row) (p .0) (p .1) (p .2) (at-f .given .0 .0) g in
+    let g = record-placed (a .s .now) (a .head .begin) (a .row) (at-find-record .result) (at-find-record .ensures) (at-f .given .1) in
+    let i = record-inside (a .s .now) (a .head) (a .row) (p .0) (p .1) (p .2) (at-f .given .0 .0) g in
     omega (arith, i .1)
 
 locate-change-requires : tie.Need-locate-change-requires
@@ -314,10 +314,10 @@ locate-change-requires c κs =
     let p = at-pre .0 in
     let h = at-act2 .given in
     let k = at-g .given in
-    let g = record-placed (a .s .now) (a .begin) (a .row) (at-find-record .result) (at-find-record .ensures) (at-f .given .1) in
-    let i = field-inside (a .s .now) (a .begin) (a .row) (p .0) (p .1) (p .2) (at-f .given .0 .0) g (bytesOf (a .req .now) (h .0 .0)) (h .0 .1 .0) (k .0 .0) (k .0 .1 .0) (k .0 .1 .1 .0) (sym (at-find-field .ensures) ∙ k .1) in
+    let g = record-placed (a .s .now) (a .head .begin) (a .row) (at-find-record .result) (at-find-record .ensures) (at-f .given .1) in
+    let i = field-inside (a .s .now) (a .head) (a .row) (p .0) (p .1) (p .2) (at-f .given .0 .0) g (bytesOf (a .req .now) (h .0 .0)) (h .0 .1 .0) (k .0 .0) (k .0 .1 .0) (k .0 .1 .1 .0) (sym (at-find-field .ensures) ∙ k .1) in
     let j = subst (InAct (a .req .now)) (h .1) (at-pre .1 .1) in
-    (((record-readable (a .s .now) (a .begin) (a .row) (p .0) (p .1) (p .2) (at-f .given .0 .0) g, omega (arith, i .0)), j))
+    (((record-readable (a .s .now) (a .head) (a .row) (p .0) (p .1) (p .2) (at-f .given .0 .0) g, omega (arith, i .0)), j))
 
 returns-6 : tie.Need-returns-6
 returns-6 c =
@@ -333,9 +333,9 @@ returns-6 c =
     let p = at-pre .0 in
     let h = at-act2 .given in
     let k = at-g .given in
-    let g = record-placed (a .s .now) (a .begin) (a .row) (at-find-record .result) (at-find-record .ensures) (at-f .given .1) in
+    let g = record-placed (a .s .now) (a .head .begin) (a .row) (at-find-record .result) (at-find-record .ensures) (at-f .given .1) in
     let j = subst (InAct (a .req .now)) (h .1) (at-pre .1 .1) in
-    act-as (a .s .now) (a .req .now) (a .begin) (a .row) (at-locate-change .result) (h .1) (subst (LocatesIn (a .s .now) (a .req .now) (a .begin) (Edit.on (a .row) (actOf (a .req .now) (ReadAct.Change (h .0 .0) (h .0 .1 .0) (h .0 .1 .1 .0))))) (sym (at-locate-change .ensures)) (change-located (a .s .now) (a .begin) (a .row) (p .0) (p .1) (p .2) (at-f .given .0 .0) g (a .req .now) (h .0 .0) (h .0 .1 .0) (k .0 .0) (k .0 .1 .0) (k .0 .1 .1 .0) (j .0) (sym (at-find-field .ensures) ∙ k .1) (h .0 .1 .1 .0) (at-pre .1 .0) (j .1)))
+    act-as (a .s .now) (a .req .now) (a .head) (a .row) (at-locate-change .result) (h .1) (subst (LocatesIn (a .s .now) (a .req .now) (a .head) (Edit.on (a .row) (actOf (a .req .now) (ReadAct.Change (h .0 .0) (h .0 .1 .0) (h .0 .1 .1 .0))))) (sym (at-locate-change .ensures)) (change-located (a .s .now) (a .head) (a .row) (p .0) (p .1) (p .2) (at-f .given .0 .0) g (a .req .now) (h .0 .0) (h .0 .1 .0) (k .0 .0) (k .0 .1 .0) (k .0 .1 .1 .0) (j .0) (sym (at-find-field .ensures) ∙ k .1) (h .0 .1 .1 .0) (at-pre .1 .0) (j .1)))
 
 pub locate-act-spec : {M : Type 1} → statement M
 locate-act-spec =
@@ -368,7 +368,7 @@ locate-act-spec =
     enum-told-3
     returns-5
     add-locate-change
-    add-t34
+    add-t35
     sub-locate-change
     part-locate-change-start
     part-locate-change-end

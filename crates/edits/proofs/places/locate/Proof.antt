@@ -1,8 +1,6 @@
 -- `edits::places::locate` meets its contract: the set is found or refused by question 21, and each edit is located in it.
 use native.Mathlib.Omega.{arith}
-use mathlib.Core.Path.{sym, ap, _∙_, subst}
-use Rattle.records.specs.Places.{placesOf}
-use Rattle.records.proofs.Searches.{beginOf, set-begin}
+use mathlib.Core.Path.{sym, _∙_, subst}
 use Rattle.records.proofs.Members.{head-told}
 use Rattle.requests.specs.Fields.{bytesOf}
 use Rattle.requests.specs.Kinds.{InEdit}
@@ -42,8 +40,7 @@ returns c =
     let at-find-head = c .before .before .find-head in
     let at-enum-told = c .enum-told in
     let a = at-args in
-    let set = bytesOf (a .req .now) (a .q .set) in
-    set-missing (a .s .now) (a .req .now) (askedBy (a .req .now) (a .q)) (at-pre .0 .0) (set-begin set (placesOf (a .s .now)) ∙ ap beginOf (sym (at-find-head .ensures) ∙ at-enum-told .given .1)) (a .added .now)
+    set-missing (a .s .now) (a .req .now) (askedBy (a .req .now) (a .q)) (at-pre .0 .0) (sym (at-find-head .ensures) ∙ at-enum-told .given .1) (a .added .now)
 
 enum-known-edit : tie.Need-enum-known-edit
 enum-known-edit c = search needs
@@ -108,7 +105,7 @@ returns-3 c =
     let a = at-args in
     let req = a .req .now in
     let set = bytesOf req (a .q .set) in
-    edit-as (a .s .now) req (a .added .now) set (at-locate-act .result) (at-edit2 .given .1) (at-locate-act .ensures set (a .added .now) (set-begin set (placesOf (a .s .now)) ∙ ap beginOf (sym (at-find-head .ensures) ∙ at-f .given .1)))
+    edit-as (a .s .now) req (a .added .now) set (at-locate-act .result) (at-edit2 .given .1) (at-locate-act .ensures (a .added .now) set (sym (at-find-head .ensures) ∙ at-f .given .1))
 
 pub locate-spec : {M : Type 1} → statement M
 locate-spec =
