@@ -1,33 +1,18 @@
 -- The number of a file's sets, and an edit that is given a list, case by case: the file fails, the list is too short, and otherwise.
 use Prim.Native.Nat.{ℕ, zero, suc, _≤_, _<_}
 use mathlib.Core.Path.{_≡_, refl, sym, ap, _∙_, subst}
-use mathlib.Core.Bool.{Bool, true, and-eq-true-iff}
-use lib.ListN.{length, take}
+use mathlib.Core.Bool.{Bool}
+use lib.ListN.{length}
 use borrow.Author.Tests.{le-leb, lt-leb}
-use Rattle.format.specs.Bytes.{Bytes, pick, isSome}
-use Rattle.format.specs.Lines.{isEnded}
-use Rattle.format.specs.Pieces.{pieces, readOf}
+use Rattle.format.specs.Bytes.{Bytes, pick}
 use Rattle.format.specs.Questions.{verdict}
 use Rattle.format.specs.Calls.{Answer, answer, answered, thenNo, valueOr, Filled, checkAnswer, editAnswer, filledBy}
 use Rattle.format.specs.Directory.{listNo}
 use Rattle.format.specs.Runs.{Single}
 use Rattle.format.specs.declared.Answer.{Answer as Reply}
-use Rattle.format.proofs.Passing.{verdict-read, verdict-passes}
 use Rattle.format.proofs.Directory.{left-passes, left-sets, listed-fails, listed-short, listed-edits}
-use Rattle.records.specs.Places.{isReadable}
 use Rattle.directory.specs.Rows.{listOf, countedIn, Does}
 use Rattle.directory.specs.declared.core.Done.{Done}
-
--- a file that passes
-module _ (b : Bytes) (u : ℕ) (v : verdict b u ≡ 0) where
-  pub passing-fits : u ≤ length b
-  passing-fits = verdict-passes b u (readOf (take u b)) v (verdict-read b u v) .fits
-
-  pub passing-readable : isReadable (take u b) ≡ true
-  unfolding isReadable
-  passing-readable =
-      let p = verdict-passes b u (readOf (take u b)) v (verdict-read b u v) in
-      and-eq-true-iff (isEnded (take u b)) (isSome (pieces (take u b))) .1 (p .ended, ap isSome (p .reads))
 
 -- what is known of the check's number
 pub checked-passes : (b : Bytes) (u k : ℕ) → k ≡ checkAnswer b u → k ≡ 0 → verdict b u ≡ 0

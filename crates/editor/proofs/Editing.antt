@@ -7,23 +7,19 @@ use mathlib.Core.Bool.{Bool, true, false, true≢false, and-eq-true-iff}
 use mathlib.Core.Option.{Option, none, some}
 use lib.Dec.{leb}
 use lib.ListN.{length, take}
-use lib.Seq.{length-take-le}
 use borrow.Author.Tests.{leb-true}
-use Rattle.format.specs.Bytes.{Bytes, pick, isSome}
-use Rattle.format.specs.Lines.{isEnded}
+use Rattle.format.specs.Bytes.{Bytes, pick}
 use Rattle.format.specs.Pieces.{bytesOf as piecesText, pieces, readOf}
 use Rattle.format.specs.Limits.{fileBytes}
-use Rattle.format.specs.Sets.{setsOf}
 use Rattle.format.specs.Questions.{verdict, fitsLimits}
 use Rattle.format.specs.Requests.{Request, requestOf}
 use Rattle.format.specs.Plain.{plainOf}
 use Rattle.format.specs.Calls.{Answer, Filled, placed, editAnswer}
-use Rattle.format.proofs.Passing.{Passes, SetsPass, verdict-reads, verdict-read, verdict-passes, holds-start, holds-sets}
+use Rattle.format.proofs.Passing.{verdict-read, holds-start}
 use Rattle.format.proofs.Requested.{request-pairs}
 use Rattle.format.proofs.Judging.{textNo}
 use Rattle.format.proofs.Results.{raisedNo, editNo, limit-text}
 use Rattle.format.proofs.Answers.{refusedEdit, answer-fault, answer-refused, answer-accepted}
-use Rattle.records.specs.Places.{isReadable}
 use Rattle.edits.specs.declared.Located.{Located}
 use Rattle.edits.specs.declared.Splice.{Splice}
 use Rattle.edits.specs.Splices.{madeBy, Sound, isWithin}
@@ -54,26 +50,6 @@ numberOf (Located.Over n) = 0
 
 -- the file in a used buffer that passes
 module _ (buffer : Bytes) (used : ℕ) (v : verdict buffer used ≡ 0) where
-  passes : Passes buffer used (verdict-reads buffer used v .0)
-  passes = verdict-passes buffer used (verdict-reads buffer used v .0) v (verdict-reads buffer used v .1)
-
-  pub file-inside : used ≤ length buffer
-  file-inside = passes .fits
-
-  pub file-length : length (take used buffer) ≡ used
-  file-length = length-take-le used buffer file-inside
-
-  pub file-small : length (take used buffer) ≤ fileBytes
-  file-small = omega (arith, file-length, passes .small)
-
-  pub file-readable : isReadable (take used buffer) ≡ true
-  unfolding isReadable
-  file-readable = and-eq-true-iff (isEnded (take used buffer)) (isSome (pieces (take used buffer))) .1 (passes .ended, ap isSome (passes .reads))
-
-  pub file-sets : SetsPass (setsOf (readOf (take used buffer)))
-  unfolding plainOf
-  file-sets = holds-sets buffer used (plainOf (readOf (take used buffer))) (holds-start buffer used (readOf (take used buffer)) v (verdict-read buffer used v))
-
   -- a request that was read, and what was located of it
   module _ (req : Bytes) (q : Request) (e : requestOf req ≡ some q) where
     abbrev s : Bytes

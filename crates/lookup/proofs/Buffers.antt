@@ -2,19 +2,15 @@
 use Prim.Native.Nat.{ℕ, zero, suc, _-_, _≤_}
 use native.Mathlib.Omega.{arith}
 use mathlib.Core.Path.{_≡_, refl, sym, ap, _∙_, subst}
-use mathlib.Core.Bool.{true, and-eq-true-iff}
 use mathlib.Core.List.{List, [], map}
 use mathlib.Core.Option.{Option, none, some}
 use lib.ListN.{length, take, drop, getD, length-take}
-use Rattle.format.specs.Bytes.{Bytes, isSome}
-use Rattle.format.specs.Lines.{isEnded}
-use Rattle.format.specs.Pieces.{Piece, pieces, readOf}
+use Rattle.format.specs.Bytes.{Bytes}
+use Rattle.format.specs.Pieces.{readOf}
 use Rattle.format.specs.Sets.{valuesOf, Group, groups, RecSet}
 use Rattle.format.specs.Questions.{firstNo, nameOf}
 use Rattle.format.specs.Plain.{Sought, soughtMembers, soughtRecord, foundRows}
 use Rattle.format.specs.Calls.{Answer, answer, numberIn, thenNo, checkAnswer, setsIn, soughtSet, countAnswer, filled, soughtField, fetchAnswer, soughtOrder, nameAnswer, Viewed, viewedAt, soughtRow, viewAnswer}
-use Rattle.format.proofs.Passing.{Passes, verdict-reads, verdict-passes}
-use Rattle.records.specs.Places.{isReadable}
 use Rattle.lookup.specs.declared.inside.Seen.{Seen}
 use Rattle.lookup.specs.Answers.{seenAnswer, SeenInside, countIn, fetchIn, viewIn, nameIn}
 use Rattle.lookup.proofs.Looking.{part-part}
@@ -65,17 +61,6 @@ module _ (buffer : Bytes) (used k : ℕ) (v : k ≡ checkAnswer buffer used) (so
 module _ (buffer : Bytes) (used : ℕ) (v : 0 ≡ checkAnswer buffer used) where
   abbrev s : Bytes
   s = take used buffer
-
-  passes : (ps : List Piece) × Passes buffer used ps
-  unfolding checkAnswer
-  passes = let r = verdict-reads buffer used (sym v) in (r .0, verdict-passes buffer used (r .0) (sym v) (r .1))
-
-  pub used-fits : used ≤ length buffer
-  used-fits = passes .1 .fits
-
-  pub used-readable : isReadable s ≡ true
-  unfolding isReadable
-  used-readable = and-eq-true-iff (isEnded s) (isSome (pieces s)) .1 (passes .1 .ended, ap isSome (passes .1 .reads))
 
   pub count-text : (set : Bytes) → countIn s set ≡ countAnswer buffer used set
   unfolding checkAnswer countIn countAnswer

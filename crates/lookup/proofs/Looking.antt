@@ -16,12 +16,15 @@ use Rattle.format.specs.Sets.{valuesOf, groups, setsOf}
 use Rattle.format.specs.Plain.{indexOf, membersAt, membersIn}
 use Rattle.format.specs.Calls.{Answer, answer, leaves, over, Filled, filled, viewedAt}
 use Rattle.lines.specs.Value.{valueFrom}
-use Rattle.records.specs.Places.{isReadable, placesOf, setPlace, recordPlace, countBefore}
+use Rattle.records.specs.Places.{isReadable, placesOf, headPlace, recordPlace}
 use Rattle.records.specs.declared.Place.{Place}
-use Rattle.records.specs.declared.FoundSet.{FoundSet}
+use Rattle.records.specs.declared.Head.{Head}
+use Rattle.records.specs.declared.FoundHead.{FoundHead}
+use Rattle.records.specs.declared.RecordSet.{RecordSet}
 use Rattle.records.specs.declared.FoundRecord.{FoundRecord}
 use Rattle.records.proofs.Readings.{reads-of, reads-readable}
-use Rattle.records.proofs.Members.{membersOf, recordOf, hasRecord, hasOccurrence, SetFound, RecordFound, count-sets}
+use Rattle.records.proofs.Members.{membersOf, recordOf, hasRecord, hasOccurrence, HeadFound, RecordFound}
+use Rattle.records.proofs.SetOf.{SetOf, members-at}
 use Rattle.records.proofs.Fields.{FieldFound}
 use Rattle.records.proofs.Views.{partOf, view-part}
 use Rattle.lookup.specs.Answers.{setsFrom, countIn, fetchIn, viewIn}
@@ -61,11 +64,11 @@ module _ (s n : Bytes) where
   unfolding countIn
   count-missing e = ap (λ (x : Bool). answer (pick x 0 21) (length (membersOf n (setsFrom s)))) (ap isSome e)
 
-  pub count-found : (a c : ℕ) → SetFound s n (setsFrom s) a → c ≡ countBefore (placesOf (drop a s)) → countIn s n ≡ Answer.value c
+  pub count-found : (p : RecordSet) → SetOf s n p → countIn s n ≡ Answer.value (p .count)
   unfolding countIn
-  count-found a c f e =
+  count-found p f =
       ap (λ (x : Bool). answer (pick x 0 21) (length (membersOf n (setsFrom s)))) (ap isSome (f .there))
-      ∙ ap Answer.value (ap length (f .members) ∙ sym (count-sets (drop a s)) ∙ sym e)
+      ∙ ap Answer.value (ap (λ (x : Option ℕ). length (membersIn (setsFrom s) x)) (f .there) ∙ ap length (members-at (f .index) (setsFrom s)) ∙ sym (f .counted))
 
 -- the record
 
@@ -74,28 +77,28 @@ module _ (s n : Bytes) (row : ℕ) where
   unfolding viewIn
   view-missing e = ap (λ (x : Option ℕ). viewedAt (pick (isSome x) (pick (ltb row (length (membersIn (setsFrom s) x))) 0 22) 21) (groups (readOf s)) x row) e
 
-  module _ (a : ℕ) (f : SetFound s n (setsFrom s) a) where
+  module _ (head : Head) (f : HeadFound s n (setsFrom s) head) where
     set-there : isSome (indexOf n (setsFrom s)) ≡ true
-    set-there = ap isSome (f .there)
+    set-there = ap isSome (f .set .there)
 
-    row-missing : length (membersAt 0 (setsOf (readOf (drop a s)))) ≤ row → hasRecord n row (setsFrom s) ≡ false
-    row-missing h = ap (λ (rs : List Record). ltb row (length rs)) (f .members) ∙ le-ltb row (length (membersAt 0 (setsOf (readOf (drop a s))))) h
+    row-missing : length (membersAt 0 (setsOf (readOf (drop (head .begin) s)))) ≤ row → hasRecord n row (setsFrom s) ≡ false
+    row-missing h = ap (λ (rs : List Record). ltb row (length rs)) (f .set .members) ∙ le-ltb row (length (membersAt 0 (setsOf (readOf (drop (head .begin) s))))) h
 
-    row-there : row < length (membersAt 0 (setsOf (readOf (drop a s)))) → hasRecord n row (setsFrom s) ≡ true
-    row-there h = ap (λ (rs : List Record). ltb row (length rs)) (f .members) ∙ lt-ltb row (length (membersAt 0 (setsOf (readOf (drop a s))))) h
+    row-there : row < length (membersAt 0 (setsOf (readOf (drop (head .begin) s)))) → hasRecord n row (setsFrom s) ≡ true
+    row-there h = ap (λ (rs : List Record). ltb row (length rs)) (f .set .members) ∙ lt-ltb row (length (membersAt 0 (setsOf (readOf (drop (head .begin) s))))) h
 
-    pub view-past : length (membersAt 0 (setsOf (readOf (drop a s)))) ≤ row → viewIn s n row ≡ record { result = Answer.refusal 22; part = [] }
+    pub view-past : length (membersAt 0 (setsOf (readOf (drop (head .begin) s)))) ≤ row → viewIn s n row ≡ record { result = Answer.refusal 22; part = [] }
     unfolding viewIn
     view-past h =
         ap (λ (x : Bool). viewedAt (pick x (pick (hasRecord n row (setsFrom s)) 0 22) 21) (groups (readOf s)) (indexOf n (setsFrom s)) row) set-there
-        ∙ (λ i. viewedAt (pick (row-missing h i) 0 22) (groups (readOf s)) (f .there i) row)
+        ∙ (λ i. viewedAt (pick (row-missing h i) 0 22) (groups (readOf s)) (f .set .there i) row)
 
-    pub view-found : (q : Place) → isReadable s ≡ true → setPlace n (placesOf s) ≡ FoundSet.At a → recordPlace (placesOf (drop a s)) row ≡ FoundRecord.At q → RecordFound (drop a s) (membersAt 0 (setsOf (readOf (drop a s)))) row q → viewIn s n row ≡ record { result = Answer.value (a + q .start); part = partOf s (a + q .start) (a + q .end) }
+    pub view-found : (q : Place) → isReadable s ≡ true → headPlace n (placesOf s) ≡ FoundHead.At head → recordPlace (placesOf (drop (head .begin) s)) row ≡ FoundRecord.At q → RecordFound (drop (head .begin) s) (membersAt 0 (setsOf (readOf (drop (head .begin) s)))) row q → viewIn s n row ≡ record { result = Answer.value (head .begin + q .start); part = partOf s (head .begin + q .start) (head .begin + q .end) }
     unfolding viewIn
     view-found q e g h r =
         ap (λ (x : Bool). viewedAt (pick x (pick (hasRecord n row (setsFrom s)) 0 22) 21) (groups (readOf s)) (indexOf n (setsFrom s)) row) set-there
         ∙ ap (λ (x : Bool). viewedAt (pick x 0 22) (groups (readOf s)) (indexOf n (setsFrom s)) row) (row-there (r .there))
-        ∙ view-part s n a row q e g h
+        ∙ view-part s n head row q e g h
 
 -- the field
 
@@ -115,60 +118,60 @@ module _ (s n : Bytes) (row : ℕ) (m : Bytes) (o : ℕ) (out : Bytes) where
   unfolding answerIn
   fetch-missing e = fetch-is ∙ ap (λ (x : Bool). answerIn x (hasRecord n row (setsFrom s)) (hasOccurrence n row m o (setsFrom s))) (ap isSome e)
 
-  module _ (a : ℕ) (f : SetFound s n (setsFrom s) a) where
-    pub fetch-past : length (membersAt 0 (setsOf (readOf (drop a s)))) ≤ row → fetchIn s n row m o out ≡ record { result = Answer.refusal 22; out = out }
+  module _ (head : Head) (f : HeadFound s n (setsFrom s) head) where
+    pub fetch-past : length (membersAt 0 (setsOf (readOf (drop (head .begin) s)))) ≤ row → fetchIn s n row m o out ≡ record { result = Answer.refusal 22; out = out }
     unfolding answerIn
     fetch-past h =
         fetch-is
-        ∙ ap (λ (x : Bool). answerIn x (hasRecord n row (setsFrom s)) (hasOccurrence n row m o (setsFrom s))) (set-there s n row a f)
-        ∙ ap (λ (x : Bool). answerIn true x (hasOccurrence n row m o (setsFrom s))) (row-missing s n row a f h)
+        ∙ ap (λ (x : Bool). answerIn x (hasRecord n row (setsFrom s)) (hasOccurrence n row m o (setsFrom s))) (set-there s n row head f)
+        ∙ ap (λ (x : Bool). answerIn true x (hasOccurrence n row m o (setsFrom s))) (row-missing s n row head f h)
 
-    module _ (q : Place) (r : RecordFound (drop a s) (membersAt 0 (setsOf (readOf (drop a s)))) row q) where
+    module _ (q : Place) (r : RecordFound (drop (head .begin) s) (membersAt 0 (setsOf (readOf (drop (head .begin) s)))) row q) where
       -- the record's part of the text has the record's fields
-      part-is : take ((a + q .end) - (a + q .start)) (drop (a + q .start) s) ≡ take (q .end - q .start) (drop (q .start) (drop a s))
+      part-is : take ((head .begin + q .end) - (head .begin + q .start)) (drop (head .begin + q .start) s) ≡ take (q .end - q .start) (drop (q .start) (drop (head .begin) s))
       part-is =
-          let d : (a + q .end) - (a + q .start) ≡ q .end - q .start = omega arith in
-          ap (take ((a + q .end) - (a + q .start))) (sym (drop-drop (q .start) a s)) ∙ ap (λ (k : ℕ). take k (drop (q .start) (drop a s))) d
+          let d : (head .begin + q .end) - (head .begin + q .start) ≡ q .end - q .start = omega arith in
+          ap (take ((head .begin + q .end) - (head .begin + q .start))) (sym (drop-drop (q .start) (head .begin) s)) ∙ ap (λ (k : ℕ). take k (drop (q .start) (drop (head .begin) s))) d
 
-      fields-are : fieldsOf (readOf (take ((a + q .end) - (a + q .start)) (drop (a + q .start) s))) ≡ recordOf n row (setsFrom s)
+      fields-are : fieldsOf (readOf (take ((head .begin + q .end) - (head .begin + q .start)) (drop (head .begin + q .start) s))) ≡ recordOf n row (setsFrom s)
       fields-are =
           ap (λ (t : Bytes). fieldsOf (readOf t)) part-is
           ∙ ap fieldsOf (reads-of (r .stand .own-reads))
           ∙ r .stand .own-fields
-          ∙ ap (λ (rs : List Record). getD rs row []) (sym (f .members))
+          ∙ ap (λ (rs : List Record). getD rs row []) (sym (f .set .members))
 
-      pub record-readable : isReadable (take ((a + q .end) - (a + q .start)) (drop (a + q .start) s)) ≡ true
+      pub record-readable : isReadable (take ((head .begin + q .end) - (head .begin + q .start)) (drop (head .begin + q .start) s)) ≡ true
       record-readable = subst (λ (t : Bytes). isReadable t ≡ true) (sym part-is) (reads-readable (r .stand .own-reads))
 
-      values-are : valuesOf m (fieldsOf (readOf (take ((a + q .end) - (a + q .start)) (drop (a + q .start) s)))) ≡ valuesOf m (recordOf n row (setsFrom s))
+      values-are : valuesOf m (fieldsOf (readOf (take ((head .begin + q .end) - (head .begin + q .start)) (drop (head .begin + q .start) s)))) ≡ valuesOf m (recordOf n row (setsFrom s))
       values-are = ap (valuesOf m) fields-are
 
       found-so-far : (z : Bool) → answerIn (isSome (indexOf n (setsFrom s))) (hasRecord n row (setsFrom s)) z ≡ answerIn true true z
       found-so-far z =
-          ap (λ (x : Bool). answerIn x (hasRecord n row (setsFrom s)) z) (set-there s n row a f)
-          ∙ ap (λ (x : Bool). answerIn true x z) (row-there s n row a f (r .there))
+          ap (λ (x : Bool). answerIn x (hasRecord n row (setsFrom s)) z) (set-there s n row head f)
+          ∙ ap (λ (x : Bool). answerIn true x z) (row-there s n row head f (r .there))
 
-      pub fetch-none : length (valuesOf m (fieldsOf (readOf (take ((a + q .end) - (a + q .start)) (drop (a + q .start) s))))) ≤ o → fetchIn s n row m o out ≡ record { result = Answer.refusal 23; out = out }
+      pub fetch-none : length (valuesOf m (fieldsOf (readOf (take ((head .begin + q .end) - (head .begin + q .start)) (drop (head .begin + q .start) s))))) ≤ o → fetchIn s n row m o out ≡ record { result = Answer.refusal 23; out = out }
       unfolding answerIn
       fetch-none h =
           fetch-is
           ∙ found-so-far (hasOccurrence n row m o (setsFrom s))
-          ∙ ap (λ (x : Bool). answerIn true true x) (ap (λ (vs : List Bytes). ltb o (length vs)) (sym values-are) ∙ le-ltb o (length (valuesOf m (fieldsOf (readOf (take ((a + q .end) - (a + q .start)) (drop (a + q .start) s)))))) h)
+          ∙ ap (λ (x : Bool). answerIn true true x) (ap (λ (vs : List Bytes). ltb o (length vs)) (sym values-are) ∙ le-ltb o (length (valuesOf m (fieldsOf (readOf (take ((head .begin + q .end) - (head .begin + q .start)) (drop (head .begin + q .start) s)))))) h)
 
-      module _ (start value end : ℕ) (g : FieldFound (take ((a + q .end) - (a + q .start)) (drop (a + q .start) s)) (valuesOf m (fieldsOf (readOf (take ((a + q .end) - (a + q .start)) (drop (a + q .start) s))))) o start value end) where
-        value-is : (t : Bytes) → t ≡ take (end - value) (drop value (take ((a + q .end) - (a + q .start)) (drop (a + q .start) s))) → valueIn ≡ valueFrom t
+      module _ (start value end : ℕ) (g : FieldFound (take ((head .begin + q .end) - (head .begin + q .start)) (drop (head .begin + q .start) s)) (valuesOf m (fieldsOf (readOf (take ((head .begin + q .end) - (head .begin + q .start)) (drop (head .begin + q .start) s))))) o start value end) where
+        value-is : (t : Bytes) → t ≡ take (end - value) (drop value (take ((head .begin + q .end) - (head .begin + q .start)) (drop (head .begin + q .start) s))) → valueIn ≡ valueFrom t
         unfolding valueIn
         value-is t e = ap (λ (vs : List Bytes). getD vs o []) (sym values-are) ∙ sym (g .decodes) ∙ ap valueFrom (sym e)
 
-        there : (t : Bytes) → t ≡ take (end - value) (drop value (take ((a + q .end) - (a + q .start)) (drop (a + q .start) s))) → fetchIn s n row m o out ≡ filled 0 (valueFrom t) out
+        there : (t : Bytes) → t ≡ take (end - value) (drop value (take ((head .begin + q .end) - (head .begin + q .start)) (drop (head .begin + q .start) s))) → fetchIn s n row m o out ≡ filled 0 (valueFrom t) out
         unfolding answerIn
         there t e =
             fetch-is ∙ found-so-far (hasOccurrence n row m o (setsFrom s))
-            ∙ ap (λ (x : Bool). answerIn true true x) (ap (λ (vs : List Bytes). ltb o (length vs)) (sym values-are) ∙ lt-ltb o (length (valuesOf m (fieldsOf (readOf (take ((a + q .end) - (a + q .start)) (drop (a + q .start) s)))))) (g .there))
+            ∙ ap (λ (x : Bool). answerIn true true x) (ap (λ (vs : List Bytes). ltb o (length vs)) (sym values-are) ∙ lt-ltb o (length (valuesOf m (fieldsOf (readOf (take ((head .begin + q .end) - (head .begin + q .start)) (drop (head .begin + q .start) s)))))) (g .there))
             ∙ ap (λ (v : Bytes). filled 0 v out) (value-is t e)
 
-        pub fetch-long : (t : Bytes) → t ≡ take (end - value) (drop value (take ((a + q .end) - (a + q .start)) (drop (a + q .start) s))) → length out < length (valueFrom t) → fetchIn s n row m o out ≡ record { result = Answer.refusal 27; out = out }
+        pub fetch-long : (t : Bytes) → t ≡ take (end - value) (drop value (take ((head .begin + q .end) - (head .begin + q .start)) (drop (head .begin + q .start) s))) → length out < length (valueFrom t) → fetchIn s n row m o out ≡ record { result = Answer.refusal 27; out = out }
         fetch-long t e h = there t e ∙ filled-long (valueFrom t) out h
 
-        pub fetch-found : (t : Bytes) → t ≡ take (end - value) (drop value (take ((a + q .end) - (a + q .start)) (drop (a + q .start) s))) → length (valueFrom t) ≤ length out → fetchIn s n row m o out ≡ record { result = Answer.value (length (valueFrom t)); out = over (valueFrom t) out }
+        pub fetch-found : (t : Bytes) → t ≡ take (end - value) (drop value (take ((head .begin + q .end) - (head .begin + q .start)) (drop (head .begin + q .start) s))) → length (valueFrom t) ≤ length out → fetchIn s n row m o out ≡ record { result = Answer.value (length (valueFrom t)); out = over (valueFrom t) out }
         fetch-found t e h = there t e ∙ filled-fits (valueFrom t) out h

@@ -16,7 +16,7 @@ use Rattle.format.specs.Sets.{RecSet, valuesOf}
 use Rattle.format.specs.Words.{notGap, firstWord}
 use Rattle.format.specs.Questions.{firstNo, nameOf}
 use Rattle.format.specs.Plain.{foundRows}
-use Rattle.format.specs.Calls.{Answer, answer, thenNo, setsIn, lookupNo, leaves, over, Filled, filled, soughtOrder, nameAnswer, answered}
+use Rattle.format.specs.Calls.{Answer, answer, thenNo, leaves, over, Filled, filled, soughtOrder, answered}
 use Rattle.lines.specs.Value.{valueFrom}
 use Rattle.lines.proofs.Decoding.{value-length}
 use Rattle.records.specs.Places.{isReadable, Placed, placesOf, isDescriptor}
@@ -188,10 +188,9 @@ unfolding InsideIf
 over-inside zero t out = omega (arith, length-append t (drop (length t) out))
 over-inside (suc k) t out = tt
 
-pub name-inside : (buffer : Bytes) (used k : ℕ) (out : Bytes) (x : Reply) {n : ℕ} (o : Bytes) → nameAnswer buffer used k out ≡ record { result = answered x; out = o } → x ≡ Reply.Value n → n ≤ length o
-unfolding nameAnswer InsideIf
-name-inside buffer used k out x {n} o e f =
-    let ss : List RecSet = setsIn buffer used in
-    let v : Bytes = getD (map nameOf ss) k [] in
-    let i = over-inside (thenNo (lookupNo buffer used (soughtOrder ss k)) (pick (leb (length v) (length out)) 0 27)) v out in
+pub name-inside : (s : Bytes) (k : ℕ) (out : Bytes) (x : Reply) {n : ℕ} (o : Bytes) → nameIn s k out ≡ record { result = answered x; out = o } → x ≡ Reply.Value n → n ≤ length o
+unfolding nameIn InsideIf
+name-inside s k out x {n} o e f =
+    let v : Bytes = getD (map nameOf (setsFrom s)) k [] in
+    let i = over-inside (thenNo (firstNo foundRows (soughtOrder (setsFrom s) k)) (pick (leb (length v) (length out)) 0 27)) v out in
     subst (λ (y : Reply). InsideIf (answered y) o) f (subst (λ (y : Filled). InsideIf (y .result) (y .out)) e i)

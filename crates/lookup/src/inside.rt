@@ -1,4 +1,5 @@
-// Count, fetch, view and the sets' names in a text that is known to be readable.
+// Count, fetch, view and the sets' names in a text that is known to be readable: for whoever has
+// checked a file and looks inside.
 ghost use mathlib.Core.Path.{_≡_};
 ghost use mathlib.Core.Bool.{true};
 ghost use Rattle.format.specs.Lists.{front};
@@ -17,6 +18,7 @@ use format::Answer;
 use format::Refusal;
 use lines::Decoded;
 use records::FoundField;
+use records::FoundHead;
 use records::FoundRecord;
 use records::FoundSet;
 use records::NextSet;
@@ -28,11 +30,10 @@ pub fn count_in(s: &[u8], set: &[u8]) -> Answer
     ensures { λ r. ⌜ answered r ≡ countIn (now (s .entry)) (now (set .entry)) ⌝ }
 {
     let found = records::find_set(s, set);
-    let FoundSet::At(a) = found else {
+    let FoundSet::At(p) = found else {
         return Answer::Refused(Refusal::SET);
     };
-    let m = records::next_members(&s[a..]);
-    Answer::Value(m.count)
+    Answer::Value(p.count)
 }
 
 // A record of a set, from its first field's first byte to the byte behind its last field, or a refusal's number.
@@ -46,10 +47,11 @@ pub fn view_in(s: &[u8], set: &[u8], row: usize) -> Seen
     requires { ⌜ isReadable (now s) ≡ true ⌝ }
     ensures { λ r. ⌜ (seenAnswer (now (s .entry)) r ≡ viewIn (now (s .entry)) (now (set .entry)) row) × SeenInside (now (s .entry)) r ⌝ }
 {
-    let f = records::find_set(s, set);
-    let FoundSet::At(a) = f else {
+    let f = records::find_head(s, set);
+    let FoundHead::At(head) = f else {
         return Seen::Refused(Refusal::SET);
     };
+    let a = head.begin;
     let g = records::find_record(&s[a..], row);
     let FoundRecord::At(p) = g else {
         return Seen::Refused(Refusal::RECORD);
@@ -71,10 +73,11 @@ pub fn fetch_in(
     requires { ⌜ isReadable (now s) ≡ true ⌝ }
     ensures { λ r. ⌜ fetchIn (now (s .entry)) (now (set .entry)) row (now (name .entry)) occurrence (now (out .entry)) ≡ record { result = answered r; out = now (out .exit) } ⌝ }
 {
-    let f = records::find_set(s, set);
-    let FoundSet::At(a) = f else {
+    let f = records::find_head(s, set);
+    let FoundHead::At(head) = f else {
         return Answer::Refused(Refusal::SET);
     };
+    let a = head.begin;
     let g = records::find_record(&s[a..], row);
     let FoundRecord::At(p) = g else {
         return Answer::Refused(Refusal::RECORD);

@@ -5,7 +5,7 @@ ghost use Rattle.format.specs.Calls.{numberIn, countAnswer, fetchAnswer, nameAn
 ghost use Rattle.lookup.specs.Answers.{seenAnswer, SeenInside};
 use format::Answer;
 
-mod inside;
+pub mod inside;
 
 pub use inside::Seen;
 

@@ -1,6 +1,6 @@
 -- `editor::plan` meets its contract: the request is none, or where it acts was located.
 use mathlib.Core.Path.{refl, sym, ap, _∙_, subst}
-use mathlib.Core.Option.{Option, none}
+use mathlib.Core.Option.{Option}
 use lib.ListN.{take}
 use Rattle.format.specs.Calls.{checkAnswer}
 use Rattle.format.specs.Requests.{Request}
@@ -8,7 +8,7 @@ use Rattle.requests.specs.Kinds.{requestAnswer, Inside}
 use Rattle.requests.proofs.Filling.{request-bytes}
 use Rattle.edits.specs.declared.Located.{Located}
 use Rattle.editor.specs.Plans.{plannedBy}
-use Rattle.editor.proofs.Editing.{file-length, file-small, file-readable, file-sets}
+use Rattle.records.proofs.Checked.{checked}
 use borrow.Author.Needs.{needs}
 use Rattle.editor.proofs.plan.Statement.{statement}
 use Rattle.editor.proofs.plan.Tie as tie
@@ -39,7 +39,7 @@ unfolding checkAnswer
 slice-aggregate-locate c =
     let at-args = c .before .before .before .before .before .before .before .before .before .args in
     let at-pre = c .before .before .before .before .before .before .before .before .before .pre in
-    sym (file-length (at-args .buf .now) (at-args .used) (at-pre .0))
+    sym (checked (at-args .buf .now) (at-args .used) (at-pre .0) .long)
 
 locate-requires : tie.Need-locate-requires
 unfolding checkAnswer
@@ -50,7 +50,7 @@ locate-requires c κs =
     let at-request-of = c .before .before .before .before .before .before .request-of in
     let v = at-pre .0 in
     let e = ap (requestAnswer (at-args .req .now)) (sym (at-r .given .1)) ∙ at-request-of .ensures .0 in
-    ((file-readable (at-args .buf .now) (at-args .used) v, file-small (at-args .buf .now) (at-args .used) v, file-sets (at-args .buf .now) (at-args .used) v, request-bytes (at-args .req .now) (at-r .given .0 .0) e), (subst (Inside (at-args .req .now)) (at-r .given .1) (at-request-of .ensures .1), at-pre .1))
+    ((checked (at-args .buf .now) (at-args .used) v .readable, checked (at-args .buf .now) (at-args .used) v .short, checked (at-args .buf .now) (at-args .used) v .passes, request-bytes (at-args .req .now) (at-r .given .0 .0) e), (subst (Inside (at-args .req .now)) (at-r .given .1) (at-request-of .ensures .1), at-pre .1))
 
 same-length : tie.Need-same-length
 same-length c = search needs

@@ -5,7 +5,8 @@ use lib.ListN.{length, take}
 use Rattle.format.specs.Calls.{checkAnswer}
 use Rattle.edits.specs.Splices.{madeBy}
 use Rattle.editor.specs.Plans.{Planned}
-use Rattle.editor.proofs.Editing.{number-zero, file-inside, file-length, file-small, plan-refused, plan-over, plan-sound, plan-fails, plan-done}
+use Rattle.records.proofs.Checked.{checked}
+use Rattle.editor.proofs.Editing.{number-zero, plan-refused, plan-over, plan-sound, plan-fails, plan-done}
 use borrow.Author.Needs.{needs}
 use Rattle.editor.proofs.settle.Statement.{statement}
 use Rattle.editor.proofs.settle.Tie as tie
@@ -51,14 +52,14 @@ unfolding checkAnswer
 slice-reshare-prefix-edit-no c =
     let at-args = c .before .before .before .before .before .before .before .args in
     let at-pre = c .before .before .before .before .before .before .before .pre in
-    file-inside (at-args .buf .now) (at-args .used) (at-pre .0 .0)
+    checked (at-args .buf .now) (at-args .used) (at-pre .0 .0) .fits
 
 slice-aggregate-edit-no : tie.Need-slice-aggregate-edit-no
 unfolding checkAnswer
 slice-aggregate-edit-no c =
     let at-args = c .before .before .before .before .before .before .before .before .args in
     let at-pre = c .before .before .before .before .before .before .before .before .pre in
-    sym (file-length (at-args .buf .now) (at-args .used) (at-pre .0 .0))
+    sym (checked (at-args .buf .now) (at-args .used) (at-pre .0 .0) .long)
 
 edit-no-requires : tie.Need-edit-no-requires
 unfolding checkAnswer
@@ -67,7 +68,7 @@ edit-no-requires c κs =
     let at-plan3 = c .before .before .before .plan3 in
     let at-pre = c .before .before .before .before .before .before .before .before .before .pre in
     let p = subst (Planned (take (at-args .used) (at-args .buf .now)) (at-args .req .now) (at-args .added .now)) (at-plan3 .given .1) (at-pre .0 .1) in
-    (at-pre .1, (plan-sound (at-args .buf .now) (at-args .used) (at-pre .0 .0) (at-args .req .now) (at-args .added .now) (at-plan3 .given .0 .0) p, (omega (arith, file-inside (at-args .buf .now) (at-args .used) (at-pre .0 .0), file-length (at-args .buf .now) (at-args .used) (at-pre .0 .0)), file-small (at-args .buf .now) (at-args .used) (at-pre .0 .0))))
+    (at-pre .1, (plan-sound (at-args .buf .now) (at-args .used) (at-pre .0 .0) (at-args .req .now) (at-args .added .now) (at-plan3 .given .0 .0) p, (omega (arith, checked (at-args .buf .now) (at-args .used) (at-pre .0 .0) .fits, checked (at-args .buf .now) (at-args .used) (at-pre .0 .0) .long), checked (at-args .buf .now) (at-args .used) (at-pre .0 .0) .short)))
 
 same-length : tie.Need-same-length
 same-length c = search needs
@@ -95,7 +96,7 @@ carry-out-requires c κs =
     let at-edit-no = c .before .before .before .before .edit-no in
     let at-if1 = c .before .if1 in
     let p = subst (Planned (take (at-args .used) (at-args .buf .now)) (at-args .req .now) (at-args .added .now)) (at-plan3 .given .1) (at-pre .0 .1) in
-    ((file-inside (at-args .buf .now) (at-args .used) (at-pre .0 .0), plan-sound (at-args .buf .now) (at-args .used) (at-pre .0 .0) (at-args .req .now) (at-args .added .now) (at-plan3 .given .0 .0) p), number-zero (length (at-args .buf .now)) (madeBy (take (at-args .used) (at-args .buf .now)) (at-args .req .now) (at-args .added .now) (at-plan3 .given .0 .0)) (sym (at-edit-no .ensures) ∙ at-if1 .left))
+    ((checked (at-args .buf .now) (at-args .used) (at-pre .0 .0) .fits, plan-sound (at-args .buf .now) (at-args .used) (at-pre .0 .0) (at-args .req .now) (at-args .added .now) (at-plan3 .given .0 .0) p), number-zero (length (at-args .buf .now)) (madeBy (take (at-args .used) (at-args .buf .now)) (at-args .req .now) (at-args .added .now) (at-plan3 .given .0 .0)) (sym (at-edit-no .ensures) ∙ at-if1 .left))
 
 same-length-3 : tie.Need-same-length-3
 same-length-3 c = search needs

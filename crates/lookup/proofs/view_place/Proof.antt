@@ -6,8 +6,9 @@ use mathlib.Core.Bool.{true}
 use lib.ListN.{take}
 use Rattle.format.specs.Bytes.{Bytes}
 use Rattle.records.specs.Places.{isReadable}
+use Rattle.records.proofs.Checked.{answer-checked}
 use Rattle.lookup.specs.Answers.{seenAnswer, SeenInside, viewIn}
-use Rattle.lookup.proofs.Buffers.{view-refused, used-fits, used-readable, view-text}
+use Rattle.lookup.proofs.Buffers.{view-refused, view-text}
 use borrow.Author.Needs.{needs}
 use Rattle.lookup.proofs.view_place.Statement.{statement}
 use Rattle.lookup.proofs.view_place.Tie as tie
@@ -37,14 +38,14 @@ part-view-in-end c =
     let at-args = c .before .before .before .before .args in
     let at-if1 = c .if1 in
     let at-check = c .before .check in
-    omega (arith, used-fits (at-args .buf .now) (at-args .used) (sym (at-if1 .left) ∙ at-check .ensures))
+    omega (arith, answer-checked (at-args .buf .now) (at-args .used) (at-check .result) (at-check .ensures) (at-if1 .left) .fits)
 
 view-in-requires : tie.Need-view-in-requires
 view-in-requires c κs =
     let at-args = c .before .before .before .before .before .args in
     let at-if1 = c .before .if1 in
     let at-check = c .before .before .check in
-    let t : take (at-args .used - 0) (at-args .buf .now) ≡ take (at-args .used) (at-args .buf .now) = ap (λ (n : ℕ). take n (at-args .buf .now)) (let e : at-args .used - 0 ≡ at-args .used = omega arith in e) in (subst (λ (x : Bytes). isReadable x ≡ true) (sym t) (used-readable (at-args .buf .now) (at-args .used) (sym (at-if1 .left) ∙ at-check .ensures)))
+    let t : take (at-args .used - 0) (at-args .buf .now) ≡ take (at-args .used) (at-args .buf .now) = ap (λ (n : ℕ). take n (at-args .buf .now)) (let e : at-args .used - 0 ≡ at-args .used = omega arith in e) in (subst (λ (x : Bytes). isReadable x ≡ true) (sym t) (answer-checked (at-args .buf .now) (at-args .used) (at-check .result) (at-check .ensures) (at-if1 .left) .readable))
 
 returns-2 : tie.Need-returns-2
 returns-2 c =

@@ -2,9 +2,9 @@
 use Prim.Native.Nat.{ℕ, _≤_, _<_}
 use native.Mathlib.Omega.{arith}
 use mathlib.Core.Path.{sym, _∙_, subst}
-use lib.Seq.{length-take-le}
 use Rattle.directory.specs.Rows.{Does}
-use Rattle.directory.proofs.Files.{passing-fits, passing-readable, checked-passes, does-fail, does-short, does-edit}
+use Rattle.records.proofs.Checked.{checked}
+use Rattle.directory.proofs.Files.{checked-passes, does-fail, does-short, does-edit}
 use borrow.Author.Needs.{needs}
 use Rattle.directory.proofs.core.edit_core.Statement.{statement}
 use Rattle.directory.proofs.core.edit_core.Tie as tie
@@ -38,7 +38,7 @@ slice-reshare-prefix-count-sets c =
     let at-check-with = c .before .before .check-with in
     let at-if1 = c .if1 in
     let v = checked-passes (at-args .buf .now) (at-args .used) (at-check-with .result) (at-check-with .ensures) (at-if1 .left) in
-    passing-fits (at-args .buf .now) (at-args .used) v
+    checked (at-args .buf .now) (at-args .used) v .fits
 
 slice-aggregate-count-sets : tie.Need-slice-aggregate-count-sets
 slice-aggregate-count-sets c =
@@ -46,7 +46,7 @@ slice-aggregate-count-sets c =
     let at-check-with = c .before .before .before .check-with in
     let at-if1 = c .before .if1 in
     let v = checked-passes (at-args .buf .now) (at-args .used) (at-check-with .result) (at-check-with .ensures) (at-if1 .left) in
-    sym (length-take-le (at-args .used) (at-args .buf .now) (passing-fits (at-args .buf .now) (at-args .used) v))
+    sym (checked (at-args .buf .now) (at-args .used) v .long)
 
 count-sets-requires : tie.Need-count-sets-requires
 count-sets-requires c κs =
@@ -54,7 +54,7 @@ count-sets-requires c κs =
     let at-check-with = c .before .before .before .check-with in
     let at-if1 = c .before .if1 in
     let v = checked-passes (at-args .buf .now) (at-args .used) (at-check-with .result) (at-check-with .ensures) (at-if1 .left) in
-    passing-readable (at-args .buf .now) (at-args .used) v
+    checked (at-args .buf .now) (at-args .used) v .readable
 
 same-length-2 : tie.Need-same-length-2
 same-length-2 c = search needs

@@ -1,8 +1,7 @@
 -- `directory::core::entry_at` meets its contract.
 use borrow.Author.Needs.{needs}
 use mathlib.Core.Path.{sym}
-use lib.Seq.{length-take-le}
-use Rattle.directory.proofs.Files.{passing-fits, passing-readable}
+use Rattle.records.proofs.Checked.{checked}
 use Rattle.directory.proofs.core.entry_at.Statement.{statement}
 use Rattle.directory.proofs.core.entry_at.Tie as tie
 use Rattle.directory.proofs.core.entry_at.Reads as reads
@@ -13,13 +12,13 @@ slice-aggregate-entry-in : tie.Need-slice-aggregate-entry-in
 slice-aggregate-entry-in c =
     let at-args = c .before .before .args in
     let at-pre = c .before .before .pre in
-    sym (length-take-le (at-args .used) (at-args .buf .now) (passing-fits (at-args .buf .now) (at-args .used) (at-pre .0 .0)))
+    sym (checked (at-args .buf .now) (at-args .used) (at-pre .0 .0) .long)
 
 entry-in-requires : tie.Need-entry-in-requires
 entry-in-requires c κs =
     let at-args = c .before .before .args in
     let at-pre = c .before .before .pre in
-    (passing-readable (at-args .buf .now) (at-args .used) (at-pre .0 .0), at-pre .0 .1, at-pre .1)
+    (checked (at-args .buf .now) (at-args .used) (at-pre .0 .0) .readable, at-pre .0 .1, at-pre .1)
 
 returns : tie.Need-returns
 returns c = search needs

@@ -2,9 +2,9 @@
 use borrow.Author.Needs.{needs}
 use Prim.Native.Nat.{ℕ, _≤_, _<_}
 use mathlib.Core.Path.{sym, ap, _∙_, subst}
-use lib.Seq.{length-take-le}
 use Rattle.format.specs.Calls.{Answer}
-use Rattle.directory.proofs.Files.{passing-fits, passing-readable, checked-passes, counted-fails, counted-short, counted-fits}
+use Rattle.records.proofs.Checked.{checked}
+use Rattle.directory.proofs.Files.{checked-passes, counted-fails, counted-short, counted-fits}
 use Rattle.directory.proofs.core.set_count.Statement.{statement}
 use Rattle.directory.proofs.core.set_count.Tie as tie
 use Rattle.directory.proofs.core.set_count.Reads as reads
@@ -28,7 +28,7 @@ slice-aggregate-count-sets c =
     let at-check = c .before .before .check in
     let at-if1 = c .before .if1 in
     let v = checked-passes (at-args .buf .now) (at-args .used) (at-check .result) (at-check .ensures) (at-if1 .left) in
-    sym (length-take-le (at-args .used) (at-args .buf .now) (passing-fits (at-args .buf .now) (at-args .used) v))
+    sym (checked (at-args .buf .now) (at-args .used) v .long)
 
 count-sets-requires : tie.Need-count-sets-requires
 count-sets-requires c κs =
@@ -36,7 +36,7 @@ count-sets-requires c κs =
     let at-check = c .before .before .check in
     let at-if1 = c .before .if1 in
     let v = checked-passes (at-args .buf .now) (at-args .used) (at-check .result) (at-check .ensures) (at-if1 .left) in
-    passing-readable (at-args .buf .now) (at-args .used) v
+    checked (at-args .buf .now) (at-args .used) v .readable
 
 returns-2 : tie.Need-returns-2
 returns-2 c =

@@ -1,9 +1,6 @@
 -- `lookup::inside::count_in` meets its contract: what the search for the set tells is what question 21 asks.
-use native.Mathlib.Omega.{arith}
 use mathlib.Core.Path.{sym}
-use Rattle.records.proofs.Readings.{part-readable}
-use Rattle.records.proofs.Members.{set-told}
-use Rattle.records.proofs.Sets.{members-count}
+use Rattle.records.proofs.SetOf.{set-told}
 use Rattle.lookup.proofs.Looking.{count-missing, count-found}
 use borrow.Author.Needs.{needs}
 use Rattle.lookup.proofs.inside.count_in.Statement.{statement}
@@ -11,7 +8,6 @@ use Rattle.lookup.proofs.inside.count_in.Tie as tie
 use Rattle.lookup.proofs.inside.count_in.Reads as reads
 use Rattle.lookup.proofs.inside.count_in.Lts as lts
 use Rattle.records.proofs.find_set.Reads as find-set-reads
-use Rattle.records.proofs.next_members.Reads as next-members-reads
 
 find-set-requires : tie.Need-find-set-requires
 find-set-requires c κs = search needs
@@ -30,56 +26,13 @@ returns c =
     let at-enum-told = c .enum-told in
     sym (count-missing (at-args .s .now) (at-args .set .now) (set-told (at-args .s .now) (at-args .set .now) (at-find-set .result) at-pre (at-find-set .ensures) (at-enum-told .given .1)))
 
-sub-next-members : tie.Need-sub-next-members
-sub-next-members c =
-    let at-args = c .before .before .before .before .before .before .args in
-    let at-find-set = c .before .before .before .find-set in
-    let at-pre = c .before .before .before .before .before .before .pre in
-    let at-found = c .before .found in
-    let t = set-told (at-args .s .now) (at-args .set .now) (at-find-set .result) at-pre (at-find-set .ensures) (at-found .given .1) in
-    omega (arith, t .inside)
-
-part-next-members-start : tie.Need-part-next-members-start
-part-next-members-start c =
-    let at-args = c .before .before .before .before .before .before .args in
-    let at-find-set = c .before .before .before .find-set in
-    let at-pre = c .before .before .before .before .before .before .pre in
-    let at-found = c .before .found in
-    let t = set-told (at-args .s .now) (at-args .set .now) (at-find-set .result) at-pre (at-find-set .ensures) (at-found .given .1) in
-    omega (arith, t .inside)
-
-part-next-members-end : tie.Need-part-next-members-end
-part-next-members-end c = search needs
-
-next-members-requires : tie.Need-next-members-requires
-next-members-requires c κs =
-    let at-args = c .before .before .before .before .before .before .before .args in
-    let at-find-set = c .before .before .before .before .find-set in
-    let at-pre = c .before .before .before .before .before .before .before .pre in
-    let at-found = c .before .before .found in
-    let t = set-told (at-args .s .now) (at-args .set .now) (at-find-set .result) at-pre (at-find-set .ensures) (at-found .given .1) in
-    part-readable (at-args .s .now) (at-found .given .0 .0) (t .readable)
-
 returns-2 : tie.Need-returns-2
 returns-2 c =
-    let at-args = c .before .before .before .before .before .before .before .before .args in
-    let at-find-set = c .before .before .before .before .before .find-set in
-    let at-pre = c .before .before .before .before .before .before .before .before .pre in
-    let at-found = c .before .before .before .found in
-    let at-next-members = c .next-members in
-    let t = set-told (at-args .s .now) (at-args .set .now) (at-find-set .result) at-pre (at-find-set .ensures) (at-found .given .1) in
-    sym (count-found (at-args .s .now) (at-args .set .now) (at-found .given .0 .0) (at-next-members .result .count) t (members-count (at-args .s .now) (at-found .given .0 .0) (at-next-members .result) (at-next-members .ensures)))
+    let at-args = c .before .before .before .before .before .before .args in
+    let at-found = c .before .found in
+    let at-find-set = c .before .before .before .find-set in
+    let at-pre = c .before .before .before .before .before .before .pre in
+    sym (count-found (at-args .s .now) (at-args .set .now) (at-found .given .0 .0) (set-told (at-args .s .now) (at-args .set .now) (at-find-set .result) at-pre (at-find-set .ensures) (at-found .given .1)))
 
 pub count-in-spec : {M : Type 1} → statement M
-count-in-spec =
-    tie.close
-    (tie.spec
-    find-set-requires
-    enum-known-found
-    enum-told
-    returns
-    sub-next-members
-    part-next-members-start
-    part-next-members-end
-    next-members-requires
-    returns-2)
+count-in-spec = tie.close (tie.spec find-set-requires enum-known-found enum-told returns returns-2)
