@@ -11,13 +11,13 @@ use Rattle.listing.proofs.list_sets.Reads as reads
 use Rattle.listing.proofs.list_sets.Lts as lts
 use Rattle.io.proofs.buffer.Reads as buffer-reads
 use Rattle.listing.proofs.list_set.Reads as list-set-reads
-use Rattle.lookup.proofs.set_name.Reads as set-name-reads
+use Rattle.lookup.proofs.inside.name_in.Reads as name-in-reads
 
 abbrev Inv-loop : tie.InvT-loop
-Inv-loop file used name₀ k₀ name k = Unit {0}
+Inv-loop s name₀ k₀ name k = Unit {0}
 
 abbrev μ-loop : tie.MeasureT-loop
-μ-loop file used name₀ k₀ name k = 65 - k
+μ-loop s name₀ k₀ name k = 65 - k
 
 buffer-requires : tie.Need-buffer-requires Inv-loop μ-loop
 buffer-requires c κs = search needs
@@ -28,8 +28,8 @@ slice-aggregate-name c = search needs
 loop-holds : tie.Need-loop-holds Inv-loop μ-loop
 loop-holds c = tt
 
-set-name-requires : tie.Need-set-name-requires Inv-loop μ-loop
-set-name-requires c κs = search needs
+name-in-requires : tie.Need-name-in-requires Inv-loop μ-loop
+name-in-requires c κs = search needs
 
 enum-known-f : tie.Need-enum-known-f Inv-loop μ-loop
 enum-known-f c = search needs
@@ -44,17 +44,17 @@ slice-reshare-prefix-list-set : tie.Need-slice-reshare-prefix-list-set Inv-loop 
 slice-reshare-prefix-list-set c =
     let at-args = c .before .before .before .before .before .before .before .before .before .before .before .before .args in
     let at-loop = c .before .before .before .before .before .before .before .before .loop in
-    let at-set-name = c .before .before .before .before .before .set-name in
+    let at-name-in = c .before .before .before .before .before .name-in in
     let at-f = c .before .f in
-    name-inside (at-args .file .now) (at-args .used) (at-loop .k) (at-loop .name) (at-set-name .result) _ (at-set-name .ensures) (at-f .given .1)
+    name-inside (at-args .s .now) (at-loop .k) (at-loop .name) (at-name-in .result) _ (at-name-in .ensures) (at-f .given .1)
 
 slice-aggregate-list-set : tie.Need-slice-aggregate-list-set Inv-loop μ-loop
 slice-aggregate-list-set c =
     let at-f = c .before .before .f in
     let at-args = c .before .before .before .before .before .before .before .before .before .before .before .before .before .args in
     let at-loop = c .before .before .before .before .before .before .before .before .before .loop in
-    let at-set-name = c .before .before .before .before .before .before .set-name in
-    sym (length-take-le (at-f .given .0 .0) _ (name-inside (at-args .file .now) (at-args .used) (at-loop .k) (at-loop .name) (at-set-name .result) _ (at-set-name .ensures) (at-f .given .1)))
+    let at-name-in = c .before .before .before .before .before .before .name-in in
+    sym (length-take-le (at-f .given .0 .0) _ (name-inside (at-args .s .now) (at-loop .k) (at-loop .name) (at-name-in .result) _ (at-name-in .ensures) (at-f .given .1)))
 
 list-set-requires : tie.Need-list-set-requires Inv-loop μ-loop
 list-set-requires c κs = search needs
@@ -84,7 +84,7 @@ list-sets-spec =
     buffer-requires
     slice-aggregate-name
     loop-holds
-    set-name-requires
+    name-in-requires
     enum-known-f
     enum-told
     returns
