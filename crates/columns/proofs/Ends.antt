@@ -11,7 +11,7 @@ use Rattle.format.specs.Limits.{valueBytes}
 use Rattle.format.specs.Words.{firstWord, afterWord}
 use Rattle.format.specs.Numbers.{intBounds}
 use Rattle.format.specs.Types.{Kind, Typed, Typedef as Defined, typeOf}
-use Rattle.lines.specs.Value.{valueFrom}
+use Rattle.values.specs.Value.{valueFrom}
 use Rattle.records.specs.Named.{valuesFrom}
 use Rattle.typing.specs.Meaning.{Told}
 use Rattle.typedefs.specs.Names.{AreNames}

@@ -11,9 +11,9 @@ use lib.ListN.{length, drop, getD, set}
 use lib.Seq.{getD-set-same, getD-set-other}
 use Rattle.format.specs.Bytes.{Bytes, text, isSome}
 use Rattle.format.specs.Types.{Typed}
-use Rattle.lines.specs.Value.{valueFrom}
+use Rattle.values.specs.Value.{valueFrom}
 use Rattle.records.specs.Walk.{recordIn}
-use Rattle.sorting.proofs.Tests.{by-bool}
+use Rattle.values.proofs.Tests.{by-bool}
 use Rattle.typing.specs.Meaning.{typedIn, typeAnswer}
 use Rattle.typing.specs.declared.Shape.{Shape}
 use Rattle.typing.specs.declared.TypeOf.{TypeOf}

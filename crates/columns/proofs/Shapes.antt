@@ -12,7 +12,7 @@ use Rattle.format.specs.Bytes.{Bytes, among, isSome}
 use Rattle.format.specs.Words.{trim, afterWord}
 use Rattle.format.specs.Numbers.{intBounds}
 use Rattle.format.specs.Types.{Kind, Typed, uncomment, meets}
-use Rattle.lines.specs.Value.{valueFrom}
+use Rattle.values.specs.Value.{valueFrom}
 use Rattle.words.specs.Spans.{span}
 use Rattle.numbers.specs.Meaning.{intIn}
 use Rattle.typing.specs.Meaning.{symbolsIn, typedIn}

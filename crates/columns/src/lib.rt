@@ -1,4 +1,4 @@
-// The kinds of a descriptor's `%type` fields, read once, and a value held against all of them that name its field.
+// The kinds of a descriptor's `%type` fields, in a table, and a value held against all of them that name its field.
 // A `%type` field is a row: its kind is that at the end of its type, which stands in its own value or in that of a typedef.
 ghost use mathlib.Core.Path.{_≡_};
 ghost use mathlib.Core.Bool.{true};
@@ -10,7 +10,7 @@ ghost use Rattle.format.specs.Bytes.{Bytes, isSome};
 ghost use Rattle.format.specs.Limits.{valueBytes, typeFields};
 ghost use Rattle.format.specs.Words.{trim};
 ghost use Rattle.format.specs.Numbers.{intBounds, intOf};
-ghost use Rattle.lines.specs.Value.{valueFrom};
+ghost use Rattle.values.specs.Value.{valueFrom};
 ghost use Rattle.numbers.specs.Meaning.{intAnswer};
 ghost use Rattle.typing.specs.Meaning.{typedIn, typeAnswer};
 ghost use Rattle.typedefs.specs.Names.{AreNames};
@@ -187,8 +187,8 @@ pub fn value_met(
     if tags % Tag::TYPES == 0 {
         return true;
     }
-    let n = lines::copy_value(s, &mut *scratch);
-    let x = readings::int_in(&scratch[..n]);
+    let n = values::copy_value(s, &mut *scratch);
+    let x = values::int_in(&scratch[..n]);
     let kinds = typed.kinds;
     let texts = kinds.texts;
     let symbols = typed.symbols;

@@ -15,8 +15,8 @@ use Rattle.format.specs.Records.{fieldsOf}
 use Rattle.format.specs.Sets.{valuesOf}
 use Rattle.format.specs.Words.{firstWord}
 use Rattle.format.proofs.Walking.{nameIn, headName}
-use Rattle.lines.specs.Value.{valueFrom}
-use Rattle.lines.proofs.Decoding.{nothing-at}
+use Rattle.values.specs.Value.{valueFrom}
+use Rattle.values.proofs.Decoding.{nothing-at}
 use Rattle.records.proofs.Fields.{FieldFound}
 use Rattle.words.specs.Spans.{span}
 use Rattle.words.specs.declared.Span.{Span}

@@ -13,7 +13,7 @@ use Rattle.format.specs.Questions.{fitsRecord}
 use Rattle.format.specs.Rules.{isWellFormed}
 use Rattle.format.specs.Words.{firstWord}
 use Rattle.format.proofs.Walking.{headName}
-use Rattle.lines.specs.Value.{valueFrom}
+use Rattle.values.specs.Value.{valueFrom}
 use Rattle.words.specs.Spans.{span}
 use Rattle.words.specs.declared.Span.{Span}
 use Rattle.descriptors.specs.declared.shapes.Head.{Head}

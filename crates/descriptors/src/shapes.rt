@@ -14,7 +14,7 @@ ghost use Rattle.format.specs.Rules.{one, several, isWellFormed};
 ghost use Rattle.format.specs.Questions.{fitsRecord};
 ghost use Rattle.format.specs.Words.{words, firstWord, isTypeName};
 ghost use Rattle.format.proofs.Walking.{walkFits, walkWell};
-ghost use Rattle.lines.specs.Value.{valueFrom};
+ghost use Rattle.values.specs.Value.{valueFrom};
 ghost use Rattle.records.specs.Places.{isReadable};
 ghost use Rattle.records.specs.Heads.{HeadParts};
 ghost use Rattle.words.specs.Spans.{span};
@@ -202,7 +202,7 @@ fn value_holds(c: Content, value: &[u8], scratch: &mut [u8]) -> bool
     if is_free(c) {
         return true;
     }
-    let n = lines::copy_value(value, scratch);
+    let n = values::copy_value(value, scratch);
     text_holds(c, &scratch[..n])
 }
 
@@ -267,7 +267,7 @@ fn is_named(s: &[u8], starts: &[usize], ends: &[usize], word: &[u8]) -> bool
     while k < starts.len() {
         let a = starts[k];
         let e = ends[k];
-        if records::word_is(&s[a..e], word) {
+        if values::word_is(&s[a..e], word) {
             return true;
         }
         k += 1;
@@ -312,7 +312,7 @@ fn head_of(
     let v = rec_value(&s[a..e]);
     let start = a + v.start;
     let end = a + v.end;
-    let n = lines::copy_value(&s[start..end], scratch);
+    let n = values::copy_value(&s[start..end], scratch);
     if is_taken(s, starts, ends, &scratch[..n]) {
         return Head::Fault;
     }

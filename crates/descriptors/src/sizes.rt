@@ -14,7 +14,7 @@ ghost use Rattle.format.specs.Rules.{orderOf, sizeBy, sizeRule, meetsSize};
 ghost use Rattle.format.specs.Sets.{valuesOf};
 ghost use Rattle.format.specs.Questions.{fitsRecord};
 ghost use Rattle.format.specs.Words.{words};
-ghost use Rattle.lines.specs.Value.{valueFrom};
+ghost use Rattle.values.specs.Value.{valueFrom};
 ghost use Rattle.records.specs.Places.{isReadable};
 ghost use Rattle.descriptors.specs.Sizes.{sizeAnswer};
 use numbers::Natural;
@@ -120,7 +120,7 @@ fn value_met(value: &[u8], n: u64, scratch: &mut [u8]) -> bool
     requires { ⌜ length (valueFrom (now value)) ≤ length (now scratch) ⌝ }
     ensures { λ r. ⌜ (r ≡ meetsSize (sizeRule intBounds (words (valueFrom (now (value .entry))))) n) × (length (now (scratch .exit)) ≡ length (now (scratch .entry))) ⌝ }
 {
-    let m = lines::copy_value(value, scratch);
+    let m = values::copy_value(value, scratch);
     let r = size_rule(&scratch[..m]);
     size_holds(r, n)
 }

@@ -8,7 +8,7 @@ use borrow.Author.Tests.{eq-eqb, ne-eqb, lt-ltb, le-ltb}
 use lib.Dec.{ltb}
 use lib.ListN.{length, getD, take}
 use Rattle.format.specs.Bytes.{Bytes, same}
-use Rattle.sorting.proofs.Tests.{dec-lt}
+use Rattle.values.proofs.Tests.{dec-lt}
 use Rattle.terms.specs.Sets.{tagged, Answers}
 use Rattle.terms.specs.Entries.{termsOf}
 use Rattle.dictionary.specs.declared.wordsets.Words.{Words}

@@ -13,7 +13,7 @@ use Rattle.format.specs.Lines.{isName}
 use Rattle.format.specs.Numbers.{Bounds}
 use Rattle.format.specs.Rules.{listed, mandatory, prohibited, allowed, unique, key, one, nameList, isShaped}
 use Rattle.format.proofs.Listing.{same-true, listed-cons, shaped-as, several-all}
-use Rattle.sorting.proofs.Tests.{by-bool}
+use Rattle.values.proofs.Tests.{by-bool}
 use Rattle.terms.specs.Sets.{termOf, tagged}
 use Rattle.terms.proofs.Tests.{tagged-append}
 use Rattle.dictionary.specs.Tags.{listTag}

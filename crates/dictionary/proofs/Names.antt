@@ -10,12 +10,13 @@ use Rattle.format.specs.Lists.{front}
 use Rattle.format.specs.Bytes.{Bytes, all}
 use Rattle.format.specs.Lines.{isName}
 use Rattle.format.specs.Words.{isGap, notGap}
-use Rattle.lines.specs.Value.{valueFrom}
-use Rattle.lines.proofs.Decoding.{nothing-at}
-use Rattle.dictionary.specs.Words.{wordFrom, nameOf, nameFrom}
-use Rattle.dictionary.proofs.Parts.{parts-none, parts-comma, parts-on}
-use Rattle.sorting.specs.Texts.{isWordByte, textAt}
-use Rattle.sorting.proofs.Tests.{by-bool, dec-lt}
+use Rattle.values.specs.Value.{valueFrom}
+use Rattle.values.proofs.Decoding.{nothing-at}
+use Rattle.values.specs.Words.{wordFrom, nameOf, nameFrom}
+use Rattle.values.proofs.Parts.{parts-none, parts-comma, parts-on}
+use Rattle.values.specs.Stretches.{isWordByte}
+use Rattle.sorting.specs.Texts.{textAt}
+use Rattle.values.proofs.Tests.{by-bool, dec-lt}
 use Rattle.sorting.proofs.Texts.{front-stop, front-on}
 use Rattle.typedefs.proofs.Texts.{name-word, gap-no-word}
 

@@ -12,11 +12,11 @@ use Rattle.format.specs.Lines.{isName}
 use Rattle.format.specs.Words.{notGap, words}
 use Rattle.format.specs.Rules.{listed}
 use Rattle.format.proofs.Lines.{all-append}
-use Rattle.lines.specs.Value.{valueFrom}
+use Rattle.values.specs.Value.{valueFrom}
 use Rattle.records.specs.Places.{isReadable}
 use Rattle.records.specs.Walk.{recordIn}
-use Rattle.dictionary.specs.Words.{Cuts}
-use Rattle.dictionary.specs.declared.lists.NextWord.{NextWord}
+use Rattle.values.specs.Words.{Cuts}
+use Rattle.values.specs.declared.lists.NextWord.{NextWord}
 use Rattle.records.specs.Named.{valuesFrom, ValueHere}
 use Rattle.terms.specs.Sets.{Term, termOf, tagged}
 use Rattle.terms.specs.Entries.{termsOf, Entries}

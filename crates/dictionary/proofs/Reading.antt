@@ -13,14 +13,14 @@ use Rattle.format.specs.Lines.{isName}
 use Rattle.format.specs.Words.{isGap, notGap, split, words}
 use Rattle.format.specs.Rules.{typedNames}
 use Rattle.format.proofs.Parts.{split-cut}
-use Rattle.lines.specs.Value.{valueFrom}
+use Rattle.values.specs.Value.{valueFrom}
 use Rattle.words.specs.Spans.{span}
 use Rattle.records.specs.Places.{isReadable}
 use Rattle.records.specs.Walk.{recordIn}
 use Rattle.records.specs.Fields.{fieldsFrom, fieldBetween, FieldHere}
-use Rattle.dictionary.specs.declared.lists.NextWord.{NextWord}
-use Rattle.dictionary.specs.Words.{wordFrom, Cuts, isComma, nameFrom, othersFrom, Behind}
-use Rattle.dictionary.specs.declared.lists.Part.{Part}
+use Rattle.values.specs.declared.lists.NextWord.{NextWord}
+use Rattle.values.specs.Words.{wordFrom, Cuts, isComma, nameFrom, othersFrom, Behind}
+use Rattle.values.specs.declared.lists.Part.{Part}
 use Rattle.sorting.specs.Texts.{textAt}
 use Rattle.terms.specs.Sets.{Term, termOf}
 use Rattle.terms.specs.Entries.{termAt, IsEntry}

@@ -13,7 +13,7 @@ use Rattle.format.specs.Lists.{front, behind, onto}
 use Rattle.format.specs.Bytes.{Bytes, pick, all, same, among}
 use Rattle.format.specs.Words.{notGap, isGap, firstWord, split}
 use Rattle.format.specs.Rules.{typedNames}
-use Rattle.sorting.proofs.Tests.{dec-lt}
+use Rattle.values.proofs.Tests.{dec-lt}
 use Rattle.terms.specs.Sets.{termOf, tagged}
 use Rattle.terms.proofs.Tests.{or-none, tagged-append}
 use Rattle.dictionary.specs.Terms.{rowTerms}

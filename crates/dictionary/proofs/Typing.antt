@@ -20,7 +20,7 @@ use Rattle.format.specs.Rules.{typedNames, typedefsOf, endKind, isTypedefName, 
 use Rattle.format.specs.Questions.{fitsField}
 use Rattle.format.proofs.Limits.{rules-few}
 use Rattle.format.proofs.Listing.{well-shaped}
-use Rattle.lines.specs.Value.{valueFrom}
+use Rattle.values.specs.Value.{valueFrom}
 use Rattle.words.specs.Spans.{span}
 use Rattle.records.specs.Walk.{recordIn}
 use Rattle.records.specs.Named.{valuesFrom, ValueHere}

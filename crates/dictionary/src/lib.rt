@@ -10,7 +10,7 @@ ghost use Rattle.format.specs.Limits.{fileBytes};
 ghost use Rattle.format.specs.Lines.{isName};
 ghost use Rattle.format.specs.Words.{words};
 ghost use Rattle.format.specs.Rules.{typedNames};
-ghost use Rattle.lines.specs.Value.{valueFrom};
+ghost use Rattle.values.specs.Value.{valueFrom};
 ghost use Rattle.records.specs.Places.{isReadable};
 ghost use Rattle.records.specs.Walk.{recordIn};
 ghost use Rattle.records.specs.Named.{valuesFrom};
@@ -19,14 +19,14 @@ ghost use Rattle.dictionary.specs.Tags.{listTag};
 ghost use Rattle.terms.specs.Adding.{Adding};
 ghost use Rattle.dictionary.specs.Terms.{listTerms, areNames, RowsAdded};
 ghost use Rattle.dictionary.specs.Known.{Described, dictionaryRoom, IsDictionary, Known};
-use lists::NextWord;
-use lists::Part;
 use records::FoundField;
 use records::NextField;
 use terms::Table;
+use values::NextWord;
+use values::Part;
+use values::Stretch;
 use words::Rule;
 
-pub mod lists;
 pub mod wordsets;
 
 // The tags of lists, above the numbers of `%type` fields; and no tag.
@@ -74,7 +74,7 @@ fn add_words(d: &[u8], i: usize, tag: u32, entries: &mut [u32], n: usize) -> usi
     let mut k = n;
     let mut from = i;
     loop {
-        let w = lists::next_word(d, from);
+        let w = values::next_word(d, from);
         let NextWord::At { start, rest } = w else {
             return k;
         };
@@ -92,11 +92,11 @@ fn add_names(d: &[u8], i: usize, tag: u32, entries: &mut [u32], n: usize) -> usi
     ensures { λ r. ⌜ Adding (now (d .entry)) (now (entries .entry)) n (map (termOf tag) (typedNames (valueFrom (drop i (now (d .entry)))))) [] (now (entries .exit)) r ⌝ }
 {
     let mut k = n;
-    let mut at = records::pass(d, i, true);
+    let mut at = values::pass(d, i, Stretch::Gaps);
     loop {
         entries[k] = terms::entry(d, at, tag);
         k += 1;
-        let p = lists::part_next(d, at);
+        let p = values::part_next(d, at);
         let Part::At(next) = p else {
             return k;
         };

@@ -1,4 +1,4 @@
-// The words of one of a descriptor's lists, each with its place in the list as tag: what a record has of them is a set in one number.
+// The words of one of a descriptor's lists, each with its place in the list as tag: the places at which a name stands there are a set in one number.
 ghost use mathlib.Core.Path.{_≡_};
 ghost use mathlib.Core.Bool.{true, false};
 ghost use mathlib.Core.List.{List, []};
@@ -9,17 +9,18 @@ ghost use Rattle.format.specs.Limits.{fileBytes, listWords};
 ghost use Rattle.format.specs.Lines.{isName};
 ghost use Rattle.format.specs.Words.{words};
 ghost use Rattle.format.specs.Rules.{listed};
-ghost use Rattle.lines.specs.Value.{valueFrom};
+ghost use Rattle.values.specs.Value.{valueFrom};
 ghost use Rattle.words.specs.RuleNames.{placeIn};
 ghost use Rattle.records.specs.Places.{isReadable};
 ghost use Rattle.records.specs.Walk.{recordIn};
 ghost use Rattle.terms.specs.Sets.{inSet};
 ghost use Rattle.terms.specs.Adding.{Adding};
-ghost use Rattle.dictionary.specs.Numbered.{numbered, IsWords};
-use super::lists;
-use super::lists::NextWord;
+ghost use Rattle.dictionary.specs.Known.{Described};
+ghost use Rattle.dictionary.specs.Numbered.{numbered, Lists, IsWords, IsListed, Places};
+use format::Descriptor;
 use records::FoundField;
 use terms::Table;
+use values::NextWord;
 
 // The words of the value at i, which are names, put behind the first n entries; how many entries there are then.
 fn add_value(d: &[u8], i: usize, entries: &mut [u32], n: usize) -> usize
@@ -31,7 +32,7 @@ fn add_value(d: &[u8], i: usize, entries: &mut [u32], n: usize) -> usize
     let mut k = n;
     let mut from = i;
     loop {
-        let w = lists::next_word(d, from);
+        let w = values::next_word(d, from);
         let NextWord::At { start, rest } = w else {
             return k;
         };
@@ -71,17 +72,57 @@ pub struct Words {
     pub count: usize,
 }
 
-// The table of the words that the fields of a name list, and their sets, in lent arrays: `terms::find_joined` tells the places at which a word stands in the list.
+// The table of the words that the fields of a name list, and their sets, in lent arrays.
 pub fn read(d: &[u8], name: &[u8], entries: &mut [u32], sets: &mut [u64]) -> Words
-    requires { ⌜ (isReadable (now d) ≡ true) × (length (now d) ≤ fileBytes) ⌝ }
-    requires { ⌜ (length (listed (now name) (recordIn (now d))) ≤ listWords) × (listWords ≤ length (now entries)) × (listWords ≤ length (now sets)) ⌝ }
-    requires { ⌜ all isName (listed (now name) (recordIn (now d))) ≡ true ⌝ }
+    requires { ⌜ Described (now d) × Lists (now name) (recordIn (now d)) ⌝ }
+    requires { ⌜ (listWords ≤ length (now entries)) × (listWords ≤ length (now sets)) ⌝ }
     ensures { λ r. ⌜ IsWords (now (d .entry)) (listed (now (name .entry)) (recordIn (now (d .entry)))) (now (entries .exit)) (now (sets .exit)) r ⌝ }
 {
     let n = add_list(d, name, &mut *entries);
     let t = terms::build(d, &mut entries[..n]);
     terms::join(d, &*entries, t, &mut *sets);
     Words { table: t, count: n }
+}
+
+// The places at which a name stands in a list.
+pub fn places_in(d: &[u8], entries: &[u32], sets: &[u64], w: Words, name: &[u8]) -> u64
+    requires { ⌜ ((ws : List Bytes) × IsWords (now d) ws (now entries) (now sets) w) ⌝ }
+    ensures { λ r. ⌜ ((ws : List Bytes) → IsWords (now (d .entry)) ws (now (entries .entry)) (now (sets .entry)) w → Places ws (now (name .entry)) r) ⌝ }
+{
+    let t = w.table;
+    terms::find_joined(d, entries, t, sets, name)
+}
+
+// A list in arrays of its own.
+pub struct Listed {
+    pub entries: [u32; Descriptor::WORDS],
+    pub sets: [u64; Descriptor::WORDS],
+    pub words: Words,
+}
+
+// The list of the words of all fields of a name.
+pub fn list(d: &[u8], name: &[u8]) -> Listed
+    requires { ⌜ Described (now d) × Lists (now name) (recordIn (now d)) ⌝ }
+    ensures { λ r. ⌜ IsListed (now (d .entry)) (listed (now (name .entry)) (recordIn (now (d .entry)))) r ⌝ }
+{
+    let mut entries = [0u32; Descriptor::WORDS];
+    let mut sets = [0u64; Descriptor::WORDS];
+    let words = read(d, name, &mut entries, &mut sets);
+    Listed {
+        entries,
+        sets,
+        words,
+    }
+}
+
+// The places at which a name stands in it.
+pub fn places(d: &[u8], l: Listed, name: &[u8]) -> u64
+    requires { ⌜ ((ws : List Bytes) × IsListed (now d) ws l) ⌝ }
+    ensures { λ r. ⌜ ((ws : List Bytes) → IsListed (now (d .entry)) ws l → Places ws (now (name .entry)) r) ⌝ }
+{
+    let entries = l.entries;
+    let sets = l.sets;
+    places_in(d, &entries, &sets, l.words, name)
 }
 
 // The first of some places that is in a set, and their number where none is.
@@ -99,13 +140,13 @@ fn first_place(set: u64, count: usize) -> usize
     k
 }
 
-// The place of a name in a list, the list's length where it does not stand there.
-pub fn place_of(d: &[u8], entries: &[u32], sets: &[u64], w: Words, name: &[u8]) -> usize
-    requires { ⌜ ((ws : List Bytes) × IsWords (now d) ws (now entries) (now sets) w) ⌝ }
-    ensures { λ r. ⌜ ((ws : List Bytes) → IsWords (now (d .entry)) ws (now (entries .entry)) (now (sets .entry)) w → r ≡ placeIn (now (name .entry)) ws) ⌝ }
+// The first of them, and the list's length where there is none.
+pub fn place_of(d: &[u8], l: Listed, name: &[u8]) -> usize
+    requires { ⌜ ((ws : List Bytes) × IsListed (now d) ws l) ⌝ }
+    ensures { λ r. ⌜ ((ws : List Bytes) → IsListed (now (d .entry)) ws l → r ≡ placeIn (now (name .entry)) ws) ⌝ }
 {
-    let t = w.table;
-    let set = terms::find_joined(d, entries, t, sets, name);
+    let set = places(d, l, name);
+    let w = l.words;
     if set == 0 {
         return w.count;
     }

@@ -11,7 +11,7 @@ use Rattle.format.specs.Lists.{isFilled, filter, behind, onto, splitBy}
 use Rattle.format.specs.Bytes.{Bytes, pick}
 use Rattle.format.specs.Words.{isGap, notGap, afterWord, words}
 use Rattle.format.specs.Types.{consTo, uncomment, beforeComment}
-use Rattle.lines.specs.Value.{valueFrom}
+use Rattle.values.specs.Value.{valueFrom}
 use Rattle.typing.specs.Symbols.{wordsIn}
 use Rattle.dictionary.proofs.Rows.{behind-length}
 use Rattle.enums.specs.Enums.{listed, isEnumAt, enumIn}

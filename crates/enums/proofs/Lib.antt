@@ -2,6 +2,5 @@
 pub mod Enums
 pub mod Reading
 pub mod Few
-pub mod Passing
 pub mod Rows
 pub mod Making

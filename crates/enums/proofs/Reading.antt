@@ -12,13 +12,14 @@ use Rattle.format.specs.Lists.{front, behind}
 use Rattle.format.specs.Bytes.{Bytes, all, isSome, isLetter, isDigit}
 use Rattle.format.specs.Words.{isGap, afterWord}
 use Rattle.format.specs.Types.{uncomment, isSymbolByte, isSymbol}
-use Rattle.lines.specs.Value.{valueFrom}
+use Rattle.values.specs.Value.{valueFrom}
 use Rattle.lines.specs.Line.{run}
 use Rattle.words.proofs.Finding.{front-run, behind-run}
-use Rattle.typing.specs.Symbols.{notParen, isPlain, wordsIn, withWord}
+use Rattle.typing.specs.Symbols.{isPlain, wordsIn, withWord}
 use Rattle.typing.proofs.Comments.{gap-open, gap-close, words-gap, comment-on, symbols-word}
-use Rattle.sorting.specs.Texts.{isWordByte, textAt}
-use Rattle.sorting.proofs.Tests.{by-bool, dec-lt}
+use Rattle.values.specs.Stretches.{isWordByte, notParen}
+use Rattle.sorting.specs.Texts.{textAt}
+use Rattle.values.proofs.Tests.{by-bool, dec-lt}
 use Rattle.sorting.proofs.Texts.{front-on, front-narrow, behind-on, behind-stop, behind-narrow}
 use Rattle.terms.specs.Sets.{Term, termOf}
 use Rattle.terms.specs.Entries.{termAt, IsEntry}

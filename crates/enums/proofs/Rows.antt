@@ -11,7 +11,7 @@ use lib.ListN.{length, getD, drop, length-drop}
 use lib.Seq.{getD-drop}
 use Rattle.format.specs.Bytes.{Bytes, pick, among}
 use Rattle.lines.proofs.Cuts.{at-cons}
-use Rattle.sorting.proofs.Tests.{by-bool, dec-lt}
+use Rattle.values.proofs.Tests.{by-bool, dec-lt}
 use Rattle.terms.specs.Sets.{Term, termOf, inSet, tagged, Answers}
 use Rattle.terms.specs.Adding.{Adding}
 use Rattle.terms.proofs.Tests.{or-none, tagged-append}

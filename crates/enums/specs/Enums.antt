@@ -4,19 +4,13 @@ use mathlib.Core.Path.{_≡_}
 use mathlib.Core.Bool.{Bool, true, false}
 use mathlib.Core.List.{List, []}
 use mathlib.Core.Option.{Option, none, some}
-use lib.Dec.{eqb}
 use lib.ListN.{length, drop}
-use Rattle.format.specs.Bytes.{Bytes, pick, all, isSome}
+use Rattle.format.specs.Bytes.{Bytes, all, isSome}
 use Rattle.format.specs.Words.{afterWord}
 use Rattle.format.specs.Numbers.{intBounds}
-use Rattle.format.specs.Types.{Kind, Typed, uncomment, isSymbol, beforeComment, typeOf}
-use Rattle.lines.specs.Value.{valueFrom}
-use Rattle.typing.specs.Symbols.{notParen, wordsIn}
-use Rattle.sorting.specs.Texts.{isWordByte}
-
--- bytes that are passed over: of a word, before a comment, within one
-abbrev pub passes : ℕ → ℕ → Bool
-passes k c = pick (eqb k 0) (isWordByte c) (pick (eqb k 1) (beforeComment c) (notParen c))
+use Rattle.format.specs.Types.{Kind, Typed, uncomment, isSymbol, typeOf}
+use Rattle.values.specs.Value.{valueFrom}
+use Rattle.typing.specs.Symbols.{wordsIn}
 
 -- the symbols of a type, if it is an `enum`
 abbrev pub kindSymbols : Kind → Option (List Bytes)

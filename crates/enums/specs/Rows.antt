@@ -7,7 +7,7 @@ use lib.Dec.{ltb, eqb}
 use lib.ListN.{length, getD, take, drop}
 use Rattle.format.specs.Bytes.{Bytes, pick, among}
 use Rattle.format.specs.Limits.{fileBytes, valueBytes}
-use Rattle.lines.specs.Value.{valueFrom}
+use Rattle.values.specs.Value.{valueFrom}
 use Rattle.terms.specs.Sets.{Term, termOf, inSet, tagged}
 use Rattle.terms.specs.Entries.{termsOf}
 use Rattle.terms.specs.Order.{IsTable}

@@ -6,74 +6,29 @@ ghost use mathlib.Core.Bool.{true};
 ghost use mathlib.Core.List.{[], map};
 ghost use Prim.Native.Nat.{_+_, _<_, _≤_};
 ghost use lib.ListN.{length, drop};
-ghost use Rattle.format.specs.Lists.{behind};
 ghost use Rattle.format.specs.Bytes.{isSome};
 ghost use Rattle.format.specs.Limits.{fileBytes, typeFields};
 ghost use Rattle.format.specs.Types.{uncomment};
-ghost use Rattle.lines.specs.Value.{valueFrom};
+ghost use Rattle.values.specs.Value.{valueFrom};
 ghost use Rattle.typing.specs.Symbols.{wordsIn};
 ghost use Rattle.terms.specs.Sets.{tags, termOf};
 ghost use Rattle.terms.specs.Adding.{valueTerms, Adding};
-ghost use Rattle.enums.specs.Enums.{passes, symbolsFrom, Starts, enumIn, isEnumAt};
+ghost use Rattle.enums.specs.Enums.{symbolsFrom, Starts, enumIn, isEnumAt};
 ghost use Rattle.enums.specs.Rows.{leaderOf, Texts, RowsAdded, IsSymbols, Reaches, Found};
 use format::File;
-use lines::Decoded;
 use terms::Table;
-
-// What is passed over: a word, what stands before a comment, or what stands within one.
-const WORD: u8 = 0;
-
-const HEAD: u8 = 1;
-
-const COMMENT: u8 = 2;
-
-// Is a byte passed over?
-fn passes_byte(kind: u8, b: u8) -> bool
-    ensures { λ r. ⌜ r ≡ passes kind b ⌝ }
-{
-    if kind == WORD {
-        return sorting::is_word_byte(b);
-    }
-    if b == b'(' {
-        return false;
-    }
-    if kind == HEAD {
-        if words::is_gap(b) {
-            return false;
-        }
-        return true;
-    }
-    b != b')'
-}
-
-// Where the bytes of a kind have been passed that the value from i on begins with.
-fn pass(s: &[u8], i: usize, kind: u8) -> usize
-    requires { ⌜ i ≤ length (now s) ⌝ }
-    ensures { λ r. ⌜ (valueFrom (drop r (now (s .entry))) ≡ behind (passes kind) (valueFrom (drop i (now (s .entry))))) × (i ≤ r) × (r ≤ length (now (s .entry))) ⌝ }
-{
-    let mut at = i;
-    loop {
-        let d = lines::value_byte(s, at);
-        let Decoded::Byte { byte, next } = d else {
-            return at;
-        };
-        if passes_byte(kind, byte) {
-            at = next;
-        } else {
-            return at;
-        }
-    }
-}
+use values::Decoded;
+use values::Stretch;
 
 // Where the symbols of the value at v begin: behind its name and the word `enum`.
 fn symbols_start(d: &[u8], v: usize) -> usize
     requires { ⌜ (v ≤ length (now d)) × (isEnumAt (now d) v ≡ true) ⌝ }
     ensures { λ r. ⌜ Starts (now (d .entry)) v r ⌝ }
 {
-    let name = records::pass(d, v, true);
-    let gap = records::pass(d, name, false);
-    let head = records::pass(d, gap, true);
-    pass(d, head, HEAD)
+    let name = values::pass(d, v, Stretch::Gaps);
+    let gap = values::pass(d, name, Stretch::Word);
+    let head = values::pass(d, gap, Stretch::Gaps);
+    values::pass(d, head, Stretch::Head)
 }
 
 // Where what follows a comment is looked for; behind its opening parenthesis the comment goes on at i.
@@ -82,8 +37,8 @@ fn comment_end(d: &[u8], i: usize) -> usize
     requires { ⌜ isSome (wordsIn (uncomment true (valueFrom (drop i (now d))))) ≡ true ⌝ }
     ensures { λ r. ⌜ (i < r) × (r ≤ length (now (d .entry))) × (wordsIn (uncomment true (valueFrom (drop i (now (d .entry))))) ≡ symbolsFrom (now (d .entry)) r) ⌝ }
 {
-    let close = pass(d, i, COMMENT);
-    let x = lines::value_byte(d, close);
+    let close = values::pass(d, i, Stretch::Comment);
+    let x = values::value_byte(d, close);
     let Decoded::Byte { byte: _, next } = x else {
         return close;
     };
@@ -100,7 +55,7 @@ fn add_symbols(d: &[u8], v: usize, tag: u32, entries: &mut [u32], n: usize) -> u
     let mut k = n;
     let mut at = symbols_start(d, v);
     loop {
-        let x = lines::value_byte(d, at);
+        let x = values::value_byte(d, at);
         let Decoded::Byte { byte, next } = x else {
             return k;
         };
@@ -112,7 +67,7 @@ fn add_symbols(d: &[u8], v: usize, tag: u32, entries: &mut [u32], n: usize) -> u
             } else {
                 entries[k] = terms::entry(d, at, tag);
                 k += 1;
-                at = pass(d, next, WORD);
+                at = values::pass(d, next, Stretch::Symbol);
             }
         }
     }

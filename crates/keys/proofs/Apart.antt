@@ -12,7 +12,7 @@ use Rattle.format.specs.Rules.{distinct}
 use Rattle.keys.specs.Order.{ranked}
 use Rattle.sorting.specs.declared.Compared.{Compared}
 use Rattle.format.proofs.Listing.{same-true}
-use Rattle.sorting.proofs.Tests.{by-bool, dec-lt, same-self}
+use Rattle.values.proofs.Tests.{by-bool, dec-lt, same-self}
 use Rattle.keys.proofs.Order.{ranked-trans, ranked-apart}
 
 pub bool-same : (a b : Bool) → (a ≡ true → b ≡ true) → (b ≡ true → a ≡ true) → a ≡ b

@@ -8,7 +8,7 @@ use lib.ListN.{length, take, drop, set, length-set}
 use Rattle.format.specs.Bytes.{Bytes}
 use Rattle.format.specs.Rules.{distinct}
 use Rattle.format.specs.Sets.{valuesOf}
-use Rattle.lines.specs.Value.{valueFrom}
+use Rattle.values.specs.Value.{valueFrom}
 use Rattle.words.specs.Spans.{span}
 use Rattle.records.specs.Places.{isReadable}
 use Rattle.records.specs.Walk.{recordIn}

@@ -9,7 +9,7 @@ use lib.Seq.{getD-set-same, getD-set-other}
 use Rattle.format.specs.Bytes.{Bytes, pick}
 use Rattle.format.specs.Rules.{distinct}
 use Rattle.sorting.specs.Moves.{swapped, Moved}
-use Rattle.sorting.proofs.Tests.{by-bool}
+use Rattle.values.proofs.Tests.{by-bool}
 use Rattle.sorting.proofs.Moves.{moved-keeps, moved-each}
 use Rattle.keys.specs.Marks.{Inside}
 use Rattle.keys.proofs.Apart.{bool-same, apart-distinct, distinct-apart, apart-renamed}

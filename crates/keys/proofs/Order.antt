@@ -6,10 +6,11 @@ use mathlib.Core.Logic.{_⊎_, inl, inr, ⊎-elim}
 use mathlib.Core.List.{_∷_}
 use borrow.Author.Tests.{lt-ltb, le-ltb}
 use Rattle.format.specs.Bytes.{Bytes}
-use Rattle.sorting.specs.Likeness.{likenessOf}
+use Rattle.values.specs.Likeness.{likenessOf}
 use Rattle.sorting.specs.Order.{orderOf}
 use Rattle.sorting.specs.declared.Compared.{Compared}
-use Rattle.sorting.proofs.Order.{never, three-ways}
+use Rattle.values.proofs.Tests.{three-ways}
+use Rattle.sorting.proofs.Order.{never}
 use Rattle.sorting.proofs.Ordered.{order-same, order-apart, order-trans}
 use Rattle.keys.specs.Order.{numberIn, valueIn, ranked}
 

@@ -10,7 +10,7 @@ use lib.ListN.{length, getD, set, take, drop, length-drop}
 use lib.Seq.{getD-set-same, getD-set-other, take-suc-set, getD-take, getD-drop, length-take-le}
 use Rattle.format.specs.Bytes.{Bytes}
 use Rattle.format.specs.Rules.{distinct}
-use Rattle.lines.specs.Value.{valueFrom}
+use Rattle.values.specs.Value.{valueFrom}
 use Rattle.lines.proofs.Cuts.{rest}
 use Rattle.keys.specs.Marks.{markAt, marksOf, Inside}
 use Rattle.keys.specs.Keys.{printOf, entryOf, keyAt, keysOf, IsEntry, Entries}

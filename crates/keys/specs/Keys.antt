@@ -4,7 +4,7 @@ use mathlib.Core.Path.{_≡_}
 use mathlib.Core.List.{List, map}
 use lib.ListN.{length, getD, drop}
 use Rattle.format.specs.Bytes.{Bytes}
-use Rattle.lines.specs.Value.{valueFrom}
+use Rattle.values.specs.Value.{valueFrom}
 use Rattle.sorting.specs.Texts.{mixed}
 
 -- the fingerprint of a key, the upper half of its mixed bytes

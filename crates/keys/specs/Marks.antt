@@ -3,7 +3,7 @@ use Prim.Native.Nat.{ℕ, _/_, _%_, _<_, _≤_}
 use mathlib.Core.List.{List, _∷_, map}
 use lib.ListN.{length, getD, drop}
 use Rattle.format.specs.Bytes.{Bytes}
-use Rattle.lines.specs.Value.{valueFrom}
+use Rattle.values.specs.Value.{valueFrom}
 
 abbrev pub markAt : Bytes → ℕ → Bytes
 markAt s e = (e / 65536) ∷ valueFrom (drop (e % 65536) s)

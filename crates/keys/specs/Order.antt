@@ -5,7 +5,7 @@ use mathlib.Core.Bool.{Bool, true, false}
 use lib.Dec.{ltb}
 use lib.ListN.{getD, drop}
 use Rattle.format.specs.Bytes.{Bytes, pick}
-use Rattle.sorting.specs.Likeness.{likenessOf}
+use Rattle.values.specs.Likeness.{likenessOf}
 use Rattle.sorting.specs.Order.{orderOf}
 use Rattle.sorting.specs.declared.Compared.{Compared}
 

@@ -8,7 +8,7 @@ ghost use Rattle.format.specs.Bytes.{same, among};
 ghost use Rattle.format.specs.Limits.{fileBytes};
 ghost use Rattle.format.specs.Rules.{distinct};
 ghost use Rattle.format.specs.Sets.{valuesOf};
-ghost use Rattle.lines.specs.Value.{valueFrom};
+ghost use Rattle.values.specs.Value.{valueFrom};
 ghost use Rattle.records.specs.Places.{isReadable};
 ghost use Rattle.records.specs.Walk.{recordIn};
 ghost use Rattle.keys.specs.Marks.{markAt, marksOf, Inside};
@@ -18,7 +18,6 @@ ghost use Rattle.keys.specs.Gathered.{Gathered};
 use records::FoundField;
 use sorting::Compared;
 use sorting::Entry;
-use sorting::ends;
 
 // The entry of the key that begins at a place.
 fn entry(s: &[u8], at: usize) -> u32
@@ -44,7 +43,7 @@ fn compare_entries(s: &[u8], x: u32, y: u32) -> Compared
     }
     let a = sorting::place(x);
     let b = sorting::place(y);
-    ends::order(ends::compare(&s[a..], &s[b..]))
+    sorting::order_of(values::compare(&s[a..], &s[b..]))
 }
 
 // Is each before the next? The first neighbours that are not decide.
@@ -80,7 +79,7 @@ fn alike(s: &[u8], x: u32, y: u32) -> bool
     }
     let a = sorting::place(x);
     let b = sorting::place(y);
-    ends::are_equal(&s[a..], &s[b..])
+    values::are_equal(&s[a..], &s[b..])
 }
 
 // Is what x stands for among what entries do?

@@ -11,8 +11,8 @@ use Rattle.format.specs.Bytes.{Bytes, all}
 use Rattle.format.specs.Records.{Field, Record}
 use Rattle.format.specs.Limits.{recordFields, nameBytes, valueBytes}
 use Rattle.format.specs.Questions.{fitsField, fitsRecord}
-use Rattle.lines.specs.Value.{valueFrom}
-use Rattle.lines.proofs.Decoding.{value-length}
+use Rattle.values.specs.Value.{valueFrom}
+use Rattle.values.proofs.Decoding.{value-length}
 
 -- n fields stand before these
 unfoldable pub fitsFrom : ℕ → Record → Bool

@@ -1,5 +1,4 @@
 -- Laws of the walks over pieces and fields that ask the limits.
-pub mod Words
 pub mod Fits
 pub mod Tallies
 pub mod Once

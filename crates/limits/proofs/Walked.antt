@@ -19,7 +19,7 @@ use Rattle.format.specs.Sets.{valuesOf}
 use Rattle.format.proofs.Records.{close, records}
 use Rattle.format.proofs.Walking.{isHead, heads, walkOnce}
 use Rattle.lines.specs.Piece.{nextOf}
-use Rattle.lines.specs.Value.{valueFrom}
+use Rattle.values.specs.Value.{valueFrom}
 use Rattle.lines.specs.declared.Next.{Next}
 use Rattle.lines.proofs.Cuts.{rest, ended-drop}
 use Rattle.lines.proofs.Inside.{Inside, next-inside}

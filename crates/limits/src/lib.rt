@@ -13,7 +13,7 @@ ghost use Rattle.format.specs.Limits.{fileBytes, recordFields, nameBytes, value
 ghost use Rattle.format.specs.Records.{fieldsOf};
 ghost use Rattle.format.specs.Lines.{isEnded};
 ghost use Rattle.format.specs.Questions.{fitsRules};
-ghost use Rattle.lines.specs.Value.{valueFrom};
+ghost use Rattle.values.specs.Value.{valueFrom};
 ghost use Rattle.records.specs.Places.{isReadable};
 ghost use Rattle.records.specs.Heads.{HeadParts};
 ghost use Rattle.limits.specs.Counts.{countOn, total};
@@ -21,36 +21,9 @@ ghost use Rattle.limits.specs.Opens.{notOpen, openOn, putRow};
 ghost use Rattle.limits.specs.Bounds.{Scanned, BoundedAs};
 use format::Descriptor;
 use format::Record;
-use lines::Decoded;
 use lines::Next;
 use records::NextField;
 use words::Rule;
-
-// One where a test holds, else none.
-fn one_if(b: bool) -> usize
-    ensures { λ r. ⌜ (r ≡ pick b 1 0) × (r ≤ 1) ⌝ }
-{
-    if b { 1 } else { 0 }
-}
-
-// How many words the value has that begins where s does: a byte that is no gap begins one where a gap, or nothing, stands before it.
-fn count_words(s: &[u8]) -> usize
-    ensures { λ r. ⌜ (r ≡ length (words (valueFrom (now (s .entry))))) × (r ≤ length (now (s .entry))) ⌝ }
-{
-    let mut i = 0;
-    let mut n = 0;
-    let mut gap = true;
-    loop {
-        let d = lines::value_byte(s, i);
-        let Decoded::Byte { byte, next } = d else {
-            return n;
-        };
-        let here = words::is_gap(byte);
-        n += one_if(gap & !here);
-        gap = here;
-        i = next;
-    }
-}
 
 // A length that is within a value's limit where that of the value is which begins where s does. No value is longer than its bytes in the file, so few are decoded.
 fn value_bound(s: &[u8]) -> usize
@@ -60,7 +33,7 @@ fn value_bound(s: &[u8]) -> usize
     if len <= Record::VALUE {
         return len;
     }
-    lines::value_len(s)
+    values::value_len(s)
 }
 
 // A record that goes on: how many fields it has so far, whether one of them has a `%` name, how many are `%rec`, where the first begins and where the last ends.
@@ -106,7 +79,7 @@ fn with_field(o: Open, name: &[u8], start: usize, end: usize) -> Open
         return Open {
             fields: o.fields + 1,
             special: true,
-            recs: o.recs + one_if(here),
+            recs: o.recs + lines::one_if(here),
             start: first,
             end,
         };
@@ -155,27 +128,27 @@ fn counted(d: Descriptor, name: &[u8], value: &[u8]) -> Descriptor
             return c;
         }
         Rule::MANDATORY => {
-            c.mandatory += count_words(value);
+            c.mandatory += values::count_words(value);
             return c;
         }
         Rule::PROHIBIT => {
-            c.prohibited += count_words(value);
+            c.prohibited += values::count_words(value);
             return c;
         }
         Rule::ALLOWED => {
-            c.allowed += count_words(value);
+            c.allowed += values::count_words(value);
             return c;
         }
         Rule::UNIQUE => {
-            c.unique += count_words(value);
+            c.unique += values::count_words(value);
             return c;
         }
         Rule::SINGULAR => {
-            c.singular += count_words(value);
+            c.singular += values::count_words(value);
             return c;
         }
         Rule::AUTO => {
-            c.auto += count_words(value);
+            c.auto += values::count_words(value);
             return c;
         }
         _ => {

@@ -15,7 +15,7 @@ use Rattle.lines.specs.declared.Extent.{Extent}
 use Rattle.lines.specs.declared.Next.{Next}
 use Rattle.lines.proofs.Nexts.{next-first}
 use Rattle.lines.proofs.Owned.{Owns, owns}
-use Rattle.lines.proofs.Pieces.{part-le, first-clean, first-bytes}
+use Rattle.lines.proofs.Parts.{part-le, first-clean, first-bytes}
 use Rattle.lines.proofs.Shapes.{shaped, name-some, value-inside}
 
 abbrev pub Inside : ℕ → Next → Type 0

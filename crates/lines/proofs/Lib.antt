@@ -7,8 +7,5 @@ pub mod Faultless
 pub mod Owned
 pub mod Shapes
 pub mod Over
-pub mod Decoding
-pub mod Backwards
-pub mod Values
-pub mod Pieces
+pub mod Parts
 pub mod Inside

@@ -2,14 +2,10 @@
 use Prim.Native.Nat.{ℕ, suc, _+_}
 use mathlib.Core.Bool.{Bool, true, false, _||_}
 use mathlib.Core.List.{List, [], _∷_}
-use mathlib.Core.Option.{Option, none, some}
 use lib.Dec.{eqb}
-use lib.ListN.{length, getD, take, drop}
+use lib.ListN.{length, getD}
 use Rattle.format.specs.Bytes.{Bytes, pick}
 use Rattle.format.specs.Lines.{Line, lines, Form, form, joins}
-use Rattle.format.specs.Pieces.{Piece}
-use Rattle.lines.specs.Line.{firstLine}
-use Rattle.lines.specs.Value.{valueFrom}
 use Rattle.lines.specs.declared.Extent.{Extent}
 use Rattle.lines.specs.declared.Next.{Next}
 
@@ -56,23 +52,10 @@ isFault (Next.Blank k) = false
 isFault (Next.Comment k) = false
 isFault (Next.Field n v k) = false
 
--- how many bytes it takes, and the piece that it is
+-- how many bytes it takes
 abbrev pub sizeOf : Next → ℕ
 sizeOf Next.End = 0
 sizeOf Next.Fault = 0
 sizeOf (Next.Blank k) = k
 sizeOf (Next.Comment k) = k
 sizeOf (Next.Field n v k) = k
-
-abbrev pub pieceOf : Next → Bytes → Option Piece
-pieceOf Next.End s = none
-pieceOf Next.Fault s = none
-pieceOf (Next.Blank k) s = some (Piece.blank (firstLine s))
-pieceOf (Next.Comment k) s = some (Piece.comment (firstLine s))
-pieceOf (Next.Field n v k) s = some (Piece.field (take n s) (valueFrom (drop v (take k s))) (lines (take k s)))
-
--- a piece in front of pieces, where there is one and they are
-abbrev pub onPiece : Option Piece → Option (List Piece) → Option (List Piece)
-onPiece none x = none
-onPiece (some p) none = none
-onPiece (some p) (some ps) = some (p ∷ ps)

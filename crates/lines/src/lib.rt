@@ -3,12 +3,10 @@ ghost use mathlib.Core.Path.{_≡_};
 ghost use mathlib.Core.Bool.{true, false};
 ghost use Prim.Native.Nat.{_+_, _-_, _<_, _≤_};
 ghost use lib.ListN.{length, drop, getD};
-ghost use Rattle.format.specs.Bytes.{classTable, same, isBlank, all};
+ghost use Rattle.format.specs.Bytes.{classTable, same, pick, isBlank, all};
 ghost use Rattle.format.specs.Lines.{lines, isEnded, isSpecial};
-ghost use Rattle.format.specs.Calls.{over};
 ghost use Rattle.lines.specs.Line.{lineLen, firstLine, GoesOn, nameLen};
 ghost use Rattle.lines.specs.Piece.{extentOf, nextOf, isFault};
-ghost use Rattle.lines.specs.Value.{valueFrom, Plain, Reaches, Unfolds, Precedes, isPlus, isPlusSpace};
 use format::Class;
 
 // The byte at i, 0 past the end.
@@ -16,6 +14,13 @@ pub fn byte(s: &[u8], i: usize) -> u8
     ensures { λ r. ⌜ r ≡ getD (now (s .entry)) i 0 ⌝ }
 {
     if i < s.len() { s[i] } else { 0 }
+}
+
+// One where a test holds, else none.
+pub fn one_if(b: bool) -> usize
+    ensures { λ r. ⌜ (r ≡ pick b 1 0) × (r ≤ 1) ⌝ }
+{
+    if b { 1 } else { 0 }
 }
 
 // Does a name begin with `%`?
@@ -285,186 +290,4 @@ pub fn read_piece(s: &[u8]) -> Next
         return Next::Comment { size: n + 1 };
     }
     Next::Blank { size: n + 1 }
-}
-
-// One byte of a value, and where the next one is looked for; or the value's end.
-pub enum Decoded {
-    End,
-    Byte { byte: u8, next: usize },
-}
-
-// The byte of the value at i, which begins no joined line.
-fn plain_byte(s: &[u8], i: usize) -> Decoded
-    requires { ⌜ i < length (now s) ⌝ }
-    requires { ⌜ (getD (now s) i 0 ≡ 92 → getD (now s) (i + 1) 0 ≡ 10 → ⊥) ⌝ }
-    ensures { λ r. ⌜ Unfolds (now (s .entry)) i r ⌝ }
-{
-    let b = s[i];
-    if b != b'\n' {
-        return Decoded::Byte {
-            byte: b,
-            next: i + 1,
-        };
-    }
-    if byte(s, i + 1) != b'+' {
-        return Decoded::End;
-    }
-    if byte(s, i + 2) == b' ' {
-        return Decoded::Byte {
-            byte: b'\n',
-            next: i + 3,
-        };
-    }
-    Decoded::Byte {
-        byte: b'\n',
-        next: i + 2,
-    }
-}
-
-// The byte of the value that is looked for at i: a backslash before a newline and that newline are passed over.
-pub fn value_byte(s: &[u8], i: usize) -> Decoded
-    ensures { λ r. ⌜ Unfolds (now (s .entry)) i r ⌝ }
-{
-    let mut at = i;
-    while at < s.len() {
-        if s[at] != b'\\' {
-            return plain_byte(s, at);
-        }
-        if byte(s, at + 1) != b'\n' {
-            return plain_byte(s, at);
-        }
-        at += 2;
-    }
-    Decoded::End
-}
-
-// The first place from i on where a byte may not stand for itself: a backslash, a newline or the end.
-pub fn plain_end(s: &[u8], i: usize) -> usize
-    ensures { λ r. ⌜ Plain (now (s .entry)) i r ⌝ }
-{
-    let mut at = i;
-    while at < s.len() {
-        let b = s[at];
-        if b == b'\n' {
-            return at;
-        }
-        if b == b'\\' {
-            return at;
-        }
-        at += 1;
-    }
-    at
-}
-
-// The length of the value that begins where s does.
-pub fn value_len(s: &[u8]) -> usize
-    ensures { λ r. ⌜ r ≡ length (valueFrom (now (s .entry))) ⌝ }
-{
-    let mut i = 0;
-    let mut n = 0;
-    loop {
-        let d = value_byte(s, i);
-        let Decoded::Byte { byte: _, next } = d else {
-            return n;
-        };
-        i = next;
-        n += 1;
-    }
-}
-
-// The value that begins where s does, put into out, which holds it; bytes behind it stay.
-pub fn copy_value(s: &[u8], out: &mut [u8]) -> usize
-    requires { ⌜ length (valueFrom (now s)) ≤ length (now out) ⌝ }
-    ensures { λ r. ⌜ (r ≡ length (valueFrom (now (s .entry)))) × (now (out .exit) ≡ over (valueFrom (now (s .entry))) (now (out .entry))) ⌝ }
-{
-    let mut i = 0;
-    let mut n = 0;
-    loop {
-        let d = value_byte(s, i);
-        let Decoded::Byte { byte, next } = d else {
-            return n;
-        };
-        out[n] = byte;
-        i = next;
-        n += 1;
-    }
-}
-
-// Does a plus stand at i that vanishes from the value, since the newline before it is no joint's?
-fn is_plus(s: &[u8], i: usize) -> bool
-    ensures { λ r. ⌜ r ≡ isPlus (now (s .entry)) i ⌝ }
-{
-    if byte(s, i) != b'+' {
-        return false;
-    }
-    if i == 0 {
-        return false;
-    }
-    if byte(s, i - 1) != b'\n' {
-        return false;
-    }
-    if i == 1 {
-        return true;
-    }
-    byte(s, i - 2) != b'\\'
-}
-
-// Does a space stand at i that vanishes with such a plus?
-fn is_plus_space(s: &[u8], i: usize) -> bool
-    ensures { λ r. ⌜ r ≡ isPlusSpace (now (s .entry)) i ⌝ }
-{
-    if byte(s, i) != b' ' {
-        return false;
-    }
-    if i == 0 {
-        return false;
-    }
-    is_plus(s, i - 1)
-}
-
-// The byte of the value before k, which ends no joint.
-fn last_byte(s: &[u8], k: usize) -> Decoded
-    requires { ⌜ Reaches (now s) 0 k ⌝ }
-    requires { ⌜ (0 < k) × (getD (now s) (k - 1) 0 ≡ 10 → ⊥) ⌝ }
-    ensures { λ r. ⌜ Precedes (now (s .entry)) k r ⌝ }
-{
-    let i = k - 1;
-    if is_plus(s, i) {
-        return Decoded::Byte {
-            byte: b'\n',
-            next: i - 1,
-        };
-    }
-    if is_plus_space(s, i) {
-        return Decoded::Byte {
-            byte: b'\n',
-            next: i - 2,
-        };
-    }
-    Decoded::Byte {
-        byte: s[i],
-        next: i,
-    }
-}
-
-// The byte of the value before k, and the place that it is decoded at: the other way than `value_byte`, from a place that decoding comes to. Nothing above a plus is part of a joint or of a plus line.
-pub fn byte_before(s: &[u8], k: usize) -> Decoded
-    requires { ⌜ Reaches (now s) 0 k ⌝ }
-    ensures { λ r. ⌜ Precedes (now (s .entry)) k r ⌝ }
-{
-    let mut at = k;
-    while 0 < at {
-        let b = s[at - 1];
-        if b'+' < b {
-            return Decoded::Byte {
-                byte: b,
-                next: at - 1,
-            };
-        }
-        if b != b'\n' {
-            return last_byte(s, at);
-        }
-        at -= 2;
-    }
-    Decoded::End
 }

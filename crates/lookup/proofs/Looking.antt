@@ -15,7 +15,7 @@ use Rattle.format.specs.Pieces.{readOf}
 use Rattle.format.specs.Sets.{valuesOf, groups, setsOf}
 use Rattle.format.specs.Plain.{indexOf, membersAt, membersIn}
 use Rattle.format.specs.Calls.{Answer, answer, leaves, over, Filled, filled, viewedAt}
-use Rattle.lines.specs.Value.{valueFrom}
+use Rattle.values.specs.Value.{valueFrom}
 use Rattle.records.specs.Places.{isReadable, placesOf, headPlace, recordPlace}
 use Rattle.records.specs.declared.Place.{Place}
 use Rattle.records.specs.declared.Head.{Head}

@@ -5,20 +5,19 @@ use mathlib.Core.Path.{_≡_, refl, sym, ap, _∙_, subst}
 use mathlib.Core.Bool.{Bool, true, false}
 use mathlib.Core.List.{List, [], _∷_, map}
 use lib.Dec.{ltb, leb}
-use lib.ListN.{length, take, drop, getD, length-drop, length-append}
+use lib.ListN.{length, take, drop, getD, length-append}
 use borrow.Author.Tests.{lt-ltb, le-ltb}
 use Rattle.format.proofs.Records.{sets, GoodSets, good-sets}
-use Rattle.format.specs.Lists.{onlyIf, isFilled, front}
+use Rattle.format.specs.Lists.{onlyIf, isFilled}
 use Rattle.format.specs.Bytes.{Bytes, text, pick, isSome}
 use Rattle.format.specs.Pieces.{Piece}
 use Rattle.format.specs.Records.{Record, fieldsOf}
 use Rattle.format.specs.Sets.{RecSet, valuesOf}
-use Rattle.format.specs.Words.{notGap, firstWord}
+use Rattle.format.specs.Words.{firstWord}
 use Rattle.format.specs.Questions.{firstNo, nameOf}
 use Rattle.format.specs.Plain.{foundRows}
 use Rattle.format.specs.Calls.{Answer, answer, thenNo, leaves, over, Filled, filled, soughtOrder, answered}
-use Rattle.lines.specs.Value.{valueFrom}
-use Rattle.lines.proofs.Decoding.{value-length}
+use Rattle.values.specs.Value.{valueFrom}
 use Rattle.records.specs.Places.{isReadable, Placed, placesOf, isDescriptor}
 use Rattle.records.specs.Walk.{recordIn}
 use Rattle.records.specs.declared.Place.{Place}
@@ -149,18 +148,6 @@ module _ (s : Bytes) (k : ℕ) (out : Bytes) where
         let o = other-names (setsFrom s) j (first-set s) in
         name-there (firstWord (f .value)) (omega (arith, o .0, f .there)) (ap (λ (i : ℕ). getD (map nameOf (setsFrom s)) i []) z ∙ o .1 ∙ f .named)
         ∙ sym (ap (λ (vs : List Bytes). titled vs out) (ap (λ (ps : List Piece). valuesOf (text "%rec") (fieldsOf ps)) (reads-of (f .stand .own-reads)) ∙ ap (valuesOf (text "%rec")) (f .stand .own-fields) ∙ f .titles))
-
--- the word that a value begins with is no longer than the text
-front-length : (p : ℕ → Bool) (v : Bytes) → length (front p v) ≤ length v
-front-length p [] = omega arith
-front-length p (c ∷ v) = go (p c) (front p v) (front-length p v)
-  where
-    go : (b : Bool) (w : Bytes) → length w ≤ length v → length (pick b (c ∷ w) []) ≤ suc (length v)
-    go true w h = omega arith
-    go false w h = omega arith
-
-pub word-length : (s : Bytes) (i : ℕ) → length (front notGap (valueFrom (drop i s))) ≤ length s
-word-length s i = omega (arith, front-length notGap (valueFrom (drop i s)), value-length (drop i s), length-drop i s)
 
 -- what a descriptor's first `%rec` value gives
 pub titled-none : (vs : List Bytes) (out : Bytes) → length vs ≤ 0 → titled vs out ≡ record { result = Answer.refusal 21; out = out }

@@ -2,21 +2,15 @@
 // checked a file and looks inside.
 ghost use mathlib.Core.Path.{_≡_};
 ghost use mathlib.Core.Bool.{true};
-ghost use Rattle.format.specs.Lists.{front};
 ghost use Rattle.format.specs.Bytes.{text};
-ghost use Prim.Native.Nat.{_≤_};
-ghost use lib.ListN.{length, drop};
 ghost use Rattle.format.specs.Sets.{valuesOf};
-ghost use Rattle.format.specs.Words.{notGap};
-ghost use Rattle.format.specs.Calls.{over, answered};
-ghost use Rattle.lines.specs.Value.{valueFrom};
+ghost use Rattle.format.specs.Calls.{answered};
 ghost use Rattle.records.specs.Places.{isReadable, placesOf};
 ghost use Rattle.records.specs.Walk.{recordIn};
 ghost use Rattle.lookup.specs.Answers.{seenAnswer, SeenInside, countIn, fetchIn, viewIn, nameIn};
 ghost use Rattle.lookup.specs.Names.{descriptorAt, titled};
 use format::Answer;
 use format::Refusal;
-use lines::Decoded;
 use records::FoundField;
 use records::FoundHead;
 use records::FoundRecord;
@@ -95,11 +89,11 @@ pub fn fetch_in(
     };
     let v = b + value;
     let w = b + end;
-    let n = lines::value_len(&s[v..w]);
+    let n = values::value_len(&s[v..w]);
     if out.len() < n {
         return Answer::Refused(Refusal::ROOM);
     }
-    lines::copy_value(&s[v..w], &mut *out);
+    values::copy_value(&s[v..w], &mut *out);
     Answer::Value(n)
 }
 
@@ -128,46 +122,6 @@ fn find_descriptor(s: &[u8], k: usize) -> FoundRecord
     }
 }
 
-// The length of the word that the value from i on begins with.
-fn word_len(s: &[u8], i: usize) -> usize
-    ensures { λ r. ⌜ r ≡ length (front notGap (valueFrom (drop i (now (s .entry))))) ⌝ }
-{
-    let mut at = i;
-    let mut n = 0;
-    loop {
-        let d = lines::value_byte(s, at);
-        let Decoded::Byte { byte, next } = d else {
-            return n;
-        };
-        if words::is_gap(byte) {
-            return n;
-        }
-        n += 1;
-        at = next;
-    }
-}
-
-// That word put into out, which holds it; bytes behind it stay.
-fn copy_word(s: &[u8], i: usize, out: &mut [u8])
-    requires { ⌜ length (front notGap (valueFrom (drop i (now s)))) ≤ length (now out) ⌝ }
-    ensures { λ _. ⌜ now (out .exit) ≡ over (front notGap (valueFrom (drop i (now (s .entry))))) (now (out .entry)) ⌝ }
-{
-    let mut at = i;
-    let mut n = 0;
-    loop {
-        let d = lines::value_byte(s, at);
-        let Decoded::Byte { byte, next } = d else {
-            return;
-        };
-        if words::is_gap(byte) {
-            return;
-        }
-        out[n] = byte;
-        n += 1;
-        at = next;
-    }
-}
-
 // The name of the set that a descriptor, which fills d, opens, put into out.
 fn descriptor_name(d: &[u8], out: &mut [u8]) -> Answer
     requires { ⌜ isReadable (now d) ≡ true ⌝ }
@@ -182,12 +136,12 @@ fn descriptor_name(d: &[u8], out: &mut [u8]) -> Answer
     else {
         return Answer::Refused(Refusal::SET);
     };
-    let i = records::word_start(&d[value..end]);
-    let n = word_len(&d[value..end], i);
+    let i = values::word_start(&d[value..end]);
+    let n = values::word_len(&d[value..end], i);
     if out.len() < n {
         return Answer::Refused(Refusal::ROOM);
     }
-    copy_word(&d[value..end], i, &mut *out);
+    values::copy_word(&d[value..end], i, &mut *out);
     Answer::Value(n)
 }
 

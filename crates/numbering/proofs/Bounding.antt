@@ -17,7 +17,7 @@ use Rattle.format.specs.Numbering.{above}
 use Rattle.format.proofs.Listing.{same-true}
 use Rattle.words.specs.RuleNames.{placeIn}
 use Rattle.words.proofs.RuleNames.{place-among, placed-is}
-use Rattle.sorting.proofs.Tests.{same-self}
+use Rattle.values.proofs.Tests.{same-self}
 use Rattle.numbers.specs.Meaning.{intIn}
 use Rattle.numbers.specs.declared.Whole.{Whole}
 use Rattle.numbering.specs.Bounds.{numbers, joinedAt, Joins, AreLimits}

@@ -19,7 +19,7 @@ use Rattle.format.specs.Rules.{TypeRule, typedNames, typeRuleOf, typeRules, typ
 use Rattle.format.proofs.Elements.{all-yes, all-alike}
 use Rattle.format.proofs.Listing.{same-swap}
 use Rattle.lines.specs.Line.{run}
-use Rattle.lines.specs.Value.{valueFrom}
+use Rattle.values.specs.Value.{valueFrom}
 use Rattle.lines.proofs.Cuts.{at-cons, rest as rest-all}
 use Rattle.words.specs.Spans.{span, notByte}
 use Rattle.words.proofs.Splitting.{splitBehind, split-run}

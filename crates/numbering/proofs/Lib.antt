@@ -1,5 +1,4 @@
 -- Laws of the names of `%auto` lists: their types, their bounds, and the fields that are added.
-pub mod Granted
 pub mod Naming
 pub mod Counted
 pub mod Bounding

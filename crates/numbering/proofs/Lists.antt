@@ -14,8 +14,8 @@ use Rattle.format.specs.Words.{words}
 use Rattle.format.specs.Rules.{auto}
 use Rattle.format.proofs.Elements.{all-each, each-all, each-imp}
 use Rattle.format.proofs.Lines.{all-append}
-use Rattle.lines.specs.Value.{valueFrom}
-use Rattle.sorting.proofs.Tests.{same-self}
+use Rattle.values.specs.Value.{valueFrom}
+use Rattle.values.proofs.Tests.{same-self}
 use Rattle.records.specs.Walk.{recordIn}
 use Rattle.records.specs.Named.{valuesFrom, ValueHere}
 use Rattle.dictionary.specs.Known.{Described}

@@ -15,7 +15,7 @@ use Rattle.format.specs.Records.{Field, Record}
 use Rattle.format.specs.Rules.{typedNames, Span}
 use Rattle.format.specs.Words.{trim}
 use Rattle.format.specs.Numbering.{largest}
-use Rattle.lines.specs.Value.{valueFrom}
+use Rattle.values.specs.Value.{valueFrom}
 use Rattle.words.specs.Spans.{span}
 use Rattle.words.specs.RuleNames.{placeIn}
 use Rattle.records.specs.Walk.{recordIn}

@@ -1,5 +1,4 @@
 -- The names of `%auto` lists, the bounds of their numbers, and the fields that are added.
-pub mod Listed
 pub mod Types
 pub mod Bounds
 pub mod Adding

@@ -11,7 +11,7 @@ use Rattle.format.specs.Limits.{valueBytes}
 use Rattle.format.specs.Numbers.{intBounds}
 use Rattle.format.specs.Records.{Field}
 use Rattle.format.specs.Rules.{typedNames, Span, allInts, spanOf, auto}
-use Rattle.lines.specs.Value.{valueFrom}
+use Rattle.values.specs.Value.{valueFrom}
 use Rattle.records.specs.Walk.{recordIn}
 use Rattle.numbers.specs.Meaning.{intIn}
 use Rattle.typing.specs.declared.Shape.{Shape}

@@ -14,13 +14,13 @@ ghost use Rattle.format.specs.Rules.{auto};
 ghost use Rattle.records.specs.Walk.{recordIn};
 ghost use Rattle.requests.specs.Pairs.{pairsFrom, pairsAt};
 ghost use Rattle.dictionary.specs.Known.{Described};
-ghost use Rattle.numbering.specs.Listed.{IsListed};
+ghost use Rattle.dictionary.specs.Numbered.{IsListed};
 ghost use Rattle.numbering.specs.Bounds.{numbers, Limited};
 ghost use Rattle.numbering.specs.Adding.{addedRoom, addedMost, State, pairBy, stepped, stepAll, unadded, Seen, Marked, Sums, SummedAs, AddedAs};
 use super::Added;
 use super::bounds::Bounds;
-use super::listed::Listed;
 use dictionary::wordsets;
+use dictionary::wordsets::Listed;
 use format::Record;
 use records::FoundField;
 use requests::Pair;
@@ -81,19 +81,15 @@ pub(crate) enum Summed {
 
 // The places of the lists that have a field, with those of one name more.
 fn mark(d: &[u8], l: Listed, seen: u64, name: &[u8]) -> u64
-    requires { ⌜ IsListed (now d) l ⌝ }
+    requires { ⌜ IsListed (now d) (auto (recordIn (now d))) l ⌝ }
     ensures { λ r. ⌜ Marked (auto (recordIn (now (d .entry)))) (now (name .entry)) seen r ⌝ }
 {
-    let entries = l.entries;
-    let sets = l.sets;
-    let w = l.words;
-    let t = w.table;
-    seen | terms::find_joined(d, &entries, t, &sets, name)
+    seen | wordsets::places(d, l, name)
 }
 
 // The places of the lists that the pairs of a request have.
 pub(crate) fn mark_pairs(d: &[u8], l: Listed, req: &[u8], from: usize) -> u64
-    requires { ⌜ IsListed (now d) l ⌝ }
+    requires { ⌜ IsListed (now d) (auto (recordIn (now d))) l ⌝ }
     requires { ⌜ (length (now req) ≤ fileBytes) × (from ≤ length (now req)) × (isSome (pairsFrom (now req) from) ≡ true) ⌝ }
     ensures { λ r. ⌜ Seen (auto (recordIn (now (d .entry)))) (pairNames (pairsAt (now (req .entry)) from)) r ⌝ }
 {
@@ -128,15 +124,13 @@ fn stays_short(short: bool, name: &[u8]) -> bool
 
 // One word of the lists more: it has a field, or gets one with its floor as number, if that is below its limit.
 fn add_word(d: &[u8], l: Listed, name: &[u8], bounds: Bounds, sum: Sum, out: &mut [u8]) -> Summed
-    requires { ⌜ IsListed (now d) l ⌝ }
+    requires { ⌜ IsListed (now d) (auto (recordIn (now d))) l ⌝ }
     requires { ⌜ Limited (auto (recordIn (now d))) bounds ⌝ }
     requires { ⌜ (among (now name) (auto (recordIn (now d))) ≡ true) × (length (now name) ≤ valueBytes) × (addedRoom ≤ length (now out)) ⌝ }
     requires { ⌜ ((s : State) × Sums (auto (recordIn (now d))) s (now out) sum × (s .passed < listWords)) ⌝ }
     ensures { λ r. ⌜ ((s : State) → Sums (auto (recordIn (now (d .entry)))) s (now (out .entry)) sum → SummedAs (auto (recordIn (now (d .entry)))) (stepped (pairBy (auto (recordIn (now (d .entry)))) (bounds .floors) (bounds .limits)) s (now (name .entry))) (now (out .exit)) r) ⌝ }
 {
-    let entries = l.entries;
-    let sets = l.sets;
-    let k = wordsets::place_of(d, &entries, &sets, l.words, name);
+    let k = wordsets::place_of(d, l, name);
     if terms::has(sum.seen, k as u64) {
         return Summed::Is(sum);
     }
@@ -154,7 +148,7 @@ fn add_word(d: &[u8], l: Listed, name: &[u8], bounds: Bounds, sum: Sum, out: &mu
 
 // The words of a text more.
 fn add_words(d: &[u8], l: Listed, s: &[u8], bounds: Bounds, sum: Sum, out: &mut [u8]) -> Summed
-    requires { ⌜ IsListed (now d) l ⌝ }
+    requires { ⌜ IsListed (now d) (auto (recordIn (now d))) l ⌝ }
     requires { ⌜ Limited (auto (recordIn (now d))) bounds ⌝ }
     requires { ⌜ (all (λ n. among n (auto (recordIn (now d)))) (wordsOf (now s)) ≡ true) × (length (now s) ≤ valueBytes) × (addedRoom ≤ length (now out)) ⌝ }
     requires { ⌜ ((t : State) × Sums (auto (recordIn (now d))) t (now out) sum × (t .passed + length (wordsOf (now s)) ≤ listWords)) ⌝ }
@@ -185,7 +179,7 @@ pub(crate) fn add_lists(
     scratch: &mut [u8],
     out: &mut [u8],
 ) -> Summed
-    requires { ⌜ IsListed (now d) l ⌝ }
+    requires { ⌜ IsListed (now d) (auto (recordIn (now d))) l ⌝ }
     requires { ⌜ Described (now d) × (valueBytes ≤ length (now scratch)) × (addedRoom ≤ length (now out)) ⌝ }
     requires { ⌜ Limited (auto (recordIn (now d))) bounds ⌝ }
     requires { ⌜ ((ns : List Bytes) × Seen (auto (recordIn (now d))) ns seen) ⌝ }
@@ -207,7 +201,7 @@ pub(crate) fn add_lists(
         else {
             return Summed::Is(sums);
         };
-        let n = lines::copy_value(&d[i + value..], &mut *scratch);
+        let n = values::copy_value(&d[i + value..], &mut *scratch);
         let y = add_words(d, l, &scratch[..n], bounds, sums, &mut *out);
         let Summed::Is(next) = y else {
             return Summed::Numberless;

@@ -9,18 +9,18 @@ ghost use Rattle.format.specs.Numbers.{intBounds, intOf};
 ghost use Rattle.format.specs.Words.{trim, split};
 ghost use Rattle.format.specs.Rules.{typedNames, auto};
 ghost use Rattle.format.specs.Numbering.{above, from, largest};
-ghost use Rattle.lines.specs.Value.{valueFrom};
+ghost use Rattle.values.specs.Value.{valueFrom};
 ghost use Rattle.records.specs.Places.{isReadable};
 ghost use Rattle.records.specs.Walk.{recordIn};
 ghost use Rattle.records.specs.Named.{valuesFrom};
 ghost use Rattle.numbers.specs.Meaning.{intIn};
 ghost use Rattle.dictionary.specs.Known.{Described};
-ghost use Rattle.numbering.specs.Listed.{IsListed};
+ghost use Rattle.dictionary.specs.Numbered.{IsListed};
 ghost use Rattle.numbering.specs.Types.{spanIn, fitsIn};
 ghost use Rattle.numbering.specs.Bounds.{numbers, floorIn, limitIn, aboveIn, typeFloor, typeLimit, fieldFloor, lowest, joinedAt, Joins, AreLimits, AreBounds};
-use super::listed::Listed;
 use super::types::kind_at;
 use dictionary::wordsets;
+use dictionary::wordsets::Listed;
 use format::Descriptor;
 use numbers::IntOf;
 use numbers::Whole;
@@ -102,10 +102,7 @@ fn exceed(floor: u64, x: Whole) -> u64
 fn exceed_value(floor: u64, v: &[u8]) -> u64
     ensures { λ r. ⌜ r ≡ max floor (aboveIn (intOf intBounds (trim (now (v .entry))))) ⌝ }
 {
-    let t = words::trimmed(v);
-    let a = t.start;
-    let e = t.end;
-    let i = numbers::int_of(&v[a..e]);
+    let i = values::int_in(v);
     let IntOf::Value(x) = i else {
         return floor;
     };
@@ -127,18 +124,16 @@ fn narrow_place(k: usize, count: usize, range: Range, floors: &mut [u64], limits
 
 // The same of the names that are the parts, between commas, of a word.
 fn narrow_parts(d: &[u8], l: Listed, s: &[u8], range: Range, floors: &mut [u64], limits: &mut [u64])
-    requires { ⌜ IsListed (now d) l ⌝ }
+    requires { ⌜ IsListed (now d) (auto (recordIn (now d))) l ⌝ }
     requires { ⌜ (listWords ≤ length (now floors)) × (listWords ≤ length (now limits)) × AreLimits (auto (recordIn (now d))) (now limits) ⌝ }
     ensures { λ _. ⌜ Joins max (auto (recordIn (now (d .entry)))) (λ n. pick (among n (split 44 (now (s .entry)))) (from (intIn (range .low))) 0) (now (floors .entry)) (now (floors .exit)) × Joins min (auto (recordIn (now (d .entry)))) (λ n. pick (among n (split 44 (now (s .entry)))) (above (intIn (range .high))) numbers) (now (limits .entry)) (now (limits .exit)) ⌝ }
 {
-    let entries = l.entries;
-    let sets = l.sets;
     let w = l.words;
     let count = w.count;
     let mut rest = s;
     loop {
         let e = words::part_end(rest, b',');
-        let k = wordsets::place_of(d, &entries, &sets, w, &rest[..e]);
+        let k = wordsets::place_of(d, l, &rest[..e]);
         narrow_place(k, count, range, &mut *floors, &mut *limits);
         if e == rest.len() {
             return;
@@ -149,7 +144,7 @@ fn narrow_parts(d: &[u8], l: Listed, s: &[u8], range: Range, floors: &mut [u64],
 
 // The same of the names that a `%type` field's text is about.
 fn narrow_names(d: &[u8], l: Listed, s: &[u8], range: Range, floors: &mut [u64], limits: &mut [u64])
-    requires { ⌜ IsListed (now d) l ⌝ }
+    requires { ⌜ IsListed (now d) (auto (recordIn (now d))) l ⌝ }
     requires { ⌜ (listWords ≤ length (now floors)) × (listWords ≤ length (now limits)) × AreLimits (auto (recordIn (now d))) (now limits) ⌝ }
     ensures { λ _. ⌜ Joins max (auto (recordIn (now (d .entry)))) (λ n. pick (among n (typedNames (now (s .entry)))) (from (intIn (range .low))) 0) (now (floors .entry)) (now (floors .exit)) × Joins min (auto (recordIn (now (d .entry)))) (λ n. pick (among n (typedNames (now (s .entry)))) (above (intIn (range .high))) numbers) (now (limits .entry)) (now (limits .exit)) ⌝ }
 {
@@ -160,7 +155,7 @@ fn narrow_names(d: &[u8], l: Listed, s: &[u8], range: Range, floors: &mut [u64],
 
 // The bounds by a `%type` field of a text and a kind.
 fn narrow(d: &[u8], l: Listed, s: &[u8], kind: Shape, floors: &mut [u64], limits: &mut [u64])
-    requires { ⌜ IsListed (now d) l ⌝ }
+    requires { ⌜ IsListed (now d) (auto (recordIn (now d))) l ⌝ }
     requires { ⌜ (listWords ≤ length (now floors)) × (listWords ≤ length (now limits)) × AreLimits (auto (recordIn (now d))) (now limits) ⌝ }
     ensures { λ _. ⌜ Joins max (auto (recordIn (now (d .entry)))) (λ n. pick (among n (typedNames (now (s .entry)))) (floorIn (spanIn kind)) 0) (now (floors .entry)) (now (floors .exit)) × Joins min (auto (recordIn (now (d .entry)))) (λ n. pick (among n (typedNames (now (s .entry)))) (limitIn (spanIn kind)) numbers) (now (limits .entry)) (now (limits .exit)) ⌝ }
 {
@@ -172,7 +167,7 @@ fn narrow(d: &[u8], l: Listed, s: &[u8], kind: Shape, floors: &mut [u64], limits
 
 // The bounds by all types of a descriptor.
 fn narrow_all(d: &[u8], l: Listed, scratch: &mut [u8], floors: &mut [u64], limits: &mut [u64])
-    requires { ⌜ Described (now d) × IsListed (now d) l × (valueBytes ≤ length (now scratch)) ⌝ }
+    requires { ⌜ Described (now d) × IsListed (now d) (auto (recordIn (now d))) l × (valueBytes ≤ length (now scratch)) ⌝ }
     requires { ⌜ (listWords ≤ length (now floors)) × (listWords ≤ length (now limits)) × AreLimits (auto (recordIn (now d))) (now limits) ⌝ }
     ensures { λ _. ⌜ Joins max (auto (recordIn (now (d .entry)))) (λ n. largest (typeFloor (now (d .entry)) n) (valuesFrom (now (d .entry)) (text "%type") 0)) (now (floors .entry)) (now (floors .exit)) × Joins min (auto (recordIn (now (d .entry)))) (λ n. lowest (typeLimit (now (d .entry)) n) (valuesFrom (now (d .entry)) (text "%type") 0)) (now (limits .entry)) (now (limits .exit)) ⌝ }
 {
@@ -190,7 +185,7 @@ fn narrow_all(d: &[u8], l: Listed, scratch: &mut [u8], floors: &mut [u64], limit
             return;
         };
         let kind = kind_at(d, names, defs, i + value, &mut *scratch);
-        let n = lines::copy_value(&d[i + value..], &mut *scratch);
+        let n = values::copy_value(&d[i + value..], &mut *scratch);
         narrow(d, l, &scratch[..n], kind, &mut *floors, &mut *limits);
         i += end;
     }
@@ -209,20 +204,18 @@ fn raise_place(
     ensures { λ _. ⌜ now (floors .exit) ≡ joinedAt max count k (aboveIn (intOf intBounds (trim (valueFrom (drop value (now (s .entry))))))) (now (floors .entry)) ⌝ }
 {
     if k < count {
-        let n = lines::copy_value(&s[value..], &mut *scratch);
+        let n = values::copy_value(&s[value..], &mut *scratch);
         floors[k] = exceed_value(floors[k], &scratch[..n]);
     }
 }
 
 // The floors by all fields of a part.
 fn raise_all(d: &[u8], l: Listed, s: &[u8], scratch: &mut [u8], floors: &mut [u64])
-    requires { ⌜ IsListed (now d) l ⌝ }
+    requires { ⌜ IsListed (now d) (auto (recordIn (now d))) l ⌝ }
     requires { ⌜ (isReadable (now s) ≡ true) × (length (now s) ≤ fileBytes) × (all (fitsIn (length (now scratch))) (recordIn (now s)) ≡ true) ⌝ }
     requires { ⌜ listWords ≤ length (now floors) ⌝ }
     ensures { λ _. ⌜ Joins max (auto (recordIn (now (d .entry)))) (λ n. largest (fieldFloor n) (recordIn (now (s .entry)))) (now (floors .entry)) (now (floors .exit)) ⌝ }
 {
-    let entries = l.entries;
-    let sets = l.sets;
     let w = l.words;
     let count = w.count;
     let mut i = 0;
@@ -237,7 +230,7 @@ fn raise_all(d: &[u8], l: Listed, s: &[u8], scratch: &mut [u8], floors: &mut [u6
         else {
             return;
         };
-        let k = wordsets::place_of(d, &entries, &sets, w, &s[i + start..i + named]);
+        let k = wordsets::place_of(d, l, &s[i + start..i + named]);
         raise_place(s, i + value, k, count, &mut *scratch, &mut *floors);
         i += end;
     }
@@ -251,7 +244,7 @@ pub(crate) struct Bounds {
 
 // Those by the fields of a part and the types of a descriptor.
 pub(crate) fn bounds_of(d: &[u8], l: Listed, s: &[u8], scratch: &mut [u8]) -> Bounds
-    requires { ⌜ Described (now d) × IsListed (now d) l × (valueBytes ≤ length (now scratch)) ⌝ }
+    requires { ⌜ Described (now d) × IsListed (now d) (auto (recordIn (now d))) l × (valueBytes ≤ length (now scratch)) ⌝ }
     requires { ⌜ (isReadable (now s) ≡ true) × (length (now s) ≤ fileBytes) × (all (fitsIn (length (now scratch))) (recordIn (now s)) ≡ true) ⌝ }
     ensures { λ r. ⌜ AreBounds (now (d .entry)) (recordIn (now (s .entry))) r ⌝ }
 {

@@ -7,7 +7,7 @@ ghost use Rattle.format.specs.Bytes.{all, isSome};
 ghost use Rattle.format.specs.Limits.{fileBytes, valueBytes};
 ghost use Rattle.format.specs.Numbers.{intBounds};
 ghost use Rattle.format.specs.Numbering.{added};
-ghost use Rattle.format.specs.Rules.{autosCounted};
+ghost use Rattle.format.specs.Rules.{auto, autosCounted};
 ghost use Rattle.format.specs.Pieces.{readOf};
 ghost use Rattle.format.proofs.Records.{records};
 ghost use Rattle.format.proofs.Walking.{ruled};
@@ -15,16 +15,16 @@ ghost use Rattle.records.specs.Places.{isReadable};
 ghost use Rattle.records.specs.Walk.{recordIn};
 ghost use Rattle.requests.specs.Pairs.{pairsFrom, pairsAt};
 ghost use Rattle.dictionary.specs.Known.{Described};
-ghost use Rattle.numbering.specs.Listed.{IsListed};
+ghost use Rattle.dictionary.specs.Numbered.{IsListed};
 ghost use Rattle.numbering.specs.Types.{fitsIn};
 ghost use Rattle.numbering.specs.Adding.{addedRoom, AddedAs};
+use dictionary::wordsets;
+use dictionary::wordsets::Listed;
 use format::Record;
-use listed::Listed;
 use records::FoundField;
 
 mod adding;
 mod bounds;
-mod listed;
 mod types;
 
 // Are the types of all names of `%auto` lists int or range?
@@ -41,7 +41,7 @@ pub fn autos_counted(d: &[u8], scratch: &mut [u8]) -> bool
     else {
         return true;
     };
-    let l = listed::read(d);
+    let l = wordsets::list(d, b"%auto");
     types::types_counted(d, l, scratch)
 }
 
@@ -54,7 +54,7 @@ pub enum Added {
 
 // The fields of omitted names, by the table of the lists' words.
 fn add_listed(d: &[u8], l: Listed, part: &[u8], req: &[u8], from: usize, out: &mut [u8]) -> Added
-    requires { ⌜ Described (now d) × IsListed (now d) l × (addedRoom ≤ length (now out)) ⌝ }
+    requires { ⌜ Described (now d) × IsListed (now d) (auto (recordIn (now d))) l × (addedRoom ≤ length (now out)) ⌝ }
     requires { ⌜ (isReadable (now part) ≡ true) × (length (now part) ≤ fileBytes) × (all (fitsIn valueBytes) (recordIn (now part)) ≡ true) ⌝ }
     requires { ⌜ (length (now req) ≤ fileBytes) × (from ≤ length (now req)) × (isSome (pairsFrom (now req) from) ≡ true) ⌝ }
     ensures { λ r. ⌜ AddedAs (added intBounds (ruled (recordIn (now (d .entry))) (records (readOf (now (part .entry))))) (pairsAt (now (req .entry)) from)) (now (out .exit)) r ⌝ }
@@ -82,6 +82,6 @@ pub fn add_numbers(d: &[u8], part: &[u8], req: &[u8], from: usize, out: &mut [u8
     else {
         return Added::Text { len: 0 };
     };
-    let l = listed::read(d);
+    let l = wordsets::list(d, b"%auto");
     add_listed(d, l, part, req, from, out)
 }

@@ -7,16 +7,16 @@ ghost use Rattle.format.specs.Bytes.{text, all, any, among, isSome};
 ghost use Rattle.format.specs.Limits.{valueBytes};
 ghost use Rattle.format.specs.Words.{split};
 ghost use Rattle.format.specs.Rules.{typedNames, auto};
-ghost use Rattle.lines.specs.Value.{valueFrom};
+ghost use Rattle.values.specs.Value.{valueFrom};
 ghost use Rattle.records.specs.Walk.{recordIn};
 ghost use Rattle.records.specs.Named.{valuesFrom};
 ghost use Rattle.typedefs.specs.Names.{AreNames};
 ghost use Rattle.typedefs.specs.Typedefs.{AreTypedefs};
 ghost use Rattle.dictionary.specs.Known.{Described};
-ghost use Rattle.numbering.specs.Listed.{IsListed};
+ghost use Rattle.dictionary.specs.Numbered.{IsListed};
 ghost use Rattle.numbering.specs.Types.{spanIn, typeSpan, HasType, isTypeCounted};
-use super::listed::Listed;
 use dictionary::wordsets;
+use dictionary::wordsets::Listed;
 use records::FoundField;
 use typedefs::Names;
 use typedefs::Typedefs;
@@ -57,16 +57,14 @@ fn is_counted(kind: Shape) -> bool
 
 // Is a part, between commas, of a word among the names of `%auto` lists?
 fn part_listed(d: &[u8], l: Listed, s: &[u8]) -> bool
-    requires { ⌜ IsListed (now d) l ⌝ }
+    requires { ⌜ IsListed (now d) (auto (recordIn (now d))) l ⌝ }
     ensures { λ r. ⌜ r ≡ any (λ n. among n (auto (recordIn (now (d .entry))))) (split 44 (now (s .entry))) ⌝ }
 {
-    let entries = l.entries;
-    let sets = l.sets;
     let w = l.words;
     let mut rest = s;
     loop {
         let e = words::part_end(rest, b',');
-        if wordsets::place_of(d, &entries, &sets, w, &rest[..e]) < w.count {
+        if wordsets::place_of(d, l, &rest[..e]) < w.count {
             return true;
         }
         if e == rest.len() {
@@ -78,7 +76,7 @@ fn part_listed(d: &[u8], l: Listed, s: &[u8]) -> bool
 
 // Is one of the names that a `%type` field's text is about?
 fn name_listed(d: &[u8], l: Listed, s: &[u8]) -> bool
-    requires { ⌜ IsListed (now d) l ⌝ }
+    requires { ⌜ IsListed (now d) (auto (recordIn (now d))) l ⌝ }
     ensures { λ r. ⌜ r ≡ any (λ n. among n (auto (recordIn (now (d .entry))))) (typedNames (now (s .entry))) ⌝ }
 {
     let t = &s[words::gap_end(s)..];
@@ -88,20 +86,20 @@ fn name_listed(d: &[u8], l: Listed, s: &[u8]) -> bool
 
 // Is the type of the value at a place int or range, or about no name of an `%auto` list?
 fn type_counted(d: &[u8], l: Listed, kind: Shape, value: usize, scratch: &mut [u8]) -> bool
-    requires { ⌜ IsListed (now d) l ⌝ }
+    requires { ⌜ IsListed (now d) (auto (recordIn (now d))) l ⌝ }
     requires { ⌜ (value ≤ length (now d)) × (length (valueFrom (drop value (now d))) ≤ length (now scratch)) ⌝ }
     ensures { λ r. ⌜ r ≡ (isSome (spanIn kind) || not (any (λ n. among n (auto (recordIn (now (d .entry))))) (typedNames (valueFrom (drop value (now (d .entry))))))) ⌝ }
 {
     if is_counted(kind) {
         return true;
     }
-    let n = lines::copy_value(&d[value..], &mut *scratch);
+    let n = values::copy_value(&d[value..], &mut *scratch);
     !name_listed(d, l, &scratch[..n])
 }
 
 // Is every type?
 fn all_counted(d: &[u8], l: Listed, names: Names, defs: Typedefs, scratch: &mut [u8]) -> bool
-    requires { ⌜ IsListed (now d) l ⌝ }
+    requires { ⌜ IsListed (now d) (auto (recordIn (now d))) l ⌝ }
     requires { ⌜ Described (now d) × AreNames (now d) names × AreTypedefs (now d) (names .places) defs ⌝ }
     requires { ⌜ valueBytes ≤ length (now scratch) ⌝ }
     ensures { λ r. ⌜ r ≡ all (isTypeCounted (now (d .entry))) (valuesFrom (now (d .entry)) (text "%type") 0) ⌝ }
@@ -127,7 +125,7 @@ fn all_counted(d: &[u8], l: Listed, names: Names, defs: Typedefs, scratch: &mut 
 
 // The same of a descriptor.
 pub(crate) fn types_counted(d: &[u8], l: Listed, scratch: &mut [u8]) -> bool
-    requires { ⌜ IsListed (now d) l ⌝ }
+    requires { ⌜ IsListed (now d) (auto (recordIn (now d))) l ⌝ }
     requires { ⌜ Described (now d) × (valueBytes ≤ length (now scratch)) ⌝ }
     ensures { λ r. ⌜ r ≡ all (isTypeCounted (now (d .entry))) (valuesFrom (now (d .entry)) (text "%type") 0) ⌝ }
 {

@@ -17,9 +17,9 @@ use Rattle.format.proofs.Lines.{bytes-append}
 use Rattle.format.proofs.Whole.{Sound}
 use Rattle.format.proofs.Renaming.{sound-starts}
 use Rattle.lines.specs.Piece.{valueAt}
-use Rattle.lines.specs.Value.{valueFrom}
+use Rattle.values.specs.Value.{valueFrom}
 use Rattle.lines.proofs.Shapes.{value-inside}
-use Rattle.lines.proofs.Values.{field-value as decoded}
+use Rattle.values.proofs.Values.{field-value as decoded}
 use Rattle.words.specs.Spans.{span}
 use Rattle.records.specs.Places.{isReadable, sizeIn, namesSet, headLine, fieldBy, fieldIn, fieldFrom, fieldPlace}
 use Rattle.records.specs.Walk.{opensSet}

@@ -9,7 +9,7 @@ use Rattle.format.specs.Lists.{onto}
 use Rattle.format.specs.Lines.{Line}
 use Rattle.format.specs.Pieces.{Piece, readOf}
 use Rattle.format.specs.Records.{Field, Record, Block, fieldsOf}
-use Rattle.lines.specs.Value.{valueFrom}
+use Rattle.values.specs.Value.{valueFrom}
 use Rattle.records.specs.Walk.{untilBlank, fromBlank}
 use Rattle.records.proofs.Walks.{run-blocks}
 use Rattle.records.proofs.Steps.{Passed, FieldAt}

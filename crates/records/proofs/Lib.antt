@@ -8,7 +8,6 @@ pub mod Looks
 pub mod NextFields
 pub mod Fields
 pub mod Named
-pub mod Words
 pub mod Searches
 pub mod Cuts
 pub mod Rows

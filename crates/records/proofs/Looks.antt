@@ -12,11 +12,12 @@ use Rattle.format.specs.Bytes.{Bytes, isSome}
 use Rattle.format.specs.Lines.{lines, isEnded}
 use Rattle.format.specs.Pieces.{Piece, pieces}
 use Rattle.lines.specs.Line.{firstLine}
-use Rattle.lines.specs.Piece.{nextOf, sizeOf, pieceOf, onPiece}
-use Rattle.lines.specs.Value.{valueFrom}
+use Rattle.lines.specs.Piece.{nextOf, sizeOf}
+use Rattle.values.specs.Pieces.{pieceOf, onPiece}
+use Rattle.values.specs.Value.{valueFrom}
 use Rattle.lines.specs.declared.Next.{Next}
 use Rattle.lines.proofs.Cuts.{rest, ended-drop}
-use Rattle.lines.proofs.Pieces.{next-cut, no-pieces}
+use Rattle.values.proofs.Pieces.{next-cut, no-pieces}
 use Rattle.lines.proofs.Inside.{Inside, next-inside}
 use Rattle.records.specs.Places.{isReadable}
 

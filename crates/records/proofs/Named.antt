@@ -12,7 +12,7 @@ use Rattle.format.specs.Pieces.{Piece, readOf}
 use Rattle.format.specs.Records.{countOf}
 use Rattle.format.specs.Sets.{valuesOf}
 use Rattle.lines.specs.Piece.{valueAt}
-use Rattle.lines.specs.Value.{valueFrom}
+use Rattle.values.specs.Value.{valueFrom}
 use Rattle.lines.proofs.Cuts.{rest}
 use Rattle.words.specs.Spans.{span}
 use Rattle.records.specs.Places.{isReadable, headLine, fieldBy, fieldIn}

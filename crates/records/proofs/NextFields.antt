@@ -16,9 +16,9 @@ use Rattle.format.proofs.Grouping.{fields-append}
 use Rattle.format.proofs.Whole.{Sound}
 use Rattle.format.proofs.Renaming.{sound-starts}
 use Rattle.lines.specs.Piece.{valueAt}
-use Rattle.lines.specs.Value.{valueFrom}
+use Rattle.values.specs.Value.{valueFrom}
 use Rattle.lines.proofs.Cuts.{rest}
-use Rattle.lines.proofs.Values.{field-value-among}
+use Rattle.values.proofs.Values.{field-value-among}
 use Rattle.words.specs.Spans.{span}
 use Rattle.records.specs.Places.{isReadable, headLine}
 use Rattle.records.specs.Walk.{recordIn}

@@ -16,13 +16,14 @@ use Rattle.format.specs.Records.{Field, countOf, fieldsOf}
 use Rattle.format.proofs.Lines.{lines-bytes, Clean}
 use Rattle.format.proofs.Renaming.{sound-starts}
 use Rattle.lines.specs.Line.{lineLen, firstLine}
-use Rattle.lines.specs.Piece.{valueAt, fieldNext, extentOf, nextBy, nextOf, isFault, sizeOf, pieceOf, onPiece}
-use Rattle.lines.specs.Value.{valueFrom}
+use Rattle.lines.specs.Piece.{valueAt, fieldNext, extentOf, nextBy, nextOf, isFault, sizeOf}
+use Rattle.values.specs.Pieces.{pieceOf, onPiece}
+use Rattle.values.specs.Value.{valueFrom}
 use Rattle.lines.specs.declared.Extent.{Extent}
 use Rattle.lines.specs.declared.Next.{Next}
 use Rattle.lines.proofs.Cuts.{rest, lines-cut, ended-drop}
 use Rattle.lines.proofs.Nexts.{next-first}
-use Rattle.lines.proofs.Pieces.{next-cut, no-pieces}
+use Rattle.values.proofs.Pieces.{next-cut, no-pieces}
 use Rattle.lines.proofs.Inside.{Inside, next-inside}
 use Rattle.records.specs.Places.{isReadable, sizeIn, headLine}
 use Rattle.records.specs.Walk.{recordIn, runFrom}

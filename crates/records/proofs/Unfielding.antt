@@ -10,7 +10,7 @@ use Rattle.format.specs.Pieces.{Piece, bytesOf, readOf}
 use Rattle.format.specs.Records.{fieldsOf}
 use Rattle.format.specs.Edits.{unfielded}
 use Rattle.format.proofs.Whole.{bytesOf-append}
-use Rattle.lines.specs.Value.{valueFrom}
+use Rattle.values.specs.Value.{valueFrom}
 use Rattle.words.specs.Spans.{span}
 use Rattle.records.specs.Places.{isReadable, sizeIn}
 use Rattle.records.specs.Fields.{fieldsFrom, FieldHere}

@@ -9,7 +9,7 @@ use Rattle.format.specs.Lines.{Line}
 use Rattle.format.specs.Pieces.{Piece, readOf}
 use Rattle.format.specs.Records.{Field, Record, countOf, fieldsOf}
 use Rattle.lines.specs.Piece.{valueAt}
-use Rattle.lines.specs.Value.{valueFrom}
+use Rattle.values.specs.Value.{valueFrom}
 use Rattle.words.specs.Spans.{span}
 use Rattle.records.specs.Places.{isReadable, sizeIn, headLine}
 use Rattle.records.specs.Walk.{recordIn}

@@ -4,5 +4,4 @@ pub mod Sets
 pub mod Walk
 pub mod Fields
 pub mod Named
-pub mod Gaps
 pub mod Heads

@@ -7,7 +7,7 @@ use lib.ListN.{length, drop}
 use Rattle.format.specs.Bytes.{Bytes}
 use Rattle.format.specs.Pieces.{readOf}
 use Rattle.format.specs.Sets.{valuesOf}
-use Rattle.lines.specs.Value.{valueFrom}
+use Rattle.values.specs.Value.{valueFrom}
 use Rattle.words.specs.Spans.{span}
 use Rattle.records.specs.Places.{isReadable, fieldIn}
 use Rattle.records.specs.Fields.{fieldsFrom}

@@ -1,4 +1,4 @@
-// Records: the next one of a part of the file, its next field, and the search for a set, a record and an occurrence. What is asked of a value where it stands is in `values`.
+// Records: the next one of a part of the file, its next field, and the search for a set, a record and an occurrence.
 ghost use mathlib.Core.Path.{_≡_};
 ghost use mathlib.Core.Bool.{true};
 ghost use Prim.Native.Nat.{_≤_};
@@ -11,12 +11,6 @@ ghost use Rattle.records.specs.Walk.{runFrom, opensSet};
 ghost use Rattle.records.specs.Fields.{FieldNext};
 ghost use Rattle.records.specs.Named.{NamedNext};
 use lines::Next;
-
-mod values;
-
-pub use values::pass;
-pub use values::word_is;
-pub use values::word_start;
 
 // Is a part empty or ended by a newline, and has every line of it a form?
 pub fn is_readable(s: &[u8]) -> bool
@@ -378,7 +372,7 @@ fn opens_set(s: &[u8], name: &[u8]) -> bool
     else {
         return false;
     };
-    word_is(&s[value..end], name)
+    values::word_is(&s[value..end], name)
 }
 
 // Where a set stands: its descriptor's first field's first byte, the byte behind its last field, and the byte where its records begin. The default set, which has no descriptor, has 0 for each.

@@ -14,7 +14,7 @@ use Rattle.format.specs.Rules.{mandatory, prohibited, allowed, unique}
 use Rattle.format.specs.Questions.{occurrences}
 use Rattle.format.proofs.Lines.{all-append}
 use Rattle.format.proofs.Listing.{same-swap, occurrences-cons}
-use Rattle.sorting.proofs.Tests.{dec-lt, or-first, or-second}
+use Rattle.values.proofs.Tests.{dec-lt, or-first, or-second}
 use Rattle.terms.specs.Sets.{inSet}
 use Rattle.terms.proofs.Sets.{in-none, in-or}
 use Rattle.dictionary.specs.Known.{Known}

@@ -1,35 +1,26 @@
--- What the limits and the forms of a descriptor grant: lists that tables hold, of names; a key; values that fit a scratch.
+-- What the limits and the forms of a descriptor grant: a key; values that fit a scratch.
 use Prim.Native.Nat.{ℕ, suc, _≤_}
 use native.Mathlib.Omega.{arith}
 use mathlib.Core.Path.{_≡_, refl, sym, ap, _∙_}
-use mathlib.Core.Bool.{Bool, true, false, _&&_, _||_, not, and-eq-true-iff}
+use mathlib.Core.Bool.{Bool, true, not}
 use mathlib.Core.List.{List, [], _∷_}
 use lib.Dec.{eqb}
 use lib.ListN.{length}
 use borrow.Author.Tests.{le-leb, ne-eqb}
 use Rattle.format.specs.Lists.{isFilled}
-use Rattle.format.specs.Bytes.{Bytes, text, pick, all, same}
-use Rattle.format.specs.Lines.{isName}
-use Rattle.format.specs.Words.{words}
+use Rattle.format.specs.Bytes.{Bytes, text, all}
 use Rattle.format.specs.Pieces.{readOf}
 use Rattle.format.specs.Records.{Field, Record}
 use Rattle.format.specs.Sets.{valuesOf}
 use Rattle.format.specs.Limits.{valueBytes}
-use Rattle.format.specs.Numbers.{intBounds}
-use Rattle.format.specs.Rules.{listed, mandatory, unique, key}
+use Rattle.format.specs.Rules.{key}
 use Rattle.format.specs.Questions.{fitsField, fitsRecord}
 use Rattle.format.proofs.Elements.{each-all, each-imp, all-each}
-use Rattle.format.proofs.Limits.{rules-few}
-use Rattle.format.proofs.Lines.{all-append}
-use Rattle.format.proofs.Listing.{same-true, listed-cons}
 use Rattle.format.proofs.Records.{records}
 use Rattle.records.specs.Walk.{recordIn}
 use Rattle.records.proofs.Cuts.{fields-records}
 use Rattle.descriptors.proofs.Limits.{fits-fields, fits-value}
-use Rattle.dictionary.specs.Tags.{listTag}
-use Rattle.dictionary.specs.Terms.{areNames}
 use Rattle.dictionary.specs.Known.{Described}
-use Rattle.dictionary.proofs.Listing.{lists-names}
 use Rattle.dictionary.proofs.Typing.{all-shaped}
 use Rattle.dictionary.proofs.Counting.{key-length}
 use Rattle.rules.specs.Members.{fitsIn}
@@ -53,40 +44,9 @@ module _ (m : ℕ) (room : valueBytes ≤ m) where
       ∙ all-join (fitsIn m) rs
       ∙ each-all (all (fitsIn m)) rs (each-imp (λ (r : Record). fitsRecord r ≡ true) (λ (r : Record). all (fitsIn m) r ≡ true) (λ r e. fields-fit r e) rs (all-each fitsRecord rs h))
 
--- the words of a list are names
-names-by : (n : Bytes) (f : Field) (t : Bool) → eqb (listTag n) 64 ≡ false → areNames f ≡ true → same n (f .name) ≡ t → all isName (pick t (words (f .value)) []) ≡ true
-names-by n f true z h e =
-    ap (λ (b : Bool). b || all isName (words (f .value))) (sym (ap (λ (x : Bytes). eqb (listTag x) 64) (sym (same-true n (f .name) e)) ∙ z)) ∙ h
-names-by n f false z h e = refl
-
-names-of : (n : Bytes) → eqb (listTag n) 64 ≡ false → (r : Record) → all areNames r ≡ true → all isName (listed n r) ≡ true
-names-of n z [] h = refl
-names-of n z (f ∷ r) h =
-    let b = and-eq-true-iff (areNames f) (all areNames r) .0 h in
-    ap (all isName) (listed-cons n f r)
-    ∙ all-append isName (pick (same n (f .name)) (words (f .value)) []) (listed n r)
-    ∙ (λ i. names-by n f (same n (f .name)) z (b .0) refl i && names-of n z r (b .1) i)
-
 module _ (d : Bytes) (h : Described d) where
   abbrev rules : Record
   rules = recordIn d
-
-  lists-are : all areNames rules ≡ true
-  lists-are = lists-names intBounds rules (all-shaped d h)
-
-  pub mandatory-names : all isName (mandatory rules) ≡ true
-  unfolding listTag
-  mandatory-names = names-of (text "%mandatory") refl rules lists-are
-
-  pub unique-names : all isName (unique rules) ≡ true
-  unfolding listTag
-  unique-names = names-of (text "%unique") refl rules lists-are
-
-  pub mandatory-few : length (mandatory rules) ≤ 64
-  mandatory-few = rules-few rules (h .few) .mandatory-few
-
-  pub unique-few : length (unique rules) ≤ 64
-  unique-few = rules-few rules (h .few) .unique-few
 
   -- a key is named where there is a field that names it
   filled-by : (ws : List Bytes) → not (eqb (length ws) 0) ≡ isFilled ws

@@ -21,7 +21,7 @@ use Rattle.format.proofs.Least.{least, leasts}
 use Rattle.format.proofs.Judging.{recordNo}
 use Rattle.format.proofs.Records.{records}
 use Rattle.format.proofs.Walking.{ruled}
-use Rattle.lines.specs.Value.{valueFrom}
+use Rattle.values.specs.Value.{valueFrom}
 use Rattle.words.specs.Spans.{span}
 use Rattle.records.specs.Places.{isReadable}
 use Rattle.records.specs.Walk.{recordIn}

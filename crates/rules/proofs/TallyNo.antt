@@ -17,7 +17,7 @@ use Rattle.format.specs.Rules.{mandatory, allowed, unique, key}
 use Rattle.format.specs.Questions.{firstNo, eachName, noneProhibited, allAllowed, occurrences}
 use Rattle.format.proofs.Lines.{all-append}
 use Rattle.format.proofs.Judging.{recordRows}
-use Rattle.sorting.proofs.Tests.{by-bool, dec-lt}
+use Rattle.values.proofs.Tests.{by-bool, dec-lt}
 use Rattle.terms.specs.Sets.{inSet}
 use Rattle.terms.proofs.Sets.{in-none}
 use Rattle.rules.specs.Tallies.{hasAll, tallyNo, Tallied}

@@ -19,14 +19,14 @@ use Rattle.format.specs.Rules.{key, isShaped}
 use Rattle.format.proofs.Least.{least, leasts}
 use Rattle.format.proofs.Lines.{all-append}
 use Rattle.format.proofs.Records.{close, records}
-use Rattle.lines.specs.Value.{valueFrom}
+use Rattle.values.specs.Value.{valueFrom}
 use Rattle.records.specs.Places.{isReadable}
 use Rattle.records.specs.Walk.{recordIn}
 use Rattle.records.specs.Fields.{fieldsFrom}
 use Rattle.records.proofs.Steps.{Passed, FieldAt, record-none, record-blank, record-comment, record-field}
 use Rattle.records.proofs.Cuts.{fields-records}
 use Rattle.records.proofs.Going.{goingFrom, going-none, going-end, going-blank, going-comment, going-field}
-use Rattle.sorting.proofs.Tests.{by-bool}
+use Rattle.values.proofs.Tests.{by-bool}
 use Rattle.terms.specs.Sets.{inSet}
 use Rattle.dictionary.specs.Known.{Described}
 use Rattle.dictionary.proofs.Typing.{all-shaped}

@@ -1,4 +1,4 @@
-// Questions 8 to 14 and 30 of one set. Its descriptor is read once, into tables; then its records are walked.
+// Questions 8 to 14 and 30 of one set. Its descriptor is read into tables; then its records are walked.
 ghost use mathlib.Core.Path.{_≡_};
 ghost use mathlib.Core.Bool.{true, not};
 ghost use Prim.Native.Nat.{_≤_};
@@ -164,7 +164,7 @@ fn keys_apart(d: &[u8], part: &[u8], scratch: &mut [u8], entries: &mut [u32]) ->
     else {
         return true;
     };
-    let n = lines::copy_value(&d[value..end], &mut *scratch);
+    let n = values::copy_value(&d[value..end], &mut *scratch);
     let w = words::next_word(&scratch[..n]);
     let Word::At { start, end: e } = w else {
         return true;

@@ -7,7 +7,6 @@ ghost use Rattle.format.specs.Bytes.{Bytes, text, among};
 ghost use Rattle.words.specs.Spans.{span};
 ghost use Rattle.records.specs.Walk.{recordIn};
 ghost use Rattle.records.specs.Named.{valuesFrom};
-ghost use Rattle.terms.specs.Joined.{IsJoined};
 ghost use Rattle.dictionary.specs.Known.{Described};
 ghost use Rattle.dictionary.specs.Numbered.{IsWords, Places};
 ghost use Rattle.rules.specs.Tables.{namesAt, entriesEnd, IsTables, Stands, SeenAt};
@@ -64,12 +63,11 @@ pub fn read(d: &[u8], from: usize, entries: &mut [u32], sets: &mut [u64]) -> Tab
 
 // The places of a name among the words of a list: they are searched only if the name is one of them.
 fn places(d: &[u8], entries: &[u32], sets: &[u64], r: Words, listed: bool, name: &[u8]) -> u64
-    requires { ⌜ IsJoined (now d) (now entries) (now sets) (r .table) ⌝ }
+    requires { ⌜ ((ws : List Bytes) × IsWords (now d) ws (now entries) (now sets) r) ⌝ }
     ensures { λ x. ⌜ ((ws : List Bytes) → IsWords (now (d .entry)) ws (now (entries .entry)) (now (sets .entry)) r → listed ≡ among (now (name .entry)) ws → Places ws (now (name .entry)) x) ⌝ }
 {
     if listed {
-        let t = r.table;
-        return terms::find_joined(d, entries, t, sets, name);
+        return wordsets::places_in(d, entries, sets, r, name);
     }
     0
 }

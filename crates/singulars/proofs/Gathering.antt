@@ -11,7 +11,7 @@ use lib.ListN.{length, getD, take, drop, set, length-set, length-append, length-
 use lib.Seq.{getD-set-same, getD-set-other, take-suc-set, length-take-le}
 use Rattle.format.specs.Bytes.{Bytes, pick, among}
 use Rattle.format.specs.Records.{Field, Record}
-use Rattle.lines.specs.Value.{valueFrom}
+use Rattle.values.specs.Value.{valueFrom}
 use Rattle.words.specs.Spans.{span}
 use Rattle.words.specs.RuleNames.{placeIn}
 use Rattle.words.proofs.RuleNames.{place-among}

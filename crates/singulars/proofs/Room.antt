@@ -17,7 +17,7 @@ use Rattle.format.proofs.Elements.{Each}
 use Rattle.format.proofs.Whole.{Sound}
 use Rattle.format.proofs.Sizes.{field-size, filled-size}
 use Rattle.format.proofs.Listing.{same-swap}
-use Rattle.sorting.proofs.Tests.{by-bool}
+use Rattle.values.proofs.Tests.{by-bool}
 use Rattle.records.specs.Places.{isReadable, sizeIn}
 use Rattle.records.specs.Walk.{recordIn}
 use Rattle.records.proofs.Readings.{readable-reads, reads-length}

@@ -7,16 +7,15 @@ ghost use Rattle.format.specs.Bytes.{all};
 ghost use Rattle.format.specs.Limits.{fileBytes, listWords};
 ghost use Rattle.format.specs.Rules.{singular, distinct};
 ghost use Rattle.format.specs.Sets.{valuesOf};
-ghost use Rattle.lines.specs.Value.{valueFrom};
+ghost use Rattle.values.specs.Value.{valueFrom};
 ghost use Rattle.records.specs.Places.{isReadable};
 ghost use Rattle.records.specs.Walk.{recordIn};
 ghost use Rattle.dictionary.specs.Known.{Described};
-ghost use Rattle.dictionary.specs.Numbered.{IsWords};
+ghost use Rattle.dictionary.specs.Numbered.{IsListed};
 ghost use Rattle.singulars.specs.Marks.{entryOf};
 ghost use Rattle.singulars.specs.Gathered.{entriesRoom, GatheredAs};
 use dictionary::wordsets;
-use dictionary::wordsets::Words;
-use format::Descriptor;
+use dictionary::wordsets::Listed;
 use records::FoundField;
 use records::NextField;
 use sorting::Entry;
@@ -37,18 +36,12 @@ enum Gathered {
 }
 
 // The entries of the fields in s whose names are singular.
-fn gather(
-    d: &[u8],
-    words: &[u32],
-    sets: &[u64],
-    w: Words,
-    s: &[u8],
-    entries: &mut [u32],
-) -> Gathered
-    requires { ⌜ IsWords (now d) (singular (recordIn (now d))) (now words) (now sets) w ⌝ }
+fn gather(d: &[u8], l: Listed, s: &[u8], entries: &mut [u32]) -> Gathered
+    requires { ⌜ IsListed (now d) (singular (recordIn (now d))) l ⌝ }
     requires { ⌜ (isReadable (now s) ≡ true) × (length (now s) ≤ fileBytes) ⌝ }
     ensures { λ r. ⌜ GatheredAs (singular (recordIn (now (d .entry)))) (now (s .entry)) (recordIn (now (s .entry))) (now (entries .exit)) r ⌝ }
 {
+    let w = l.words;
     let count = w.count;
     let mut i = 0;
     let mut n = 0;
@@ -63,7 +56,7 @@ fn gather(
         else {
             return Gathered::All(n);
         };
-        let k = wordsets::place_of(d, words, sets, w, &s[i + start..i + named]);
+        let k = wordsets::place_of(d, l, &s[i + start..i + named]);
         if k < count {
             if entries.len() <= n {
                 return Gathered::More;
@@ -93,10 +86,8 @@ pub fn values_apart(d: &[u8], s: &[u8], entries: &mut [u32]) -> bool
     else {
         return true;
     };
-    let mut words = [0u32; Descriptor::WORDS];
-    let mut sets = [0u64; Descriptor::WORDS];
-    let w = wordsets::read(d, b"%singular", &mut words, &mut sets);
-    let g = gather(d, &words, &sets, w, s, &mut *entries);
+    let l = wordsets::list(d, b"%singular");
+    let g = gather(d, l, s, &mut *entries);
     match g {
         Gathered::All(n) => keys::distinct_marks(s, &mut *entries, n),
         Gathered::More => false,

@@ -11,7 +11,7 @@ use lib.ListN.{length, getD, set, length-set}
 use lib.Seq.{getD-set-same, getD-set-other}
 use Rattle.format.specs.Bytes.{any}
 use Rattle.sorting.specs.Moves.{swapped, Moved, none, more}
-use Rattle.sorting.proofs.Tests.{by-bool, same-false, or-first, or-second}
+use Rattle.values.proofs.Tests.{by-bool, same-false, or-first, or-second}
 
 -- what holds of a list and of what any exchange makes of it holds of what moves make of it
 pub moved-keeps : (P : List ℕ → Type 0) → ((l : List ℕ) (i j : ℕ) → i < length l → j < length l → P l → P (swapped l i j)) → {l m : List ℕ} → Moved l m → P l → P m

@@ -2,27 +2,17 @@
 use Prim.Native.Nat.{ℕ, _<_, _≤_}
 use native.Mathlib.Omega.{arith}
 use mathlib.Core.Path.{_≡_, refl, sym, _∙_}
-use mathlib.Core.Bool.{Bool, true, false}
 use mathlib.Core.List.{[], _∷_}
 use mathlib.Core.Logic.{_⊎_, inl, inr, ⊎-elim}
-use borrow.Author.Tests.{ltb-true, ltb-false, lt-ltb, le-ltb}
-use lib.Dec.{ltb}
+use borrow.Author.Tests.{lt-ltb, le-ltb}
 use Rattle.format.specs.Bytes.{Bytes}
+use Rattle.values.proofs.Tests.{three-ways}
 use Rattle.sorting.specs.Order.{comparedOf}
 use Rattle.sorting.specs.declared.Compared.{Compared}
 
 -- where two different constructors would be equal
 pub never : {A : Type 0} → _≡_ {A = ℕ} 0 1 → A
 never e = absurd (omega arith)
-
--- two numbers: less, greater or equal
-pub three-ways : {P : Type 0} (x y : ℕ) → (x < y → P) → (y < x → P) → (x ≡ y → P) → P
-three-ways {P} x y f g h = go (ltb x y) refl (ltb y x) refl
-  where
-    go : (a : Bool) → ltb x y ≡ a → (b : Bool) → ltb y x ≡ b → P
-    go true p b q = f (ltb-true x y p)
-    go false p true q = g (ltb-true y x q)
-    go false p false q = let m = ltb-false x y p in let n = ltb-false y x q in h (omega arith)
 
 -- what the first bytes decide
 module _ (x y : ℕ) (s t : Bytes) where

@@ -9,12 +9,13 @@ use borrow.Author.Tests.{ltb-true, lt-ltb, ne-eqb}
 use lib.Dec.{eqb, ltb}
 use lib.ListN.{length}
 use Rattle.format.specs.Bytes.{Bytes, pick}
-use Rattle.sorting.specs.Likeness.{ahead, lastOf, likenessOf}
+use Rattle.values.specs.Likeness.{ahead, lastOf, likenessOf}
 use Rattle.sorting.specs.Order.{firstOf, orderOf}
 use Rattle.sorting.specs.declared.Compared.{Compared}
-use Rattle.sorting.specs.declared.ends.Likeness.{Likeness}
-use Rattle.sorting.proofs.Order.{never, three-ways}
-use Rattle.sorting.proofs.Likeness.{likeness-shorter, likeness-longer, likeness-last, likeness-same, same-likeness, last-equal, last-same}
+use Rattle.values.specs.declared.ends.Likeness.{Likeness}
+use Rattle.values.proofs.Tests.{three-ways}
+use Rattle.sorting.proofs.Order.{never}
+use Rattle.values.proofs.Likeness.{likeness-shorter, likeness-longer, likeness-last, likeness-same, same-likeness, last-equal, last-same}
 
 first-true : (t : Bool) → firstOf t ≡ Compared.Before → t ≡ true
 first-true true e = refl

@@ -6,10 +6,10 @@ use mathlib.Core.List.{[], _∷_}
 use lib.ListN.{length, drop}
 use Rattle.format.specs.Lists.{front, behind}
 use Rattle.format.specs.Bytes.{Bytes, pick, all}
-use Rattle.lines.specs.Value.{valueFrom}
-use Rattle.lines.specs.declared.Decoded.{Decoded}
+use Rattle.values.specs.Value.{valueFrom}
+use Rattle.values.specs.declared.Decoded.{Decoded}
 use Rattle.sorting.specs.Texts.{keeps, textAt, TextByte}
-use Rattle.sorting.proofs.Tests.{by-bool}
+use Rattle.values.proofs.Tests.{by-bool}
 
 -- the longest front of a text that begins with a byte
 module _ (p : ℕ → Bool) (v w : Bytes) (b : ℕ) (e : v ≡ b ∷ w) where

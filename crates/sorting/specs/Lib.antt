@@ -1,5 +1,4 @@
 -- Texts at places of a file, how they compare and their order, and entries that a sort moves.
 pub mod Texts
-pub mod Likeness
 pub mod Order
 pub mod Moves

@@ -4,7 +4,7 @@ use mathlib.Core.Bool.{Bool}
 use lib.Dec.{ltb}
 use Rattle.format.specs.Bytes.{Bytes, pick}
 use Rattle.sorting.specs.declared.Compared.{Compared}
-use Rattle.sorting.specs.declared.ends.Likeness.{Likeness}
+use Rattle.values.specs.declared.ends.Likeness.{Likeness}
 
 -- the first against the second, by the first byte in which they differ; a proper front comes before
 unfoldable pub comparedOf : Bytes → Bytes → Compared

@@ -3,16 +3,12 @@ use Prim.Native.Nat.{ℕ, _+_, _*_, _%_, _<_, _≤_}
 use mathlib.Core.Path.{_≡_}
 use mathlib.Core.Bool.{Bool, _||_, not}
 use mathlib.Core.List.{[], _∷_}
-use lib.Dec.{ltb, eqb}
 use lib.ListN.{length, drop}
 use Rattle.format.specs.Lists.{front}
 use Rattle.format.specs.Bytes.{Bytes}
-use Rattle.lines.specs.Value.{valueFrom}
-use Rattle.lines.specs.declared.Decoded.{Decoded}
-
--- every byte of a name and of a symbol is a percent sign or above the comma; gaps, commas and parentheses are not
-abbrev pub isWordByte : ℕ → Bool
-isWordByte c = ltb 44 c || eqb c 37
+use Rattle.values.specs.Value.{valueFrom}
+use Rattle.values.specs.Stretches.{isWordByte}
+use Rattle.values.specs.declared.Decoded.{Decoded}
 
 -- does a text go on with a byte: a word with bytes of words, a value with any
 abbrev pub keeps : Bool → ℕ → Bool

@@ -5,12 +5,11 @@ ghost use mathlib.Core.Bool.{true, not};
 ghost use mathlib.Core.List.{[], _∷_};
 ghost use Prim.Native.Nat.{_<_, _≤_, _%_};
 ghost use lib.ListN.{length};
-ghost use Rattle.sorting.specs.Texts.{isWordByte, keeps, textAt, TextByte, mixed};
-ghost use Rattle.sorting.specs.Order.{comparedOf};
+ghost use Rattle.sorting.specs.Texts.{keeps, textAt, TextByte, mixed};
+ghost use Rattle.sorting.specs.Order.{comparedOf, firstOf, orderOf};
 ghost use Rattle.sorting.specs.Moves.{swapped, Moved};
-use lines::Decoded;
-
-pub mod ends;
+use values::Decoded;
+use values::Likeness;
 
 fn wide(x: u32) -> usize
     ensures { λ r. ⌜ r ≡ x ⌝ }
@@ -68,22 +67,12 @@ pub fn mix_byte(h: usize, b: u8) -> usize
     (h + b as usize) * Mixing::FACTOR % Mixing::NUMBERS
 }
 
-// Can a byte stand in a name or a symbol? Gaps, commas and parentheses cannot.
-pub fn is_word_byte(b: u8) -> bool
-    ensures { λ r. ⌜ r ≡ isWordByte b ⌝ }
-{
-    if b',' < b {
-        return true;
-    }
-    b == b'%'
-}
-
 // Does a text end before this byte?
 fn ends_at(b: u8, words: bool) -> bool
     ensures { λ r. ⌜ r ≡ not (keeps words b) ⌝ }
 {
     if words {
-        if is_word_byte(b) {
+        if values::is_word_byte(b) {
             return false;
         }
         return true;
@@ -95,7 +84,7 @@ fn ends_at(b: u8, words: bool) -> bool
 pub fn text_byte(s: &[u8], i: usize, words: bool) -> Decoded
     ensures { λ r. ⌜ TextByte words (now (s .entry)) i r ⌝ }
 {
-    let d = lines::value_byte(s, i);
+    let d = values::value_byte(s, i);
     let Decoded::Byte { byte, next } = d else {
         return Decoded::End;
     };
@@ -157,6 +146,26 @@ pub fn compare_words(s: &[u8], i: usize, j: usize) -> Compared
     }
 }
 
+fn first(before: bool) -> Compared
+    ensures { λ r. ⌜ r ≡ firstOf before ⌝ }
+{
+    if before {
+        return Compared::Before;
+    }
+    Compared::Behind
+}
+
+// Which of two values comes first.
+pub fn order_of(l: Likeness) -> Compared
+    ensures { λ r. ⌜ r ≡ orderOf l ⌝ }
+{
+    match l {
+        Likeness::Equal => Compared::Equal,
+        Likeness::Unlike { shorter } => first(shorter),
+        Likeness::Differ { place: _, less } => first(less),
+    }
+}
+
 // Where the text of an entry stands.
 pub fn place(x: u32) -> usize
     ensures { λ r. ⌜ r ≡ x % 65536 ⌝ }
@@ -183,7 +192,7 @@ fn compare_texts(s: &[u8], i: usize, j: usize, words: bool) -> Compared {
     if s.len() < j {
         return Compared::Equal;
     }
-    ends::order(ends::compare(&s[i..], &s[j..]))
+    order_of(values::compare(&s[i..], &s[j..]))
 }
 
 // For the sort alone: by these bits, then by text, then by all that stands above the place. Nothing is said of the answer.

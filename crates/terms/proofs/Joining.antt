@@ -9,7 +9,7 @@ use lib.ListN.{length, getD, set, drop, drop-of-length-le}
 use lib.Seq.{getD-set-same, getD-set-other}
 use Rattle.format.specs.Bytes.{Bytes}
 use Rattle.sorting.specs.declared.Compared.{Compared}
-use Rattle.sorting.proofs.Tests.{dec-lt}
+use Rattle.values.proofs.Tests.{dec-lt}
 use Rattle.terms.specs.Sets.{inSet, Answers}
 use Rattle.terms.specs.Entries.{tagOf, wordAt, termsOf}
 use Rattle.terms.specs.Order.{ranked, Rising, Low}

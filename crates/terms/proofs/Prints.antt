@@ -12,7 +12,7 @@ use lib.ListN.{length, getD, set, take}
 use lib.Seq.{getD-set-same, getD-set-other, getD-take, length-take-le, take-suc-set}
 use Rattle.format.specs.Bytes.{Bytes}
 use Rattle.sorting.specs.Texts.{textAt}
-use Rattle.sorting.proofs.Tests.{by-bool}
+use Rattle.values.proofs.Tests.{by-bool}
 use Rattle.terms.specs.Sets.{termOf}
 use Rattle.terms.specs.Entries.{printOf, entryOf, wordAt, termAt, termsOf, IsEntry, Entries}
 

@@ -9,7 +9,7 @@ use lib.ListN.{length, getD, take, drop, drop-of-length-le, length-drop}
 use lib.Seq.{getD-take, getD-drop, length-take-le}
 use Rattle.format.specs.Bytes.{Bytes}
 use Rattle.sorting.specs.declared.Compared.{Compared}
-use Rattle.sorting.proofs.Tests.{dec-lt}
+use Rattle.values.proofs.Tests.{dec-lt}
 use Rattle.terms.specs.Sets.{inSet, says, Answers}
 use Rattle.terms.specs.Entries.{tagOf, wordAt, termAt, termsOf}
 use Rattle.terms.specs.Order.{ranked, NotBehind, Rising, Low}

@@ -9,7 +9,7 @@ use borrow.Author.Tests.{eqb-true, eqb-false, eq-eqb, ne-eqb}
 use lib.Dec.{eqb}
 use lib.Bits.{bitOr, or-step, shifted-half, shifted-even}
 use lib.Pow.{shr-shr, shl-exact}
-use Rattle.sorting.proofs.Tests.{by-bool}
+use Rattle.values.proofs.Tests.{by-bool}
 use Rattle.terms.specs.Sets.{inSet}
 
 -- the lowest bit, and the others

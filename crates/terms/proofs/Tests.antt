@@ -8,7 +8,7 @@ use lib.Dec.{eqb}
 use lib.ListN.{length, getD, take, drop, take-append-drop}
 use Rattle.format.specs.Bytes.{Bytes, any, same}
 use Rattle.lines.proofs.Cuts.{at-cons}
-use Rattle.sorting.proofs.Tests.{same-self, same-apart}
+use Rattle.values.proofs.Tests.{same-self, same-apart}
 use Rattle.terms.specs.Sets.{Term, says, tagged}
 use Rattle.terms.specs.Entries.{wordAt, termAt, termsOf}
 

@@ -13,9 +13,9 @@ ghost use Rattle.terms.specs.Entries.{printOf, entryOf, tagOf, wordAt, t
 ghost use Rattle.terms.specs.Order.{ranked, NotBehind, Rising, Low, IsTable, Holds};
 ghost use Rattle.terms.specs.Joined.{TagsFrom, Joined, IsJoined};
 use format::Record;
-use lines::Decoded;
 use sorting::Compared;
 use sorting::Mixing;
+use values::Decoded;
 
 fn wide(x: u32) -> u64
     ensures { λ r. ⌜ r ≡ x ⌝ }

@@ -63,12 +63,12 @@ fn dump_record(s: &[u8])
 // The value that begins where s does, with a plus and a space behind each newline inside.
 fn dump_value(s: &[u8]) {
     let mut value = io::buffer();
-    let n = lines::value_len(s);
+    let n = values::value_len(s);
     if Record::VALUE < n {
         io::write_all(1, b" (over 4,096 bytes)");
         return;
     }
-    lines::copy_value(s, &mut value);
+    values::copy_value(s, &mut value);
     if 0 < n {
         io::write_all(1, b" ");
     }

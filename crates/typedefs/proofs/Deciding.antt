@@ -12,7 +12,7 @@ use Rattle.format.specs.Numbers.{intBounds}
 use Rattle.format.specs.Records.{Record}
 use Rattle.format.specs.Sets.{valuesOf}
 use Rattle.format.specs.Rules.{typedNames, endKind, reserved, isTypedefName, distinct, areTypesDefined}
-use Rattle.lines.specs.Value.{valueFrom}
+use Rattle.values.specs.Value.{valueFrom}
 use Rattle.lines.specs.Line.{run}
 use Rattle.lines.proofs.Cuts.{at-cons, rest as rest-all}
 use Rattle.words.specs.Spans.{span, notByte}

@@ -10,7 +10,7 @@ use lib.Dec.{eqb}
 use lib.ListN.{length, take, getD, set}
 use lib.Seq.{take-suc-set, getD-set-same, getD-set-other}
 use Rattle.format.specs.Bytes.{Bytes, all}
-use Rattle.sorting.proofs.Tests.{by-bool}
+use Rattle.values.proofs.Tests.{by-bool}
 use Rattle.typedefs.specs.Walks.{fits}
 use Rattle.typedefs.specs.Typedefs.{IsTypedef, Typed}
 use Rattle.typedefs.specs.declared.Target.{Target}

@@ -11,7 +11,7 @@ use types.Run.{OneOf, miss}
 use Rattle.format.specs.Bytes.{Bytes, text, pick, same, among, all}
 use Rattle.format.specs.Words.{firstWord}
 use Rattle.format.specs.Rules.{isTypedefName, distinct}
-use Rattle.lines.specs.Value.{valueFrom}
+use Rattle.values.specs.Value.{valueFrom}
 use Rattle.words.specs.Spans.{span, nextWord}
 use Rattle.words.specs.declared.Word.{Word}
 use Rattle.words.proofs.Finding.{firstBy, first-at}

@@ -12,12 +12,12 @@ use lib.Seq.{drop-nil, getD-drop, getD-set-same, getD-set-other}
 use Rattle.format.specs.Lists.{front, behind}
 use Rattle.format.specs.Bytes.{Bytes, text, all}
 use Rattle.format.specs.Words.{isGap, notGap, firstWord, isTypeName}
-use Rattle.lines.specs.Value.{valueFrom}
-use Rattle.lines.proofs.Decoding.{nothing-at}
+use Rattle.values.specs.Value.{valueFrom}
+use Rattle.values.proofs.Decoding.{nothing-at}
 use Rattle.words.specs.Spans.{span}
 use Rattle.records.specs.Places.{isReadable}
 use Rattle.sorting.specs.Texts.{textAt}
-use Rattle.sorting.proofs.Tests.{by-bool, dec-lt}
+use Rattle.values.proofs.Tests.{by-bool, dec-lt}
 use Rattle.terms.specs.Sets.{termOf, tagged}
 use Rattle.terms.specs.Entries.{termAt, termsOf, IsEntry, Entries}
 use Rattle.terms.specs.Order.{Holds}

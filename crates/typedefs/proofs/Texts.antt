@@ -11,9 +11,10 @@ use Rattle.format.specs.Lists.{front}
 use Rattle.format.specs.Bytes.{Bytes, isLetter, all}
 use Rattle.format.specs.Lines.{isFirst, isLater, isName}
 use Rattle.format.specs.Words.{isGap, notGap, isTypeName}
-use Rattle.lines.specs.Value.{valueFrom}
-use Rattle.sorting.specs.Texts.{isWordByte, textAt}
-use Rattle.sorting.proofs.Tests.{by-bool, dec-lt}
+use Rattle.values.specs.Value.{valueFrom}
+use Rattle.values.specs.Stretches.{isWordByte}
+use Rattle.sorting.specs.Texts.{textAt}
+use Rattle.values.proofs.Tests.{by-bool, dec-lt}
 use Rattle.sorting.proofs.Texts.{front-narrow}
 
 -- bytes of words

@@ -7,7 +7,7 @@ use Rattle.format.specs.Bytes.{Bytes, text}
 use Rattle.format.specs.Words.{afterWord}
 use Rattle.format.specs.Numbers.{intBounds}
 use Rattle.format.specs.Types.{typeOf}
-use Rattle.lines.specs.Value.{valueFrom}
+use Rattle.values.specs.Value.{valueFrom}
 use Rattle.records.specs.Named.{valuesFrom}
 use Rattle.typing.specs.Meaning.{Told}
 use Rattle.typedefs.specs.Walks.{namesFrom}

@@ -12,7 +12,7 @@ ghost use Rattle.format.specs.Limits.{fileBytes, typedefs};
 ghost use Rattle.format.specs.Words.{firstWord, afterWord, split, isTypeName};
 ghost use Rattle.format.specs.Numbers.{intBounds};
 ghost use Rattle.format.specs.Rules.{reserved, isTypedefName, distinct, typedNames, areTypesDefined};
-ghost use Rattle.lines.specs.Value.{valueFrom};
+ghost use Rattle.values.specs.Value.{valueFrom};
 ghost use Rattle.records.specs.Places.{isReadable};
 ghost use Rattle.terms.specs.Adding.{Adding};
 ghost use Rattle.records.specs.Named.{valuesFrom};
@@ -26,6 +26,7 @@ use records::FoundField;
 use terms::Table;
 use typing::Shape;
 use typing::TypeOf;
+use values::Stretch;
 use words::Word;
 
 // The place behind the first word of a text.
@@ -65,7 +66,7 @@ fn add_names(d: &[u8], entries: &mut [u32]) -> Places
             return Places { rows, count };
         };
         let a = i + value;
-        let at = records::pass(d, a, true);
+        let at = values::pass(d, a, Stretch::Gaps);
         rows[count] = a;
         entries[count] = terms::entry(d, at, count as u32);
         count += 1;
@@ -160,7 +161,7 @@ pub fn read_typedef(d: &[u8], names: Names, value: usize, scratch: &mut [u8]) ->
     requires { ⌜ (value ≤ length (now d)) × (length (valueFrom (drop value (now d))) ≤ length (now scratch)) ⌝ }
     ensures { λ r. ⌜ IsTypedef (now (d .entry)) value r ⌝ }
 {
-    let n = lines::copy_value(&d[value..], &mut *scratch);
+    let n = values::copy_value(&d[value..], &mut *scratch);
     let at = behind_word(&scratch[..n]);
     let kind = typing::type_of(&scratch[at..n]);
     let target = target_in(d, names, &scratch[at..n], kind);
@@ -338,7 +339,7 @@ fn names_good(d: &[u8], scratch: &mut [u8]) -> bool
         else {
             return true;
         };
-        let n = lines::copy_value(&d[i + value..i + end], &mut *scratch);
+        let n = values::copy_value(&d[i + value..i + end], &mut *scratch);
         if !name_good(&scratch[..n]) {
             return false;
         }
@@ -364,7 +365,7 @@ fn name_alone(d: &[u8], names: Names, k: usize, scratch: &mut [u8]) -> bool
 {
     let places = names.places;
     let value = places[k];
-    let n = lines::copy_value(&d[value..], &mut *scratch);
+    let n = values::copy_value(&d[value..], &mut *scratch);
     let t = first_index(d, names, k + 1, &scratch[..n]);
     match t {
         Target::Missing => true,
@@ -423,7 +424,7 @@ fn type_well(d: &[u8], names: Names, targets: Targets, value: usize, scratch: &m
     requires { ⌜ (value ≤ length (now d)) × (length (valueFrom (drop value (now d))) ≤ length (now scratch)) ⌝ }
     ensures { λ r. ⌜ r ≡ wellBy (namesFrom (now (d .entry)) 0) (targetsIn targets) (valueFrom (drop value (now (d .entry)))) ⌝ }
 {
-    let n = lines::copy_value(&d[value..], &mut *scratch);
+    let n = values::copy_value(&d[value..], &mut *scratch);
     if !names_well(&scratch[..n]) {
         return false;
     }

@@ -21,7 +21,8 @@ use Rattle.lines.proofs.Heads.{run-more}
 use Rattle.words.specs.Spans.{span}
 use Rattle.words.proofs.Finding.{run-le, run-passes, run-ends, byte-inside}
 use Rattle.typing.specs.Meaning.{isRead, symbolsIn}
-use Rattle.typing.specs.Symbols.{notParen, isPlain, wordsIn, symbolsOf, withWord, NextSymbol, areSymbols, isEnum}
+use Rattle.values.specs.Stretches.{notParen}
+use Rattle.typing.specs.Symbols.{isPlain, wordsIn, symbolsOf, withWord, NextSymbol, areSymbols, isEnum}
 use Rattle.typing.specs.declared.symbols.Symbol.{Symbol}
 
 -- the words from an index on, and the end of the run of bytes that pass a test from there on

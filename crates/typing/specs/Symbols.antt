@@ -1,19 +1,16 @@
 -- The words of the text behind the word `enum`, comments read as blanks.
 use Prim.Native.Nat.{ℕ, _≤_, _<_}
 use mathlib.Core.Path.{_≡_}
-use mathlib.Core.Bool.{Bool, false, _&&_, _||_, not}
+use mathlib.Core.Bool.{Bool, false, _&&_}
 use mathlib.Core.List.{List, [], _∷_}
 use mathlib.Core.Option.{Option, none, some}
-use lib.Dec.{eqb}
 use lib.ListN.{length}
 use Rattle.format.specs.Bytes.{Bytes, all}
 use Rattle.format.specs.Words.{notGap, words}
 use Rattle.format.specs.Types.{uncomment, isSymbol}
 use Rattle.words.specs.Spans.{span}
+use Rattle.values.specs.Stretches.{notParen}
 use Rattle.typing.specs.declared.symbols.Symbol.{Symbol}
-
-abbrev pub notParen : ℕ → Bool
-notParen c = not (eqb c 40 || eqb c 41)
 
 abbrev pub isPlain : ℕ → Bool
 isPlain c = notGap c && notParen c

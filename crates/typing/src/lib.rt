@@ -2,11 +2,13 @@
 use numbers::Whole;
 
 mod kinds;
+mod met;
 mod symbols;
-mod values;
 
 pub use kinds::type_of;
-pub use values::meets;
+pub use met::is_between;
+pub use met::is_int;
+pub use met::meets;
 
 // A type's text, read once: where the text behind the word `enum` stands in it, and where a typedef's name does.
 pub enum Shape {

@@ -7,7 +7,8 @@ ghost use Rattle.format.specs.Bytes.{classTable, all, among};
 ghost use Rattle.format.specs.Types.{uncomment, isSymbolByte, isSymbol};
 ghost use Rattle.lines.specs.Line.{run};
 ghost use Rattle.typing.specs.Meaning.{isRead, symbolsIn};
-ghost use Rattle.typing.specs.Symbols.{notParen, isPlain, symbolsOf, NextSymbol, areSymbols, isEnum};
+ghost use Rattle.values.specs.Stretches.{notParen};
+ghost use Rattle.typing.specs.Symbols.{isPlain, symbolsOf, NextSymbol, areSymbols, isEnum};
 use format::Class;
 
 // May a symbol go on with this byte?

@@ -2,7 +2,7 @@
 use Prim.Native.Nat.{_-_}
 use native.Mathlib.Omega.{arith}
 use mathlib.Core.Path.{sym, ap, _∙_}
-use Rattle.lines.specs.Value.{valueFrom}
+use Rattle.values.specs.Value.{valueFrom}
 use Rattle.words.proofs.Decoded.{decoded-all, decoded-length}
 use Rattle.columns.specs.Meets.{rowsMet}
 use Rattle.columns.proofs.Rows.{all-asked}
@@ -12,10 +12,10 @@ use Rattle.columns.proofs.value_met.Statement.{statement}
 use Rattle.columns.proofs.value_met.Tie as tie
 use Rattle.columns.proofs.value_met.Reads as reads
 use Rattle.columns.proofs.value_met.Lts as lts
-use Rattle.columns.proofs.readings.int_in.Reads as int-in-reads
+use Rattle.values.proofs.int_in.Reads as int-in-reads
 use Rattle.columns.proofs.rows_met.Reads as rows-met-reads
 use Rattle.columns.proofs.texts_with.Reads as texts-with-reads
-use Rattle.lines.proofs.copy_value.Reads as copy-value-reads
+use Rattle.values.proofs.copy_value.Reads as copy-value-reads
 
 returns : tie.Need-returns
 returns c =

@@ -3,14 +3,14 @@ use borrow.Author.Needs.{needs}
 use Prim.Native.Nat.{_-_}
 use native.Mathlib.Omega.{arith}
 use lib.ListN.{length}
-use Rattle.dictionary.proofs.Parts.{behind-told}
+use Rattle.values.proofs.Parts.{behind-told}
 use Rattle.dictionary.proofs.Reading.{NamesLeft, names-start, names-there, names-room, names-end, names-more}
 use Rattle.dictionary.proofs.add_names.Statement.{statement}
 use Rattle.dictionary.proofs.add_names.Tie as tie
 use Rattle.dictionary.proofs.add_names.Reads as reads
 use Rattle.dictionary.proofs.add_names.Lts as lts
-use Rattle.dictionary.proofs.lists.part_next.Reads as part-next-reads
-use Rattle.records.proofs.pass.Reads as pass-reads
+use Rattle.values.proofs.part_next.Reads as part-next-reads
+use Rattle.values.proofs.pass.Reads as pass-reads
 use Rattle.terms.proofs.entry.Reads as entry-reads
 
 abbrev Inv-loop : tie.InvT-loop

@@ -5,13 +5,13 @@ use native.Mathlib.Omega.{arith}
 use mathlib.Core.Path.{_≡_, refl, _∙_}
 use lib.ListN.{length, drop, length-map}
 use Rattle.format.specs.Rules.{typedNames}
-use Rattle.lines.specs.Value.{valueFrom}
+use Rattle.values.specs.Value.{valueFrom}
 use Rattle.terms.specs.Sets.{termOf}
 use Rattle.format.specs.Bytes.{text}
 use Rattle.records.specs.Named.{valuesFrom}
 use Rattle.records.proofs.Readings.{part-readable}
 use Rattle.records.proofs.Named.{value-told}
-use Rattle.sorting.proofs.Tests.{dec-lt}
+use Rattle.values.proofs.Tests.{dec-lt}
 use Rattle.terms.specs.Adding.{Adding}
 use Rattle.dictionary.specs.Terms.{rowTerms}
 use Rattle.terms.proofs.Adding.{adding-start}

@@ -4,7 +4,7 @@ use Prim.Native.Nat.{_-_, _≤_, _<_}
 use native.Mathlib.Omega.{arith}
 use mathlib.Core.Path.{_≡_, refl, sym, _∙_}
 use lib.ListN.{length, getD, length-map}
-use Rattle.sorting.proofs.Tests.{dec-lt}
+use Rattle.values.proofs.Tests.{dec-lt}
 use Rattle.terms.specs.Sets.{termOf}
 use Rattle.terms.specs.Adding.{Adding}
 use Rattle.terms.proofs.Adding.{adding-start}

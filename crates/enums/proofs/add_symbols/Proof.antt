@@ -4,15 +4,15 @@ use Prim.Native.Nat.{_-_}
 use native.Mathlib.Omega.{arith}
 use mathlib.Core.Path.{sym, _∙_}
 use lib.ListN.{length}
-use Rattle.lines.proofs.Decoding.{ended, goes-on}
+use Rattle.values.proofs.Decoding.{ended, goes-on}
 use Rattle.enums.proofs.Reading.{SymbolsLeft, symbols-start, symbols-end, symbols-gap, comment-sound, symbols-comment, symbols-room, symbols-more}
 use Rattle.enums.proofs.add_symbols.Statement.{statement}
 use Rattle.enums.proofs.add_symbols.Tie as tie
 use Rattle.enums.proofs.add_symbols.Reads as reads
 use Rattle.enums.proofs.add_symbols.Lts as lts
-use Rattle.lines.proofs.value_byte.Reads as value-byte-reads
+use Rattle.values.proofs.value_byte.Reads as value-byte-reads
 use Rattle.enums.proofs.comment_end.Reads as comment-end-reads
-use Rattle.enums.proofs.pass.Reads as pass-reads
+use Rattle.values.proofs.pass.Reads as pass-reads
 use Rattle.enums.proofs.symbols_start.Reads as symbols-start-reads
 use Rattle.terms.proofs.entry.Reads as entry-reads
 use Rattle.words.proofs.is_gap.Reads as is-gap-reads

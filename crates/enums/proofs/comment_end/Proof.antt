@@ -1,14 +1,14 @@
 -- `enums::comment_end` meets its contract: the comment is closed where a parenthesis stands.
 use native.Mathlib.Omega.{arith}
-use Rattle.lines.proofs.Decoding.{ended, goes-on}
+use Rattle.values.proofs.Decoding.{ended, goes-on}
 use Rattle.enums.proofs.Reading.{never-open, comment-ends}
 use borrow.Author.Needs.{needs}
 use Rattle.enums.proofs.comment_end.Statement.{statement}
 use Rattle.enums.proofs.comment_end.Tie as tie
 use Rattle.enums.proofs.comment_end.Reads as reads
 use Rattle.enums.proofs.comment_end.Lts as lts
-use Rattle.lines.proofs.value_byte.Reads as value-byte-reads
-use Rattle.enums.proofs.pass.Reads as pass-reads
+use Rattle.values.proofs.value_byte.Reads as value-byte-reads
+use Rattle.values.proofs.pass.Reads as pass-reads
 
 pass-requires : tie.Need-pass-requires
 pass-requires c κs =

@@ -8,8 +8,7 @@ use Rattle.enums.proofs.symbols_start.Statement.{statement}
 use Rattle.enums.proofs.symbols_start.Tie as tie
 use Rattle.enums.proofs.symbols_start.Reads as reads
 use Rattle.enums.proofs.symbols_start.Lts as lts
-use Rattle.records.proofs.pass.Reads as pass-reads
-use Rattle.enums.proofs.pass.Reads as pass-reads′
+use Rattle.values.proofs.pass.Reads as pass-reads
 
 pass-requires : tie.Need-pass-requires
 pass-requires c κs =

@@ -12,7 +12,7 @@ use Rattle.keys.proofs.alike.Statement.{statement}
 use Rattle.keys.proofs.alike.Tie as tie
 use Rattle.keys.proofs.alike.Reads as reads
 use Rattle.keys.proofs.alike.Lts as lts
-use Rattle.sorting.proofs.ends.are_equal.Reads as are-equal-reads
+use Rattle.values.proofs.are_equal.Reads as are-equal-reads
 use Rattle.sorting.proofs.place.Reads as place-reads
 
 returns : tie.Need-returns

@@ -1,7 +1,7 @@
 -- `keys::compare_entries` meets its contract: the numbers decide, else the values.
 use native.Mathlib.Omega.{arith}
 use mathlib.Core.Path.{sym, ap, ap₂, _∙_}
-use Rattle.sorting.specs.Likeness.{likenessOf}
+use Rattle.values.specs.Likeness.{likenessOf}
 use Rattle.sorting.specs.Order.{orderOf}
 use Rattle.keys.specs.Marks.{markAt}
 use Rattle.keys.proofs.Prints.{value-part}
@@ -11,8 +11,8 @@ use Rattle.keys.proofs.compare_entries.Statement.{statement}
 use Rattle.keys.proofs.compare_entries.Tie as tie
 use Rattle.keys.proofs.compare_entries.Reads as reads
 use Rattle.keys.proofs.compare_entries.Lts as lts
-use Rattle.sorting.proofs.ends.compare.Reads as compare-reads
-use Rattle.sorting.proofs.ends.order.Reads as order-reads
+use Rattle.values.proofs.compare.Reads as compare-reads
+use Rattle.sorting.proofs.order_of.Reads as order-of-reads
 use Rattle.sorting.proofs.place.Reads as place-reads
 
 returns : tie.Need-returns
@@ -54,20 +54,20 @@ part-compare-end-2 c = search needs
 compare-requires : tie.Need-compare-requires
 compare-requires c κs = search needs
 
-order-requires : tie.Need-order-requires
-order-requires c κs = search needs
+order-of-requires : tie.Need-order-of-requires
+order-of-requires c κs = search needs
 
 returns-3 : tie.Need-returns-3
 returns-3 c =
     let at-args = c .before .before .before .before .before .before .before .before .before .args in
     let at-place = c .before .before .before .before .before .place in
     let at-place2 = c .before .before .before .before .place2 in
-    let at-order = c .order in
+    let at-order-of = c .order-of in
     let at-compare = c .before .compare in
     let at-pre = c .before .before .before .before .before .before .before .before .before .pre in
     let s = at-args .s .now in
     let e = ap₂ likenessOf (value-part s (at-place .result) (at-args .x) (at-place .ensures)) (value-part s (at-place2 .result) (at-args .y) (at-place2 .ensures)) in
-    at-order .ensures ∙ ap orderOf (at-compare .ensures ∙ e) ∙ sym (ranked-on (markAt s (at-args .x)) (markAt s (at-args .y)) (omega arith))
+    at-order-of .ensures ∙ ap orderOf (at-compare .ensures ∙ e) ∙ sym (ranked-on (markAt s (at-args .x)) (markAt s (at-args .y)) (omega arith))
 
 pub compare-entries-spec : {M : Type 1} → statement M
 compare-entries-spec =
@@ -84,5 +84,5 @@ compare-entries-spec =
     part-compare-start-2
     part-compare-end-2
     compare-requires
-    order-requires
+    order-of-requires
     returns-3)

@@ -3,7 +3,7 @@ use Prim.Native.Nat.{ℕ, _/_}
 use native.Mathlib.Omega.{arith}
 use mathlib.Core.Path.{_≡_, ap, _∙_}
 use lib.ListN.{drop}
-use Rattle.lines.specs.Value.{valueFrom}
+use Rattle.values.specs.Value.{valueFrom}
 use Rattle.sorting.specs.Texts.{mixed}
 use Rattle.sorting.proofs.Texts.{text-whole}
 use Rattle.keys.specs.Keys.{printOf}

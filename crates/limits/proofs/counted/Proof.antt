@@ -2,7 +2,7 @@
 use native.Mathlib.Omega.{arith}
 use mathlib.Core.Path.{refl, sym, _∙_}
 use Rattle.format.specs.Bytes.{text}
-use Rattle.lines.specs.Value.{valueFrom}
+use Rattle.values.specs.Value.{valueFrom}
 use Rattle.words.specs.RuleNames.{ruleNames}
 use Rattle.words.proofs.RuleNames.{is-placed, not-placed}
 use Rattle.limits.specs.Counts.{countOn}
@@ -12,7 +12,7 @@ use Rattle.limits.proofs.counted.Statement.{statement}
 use Rattle.limits.proofs.counted.Tie as tie
 use Rattle.limits.proofs.counted.Reads as reads
 use Rattle.limits.proofs.counted.Lts as lts
-use Rattle.limits.proofs.count_words.Reads as count-words-reads
+use Rattle.values.proofs.count_words.Reads as count-words-reads
 use Rattle.words.proofs.rule_of.Reads as rule-of-reads
 
 rule-of-requires : tie.Need-rule-of-requires

@@ -9,7 +9,7 @@ use Rattle.limits.proofs.value_bound.Statement.{statement}
 use Rattle.limits.proofs.value_bound.Tie as tie
 use Rattle.limits.proofs.value_bound.Reads as reads
 use Rattle.limits.proofs.value_bound.Lts as lts
-use Rattle.lines.proofs.value_len.Reads as value-len-reads
+use Rattle.values.proofs.value_len.Reads as value-len-reads
 
 returns : tie.Need-returns
 returns c =

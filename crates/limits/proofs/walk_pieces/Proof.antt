@@ -10,7 +10,7 @@ use lib.Dec.{leb, eqb}
 use lib.ListN.{length, take, drop}
 use Rattle.format.specs.Bytes.{text, same}
 use Rattle.format.specs.Limits.{recordFields, nameBytes, valueBytes}
-use Rattle.lines.specs.Value.{valueFrom}
+use Rattle.values.specs.Value.{valueFrom}
 use Rattle.lines.proofs.Cuts.{rest, ended-drop}
 use Rattle.records.specs.Places.{isReadable}
 use Rattle.records.proofs.Looks.{looks}

@@ -13,7 +13,7 @@ use Rattle.limits.proofs.with_field.Reads as reads
 use Rattle.limits.proofs.with_field.Lts as lts
 use Rattle.limits.proofs.first_place.Reads as first-place-reads
 use Rattle.lines.proofs.is_special.Reads as is-special-reads
-use Rattle.limits.proofs.one_if.Reads as one-if-reads
+use Rattle.lines.proofs.one_if.Reads as one-if-reads
 use Rattle.records.proofs.is_rec.Reads as is-rec-reads
 
 first-place-requires : tie.Need-first-place-requires

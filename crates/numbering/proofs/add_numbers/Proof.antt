@@ -7,6 +7,7 @@ use Rattle.format.specs.Pieces.{readOf}
 use Rattle.format.proofs.Records.{records}
 use Rattle.records.specs.Named.{NamedNext}
 use Rattle.requests.specs.Pairs.{pairsAt}
+use Rattle.dictionary.proofs.Granted.{auto-lists}
 use Rattle.numbering.proofs.Completing.{none-added}
 use borrow.Author.Needs.{needs}
 use Rattle.numbering.proofs.add_numbers.Statement.{statement}
@@ -14,8 +15,8 @@ use Rattle.numbering.proofs.add_numbers.Tie as tie
 use Rattle.numbering.proofs.add_numbers.Reads as reads
 use Rattle.numbering.proofs.add_numbers.Lts as lts
 use Rattle.numbering.proofs.add_listed.Reads as add-listed-reads
-use Rattle.numbering.proofs.listed.read.Reads as read-reads
 use Rattle.records.proofs.next_named.Reads as next-named-reads
+use Rattle.dictionary.proofs.wordsets.list.Reads as list-reads
 
 slice-aggregate-next-named : tie.Need-slice-aggregate-next-named
 slice-aggregate-next-named c = search needs
@@ -38,14 +39,20 @@ returns c =
     let at-next-named = c .before .before .next-named in
     ([], (none-added (at-args .d .now) (records (readOf (at-args .part .now))) (pairsAt (at-args .req .now) (at-args .from)) (subst (NamedNext (at-args .d .now) (text "%auto") 0) (at-enum-told2 .given .1) (at-next-named .ensures) .value), record { len-is = refl; inside = omega arith; text = refl; short = refl }))
 
-read-requires : tie.Need-read-requires
-read-requires c κs = search needs
+slice-aggregate-list : tie.Need-slice-aggregate-list
+slice-aggregate-list c = search needs
+
+list-requires : tie.Need-list-requires
+list-requires c κs =
+    let at-pre = c .before .before .before .before .before .before .before .before .before .pre in
+    let at-args = c .before .before .before .before .before .before .before .before .before .args in
+    (at-pre .0 .0, auto-lists (at-args .d .now) (at-pre .0 .0))
 
 add-listed-requires : tie.Need-add-listed-requires
 add-listed-requires c κs =
-    let at-pre = c .before .before .before .before .before .before .before .before .before .before .pre in
-    let at-read = c .before .read in
-    ((at-pre .0 .0, at-read .ensures, at-pre .0 .1), (at-pre .1 .0, at-pre .1 .1))
+    let at-pre = c .before .before .before .before .before .before .before .before .before .before .before .pre in
+    let at-list = c .before .list in
+    ((at-pre .0 .0, at-list .ensures, at-pre .0 .1), (at-pre .1 .0, at-pre .1 .1))
 
 same-length : tie.Need-same-length
 same-length c = search needs
@@ -62,7 +69,8 @@ add-numbers-spec =
     enum-told
     enum-told-2
     returns
-    read-requires
+    slice-aggregate-list
+    list-requires
     add-listed-requires
     same-length
     returns-2)

@@ -2,15 +2,16 @@
 use mathlib.Core.Path.{sym, _∙_, subst}
 use Rattle.format.specs.Bytes.{text}
 use Rattle.records.specs.Named.{NamedNext}
+use Rattle.dictionary.proofs.Granted.{auto-lists}
 use Rattle.numbering.proofs.Counted.{autos-counted, none-counted-all}
 use borrow.Author.Needs.{needs}
 use Rattle.numbering.proofs.autos_counted.Statement.{statement}
 use Rattle.numbering.proofs.autos_counted.Tie as tie
 use Rattle.numbering.proofs.autos_counted.Reads as reads
 use Rattle.numbering.proofs.autos_counted.Lts as lts
-use Rattle.numbering.proofs.listed.read.Reads as read-reads
 use Rattle.numbering.proofs.types.types_counted.Reads as types-counted-reads
 use Rattle.records.proofs.next_named.Reads as next-named-reads
+use Rattle.dictionary.proofs.wordsets.list.Reads as list-reads
 
 slice-aggregate-next-named : tie.Need-slice-aggregate-next-named
 slice-aggregate-next-named c = search needs
@@ -33,8 +34,14 @@ returns c =
     let at-next-named = c .before .before .next-named in
     none-counted-all (at-args .d .now) (subst (NamedNext (at-args .d .now) (text "%auto") 0) (at-enum-told2 .given .1) (at-next-named .ensures) .value)
 
-read-requires : tie.Need-read-requires
-read-requires c κs = search needs
+slice-aggregate-list : tie.Need-slice-aggregate-list
+slice-aggregate-list c = search needs
+
+list-requires : tie.Need-list-requires
+list-requires c κs =
+    let at-pre = c .before .before .before .before .before .before .before .pre in
+    let at-args = c .before .before .before .before .before .before .before .args in
+    (at-pre .0, auto-lists (at-args .d .now) (at-pre .0))
 
 types-counted-requires : tie.Need-types-counted-requires
 types-counted-requires c κs = search needs
@@ -45,8 +52,8 @@ same-length c = search needs
 returns-2 : tie.Need-returns-2
 returns-2 c =
     let at-types-counted = c .before .before .types-counted in
-    let at-args = c .before .before .before .before .before .before .before .before .before .before .before .args in
-    let at-pre = c .before .before .before .before .before .before .before .before .before .before .before .pre in
+    let at-args = c .before .before .before .before .before .before .before .before .before .before .before .before .args in
+    let at-pre = c .before .before .before .before .before .before .before .before .before .before .before .before .pre in
     at-types-counted .ensures ∙ sym (autos-counted (at-args .d .now) (at-pre .0))
 
 pub autos-counted-spec : {M : Type 1} → statement M
@@ -58,7 +65,8 @@ autos-counted-spec =
     enum-told
     enum-told-2
     returns
-    read-requires
+    slice-aggregate-list
+    list-requires
     types-counted-requires
     same-length
     returns-2)

@@ -9,7 +9,7 @@ use Rattle.records.proofs.opens_set.Tie as tie
 use Rattle.records.proofs.opens_set.Reads as reads
 use Rattle.records.proofs.opens_set.Lts as lts
 use Rattle.records.proofs.find_field.Reads as find-field-reads
-use Rattle.records.proofs.values.word_is.Reads as word-is-reads
+use Rattle.values.proofs.word_is.Reads as word-is-reads
 
 slice-aggregate-find-field : tie.Need-slice-aggregate-find-field
 slice-aggregate-find-field c = search needs

@@ -6,7 +6,7 @@ use mathlib.Core.Path.{ap, subst}
 use mathlib.Core.List.{List, []}
 use lib.ListN.{length, getD}
 use Rattle.format.specs.Bytes.{Bytes, text}
-use Rattle.lines.specs.Value.{valueFrom}
+use Rattle.values.specs.Value.{valueFrom}
 use Rattle.words.specs.Spans.{span}
 use Rattle.words.proofs.Decoded.{decoded-all, decoded-length, decoded-inside}
 use Rattle.words.proofs.Finding.{found, not-found}
@@ -19,7 +19,7 @@ use Rattle.rules.proofs.keys_apart.Statement.{statement}
 use Rattle.rules.proofs.keys_apart.Tie as tie
 use Rattle.rules.proofs.keys_apart.Reads as reads
 use Rattle.rules.proofs.keys_apart.Lts as lts
-use Rattle.lines.proofs.copy_value.Reads as copy-value-reads
+use Rattle.values.proofs.copy_value.Reads as copy-value-reads
 use Rattle.keys.proofs.keys_distinct.Reads as keys-distinct-reads
 use Rattle.records.proofs.next_named.Reads as next-named-reads
 use Rattle.words.proofs.next_word.Reads as next-word-reads

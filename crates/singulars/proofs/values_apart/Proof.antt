@@ -7,7 +7,8 @@ use Rattle.records.specs.Walk.{recordIn}
 use Rattle.records.specs.Named.{NamedNext}
 use Rattle.singulars.specs.Gathered.{GatheredAs}
 use Rattle.singulars.specs.declared.Gathered.{Gathered}
-use Rattle.singulars.proofs.Lists.{singular-few, singular-names, none-singular}
+use Rattle.dictionary.proofs.Granted.{singular-lists}
+use Rattle.singulars.proofs.Lists.{none-singular}
 use Rattle.singulars.proofs.Marks.{marks-distinct}
 use Rattle.singulars.proofs.Room.{many-alike}
 use borrow.Author.Needs.{needs}
@@ -15,10 +16,10 @@ use Rattle.singulars.proofs.values_apart.Statement.{statement}
 use Rattle.singulars.proofs.values_apart.Tie as tie
 use Rattle.singulars.proofs.values_apart.Reads as reads
 use Rattle.singulars.proofs.values_apart.Lts as lts
-use Rattle.dictionary.proofs.wordsets.read.Reads as read-reads
 use Rattle.keys.proofs.distinct_marks.Reads as distinct-marks-reads
 use Rattle.records.proofs.next_named.Reads as next-named-reads
 use Rattle.singulars.proofs.gather.Reads as gather-reads
+use Rattle.dictionary.proofs.wordsets.list.Reads as list-reads
 
 slice-aggregate-next-named : tie.Need-slice-aggregate-next-named
 slice-aggregate-next-named c = search needs
@@ -41,26 +42,14 @@ returns c =
     let at-next-named = c .before .before .next-named in
     none-singular (at-args .d .now) (at-args .s .now) (subst (NamedNext (at-args .d .now) (text "%singular") 0) (at-enum-told2 .given .1) (at-next-named .ensures) .value)
 
-slice-aggregate-read : tie.Need-slice-aggregate-read
-slice-aggregate-read c = search needs
+slice-aggregate-list : tie.Need-slice-aggregate-list
+slice-aggregate-list c = search needs
 
-slice-aggregate-read-2 : tie.Need-slice-aggregate-read-2
-slice-aggregate-read-2 c = search needs
-
-slice-aggregate-read-3 : tie.Need-slice-aggregate-read-3
-slice-aggregate-read-3 c = search needs
-
-read-requires : tie.Need-read-requires
-read-requires c κs =
-    let at-pre = c .before .before .before .before .before .before .before .before .before .before .pre in
-    let at-args = c .before .before .before .before .before .before .before .before .before .before .args in
-    ((at-pre .0 .reads, at-pre .0 .short), ((singular-few (at-args .d .now) (at-pre .0), omega arith, omega arith), singular-names (at-args .d .now) (at-pre .0)))
-
-slice-aggregate-gather : tie.Need-slice-aggregate-gather
-slice-aggregate-gather c = search needs
-
-slice-aggregate-gather-2 : tie.Need-slice-aggregate-gather-2
-slice-aggregate-gather-2 c = search needs
+list-requires : tie.Need-list-requires
+list-requires c κs =
+    let at-pre = c .before .before .before .before .before .before .before .before .pre in
+    let at-args = c .before .before .before .before .before .before .before .before .args in
+    (at-pre .0, singular-lists (at-args .d .now) (at-pre .0))
 
 gather-requires : tie.Need-gather-requires
 gather-requires c κs = search needs
@@ -70,10 +59,10 @@ enum-known-g c = search needs
 
 distinct-marks-requires : tie.Need-distinct-marks-requires
 distinct-marks-requires c κs =
-    let at-args = c .before .before .before .before .before .before .before .before .before .before .before .before .before .before .before .before .before .before .before .before .before .before .before .args in
+    let at-args = c .before .before .before .before .before .before .before .before .before .before .before .before .before .before .before .before .before .args in
     let at-gather = c .before .before .before .before .before .before .gather in
     let at-g = c .before .before .g in
-    let g = subst (λ (x : Gathered). GatheredAs (singular (recordIn (at-args .d .now))) (at-args .s .now) (recordIn (at-args .s .now)) (at-gather .last .1 .1 .1 .1 .1 .0) x) (at-g .given .1) (at-gather .ensures) in
+    let g = subst (λ (x : Gathered). GatheredAs (singular (recordIn (at-args .d .now))) (at-args .s .now) (recordIn (at-args .s .now)) (at-gather .last .1 .1 .1 .0) x) (at-g .given .1) (at-gather .ensures) in
     (g .0, g .1)
 
 enum-told-3 : tie.Need-enum-told-3
@@ -84,11 +73,11 @@ same-length c = search needs
 
 returns-2 : tie.Need-returns-2
 returns-2 c =
-    let at-args = c .before .before .before .before .before .before .before .before .before .before .before .before .before .before .before .before .before .before .before .before .before .before .before .before .before .before .args in
+    let at-args = c .before .before .before .before .before .before .before .before .before .before .before .before .before .before .before .before .before .before .before .before .args in
     let at-gather = c .before .before .before .before .before .before .before .before .before .gather in
     let at-g = c .before .before .before .before .before .g in
     let at-distinct-marks = c .before .before .distinct-marks in
-    let g = subst (λ (x : Gathered). GatheredAs (singular (recordIn (at-args .d .now))) (at-args .s .now) (recordIn (at-args .s .now)) (at-gather .last .1 .1 .1 .1 .1 .0) x) (at-g .given .1) (at-gather .ensures) in
+    let g = subst (λ (x : Gathered). GatheredAs (singular (recordIn (at-args .d .now))) (at-args .s .now) (recordIn (at-args .s .now)) (at-gather .last .1 .1 .1 .0) x) (at-g .given .1) (at-gather .ensures) in
     at-distinct-marks .ensures ∙ ap distinct (g .2) ∙ marks-distinct (singular (recordIn (at-args .d .now))) (recordIn (at-args .s .now))
 
 same-length-2 : tie.Need-same-length-2
@@ -96,13 +85,13 @@ same-length-2 c = search needs
 
 returns-3 : tie.Need-returns-3
 returns-3 c =
-    let at-args = c .before .before .before .before .before .before .before .before .before .before .before .before .before .before .before .before .before .before .before .before .before .args in
+    let at-args = c .before .before .before .before .before .before .before .before .before .before .before .before .before .before .before .args in
     let at-gather = c .before .before .before .before .gather in
     let at-enum-told3 = c .enum-told3 in
-    let at-pre = c .before .before .before .before .before .before .before .before .before .before .before .before .before .before .before .before .before .before .before .before .before .pre in
+    let at-pre = c .before .before .before .before .before .before .before .before .before .before .before .before .before .before .before .pre in
     let at-entries = c .before .before .before .entries in
-    let g = subst (λ (x : Gathered). GatheredAs (singular (recordIn (at-args .d .now))) (at-args .s .now) (recordIn (at-args .s .now)) (at-gather .last .1 .1 .1 .1 .1 .0) x) (at-enum-told3 .given .1) (at-gather .ensures) in
-    sym (many-alike (singular (recordIn (at-args .d .now))) (at-args .s .now) (at-pre .1 .0 .0) (at-pre .1 .0 .1) (singular-few (at-args .d .now) (at-pre .0)) (omega (arith, g, at-entries .given, at-pre .1 .1)))
+    let g = subst (λ (x : Gathered). GatheredAs (singular (recordIn (at-args .d .now))) (at-args .s .now) (recordIn (at-args .s .now)) (at-gather .last .1 .1 .1 .0) x) (at-enum-told3 .given .1) (at-gather .ensures) in
+    sym (many-alike (singular (recordIn (at-args .d .now))) (at-args .s .now) (at-pre .1 .0 .0) (at-pre .1 .0 .1) (singular-lists (at-args .d .now) (at-pre .0) .few) (omega (arith, g, at-entries .given, at-pre .1 .1)))
 
 pub values-apart-spec : {M : Type 1} → statement M
 values-apart-spec =
@@ -113,12 +102,8 @@ values-apart-spec =
     enum-told
     enum-told-2
     returns
-    slice-aggregate-read
-    slice-aggregate-read-2
-    slice-aggregate-read-3
-    read-requires
-    slice-aggregate-gather
-    slice-aggregate-gather-2
+    slice-aggregate-list
+    list-requires
     gather-requires
     enum-known-g
     distinct-marks-requires

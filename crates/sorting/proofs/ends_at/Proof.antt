@@ -1,13 +1,13 @@
 -- `sorting::ends_at` meets its contract: words end before bytes of no word, values before none.
 use mathlib.Core.Path.{sym, ap, _∙_}
 use mathlib.Core.Bool.{Bool, _||_, not}
-use Rattle.sorting.specs.Texts.{isWordByte}
+use Rattle.values.specs.Stretches.{isWordByte}
 use borrow.Author.Needs.{needs}
 use Rattle.sorting.proofs.ends_at.Statement.{statement}
 use Rattle.sorting.proofs.ends_at.Tie as tie
 use Rattle.sorting.proofs.ends_at.Reads as reads
 use Rattle.sorting.proofs.ends_at.Lts as lts
-use Rattle.sorting.proofs.is_word_byte.Reads as is-word-byte-reads
+use Rattle.values.proofs.is_word_byte.Reads as is-word-byte-reads
 
 is-word-byte-requires : tie.Need-is-word-byte-requires
 is-word-byte-requires c κs = search needs

@@ -1,13 +1,13 @@
 -- `sorting::text_byte` meets its contract: a text goes on with the value's next byte, or ends before it.
 use mathlib.Core.Path.{sym, _∙_}
-use Rattle.lines.proofs.Decoding.{ended, goes-on}
+use Rattle.values.proofs.Decoding.{ended, goes-on}
 use Rattle.sorting.proofs.Texts.{text-ended, text-stop, text-on}
 use borrow.Author.Needs.{needs}
 use Rattle.sorting.proofs.text_byte.Statement.{statement}
 use Rattle.sorting.proofs.text_byte.Tie as tie
 use Rattle.sorting.proofs.text_byte.Reads as reads
 use Rattle.sorting.proofs.text_byte.Lts as lts
-use Rattle.lines.proofs.value_byte.Reads as value-byte-reads
+use Rattle.values.proofs.value_byte.Reads as value-byte-reads
 use Rattle.sorting.proofs.ends_at.Reads as ends-at-reads
 
 value-byte-requires : tie.Need-value-byte-requires

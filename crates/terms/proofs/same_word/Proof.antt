@@ -2,7 +2,7 @@
 use mathlib.Core.Path.{sym, ap, _∙_}
 use Rattle.format.specs.Bytes.{same}
 use Rattle.terms.specs.Entries.{wordAt}
-use Rattle.sorting.proofs.Tests.{same-self, same-apart}
+use Rattle.values.proofs.Tests.{same-self, same-apart}
 use Rattle.terms.proofs.Order.{ranked-apart, ranked-same, ranked-behind}
 use borrow.Author.Needs.{needs}
 use Rattle.terms.proofs.same_word.Statement.{statement}

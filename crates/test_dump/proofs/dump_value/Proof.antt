@@ -7,8 +7,8 @@ use Rattle.test_dump.proofs.dump_value.Reads as reads
 use Rattle.test_dump.proofs.dump_value.Lts as lts
 use Rattle.io.proofs.buffer.Reads as buffer-reads
 use Rattle.io.proofs.write_all.Reads as write-all-reads
-use Rattle.lines.proofs.copy_value.Reads as copy-value-reads
-use Rattle.lines.proofs.value_len.Reads as value-len-reads
+use Rattle.values.proofs.copy_value.Reads as copy-value-reads
+use Rattle.values.proofs.value_len.Reads as value-len-reads
 
 abbrev Inv-loop : tie.InvT-loop
 Inv-loop s value n i₀ t8 i = i ≤ n

@@ -13,7 +13,7 @@ use Rattle.typedefs.proofs.add_names.Statement.{statement}
 use Rattle.typedefs.proofs.add_names.Tie as tie
 use Rattle.typedefs.proofs.add_names.Reads as reads
 use Rattle.typedefs.proofs.add_names.Lts as lts
-use Rattle.records.proofs.pass.Reads as pass-reads
+use Rattle.values.proofs.pass.Reads as pass-reads
 use Rattle.terms.proofs.entry.Reads as entry-reads
 use Rattle.records.proofs.next_named.Reads as next-named-reads
 

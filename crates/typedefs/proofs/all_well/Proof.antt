@@ -7,7 +7,7 @@ use mathlib.Core.Bool.{Bool, true, _&&_}
 use borrow.Author.Tests.{not-true, not-false}
 use lib.ListN.{length, drop}
 use Rattle.format.specs.Bytes.{text, all}
-use Rattle.lines.specs.Value.{valueFrom}
+use Rattle.values.specs.Value.{valueFrom}
 use Rattle.words.specs.Spans.{span}
 use Rattle.records.specs.Places.{isReadable}
 use Rattle.records.specs.Named.{valuesFrom}

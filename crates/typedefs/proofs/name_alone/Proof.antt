@@ -6,7 +6,7 @@ use mathlib.Core.List.{[]}
 use lib.ListN.{length, drop, getD}
 use Rattle.format.specs.Bytes.{Bytes}
 use Rattle.format.specs.Words.{firstWord}
-use Rattle.lines.specs.Value.{valueFrom}
+use Rattle.values.specs.Value.{valueFrom}
 use Rattle.lines.proofs.Cuts.{rest}
 use Rattle.words.specs.Spans.{span}
 use Rattle.words.proofs.Decoded.{decoded-all, decoded-length, decoded-inside}
@@ -20,7 +20,7 @@ use Rattle.typedefs.proofs.name_alone.Statement.{statement}
 use Rattle.typedefs.proofs.name_alone.Tie as tie
 use Rattle.typedefs.proofs.name_alone.Reads as reads
 use Rattle.typedefs.proofs.name_alone.Lts as lts
-use Rattle.lines.proofs.copy_value.Reads as copy-value-reads
+use Rattle.values.proofs.copy_value.Reads as copy-value-reads
 use Rattle.typedefs.proofs.first_index.Reads as first-index-reads
 
 mul-value : tie.Need-mul-value

@@ -10,7 +10,7 @@ use lib.ListN.{length, drop}
 use Rattle.format.specs.Bytes.{Bytes, text, all}
 use Rattle.format.specs.Words.{firstWord}
 use Rattle.format.specs.Rules.{isTypedefName}
-use Rattle.lines.specs.Value.{valueFrom}
+use Rattle.values.specs.Value.{valueFrom}
 use Rattle.words.specs.Spans.{span}
 use Rattle.words.proofs.Decoded.{decoded-all, decoded-length, decoded-inside}
 use Rattle.records.specs.Places.{isReadable}
@@ -24,7 +24,7 @@ use Rattle.typedefs.proofs.names_good.Statement.{statement}
 use Rattle.typedefs.proofs.names_good.Tie as tie
 use Rattle.typedefs.proofs.names_good.Reads as reads
 use Rattle.typedefs.proofs.names_good.Lts as lts
-use Rattle.lines.proofs.copy_value.Reads as copy-value-reads
+use Rattle.values.proofs.copy_value.Reads as copy-value-reads
 use Rattle.typedefs.proofs.name_good.Reads as name-good-reads
 use Rattle.records.proofs.next_named.Reads as next-named-reads
 

@@ -7,7 +7,7 @@ use Rattle.format.specs.Bytes.{Bytes}
 use Rattle.format.specs.Words.{afterWord}
 use Rattle.format.specs.Numbers.{intBounds}
 use Rattle.format.specs.Types.{typeOf}
-use Rattle.lines.specs.Value.{valueFrom}
+use Rattle.values.specs.Value.{valueFrom}
 use Rattle.lines.proofs.Cuts.{rest}
 use Rattle.words.specs.Spans.{span}
 use Rattle.words.proofs.Decoded.{decoded-length, decoded-after, decoded-inside}
@@ -19,7 +19,7 @@ use Rattle.typedefs.proofs.read_typedef.Statement.{statement}
 use Rattle.typedefs.proofs.read_typedef.Tie as tie
 use Rattle.typedefs.proofs.read_typedef.Reads as reads
 use Rattle.typedefs.proofs.read_typedef.Lts as lts
-use Rattle.lines.proofs.copy_value.Reads as copy-value-reads
+use Rattle.values.proofs.copy_value.Reads as copy-value-reads
 use Rattle.typedefs.proofs.behind_word.Reads as behind-word-reads
 use Rattle.typedefs.proofs.target_in.Reads as target-in-reads
 use Rattle.typing.proofs.type_of.Reads as type-of-reads

@@ -8,7 +8,7 @@ use lib.ListN.{length, drop}
 use Rattle.format.specs.Bytes.{Bytes, all}
 use Rattle.format.specs.Lines.{isName}
 use Rattle.format.specs.Rules.{typedNames}
-use Rattle.lines.specs.Value.{valueFrom}
+use Rattle.values.specs.Value.{valueFrom}
 use Rattle.lines.proofs.Cuts.{rest}
 use Rattle.words.specs.Spans.{span}
 use Rattle.words.proofs.Decoded.{decoded-all, decoded-length, decoded-inside}
@@ -19,7 +19,7 @@ use Rattle.typedefs.proofs.type_well.Statement.{statement}
 use Rattle.typedefs.proofs.type_well.Tie as tie
 use Rattle.typedefs.proofs.type_well.Reads as reads
 use Rattle.typedefs.proofs.type_well.Lts as lts
-use Rattle.lines.proofs.copy_value.Reads as copy-value-reads
+use Rattle.values.proofs.copy_value.Reads as copy-value-reads
 use Rattle.typedefs.proofs.names_well.Reads as names-well-reads
 use Rattle.typedefs.proofs.read_typedef.Reads as read-typedef-reads
 use Rattle.typedefs.proofs.target_ends.Reads as target-ends-reads

@@ -9,8 +9,8 @@ use Rattle.columns.proofs.readings.shape_met.Statement.{statement}
 use Rattle.columns.proofs.readings.shape_met.Tie as tie
 use Rattle.columns.proofs.readings.shape_met.Reads as reads
 use Rattle.columns.proofs.readings.shape_met.Lts as lts
-use Rattle.columns.proofs.readings.is_between.Reads as is-between-reads
-use Rattle.columns.proofs.readings.is_int.Reads as is-int-reads
+use Rattle.typing.proofs.is_between.Reads as is-between-reads
+use Rattle.typing.proofs.is_int.Reads as is-int-reads
 use Rattle.typing.proofs.meets.Reads as meets-reads
 
 enum-told : tie.Need-enum-told

@@ -6,7 +6,7 @@ use lib.ListN.{take}
 use Rattle.format.specs.Pieces.{readOf}
 use Rattle.format.specs.Records.{fieldsOf}
 use Rattle.format.specs.Words.{firstWord}
-use Rattle.lines.specs.Value.{valueFrom}
+use Rattle.values.specs.Value.{valueFrom}
 use Rattle.words.specs.Spans.{span}
 use Rattle.descriptors.specs.Names.{namesAt}
 use Rattle.words.proofs.Decoded.{decoded-all, decoded-length, decoded-inside, scratch-length}
@@ -18,7 +18,7 @@ use Rattle.descriptors.proofs.shapes.head_of.Statement.{statement}
 use Rattle.descriptors.proofs.shapes.head_of.Tie as tie
 use Rattle.descriptors.proofs.shapes.head_of.Reads as reads
 use Rattle.descriptors.proofs.shapes.head_of.Lts as lts
-use Rattle.lines.proofs.copy_value.Reads as copy-value-reads
+use Rattle.values.proofs.copy_value.Reads as copy-value-reads
 use Rattle.descriptors.proofs.shapes.is_taken.Reads as is-taken-reads
 use Rattle.descriptors.proofs.shapes.rec_value.Reads as rec-value-reads
 use Rattle.descriptors.proofs.shapes.well_formed.Reads as well-formed-reads

@@ -13,7 +13,7 @@ use Rattle.descriptors.proofs.shapes.is_named.Statement.{statement}
 use Rattle.descriptors.proofs.shapes.is_named.Tie as tie
 use Rattle.descriptors.proofs.shapes.is_named.Reads as reads
 use Rattle.descriptors.proofs.shapes.is_named.Lts as lts
-use Rattle.records.proofs.word_is.Reads as word-is-reads
+use Rattle.values.proofs.word_is.Reads as word-is-reads
 
 abbrev Inv-loop : tie.InvT-loop
 Inv-loop s starts ends word k₀ k = (k ≤ length starts) × Inside s (drop k starts) (drop k ends) × (among word (namesAt s starts ends) ≡ among word (namesAt s (drop k starts) (drop k ends)))

@@ -1,6 +1,6 @@
 -- `descriptors::shapes::value_holds` meets its contract: nothing is asked, or the scratch holds the value, which is what is asked.
 use mathlib.Core.Path.{refl, sym, ap, _∙_}
-use Rattle.lines.specs.Value.{valueFrom}
+use Rattle.values.specs.Value.{valueFrom}
 use Rattle.descriptors.specs.Contents.{holds}
 use Rattle.words.proofs.Decoded.{decoded-all, decoded-length, scratch-length}
 use Rattle.descriptors.proofs.Contents.{free-holds}
@@ -11,7 +11,7 @@ use Rattle.descriptors.proofs.shapes.value_holds.Reads as reads
 use Rattle.descriptors.proofs.shapes.value_holds.Lts as lts
 use Rattle.descriptors.proofs.shapes.is_free.Reads as is-free-reads
 use Rattle.descriptors.proofs.shapes.text_holds.Reads as text-holds-reads
-use Rattle.lines.proofs.copy_value.Reads as copy-value-reads
+use Rattle.values.proofs.copy_value.Reads as copy-value-reads
 
 is-free-requires : tie.Need-is-free-requires
 is-free-requires c κs = search needs

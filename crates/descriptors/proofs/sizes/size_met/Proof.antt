@@ -12,7 +12,7 @@ use Rattle.format.specs.Limits.{valueBytes}
 use Rattle.format.specs.Numbers.{intBounds}
 use Rattle.format.specs.Rules.{sizeRule, meetsSize}
 use Rattle.format.specs.Words.{words}
-use Rattle.lines.specs.Value.{valueFrom}
+use Rattle.values.specs.Value.{valueFrom}
 use Rattle.words.specs.Spans.{span}
 use Rattle.records.specs.Places.{isReadable}
 use Rattle.records.specs.Walk.{recordIn}

@@ -7,7 +7,7 @@ use Rattle.format.specs.Bytes.{Bytes}
 use Rattle.format.specs.Numbers.{intBounds}
 use Rattle.format.specs.Rules.{sizeRule, meetsSize}
 use Rattle.format.specs.Words.{words}
-use Rattle.lines.specs.Value.{valueFrom}
+use Rattle.values.specs.Value.{valueFrom}
 use Rattle.words.proofs.Decoded.{decoded-all, decoded-length, scratch-length}
 use borrow.Author.Needs.{needs}
 use Rattle.descriptors.proofs.sizes.value_met.Statement.{statement}
@@ -16,7 +16,7 @@ use Rattle.descriptors.proofs.sizes.value_met.Reads as reads
 use Rattle.descriptors.proofs.sizes.value_met.Lts as lts
 use Rattle.descriptors.proofs.sizes.size_holds.Reads as size-holds-reads
 use Rattle.descriptors.proofs.sizes.size_rule.Reads as size-rule-reads
-use Rattle.lines.proofs.copy_value.Reads as copy-value-reads
+use Rattle.values.proofs.copy_value.Reads as copy-value-reads
 
 copy-value-requires : tie.Need-copy-value-requires
 copy-value-requires c κs = search needs

@@ -3,13 +3,13 @@ use borrow.Author.Needs.{needs}
 use Prim.Native.Nat.{_-_}
 use native.Mathlib.Omega.{arith}
 use lib.ListN.{length}
-use Rattle.dictionary.proofs.Splitting.{cuts-told}
+use Rattle.values.proofs.Splitting.{cuts-told}
 use Rattle.dictionary.proofs.Places.{ValueLeft, value-start, value-end, value-few, value-room, value-more}
 use Rattle.dictionary.proofs.wordsets.add_value.Statement.{statement}
 use Rattle.dictionary.proofs.wordsets.add_value.Tie as tie
 use Rattle.dictionary.proofs.wordsets.add_value.Reads as reads
 use Rattle.dictionary.proofs.wordsets.add_value.Lts as lts
-use Rattle.dictionary.proofs.lists.next_word.Reads as next-word-reads
+use Rattle.values.proofs.next_word.Reads as next-word-reads
 use Rattle.terms.proofs.entry.Reads as entry-reads
 
 abbrev Inv-loop : tie.InvT-loop

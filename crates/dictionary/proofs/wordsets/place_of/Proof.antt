@@ -1,39 +1,37 @@
--- `dictionary::wordsets::place_of` meets its contract: what the table answers is the set of the name's places in the list.
+-- `dictionary::wordsets::place_of` meets its contract: the first of the name's places.
 use mathlib.Core.Path.{_∙_}
 use native.Mathlib.Omega.{arith}
-use Rattle.dictionary.proofs.Finding.{places-found}
 use Rattle.dictionary.proofs.FirstPlaces.{place-found, none-found}
+use borrow.Author.Needs.{needs}
 use Rattle.dictionary.proofs.wordsets.place_of.Statement.{statement}
 use Rattle.dictionary.proofs.wordsets.place_of.Tie as tie
 use Rattle.dictionary.proofs.wordsets.place_of.Reads as reads
 use Rattle.dictionary.proofs.wordsets.place_of.Lts as lts
 use Rattle.dictionary.proofs.wordsets.first_place.Reads as first-place-reads
-use Rattle.terms.proofs.find_joined.Reads as find-joined-reads
+use Rattle.dictionary.proofs.wordsets.places.Reads as places-reads
 
-find-joined-requires : tie.Need-find-joined-requires
-find-joined-requires c κs =
-    let at-pre = c .before .before .before .before .before .pre in
-    at-pre .1 .table
+places-requires : tie.Need-places-requires
+places-requires c κs = search needs
 
 returns : tie.Need-returns
 returns c =
-    let at-args = c .before .before .before .before .before .before .before .args in
-    let at-find-joined = c .before .find-joined in
+    let at-args = c .before .before .before .before .before .args in
+    let at-places = c .before .before .places in
     let at-if1 = c .if1 in
-    λ ws h. h .count ∙ none-found ws (at-args .name .now) (at-find-joined .result) (places-found (at-args .d .now) ws (at-args .entries .now) (at-args .sets .now) (at-args .w) h (at-args .name .now) (at-find-joined .result) (at-find-joined .ensures)) (at-if1 .taken)
+    λ ws h. h .count ∙ none-found ws (at-args .name .now) (at-places .result) (at-places .ensures ws h) (at-if1 .taken)
 
 first-place-requires : tie.Need-first-place-requires
 first-place-requires c κs =
-    let at-pre = c .before .before .before .before .before .before .before .pre in
+    let at-pre = c .before .before .before .before .before .pre in
     omega (arith, at-pre .1 .few, at-pre .1 .count)
 
 returns-2 : tie.Need-returns-2
 returns-2 c =
     let at-first-place = c .first-place in
-    let at-args = c .before .before .before .before .before .before .before .before .args in
-    let at-find-joined = c .before .before .find-joined in
+    let at-args = c .before .before .before .before .before .before .args in
+    let at-places = c .before .before .before .places in
     let f = at-first-place .ensures in
-    λ ws h. place-found ws (at-args .name .now) (at-find-joined .result) (places-found (at-args .d .now) ws (at-args .entries .now) (at-args .sets .now) (at-args .w) h (at-args .name .now) (at-find-joined .result) (at-find-joined .ensures)) (at-first-place .result) (omega (arith, f .0, h .count)) (λ l. f .1 (omega (arith, l, h .count))) (f .2)
+    λ ws h. place-found ws (at-args .name .now) (at-places .result) (at-places .ensures ws h) (at-first-place .result) (omega (arith, f .0, h .count)) (λ l. f .1 (omega (arith, l, h .count))) (f .2)
 
 pub place-of-spec : {M : Type 1} → statement M
-place-of-spec = tie.close (tie.spec find-joined-requires returns first-place-requires returns-2)
+place-of-spec = tie.close (tie.spec places-requires returns first-place-requires returns-2)

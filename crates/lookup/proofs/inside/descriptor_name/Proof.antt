@@ -8,7 +8,7 @@ use Rattle.format.specs.Bytes.{Bytes, text}
 use Rattle.format.specs.Calls.{Answer}
 use Rattle.format.specs.Sets.{valuesOf}
 use Rattle.format.specs.Words.{notGap}
-use Rattle.lines.specs.Value.{valueFrom}
+use Rattle.values.specs.Value.{valueFrom}
 use Rattle.records.specs.Walk.{recordIn}
 use Rattle.records.proofs.Fields.{field-told}
 use Rattle.lookup.proofs.Names.{titled-none, titled-long, titled-first}
@@ -17,10 +17,10 @@ use Rattle.lookup.proofs.inside.descriptor_name.Statement.{statement}
 use Rattle.lookup.proofs.inside.descriptor_name.Tie as tie
 use Rattle.lookup.proofs.inside.descriptor_name.Reads as reads
 use Rattle.lookup.proofs.inside.descriptor_name.Lts as lts
-use Rattle.lookup.proofs.inside.copy_word.Reads as copy-word-reads
-use Rattle.lookup.proofs.inside.word_len.Reads as word-len-reads
+use Rattle.values.proofs.copy_word.Reads as copy-word-reads
+use Rattle.values.proofs.word_len.Reads as word-len-reads
 use Rattle.records.proofs.find_field.Reads as find-field-reads
-use Rattle.records.proofs.word_start.Reads as word-start-reads
+use Rattle.values.proofs.word_start.Reads as word-start-reads
 
 slice-aggregate-find-field : tie.Need-slice-aggregate-find-field
 slice-aggregate-find-field c = search needs

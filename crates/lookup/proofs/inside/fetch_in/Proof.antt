@@ -16,8 +16,8 @@ use Rattle.lookup.proofs.inside.fetch_in.Statement.{statement}
 use Rattle.lookup.proofs.inside.fetch_in.Tie as tie
 use Rattle.lookup.proofs.inside.fetch_in.Reads as reads
 use Rattle.lookup.proofs.inside.fetch_in.Lts as lts
-use Rattle.lines.proofs.copy_value.Reads as copy-value-reads
-use Rattle.lines.proofs.value_len.Reads as value-len-reads
+use Rattle.values.proofs.copy_value.Reads as copy-value-reads
+use Rattle.values.proofs.value_len.Reads as value-len-reads
 use Rattle.records.proofs.find_field.Reads as find-field-reads
 use Rattle.records.proofs.find_record.Reads as find-record-reads
 use Rattle.records.proofs.find_head.Reads as find-head-reads

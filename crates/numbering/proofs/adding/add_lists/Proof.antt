@@ -9,7 +9,7 @@ use lib.ListN.{length, drop, take}
 use Rattle.format.specs.Bytes.{Bytes, text}
 use Rattle.format.specs.Words.{words as wordsOf}
 use Rattle.format.specs.Rules.{auto}
-use Rattle.lines.specs.Value.{valueFrom}
+use Rattle.values.specs.Value.{valueFrom}
 use Rattle.lines.proofs.Cuts.{rest}
 use Rattle.words.specs.Spans.{span}
 use Rattle.words.proofs.Decoded.{decoded-all, decoded-length, decoded-inside}
@@ -24,7 +24,7 @@ use Rattle.numbering.proofs.adding.add_lists.Statement.{statement}
 use Rattle.numbering.proofs.adding.add_lists.Tie as tie
 use Rattle.numbering.proofs.adding.add_lists.Reads as reads
 use Rattle.numbering.proofs.adding.add_lists.Lts as lts
-use Rattle.lines.proofs.copy_value.Reads as copy-value-reads
+use Rattle.values.proofs.copy_value.Reads as copy-value-reads
 use Rattle.numbering.proofs.adding.add_words.Reads as add-words-reads
 use Rattle.records.proofs.next_named.Reads as next-named-reads
 

@@ -17,23 +17,17 @@ use Rattle.numbering.proofs.adding.put_number.Reads as put-number-reads
 use Rattle.numbering.proofs.adding.stays_short.Reads as stays-short-reads
 use Rattle.terms.proofs.has.Reads as has-reads
 
-slice-aggregate-place-of : tie.Need-slice-aggregate-place-of
-slice-aggregate-place-of c = search needs
-
-slice-aggregate-place-of-2 : tie.Need-slice-aggregate-place-of-2
-slice-aggregate-place-of-2 c = search needs
-
 place-of-requires : tie.Need-place-of-requires
 place-of-requires c κs =
-    let at-args = c .before .before .before .before .before .before .before .args in
-    let at-pre = c .before .before .before .before .before .before .before .pre in
+    let at-args = c .before .before .before .args in
+    let at-pre = c .before .before .before .pre in
     (auto (recordIn (at-args .d .now)), at-pre .0)
 
 has-requires : tie.Need-has-requires
 has-requires c κs =
-    let at-args = c .before .before .before .before .before .before .before .before .args in
+    let at-args = c .before .before .before .before .args in
     let at-place-of = c .place-of in
-    let at-pre = c .before .before .before .before .before .before .before .before .pre in
+    let at-pre = c .before .before .before .before .pre in
     let ws = auto (recordIn (at-args .d .now)) in
     let f = pairBy ws (at-args .bounds .floors) (at-args .bounds .limits) in
     let p = at-place-of .ensures ws (at-pre .0) in
@@ -42,9 +36,9 @@ has-requires c κs =
 
 returns : tie.Need-returns
 returns c =
-    let at-args = c .before .before .before .before .before .before .before .before .before .before .args in
+    let at-args = c .before .before .before .before .before .before .args in
     let at-place-of = c .before .before .place-of in
-    let at-pre = c .before .before .before .before .before .before .before .before .before .before .pre in
+    let at-pre = c .before .before .before .before .before .before .pre in
     let at-has = c .before .has in
     let at-if1 = c .if1 in
     let ws = auto (recordIn (at-args .d .now)) in
@@ -55,9 +49,9 @@ returns c =
 
 mul-number : tie.Need-mul-number
 mul-number c =
-    let at-args = c .before .before .before .before .before .before .before .before .before .before .before .before .args in
+    let at-args = c .before .before .before .before .before .before .before .before .args in
     let at-place-of = c .before .before .before .before .place-of in
-    let at-pre = c .before .before .before .before .before .before .before .before .before .before .before .before .pre in
+    let at-pre = c .before .before .before .before .before .before .before .before .pre in
     let ws = auto (recordIn (at-args .d .now)) in
     let f = pairBy ws (at-args .bounds .floors) (at-args .bounds .limits) in
     let p = at-place-of .ensures ws (at-pre .0) in
@@ -66,9 +60,9 @@ mul-number c =
 
 array-read-number : tie.Need-array-read-number
 array-read-number c =
-    let at-args = c .before .before .before .before .before .before .before .before .before .before .before .before .args in
+    let at-args = c .before .before .before .before .before .before .before .before .args in
     let at-place-of = c .before .before .before .before .place-of in
-    let at-pre = c .before .before .before .before .before .before .before .before .before .before .before .before .pre in
+    let at-pre = c .before .before .before .before .before .before .before .before .pre in
     let ws = auto (recordIn (at-args .d .now)) in
     let f = pairBy ws (at-args .bounds .floors) (at-args .bounds .limits) in
     let p = at-place-of .ensures ws (at-pre .0) in
@@ -77,9 +71,9 @@ array-read-number c =
 
 mul-if2 : tie.Need-mul-if2
 mul-if2 c =
-    let at-args = c .before .before .before .before .before .before .before .before .before .before .before .before .args in
+    let at-args = c .before .before .before .before .before .before .before .before .args in
     let at-place-of = c .before .before .before .before .place-of in
-    let at-pre = c .before .before .before .before .before .before .before .before .before .before .before .before .pre in
+    let at-pre = c .before .before .before .before .before .before .before .before .pre in
     let ws = auto (recordIn (at-args .d .now)) in
     let f = pairBy ws (at-args .bounds .floors) (at-args .bounds .limits) in
     let p = at-place-of .ensures ws (at-pre .0) in
@@ -88,9 +82,9 @@ mul-if2 c =
 
 array-read-if2 : tie.Need-array-read-if2
 array-read-if2 c =
-    let at-args = c .before .before .before .before .before .before .before .before .before .before .before .before .args in
+    let at-args = c .before .before .before .before .before .before .before .before .args in
     let at-place-of = c .before .before .before .before .place-of in
-    let at-pre = c .before .before .before .before .before .before .before .before .before .before .before .before .pre in
+    let at-pre = c .before .before .before .before .before .before .before .before .pre in
     let ws = auto (recordIn (at-args .d .now)) in
     let f = pairBy ws (at-args .bounds .floors) (at-args .bounds .limits) in
     let p = at-place-of .ensures ws (at-pre .0) in
@@ -99,9 +93,9 @@ array-read-if2 c =
 
 returns-2 : tie.Need-returns-2
 returns-2 c =
-    let at-args = c .before .before .before .before .before .before .before .before .before .before .before .before .before .args in
+    let at-args = c .before .before .before .before .before .before .before .before .before .args in
     let at-place-of = c .before .before .before .before .before .place-of in
-    let at-pre = c .before .before .before .before .before .before .before .before .before .before .before .before .before .pre in
+    let at-pre = c .before .before .before .before .before .before .before .before .before .pre in
     let at-has = c .before .before .before .before .has in
     let at-if1 = c .before .before .before .if1 in
     let at-if2 = c .if2 in
@@ -116,9 +110,9 @@ stays-short-requires c κs = search needs
 
 put-number-requires : tie.Need-put-number-requires
 put-number-requires c κs =
-    let at-args = c .before .before .before .before .before .before .before .before .before .before .before .before .before .before .before .args in
+    let at-args = c .before .before .before .before .before .before .before .before .before .before .before .args in
     let at-place-of = c .before .before .before .before .before .before .before .place-of in
-    let at-pre = c .before .before .before .before .before .before .before .before .before .before .before .before .before .before .before .pre in
+    let at-pre = c .before .before .before .before .before .before .before .before .before .before .before .pre in
     let at-if2 = c .before .before .if2 in
     let at-stays-short = c .before .stays-short in
     let ws = auto (recordIn (at-args .d .now)) in
@@ -132,7 +126,7 @@ put-number-requires c κs =
 
 mark-requires : tie.Need-mark-requires
 mark-requires c κs =
-    let at-pre = c .before .before .before .before .before .before .before .before .before .before .before .before .before .before .before .before .before .before .pre in
+    let at-pre = c .before .before .before .before .before .before .before .before .before .before .before .before .before .before .pre in
     at-pre .0
 
 same-length : tie.Need-same-length
@@ -140,9 +134,9 @@ same-length c = search needs
 
 returns-3 : tie.Need-returns-3
 returns-3 c =
-    let at-args = c .before .before .before .before .before .before .before .before .before .before .before .before .before .before .before .before .before .before .before .args in
+    let at-args = c .before .before .before .before .before .before .before .before .before .before .before .before .before .before .before .args in
     let at-place-of = c .before .before .before .before .before .before .before .before .before .before .before .place-of in
-    let at-pre = c .before .before .before .before .before .before .before .before .before .before .before .before .before .before .before .before .before .before .before .pre in
+    let at-pre = c .before .before .before .before .before .before .before .before .before .before .before .before .before .before .before .pre in
     let at-if2 = c .before .before .before .before .before .before .if2 in
     let at-has = c .before .before .before .before .before .before .before .before .before .before .has in
     let at-if1 = c .before .before .before .before .before .before .before .before .before .if1 in
@@ -161,8 +155,6 @@ pub add-word-spec : {M : Type 1} → statement M
 add-word-spec =
     tie.close
     (tie.spec
-    slice-aggregate-place-of
-    slice-aggregate-place-of-2
     place-of-requires
     has-requires
     returns

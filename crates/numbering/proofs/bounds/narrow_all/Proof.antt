@@ -13,7 +13,7 @@ use Rattle.records.proofs.Readings.{part-readable}
 use Rattle.records.proofs.Named.{value-told}
 use Rattle.numbering.proofs.Counted.{TypedFrom, typed-start, typed-here, typed-on}
 use Rattle.numbering.proofs.Narrowing.{TypesLeft, types-start, types-limits, types-end, types-on}
-use Rattle.lines.specs.Value.{valueFrom}
+use Rattle.values.specs.Value.{valueFrom}
 use Rattle.lines.proofs.Cuts.{rest}
 use Rattle.words.specs.RuleNames.{placeIn}
 use Rattle.words.specs.Spans.{span}
@@ -25,7 +25,7 @@ use Rattle.numbering.proofs.bounds.narrow_all.Statement.{statement}
 use Rattle.numbering.proofs.bounds.narrow_all.Tie as tie
 use Rattle.numbering.proofs.bounds.narrow_all.Reads as reads
 use Rattle.numbering.proofs.bounds.narrow_all.Lts as lts
-use Rattle.lines.proofs.copy_value.Reads as copy-value-reads
+use Rattle.values.proofs.copy_value.Reads as copy-value-reads
 use Rattle.numbering.proofs.bounds.narrow.Reads as narrow-reads
 use Rattle.numbering.proofs.types.kind_at.Reads as kind-at-reads
 use Rattle.records.proofs.next_named.Reads as next-named-reads

@@ -5,7 +5,7 @@ use lib.ListN.{length, drop, getD}
 use Rattle.format.specs.Bytes.{Bytes}
 use Rattle.format.specs.Numbers.{intBounds, intOf}
 use Rattle.format.specs.Words.{trim}
-use Rattle.lines.specs.Value.{valueFrom}
+use Rattle.values.specs.Value.{valueFrom}
 use Rattle.lines.proofs.Cuts.{rest}
 use Rattle.words.specs.Spans.{span}
 use Rattle.words.proofs.Decoded.{decoded-all, decoded-length, decoded-inside}
@@ -16,7 +16,7 @@ use Rattle.numbering.proofs.bounds.raise_place.Statement.{statement}
 use Rattle.numbering.proofs.bounds.raise_place.Tie as tie
 use Rattle.numbering.proofs.bounds.raise_place.Reads as reads
 use Rattle.numbering.proofs.bounds.raise_place.Lts as lts
-use Rattle.lines.proofs.copy_value.Reads as copy-value-reads
+use Rattle.values.proofs.copy_value.Reads as copy-value-reads
 use Rattle.numbering.proofs.bounds.exceed_value.Reads as exceed-value-reads
 
 sub-copy-value : tie.Need-sub-copy-value

@@ -5,7 +5,7 @@ use mathlib.Core.Bool.{Bool, _||_, not}
 use lib.ListN.{length, drop}
 use Rattle.format.specs.Bytes.{Bytes, any, among}
 use Rattle.format.specs.Rules.{typedNames, auto}
-use Rattle.lines.specs.Value.{valueFrom}
+use Rattle.values.specs.Value.{valueFrom}
 use Rattle.lines.proofs.Cuts.{rest}
 use Rattle.words.specs.Spans.{span}
 use Rattle.words.proofs.Decoded.{decoded-all, decoded-length, decoded-inside}
@@ -15,7 +15,7 @@ use Rattle.numbering.proofs.types.type_counted.Statement.{statement}
 use Rattle.numbering.proofs.types.type_counted.Tie as tie
 use Rattle.numbering.proofs.types.type_counted.Reads as reads
 use Rattle.numbering.proofs.types.type_counted.Lts as lts
-use Rattle.lines.proofs.copy_value.Reads as copy-value-reads
+use Rattle.values.proofs.copy_value.Reads as copy-value-reads
 use Rattle.numbering.proofs.types.is_counted.Reads as is-counted-reads
 use Rattle.numbering.proofs.types.name_listed.Reads as name-listed-reads
 

@@ -5,7 +5,7 @@ use mathlib.Core.Path.{_≡_, _∙_}
 use lib.ListN.{length}
 use borrow.Rule.Slice.PartMut.{mid-len}
 use Rattle.rules.specs.Tables.{uniqueAt, namesAt, symbolsAt}
-use Rattle.rules.proofs.Granted.{mandatory-names, unique-names, mandatory-few, unique-few}
+use Rattle.dictionary.proofs.Granted.{mandatory-lists, unique-lists}
 use Rattle.rules.proofs.Rulebooks.{mandatory-room, unique-room, with-words, words-length, mandatory-stand, unique-stand, tables-are}
 use borrow.Author.Needs.{needs}
 use Rattle.rules.proofs.tables.read.Statement.{statement}
@@ -43,7 +43,7 @@ read-requires c κs =
     let d = at-args .d .now in
     let l = mandatory-room (at-args .entries .now) (omega (arith, at-pre .1 .0)) in
     let k = mandatory-room (at-args .sets .now) (at-pre .1 .1) in
-    ((at-pre .0 .0 .reads, at-pre .0 .0 .short), ((mandatory-few d (at-pre .0 .0), omega (arith, l), omega (arith, k)), mandatory-names d (at-pre .0 .0)))
+    ((at-pre .0 .0, mandatory-lists d (at-pre .0 .0)), (omega (arith, l), omega (arith, k)))
 
 slice-aggregate-read-2 : tie.Need-slice-aggregate-read-2
 slice-aggregate-read-2 c = search needs
@@ -77,7 +77,7 @@ read-requires-2 c κs =
     let longs : length (at-read .last .1 .1 .1 .0) ≡ uniqueAt = at-read .kept .1 .1 .1 .0 ∙ mandatory-room (at-args .sets .now) (at-pre .1 .1) in
     let l = unique-room (at-args .entries .now) room (at-read .last .1 .1 .0) long in
     let k = unique-room (at-args .sets .now) (at-pre .1 .1) (at-read .last .1 .1 .1 .0) longs in
-    ((at-pre .0 .0 .reads, at-pre .0 .0 .short), ((unique-few d (at-pre .0 .0), omega (arith, l), omega (arith, k)), unique-names d (at-pre .0 .0)))
+    ((at-pre .0 .0, unique-lists d (at-pre .0 .0)), (omega (arith, l), omega (arith, k)))
 
 sub-read-5 : tie.Need-sub-read-5
 sub-read-5 c = search needs

@@ -6,7 +6,8 @@ use native.Mathlib.Omega.{arith}
 use lib.ListN.{length}
 use Rattle.words.proofs.Finding.{byte-inside}
 use Rattle.format.specs.Words.{isGap}
-use Rattle.typing.specs.Symbols.{notParen, isPlain}
+use Rattle.values.specs.Stretches.{notParen}
+use Rattle.typing.specs.Symbols.{isPlain}
 use Rattle.typing.proofs.Comments.{end-at, end-le, Reached, gaps-reached, comment-reached, comment-wrong, close-wrong, word-reached, end-reached}
 use Rattle.typing.proofs.symbols.next_symbol.Statement.{statement}
 use Rattle.typing.proofs.symbols.next_symbol.Tie as tie

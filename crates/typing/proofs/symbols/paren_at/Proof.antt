@@ -4,7 +4,7 @@ use mathlib.Core.Path.{_≡_}
 use Prim.Native.Nat.{_+_, _≤_, _-_}
 use native.Mathlib.Omega.{arith}
 use lib.ListN.{length, drop}
-use Rattle.typing.specs.Symbols.{notParen}
+use Rattle.values.specs.Stretches.{notParen}
 use borrow.Author.Tests.{eq-eqb, ne-eqb}
 use Rattle.lines.proofs.Heads.{run-more, run-stop, run-end}
 use Rattle.lines.specs.Line.{run}
