@@ -93,6 +93,33 @@ pub fn places_in(d: &[u8], entries: &[u32], sets: &[u64], w: Words, name: &[u8])
     terms::find_joined(d, entries, t, sets, name)
 }
 
+// The first of some places that is in a set, and their number where none is.
+fn first_place(set: u64, count: usize) -> usize
+    requires { ⌜ count ≤ listWords ⌝ }
+    ensures { λ r. ⌜ (r ≤ count) × (r < count → inSet r set ≡ true) × ((k : ℕ) → k < r → inSet k set ≡ false) ⌝ }
+{
+    let mut k = 0;
+    while k < count {
+        if terms::has(set, k as u64) {
+            return k;
+        }
+        k += 1;
+    }
+    k
+}
+
+// The first of the places at which a name stands in a list, and the list's length where there is none.
+pub fn place_in(d: &[u8], entries: &[u32], sets: &[u64], w: Words, name: &[u8]) -> usize
+    requires { ⌜ ((ws : List Bytes) × IsWords (now d) ws (now entries) (now sets) w) ⌝ }
+    ensures { λ r. ⌜ ((ws : List Bytes) → IsWords (now (d .entry)) ws (now (entries .entry)) (now (sets .entry)) w → r ≡ placeIn (now (name .entry)) ws) ⌝ }
+{
+    let set = places_in(d, entries, sets, w, name);
+    if set == 0 {
+        return w.count;
+    }
+    first_place(set, w.count)
+}
+
 // A list in arrays of its own.
 pub struct Listed {
     pub entries: [u32; Descriptor::WORDS],
@@ -113,42 +140,4 @@ pub fn list(d: &[u8], name: &[u8]) -> Listed
         sets,
         words,
     }
-}
-
-// The places at which a name stands in it.
-pub fn places(d: &[u8], l: Listed, name: &[u8]) -> u64
-    requires { ⌜ ((ws : List Bytes) × IsListed (now d) ws l) ⌝ }
-    ensures { λ r. ⌜ ((ws : List Bytes) → IsListed (now (d .entry)) ws l → Places ws (now (name .entry)) r) ⌝ }
-{
-    let entries = l.entries;
-    let sets = l.sets;
-    places_in(d, &entries, &sets, l.words, name)
-}
-
-// The first of some places that is in a set, and their number where none is.
-fn first_place(set: u64, count: usize) -> usize
-    requires { ⌜ count ≤ listWords ⌝ }
-    ensures { λ r. ⌜ (r ≤ count) × (r < count → inSet r set ≡ true) × ((k : ℕ) → k < r → inSet k set ≡ false) ⌝ }
-{
-    let mut k = 0;
-    while k < count {
-        if terms::has(set, k as u64) {
-            return k;
-        }
-        k += 1;
-    }
-    k
-}
-
-// The first of them, and the list's length where there is none.
-pub fn place_of(d: &[u8], l: Listed, name: &[u8]) -> usize
-    requires { ⌜ ((ws : List Bytes) × IsListed (now d) ws l) ⌝ }
-    ensures { λ r. ⌜ ((ws : List Bytes) → IsListed (now (d .entry)) ws l → r ≡ placeIn (now (name .entry)) ws) ⌝ }
-{
-    let set = places(d, l, name);
-    let w = l.words;
-    if set == 0 {
-        return w.count;
-    }
-    first_place(set, w.count)
 }

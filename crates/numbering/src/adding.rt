@@ -14,13 +14,14 @@ ghost use Rattle.format.specs.Rules.{auto};
 ghost use Rattle.records.specs.Walk.{recordIn};
 ghost use Rattle.requests.specs.Pairs.{pairsFrom, pairsAt};
 ghost use Rattle.dictionary.specs.Known.{Described};
-ghost use Rattle.dictionary.specs.Numbered.{IsListed};
+ghost use Rattle.dictionary.specs.Numbered.{IsWords, IsListed};
 ghost use Rattle.numbering.specs.Bounds.{numbers, Limited};
 ghost use Rattle.numbering.specs.Adding.{addedRoom, addedMost, State, pairBy, stepped, stepAll, unadded, Seen, Marked, Sums, SummedAs, AddedAs};
 use super::Added;
 use super::bounds::Bounds;
 use dictionary::wordsets;
 use dictionary::wordsets::Listed;
+use dictionary::wordsets::Words;
 use format::Record;
 use records::FoundField;
 use requests::Pair;
@@ -80,11 +81,11 @@ pub(crate) enum Summed {
 }
 
 // The places of the lists that have a field, with those of one name more.
-fn mark(d: &[u8], l: Listed, seen: u64, name: &[u8]) -> u64
-    requires { ⌜ IsListed (now d) (auto (recordIn (now d))) l ⌝ }
+fn mark(d: &[u8], entries: &[u32], sets: &[u64], w: Words, seen: u64, name: &[u8]) -> u64
+    requires { ⌜ IsWords (now d) (auto (recordIn (now d))) (now entries) (now sets) w ⌝ }
     ensures { λ r. ⌜ Marked (auto (recordIn (now (d .entry)))) (now (name .entry)) seen r ⌝ }
 {
-    seen | wordsets::places(d, l, name)
+    seen | wordsets::places_in(d, entries, sets, w, name)
 }
 
 // The places of the lists that the pairs of a request have.
@@ -93,6 +94,9 @@ pub(crate) fn mark_pairs(d: &[u8], l: Listed, req: &[u8], from: usize) -> u64
     requires { ⌜ (length (now req) ≤ fileBytes) × (from ≤ length (now req)) × (isSome (pairsFrom (now req) from) ≡ true) ⌝ }
     ensures { λ r. ⌜ Seen (auto (recordIn (now (d .entry)))) (pairNames (pairsAt (now (req .entry)) from)) r ⌝ }
 {
+    let entries = l.entries;
+    let sets = l.sets;
+    let w = l.words;
     let mut seen: u64 = 0;
     let mut i = from;
     loop {
@@ -107,7 +111,7 @@ pub(crate) fn mark_pairs(d: &[u8], l: Listed, req: &[u8], from: usize) -> u64
         };
         let a = name.start;
         let b = name.end;
-        seen = mark(d, l, seen, &req[a..b]);
+        seen = mark(d, &entries, &sets, w, seen, &req[a..b]);
         i = next;
     }
 }
@@ -130,7 +134,10 @@ fn add_word(d: &[u8], l: Listed, name: &[u8], bounds: Bounds, sum: Sum, out: &mu
     requires { ⌜ ((s : State) × Sums (auto (recordIn (now d))) s (now out) sum × (s .passed < listWords)) ⌝ }
     ensures { λ r. ⌜ ((s : State) → Sums (auto (recordIn (now (d .entry)))) s (now (out .entry)) sum → SummedAs (auto (recordIn (now (d .entry)))) (stepped (pairBy (auto (recordIn (now (d .entry)))) (bounds .floors) (bounds .limits)) s (now (name .entry))) (now (out .exit)) r) ⌝ }
 {
-    let k = wordsets::place_of(d, l, name);
+    let entries = l.entries;
+    let sets = l.sets;
+    let w = l.words;
+    let k = wordsets::place_in(d, &entries, &sets, w, name);
     if terms::has(sum.seen, k as u64) {
         return Summed::Is(sum);
     }
@@ -142,7 +149,7 @@ fn add_word(d: &[u8], l: Listed, name: &[u8], bounds: Bounds, sum: Sum, out: &mu
     }
     let short = stays_short(sum.short, name);
     let len = put_number(name, number, short, sum.len, out);
-    let seen = mark(d, l, sum.seen, name);
+    let seen = mark(d, &entries, &sets, w, sum.seen, name);
     Summed::Is(Sum { len, short, seen })
 }
 

@@ -128,12 +128,14 @@ fn narrow_parts(d: &[u8], l: Listed, s: &[u8], range: Range, floors: &mut [u64],
     requires { ⌜ (listWords ≤ length (now floors)) × (listWords ≤ length (now limits)) × AreLimits (auto (recordIn (now d))) (now limits) ⌝ }
     ensures { λ _. ⌜ Joins max (auto (recordIn (now (d .entry)))) (λ n. pick (among n (split 44 (now (s .entry)))) (from (intIn (range .low))) 0) (now (floors .entry)) (now (floors .exit)) × Joins min (auto (recordIn (now (d .entry)))) (λ n. pick (among n (split 44 (now (s .entry)))) (above (intIn (range .high))) numbers) (now (limits .entry)) (now (limits .exit)) ⌝ }
 {
+    let entries = l.entries;
+    let sets = l.sets;
     let w = l.words;
     let count = w.count;
     let mut rest = s;
     loop {
         let e = words::part_end(rest, b',');
-        let k = wordsets::place_of(d, l, &rest[..e]);
+        let k = wordsets::place_in(d, &entries, &sets, w, &rest[..e]);
         narrow_place(k, count, range, &mut *floors, &mut *limits);
         if e == rest.len() {
             return;
@@ -216,6 +218,8 @@ fn raise_all(d: &[u8], l: Listed, s: &[u8], scratch: &mut [u8], floors: &mut [u6
     requires { ⌜ listWords ≤ length (now floors) ⌝ }
     ensures { λ _. ⌜ Joins max (auto (recordIn (now (d .entry)))) (λ n. largest (fieldFloor n) (recordIn (now (s .entry)))) (now (floors .entry)) (now (floors .exit)) ⌝ }
 {
+    let entries = l.entries;
+    let sets = l.sets;
     let w = l.words;
     let count = w.count;
     let mut i = 0;
@@ -230,7 +234,7 @@ fn raise_all(d: &[u8], l: Listed, s: &[u8], scratch: &mut [u8], floors: &mut [u6
         else {
             return;
         };
-        let k = wordsets::place_of(d, l, &s[i + start..i + named]);
+        let k = wordsets::place_in(d, &entries, &sets, w, &s[i + start..i + named]);
         raise_place(s, i + value, k, count, &mut *scratch, &mut *floors);
         i += end;
     }

@@ -60,11 +60,13 @@ fn part_listed(d: &[u8], l: Listed, s: &[u8]) -> bool
     requires { ⌜ IsListed (now d) (auto (recordIn (now d))) l ⌝ }
     ensures { λ r. ⌜ r ≡ any (λ n. among n (auto (recordIn (now (d .entry))))) (split 44 (now (s .entry))) ⌝ }
 {
+    let entries = l.entries;
+    let sets = l.sets;
     let w = l.words;
     let mut rest = s;
     loop {
         let e = words::part_end(rest, b',');
-        if wordsets::place_of(d, l, &rest[..e]) < w.count {
+        if wordsets::place_in(d, &entries, &sets, w, &rest[..e]) < w.count {
             return true;
         }
         if e == rest.len() {

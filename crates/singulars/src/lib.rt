@@ -41,6 +41,8 @@ fn gather(d: &[u8], l: Listed, s: &[u8], entries: &mut [u32]) -> Gathered
     requires { ⌜ (isReadable (now s) ≡ true) × (length (now s) ≤ fileBytes) ⌝ }
     ensures { λ r. ⌜ GatheredAs (singular (recordIn (now (d .entry)))) (now (s .entry)) (recordIn (now (s .entry))) (now (entries .exit)) r ⌝ }
 {
+    let words = l.entries;
+    let sets = l.sets;
     let w = l.words;
     let count = w.count;
     let mut i = 0;
@@ -56,7 +58,7 @@ fn gather(d: &[u8], l: Listed, s: &[u8], entries: &mut [u32]) -> Gathered
         else {
             return Gathered::All(n);
         };
-        let k = wordsets::place_of(d, l, &s[i + start..i + named]);
+        let k = wordsets::place_in(d, &words, &sets, w, &s[i + start..i + named]);
         if k < count {
             if entries.len() <= n {
                 return Gathered::More;

@@ -15,18 +15,18 @@ use Rattle.singulars.proofs.gather.Reads as reads
 use Rattle.singulars.proofs.gather.Lts as lts
 use Rattle.records.proofs.next_field.Reads as next-field-reads
 use Rattle.singulars.proofs.entry.Reads as entry-reads
-use Rattle.dictionary.proofs.wordsets.place_of.Reads as place-of-reads
+use Rattle.dictionary.proofs.wordsets.place_in.Reads as place-in-reads
 
 abbrev Inv-loop : tie.InvT-loop
-Inv-loop d l s entries₀ count i₀ n₀ entries i n = (length entries ≡ length entries₀) × (n ≤ i) × Enters (singular (recordIn d)) s entries n i
+Inv-loop d s entries₀ words sets w count i₀ n₀ entries i n = (length entries ≡ length entries₀) × (n ≤ i) × Enters (singular (recordIn d)) s entries n i
 
 abbrev μ-loop : tie.MeasureT-loop
-μ-loop d l s entries₀ count i₀ n₀ entries i n = length s - i
+μ-loop d s entries₀ words sets w count i₀ n₀ entries i n = length s - i
 
 loop-holds : tie.Need-loop-holds Inv-loop μ-loop
 loop-holds c =
-    let at-args = c .before .before .before .before .args in
-    let at-pre = c .before .before .before .before .pre in
+    let at-args = c .before .before .before .before .before .before .args in
+    let at-pre = c .before .before .before .before .before .before .pre in
     (refl, omega arith, enters-start (singular (recordIn (at-args .d .now))) (at-args .s .now) (at-args .entries .now) (at-pre .1 .0))
 
 sub-next-field : tie.Need-sub-next-field Inv-loop μ-loop
@@ -40,7 +40,7 @@ part-next-field-end c = search needs
 
 next-field-requires : tie.Need-next-field-requires Inv-loop μ-loop
 next-field-requires c κs =
-    let at-args = c .before .before .before .before .before .before .args in
+    let at-args = c .before .before .before .before .before .before .before .before .args in
     let at-loop = c .before .loop in
     part-readable (at-args .s .now) (at-loop .i) (at-loop .inv .2 .readable)
 
@@ -57,108 +57,114 @@ same-length c =
 
 returns : tie.Need-returns Inv-loop μ-loop
 returns c =
-    let at-args = c .before .before .before .before .before .before .before .before .before .args in
+    let at-args = c .before .before .before .before .before .before .before .before .before .before .before .args in
     let at-loop = c .before .before .before .before .loop in
     let at-next-field = c .before .before .next-field in
     let at-enum-told = c .enum-told in
     enters-end (singular (recordIn (at-args .d .now))) (at-args .s .now) (at-loop .entries) (at-loop .n) (at-loop .i) (at-loop .inv .2) (next-told (at-args .s .now) (at-loop .i) (at-next-field .result) (at-next-field .ensures) (at-enum-told .given .1))
 
-add-place-of : tie.Need-add-place-of Inv-loop μ-loop
-add-place-of c =
-    let at-args = c .before .before .before .before .before .before .before .before .before .before .args in
-    let at-loop = c .before .before .before .before .before .loop in
-    let at-next-field = c .before .before .before .next-field in
-    let at-f = c .before .f in
-    let at-pre = c .before .before .before .before .before .before .before .before .before .before .pre in
+slice-aggregate-place-in : tie.Need-slice-aggregate-place-in Inv-loop μ-loop
+slice-aggregate-place-in c = search needs
+
+slice-aggregate-place-in-2 : tie.Need-slice-aggregate-place-in-2 Inv-loop μ-loop
+slice-aggregate-place-in-2 c = search needs
+
+add-place-in : tie.Need-add-place-in Inv-loop μ-loop
+add-place-in c =
+    let at-args = c .before .before .before .before .before .before .before .before .before .before .before .before .before .before .args in
+    let at-loop = c .before .before .before .before .before .before .before .loop in
+    let at-next-field = c .before .before .before .before .before .next-field in
+    let at-f = c .before .before .before .f in
+    let at-pre = c .before .before .before .before .before .before .before .before .before .before .before .before .before .before .pre in
     let h = next-told (at-args .s .now) (at-loop .i) (at-next-field .result) (at-next-field .ensures) (at-f .given .1) in
     omega (arith, h .named, h .name-inside, h .inside, at-pre .1 .1)
 
-add-place-of-2 : tie.Need-add-place-of-2 Inv-loop μ-loop
-add-place-of-2 c =
-    let at-args = c .before .before .before .before .before .before .before .before .before .before .args in
-    let at-loop = c .before .before .before .before .before .loop in
-    let at-next-field = c .before .before .before .next-field in
-    let at-f = c .before .f in
-    let at-pre = c .before .before .before .before .before .before .before .before .before .before .pre in
+add-place-in-2 : tie.Need-add-place-in-2 Inv-loop μ-loop
+add-place-in-2 c =
+    let at-args = c .before .before .before .before .before .before .before .before .before .before .before .before .before .before .args in
+    let at-loop = c .before .before .before .before .before .before .before .loop in
+    let at-next-field = c .before .before .before .before .before .next-field in
+    let at-f = c .before .before .before .f in
+    let at-pre = c .before .before .before .before .before .before .before .before .before .before .before .before .before .before .pre in
     let h = next-told (at-args .s .now) (at-loop .i) (at-next-field .result) (at-next-field .ensures) (at-f .given .1) in
     omega (arith, h .name-inside, h .inside, at-pre .1 .1)
 
-sub-place-of : tie.Need-sub-place-of Inv-loop μ-loop
-sub-place-of c =
-    let at-args = c .before .before .before .before .before .before .before .before .before .before .args in
-    let at-loop = c .before .before .before .before .before .loop in
-    let at-next-field = c .before .before .before .next-field in
-    let at-f = c .before .f in
+sub-place-in : tie.Need-sub-place-in Inv-loop μ-loop
+sub-place-in c =
+    let at-args = c .before .before .before .before .before .before .before .before .before .before .before .before .before .before .args in
+    let at-loop = c .before .before .before .before .before .before .before .loop in
+    let at-next-field = c .before .before .before .before .before .next-field in
+    let at-f = c .before .before .before .f in
     let h = next-told (at-args .s .now) (at-loop .i) (at-next-field .result) (at-next-field .ensures) (at-f .given .1) in
     h .named
 
-part-place-of-start : tie.Need-part-place-of-start Inv-loop μ-loop
-part-place-of-start c =
-    let at-args = c .before .before .before .before .before .before .before .before .before .before .args in
-    let at-loop = c .before .before .before .before .before .loop in
-    let at-next-field = c .before .before .before .next-field in
-    let at-f = c .before .f in
+part-place-in-start : tie.Need-part-place-in-start Inv-loop μ-loop
+part-place-in-start c =
+    let at-args = c .before .before .before .before .before .before .before .before .before .before .before .before .before .before .args in
+    let at-loop = c .before .before .before .before .before .before .before .loop in
+    let at-next-field = c .before .before .before .before .before .next-field in
+    let at-f = c .before .before .before .f in
     let h = next-told (at-args .s .now) (at-loop .i) (at-next-field .result) (at-next-field .ensures) (at-f .given .1) in
     h .named
 
-part-place-of-end : tie.Need-part-place-of-end Inv-loop μ-loop
-part-place-of-end c =
-    let at-args = c .before .before .before .before .before .before .before .before .before .before .args in
-    let at-loop = c .before .before .before .before .before .loop in
-    let at-next-field = c .before .before .before .next-field in
-    let at-f = c .before .f in
+part-place-in-end : tie.Need-part-place-in-end Inv-loop μ-loop
+part-place-in-end c =
+    let at-args = c .before .before .before .before .before .before .before .before .before .before .before .before .before .before .args in
+    let at-loop = c .before .before .before .before .before .before .before .loop in
+    let at-next-field = c .before .before .before .before .before .next-field in
+    let at-f = c .before .before .before .f in
     let h = next-told (at-args .s .now) (at-loop .i) (at-next-field .result) (at-next-field .ensures) (at-f .given .1) in
     omega (arith, h .name-inside, h .inside)
 
-place-of-requires : tie.Need-place-of-requires Inv-loop μ-loop
-place-of-requires c κs =
-    let at-args = c .before .before .before .before .before .before .before .before .before .before .before .args in
-    let at-pre = c .before .before .before .before .before .before .before .before .before .before .before .pre in
+place-in-requires : tie.Need-place-in-requires Inv-loop μ-loop
+place-in-requires c κs =
+    let at-args = c .before .before .before .before .before .before .before .before .before .before .before .before .before .before .before .args in
+    let at-pre = c .before .before .before .before .before .before .before .before .before .before .before .before .before .before .before .pre in
     (singular (recordIn (at-args .d .now)), at-pre .0)
 
 same-length-2 : tie.Need-same-length-2 Inv-loop μ-loop
 same-length-2 c =
-    let at-loop = c .before .before .before .before .before .before .before .before .before .loop in
+    let at-loop = c .before .before .before .before .before .before .before .before .before .before .before .loop in
     at-loop .inv .0
 
 returns-2 : tie.Need-returns-2 Inv-loop μ-loop
 returns-2 c =
-    let at-args = c .before .before .before .before .before .before .before .before .before .before .before .before .before .before .args in
-    let at-loop = c .before .before .before .before .before .before .before .before .before .loop in
-    let at-next-field = c .before .before .before .before .before .before .before .next-field in
-    let at-f = c .before .before .before .before .before .f in
-    let at-place-of = c .before .before .place-of in
+    let at-args = c .before .before .before .before .before .before .before .before .before .before .before .before .before .before .before .before .before .before .args in
+    let at-loop = c .before .before .before .before .before .before .before .before .before .before .before .loop in
+    let at-next-field = c .before .before .before .before .before .before .before .before .before .next-field in
+    let at-f = c .before .before .before .before .before .before .before .f in
+    let at-place-in = c .before .before .place-in in
     let at-if1 = c .before .if1 in
-    let at-pre = c .before .before .before .before .before .before .before .before .before .before .before .before .before .before .pre in
+    let at-pre = c .before .before .before .before .before .before .before .before .before .before .before .before .before .before .before .before .before .before .pre in
     let at-if2 = c .if2 in
     let h = next-told (at-args .s .now) (at-loop .i) (at-next-field .result) (at-next-field .ensures) (at-f .given .1) in
-    enters-full (singular (recordIn (at-args .d .now))) (at-args .s .now) (at-loop .entries) (at-loop .n) (at-loop .i) (at-loop .inv .2) _ _ _ _ h (at-place-of .result) (at-place-of .ensures (singular (recordIn (at-args .d .now))) (at-pre .0)) (omega (arith, at-if1 .taken, at-pre .0 .count)) (omega (arith, at-if2 .taken))
+    enters-full (singular (recordIn (at-args .d .now))) (at-args .s .now) (at-loop .entries) (at-loop .n) (at-loop .i) (at-loop .inv .2) _ _ _ _ h (at-place-in .result) (at-place-in .ensures (singular (recordIn (at-args .d .now))) (at-pre .0)) (omega (arith, at-if1 .taken, at-pre .0 .count)) (omega (arith, at-if2 .taken))
 
 add-entry : tie.Need-add-entry Inv-loop μ-loop
 add-entry c =
-    let at-args = c .before .before .before .before .before .before .before .before .before .before .before .before .before .before .args in
-    let at-loop = c .before .before .before .before .before .before .before .before .before .loop in
-    let at-next-field = c .before .before .before .before .before .before .before .next-field in
-    let at-f = c .before .before .before .before .before .f in
-    let at-pre = c .before .before .before .before .before .before .before .before .before .before .before .before .before .before .pre in
+    let at-args = c .before .before .before .before .before .before .before .before .before .before .before .before .before .before .before .before .before .before .args in
+    let at-loop = c .before .before .before .before .before .before .before .before .before .before .before .loop in
+    let at-next-field = c .before .before .before .before .before .before .before .before .before .next-field in
+    let at-f = c .before .before .before .before .before .before .before .f in
+    let at-pre = c .before .before .before .before .before .before .before .before .before .before .before .before .before .before .before .before .before .before .pre in
     let h = next-told (at-args .s .now) (at-loop .i) (at-next-field .result) (at-next-field .ensures) (at-f .given .1) in
     omega (arith, h .value-there, at-pre .1 .1)
 
 entry-requires : tie.Need-entry-requires Inv-loop μ-loop
 entry-requires c κs =
-    let at-args = c .before .before .before .before .before .before .before .before .before .before .before .before .before .before .args in
-    let at-loop = c .before .before .before .before .before .before .before .before .before .loop in
-    let at-next-field = c .before .before .before .before .before .before .before .next-field in
-    let at-f = c .before .before .before .before .before .f in
-    let at-pre = c .before .before .before .before .before .before .before .before .before .before .before .before .before .before .pre in
+    let at-args = c .before .before .before .before .before .before .before .before .before .before .before .before .before .before .before .before .before .before .args in
+    let at-loop = c .before .before .before .before .before .before .before .before .before .before .before .loop in
+    let at-next-field = c .before .before .before .before .before .before .before .before .before .next-field in
+    let at-f = c .before .before .before .before .before .before .before .f in
+    let at-pre = c .before .before .before .before .before .before .before .before .before .before .before .before .before .before .before .before .before .before .pre in
     let at-if1 = c .before .if1 in
     let h = next-told (at-args .s .now) (at-loop .i) (at-next-field .result) (at-next-field .ensures) (at-f .given .1) in
     (omega (arith, h .value-there, at-pre .1 .1), omega (arith, at-if1 .taken, at-pre .0 .count, at-pre .0 .few))
 
 mul-entries : tie.Need-mul-entries Inv-loop μ-loop
 mul-entries c =
-    let at-loop = c .before .before .before .before .before .before .before .before .before .before .loop in
-    let at-pre = c .before .before .before .before .before .before .before .before .before .before .before .before .before .before .before .pre in
+    let at-loop = c .before .before .before .before .before .before .before .before .before .before .before .before .loop in
+    let at-pre = c .before .before .before .before .before .before .before .before .before .before .before .before .before .before .before .before .before .before .before .pre in
     omega (arith, at-loop .inv .1, at-loop .inv .2 .inside, at-pre .1 .1)
 
 slice-write-entries : tie.Need-slice-write-entries Inv-loop μ-loop
@@ -168,73 +174,73 @@ slice-write-entries c =
 
 add-n : tie.Need-add-n Inv-loop μ-loop
 add-n c =
-    let at-loop = c .before .before .before .before .before .before .before .before .before .before .loop in
-    let at-pre = c .before .before .before .before .before .before .before .before .before .before .before .before .before .before .before .pre in
+    let at-loop = c .before .before .before .before .before .before .before .before .before .before .before .before .loop in
+    let at-pre = c .before .before .before .before .before .before .before .before .before .before .before .before .before .before .before .before .before .before .before .pre in
     omega (arith, at-loop .inv .1, at-loop .inv .2 .inside, at-pre .1 .1)
 
 add-i : tie.Need-add-i Inv-loop μ-loop
 add-i c =
-    let at-args = c .before .before .before .before .before .before .before .before .before .before .before .before .before .before .before .args in
-    let at-loop = c .before .before .before .before .before .before .before .before .before .before .loop in
-    let at-next-field = c .before .before .before .before .before .before .before .before .next-field in
-    let at-f = c .before .before .before .before .before .before .f in
-    let at-pre = c .before .before .before .before .before .before .before .before .before .before .before .before .before .before .before .pre in
+    let at-args = c .before .before .before .before .before .before .before .before .before .before .before .before .before .before .before .before .before .before .before .args in
+    let at-loop = c .before .before .before .before .before .before .before .before .before .before .before .before .loop in
+    let at-next-field = c .before .before .before .before .before .before .before .before .before .before .next-field in
+    let at-f = c .before .before .before .before .before .before .before .before .f in
+    let at-pre = c .before .before .before .before .before .before .before .before .before .before .before .before .before .before .before .before .before .before .before .pre in
     let h = next-told (at-args .s .now) (at-loop .i) (at-next-field .result) (at-next-field .ensures) (at-f .given .1) in
     omega (arith, h .inside, at-pre .1 .1)
 
 loop-less : tie.Need-loop-less Inv-loop μ-loop
 loop-less c =
-    let at-args = c .before .before .before .before .before .before .before .before .before .before .before .before .before .before .before .args in
-    let at-loop = c .before .before .before .before .before .before .before .before .before .before .loop in
-    let at-next-field = c .before .before .before .before .before .before .before .before .next-field in
-    let at-f = c .before .before .before .before .before .before .f in
+    let at-args = c .before .before .before .before .before .before .before .before .before .before .before .before .before .before .before .before .before .before .before .args in
+    let at-loop = c .before .before .before .before .before .before .before .before .before .before .before .before .loop in
+    let at-next-field = c .before .before .before .before .before .before .before .before .before .before .next-field in
+    let at-f = c .before .before .before .before .before .before .before .before .f in
     let h = next-told (at-args .s .now) (at-loop .i) (at-next-field .result) (at-next-field .ensures) (at-f .given .1) in
     omega (arith, h .moves, h .begins, h .inside)
 
 loop-again : tie.Need-loop-again Inv-loop μ-loop
 loop-again c =
-    let at-args = c .before .before .before .before .before .before .before .before .before .before .before .before .before .before .before .args in
-    let at-loop = c .before .before .before .before .before .before .before .before .before .before .loop in
-    let at-next-field = c .before .before .before .before .before .before .before .before .next-field in
-    let at-f = c .before .before .before .before .before .before .f in
+    let at-args = c .before .before .before .before .before .before .before .before .before .before .before .before .before .before .before .before .before .before .before .args in
+    let at-loop = c .before .before .before .before .before .before .before .before .before .before .before .before .loop in
+    let at-next-field = c .before .before .before .before .before .before .before .before .before .before .next-field in
+    let at-f = c .before .before .before .before .before .before .before .before .f in
     let at-entry = c .entry in
-    let at-place-of = c .before .before .before .place-of in
+    let at-place-in = c .before .before .before .place-in in
     let at-if1 = c .before .before .if1 in
-    let at-pre = c .before .before .before .before .before .before .before .before .before .before .before .before .before .before .before .pre in
+    let at-pre = c .before .before .before .before .before .before .before .before .before .before .before .before .before .before .before .before .before .before .before .pre in
     let at-if2 = c .before .if2 in
     let h = next-told (at-args .s .now) (at-loop .i) (at-next-field .result) (at-next-field .ensures) (at-f .given .1) in
-    (length-set (at-loop .entries) (at-loop .n) (at-entry .result) ∙ at-loop .inv .0, omega (arith, at-loop .inv .1, h .moves, h .begins), enters-more (singular (recordIn (at-args .d .now))) (at-args .s .now) (at-loop .entries) (at-loop .n) (at-loop .i) (at-loop .inv .2) _ _ _ _ h (at-place-of .result) (at-place-of .ensures (singular (recordIn (at-args .d .now))) (at-pre .0)) (omega (arith, at-if1 .taken, at-pre .0 .count)) (omega (arith, at-if2 .left)) (at-pre .1 .1) (at-entry .result) (at-entry .ensures))
+    (length-set (at-loop .entries) (at-loop .n) (at-entry .result) ∙ at-loop .inv .0, omega (arith, at-loop .inv .1, h .moves, h .begins), enters-more (singular (recordIn (at-args .d .now))) (at-args .s .now) (at-loop .entries) (at-loop .n) (at-loop .i) (at-loop .inv .2) _ _ _ _ h (at-place-in .result) (at-place-in .ensures (singular (recordIn (at-args .d .now))) (at-pre .0)) (omega (arith, at-if1 .taken, at-pre .0 .count)) (omega (arith, at-if2 .left)) (at-pre .1 .1) (at-entry .result) (at-entry .ensures))
 
 add-i-2 : tie.Need-add-i-2 Inv-loop μ-loop
 add-i-2 c =
-    let at-args = c .before .before .before .before .before .before .before .before .before .before .before .before .before .args in
-    let at-loop = c .before .before .before .before .before .before .before .before .loop in
-    let at-next-field = c .before .before .before .before .before .before .next-field in
-    let at-f = c .before .before .before .before .f in
-    let at-pre = c .before .before .before .before .before .before .before .before .before .before .before .before .before .pre in
+    let at-args = c .before .before .before .before .before .before .before .before .before .before .before .before .before .before .before .before .before .args in
+    let at-loop = c .before .before .before .before .before .before .before .before .before .before .loop in
+    let at-next-field = c .before .before .before .before .before .before .before .before .next-field in
+    let at-f = c .before .before .before .before .before .before .f in
+    let at-pre = c .before .before .before .before .before .before .before .before .before .before .before .before .before .before .before .before .before .pre in
     let h = next-told (at-args .s .now) (at-loop .i) (at-next-field .result) (at-next-field .ensures) (at-f .given .1) in
     omega (arith, h .inside, at-pre .1 .1)
 
 loop-less-2 : tie.Need-loop-less-2 Inv-loop μ-loop
 loop-less-2 c =
-    let at-args = c .before .before .before .before .before .before .before .before .before .before .before .before .before .args in
-    let at-loop = c .before .before .before .before .before .before .before .before .loop in
-    let at-next-field = c .before .before .before .before .before .before .next-field in
-    let at-f = c .before .before .before .before .f in
+    let at-args = c .before .before .before .before .before .before .before .before .before .before .before .before .before .before .before .before .before .args in
+    let at-loop = c .before .before .before .before .before .before .before .before .before .before .loop in
+    let at-next-field = c .before .before .before .before .before .before .before .before .next-field in
+    let at-f = c .before .before .before .before .before .before .f in
     let h = next-told (at-args .s .now) (at-loop .i) (at-next-field .result) (at-next-field .ensures) (at-f .given .1) in
     omega (arith, h .moves, h .begins, h .inside)
 
 loop-again-2 : tie.Need-loop-again-2 Inv-loop μ-loop
 loop-again-2 c =
-    let at-args = c .before .before .before .before .before .before .before .before .before .before .before .before .before .args in
-    let at-loop = c .before .before .before .before .before .before .before .before .loop in
-    let at-next-field = c .before .before .before .before .before .before .next-field in
-    let at-f = c .before .before .before .before .f in
-    let at-place-of = c .before .place-of in
+    let at-args = c .before .before .before .before .before .before .before .before .before .before .before .before .before .before .before .before .before .args in
+    let at-loop = c .before .before .before .before .before .before .before .before .before .before .loop in
+    let at-next-field = c .before .before .before .before .before .before .before .before .next-field in
+    let at-f = c .before .before .before .before .before .before .f in
+    let at-place-in = c .before .place-in in
     let at-if1 = c .if1 in
-    let at-pre = c .before .before .before .before .before .before .before .before .before .before .before .before .before .pre in
+    let at-pre = c .before .before .before .before .before .before .before .before .before .before .before .before .before .before .before .before .before .pre in
     let h = next-told (at-args .s .now) (at-loop .i) (at-next-field .result) (at-next-field .ensures) (at-f .given .1) in
-    (at-loop .inv .0, omega (arith, at-loop .inv .1, h .moves, h .begins), enters-skip (singular (recordIn (at-args .d .now))) (at-args .s .now) (at-loop .entries) (at-loop .n) (at-loop .i) (at-loop .inv .2) _ _ _ _ h (at-place-of .result) (at-place-of .ensures (singular (recordIn (at-args .d .now))) (at-pre .0)) (omega (arith, at-if1 .left, at-pre .0 .count)))
+    (at-loop .inv .0, omega (arith, at-loop .inv .1, h .moves, h .begins), enters-skip (singular (recordIn (at-args .d .now))) (at-args .s .now) (at-loop .entries) (at-loop .n) (at-loop .i) (at-loop .inv .2) _ _ _ _ h (at-place-in .result) (at-place-in .ensures (singular (recordIn (at-args .d .now))) (at-pre .0)) (omega (arith, at-if1 .left, at-pre .0 .count)))
 
 pub gather-spec : {M : Type 1} → statement M
 gather-spec =
@@ -251,12 +257,14 @@ gather-spec =
     enum-told
     same-length
     returns
-    add-place-of
-    add-place-of-2
-    sub-place-of
-    part-place-of-start
-    part-place-of-end
-    place-of-requires
+    slice-aggregate-place-in
+    slice-aggregate-place-in-2
+    add-place-in
+    add-place-in-2
+    sub-place-in
+    part-place-in-start
+    part-place-in-end
+    place-in-requires
     same-length-2
     returns-2
     add-entry

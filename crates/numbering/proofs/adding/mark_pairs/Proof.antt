@@ -19,15 +19,15 @@ use Rattle.numbering.proofs.adding.mark.Reads as mark-reads
 use Rattle.requests.proofs.pair_at.Reads as pair-at-reads
 
 abbrev Inv-loop : tie.InvT-loop
-Inv-loop d l req from seen₀ i₀ seen i = (i ≤ length req) × (isSome (pairsFrom req i) ≡ true) × MarksLeft (auto (recordIn d)) (pairsAt req from) (pairsAt req i) seen
+Inv-loop d req from entries sets w seen₀ i₀ seen i = (i ≤ length req) × (isSome (pairsFrom req i) ≡ true) × MarksLeft (auto (recordIn d)) (pairsAt req from) (pairsAt req i) seen
 
 abbrev μ-loop : tie.MeasureT-loop
-μ-loop d l req from seen₀ i₀ seen i = length req - i
+μ-loop d req from entries sets w seen₀ i₀ seen i = length req - i
 
 loop-holds : tie.Need-loop-holds Inv-loop μ-loop
 loop-holds c =
-    let at-pre = c .before .before .pre in
-    let at-args = c .before .before .args in
+    let at-pre = c .before .before .before .before .before .pre in
+    let at-args = c .before .before .before .before .before .args in
     (at-pre .1 .1, at-pre .1 .2, marks-start (auto (recordIn (at-args .d .now))) (pairsAt (at-args .req .now) (at-args .from)))
 
 pair-at-requires : tie.Need-pair-at-requires Inv-loop μ-loop
@@ -41,59 +41,65 @@ enum-told c = search needs
 
 returns : tie.Need-returns Inv-loop μ-loop
 returns c =
-    let at-args = c .before .before .before .before .before .before .args in
+    let at-args = c .before .before .before .before .before .before .before .before .before .args in
     let at-loop = c .before .before .before .loop in
     let at-pair-at = c .before .before .pair-at in
     let at-enum-told = c .enum-told in
     marks-end (auto (recordIn (at-args .d .now))) (pairsAt (at-args .req .now) (at-args .from)) (pairsAt (at-args .req .now) (at-loop .i)) (at-loop .seen) (at-loop .inv .2) (list-end (at-args .req .now) (at-loop .i) (pair-missed (at-args .req .now) (at-loop .i) (at-pair-at .result) (at-pair-at .ensures) (at-enum-told .given .1)))
 
+slice-aggregate-mark : tie.Need-slice-aggregate-mark Inv-loop μ-loop
+slice-aggregate-mark c = search needs
+
+slice-aggregate-mark-2 : tie.Need-slice-aggregate-mark-2 Inv-loop μ-loop
+slice-aggregate-mark-2 c = search needs
+
 sub-mark : tie.Need-sub-mark Inv-loop μ-loop
 sub-mark c =
-    let at-args = c .before .before .before .before .before .before .before .args in
-    let at-loop = c .before .before .before .before .loop in
-    let at-pair-at = c .before .before .before .pair-at in
-    let at-p = c .before .p in
+    let at-args = c .before .before .before .before .before .before .before .before .before .before .before .before .args in
+    let at-loop = c .before .before .before .before .before .before .loop in
+    let at-pair-at = c .before .before .before .before .before .pair-at in
+    let at-p = c .before .before .before .p in
     let h = pair-found (at-args .req .now) (at-loop .i) (at-pair-at .result) (at-p .given .0 .0) (at-p .given .0 .1 .0) (at-p .given .0 .1 .1 .0) (at-pair-at .ensures) (at-p .given .1) in
     h .3 .0
 
 part-mark-start : tie.Need-part-mark-start Inv-loop μ-loop
 part-mark-start c =
-    let at-args = c .before .before .before .before .before .before .before .args in
-    let at-loop = c .before .before .before .before .loop in
-    let at-pair-at = c .before .before .before .pair-at in
-    let at-p = c .before .p in
+    let at-args = c .before .before .before .before .before .before .before .before .before .before .before .before .args in
+    let at-loop = c .before .before .before .before .before .before .loop in
+    let at-pair-at = c .before .before .before .before .before .pair-at in
+    let at-p = c .before .before .before .p in
     let h = pair-found (at-args .req .now) (at-loop .i) (at-pair-at .result) (at-p .given .0 .0) (at-p .given .0 .1 .0) (at-p .given .0 .1 .1 .0) (at-pair-at .ensures) (at-p .given .1) in
     h .3 .0
 
 part-mark-end : tie.Need-part-mark-end Inv-loop μ-loop
 part-mark-end c =
-    let at-args = c .before .before .before .before .before .before .before .args in
-    let at-loop = c .before .before .before .before .loop in
-    let at-pair-at = c .before .before .before .pair-at in
-    let at-p = c .before .p in
+    let at-args = c .before .before .before .before .before .before .before .before .before .before .before .before .args in
+    let at-loop = c .before .before .before .before .before .before .loop in
+    let at-pair-at = c .before .before .before .before .before .pair-at in
+    let at-p = c .before .before .before .p in
     let h = pair-found (at-args .req .now) (at-loop .i) (at-pair-at .result) (at-p .given .0 .0) (at-p .given .0 .1 .0) (at-p .given .0 .1 .1 .0) (at-pair-at .ensures) (at-p .given .1) in
     h .3 .1
 
 mark-requires : tie.Need-mark-requires Inv-loop μ-loop
 mark-requires c κs =
-    let at-pre = c .before .before .before .before .before .before .before .before .pre in
+    let at-pre = c .before .before .before .before .before .before .before .before .before .before .before .before .before .pre in
     at-pre .0
 
 loop-less : tie.Need-loop-less Inv-loop μ-loop
 loop-less c =
-    let at-args = c .before .before .before .before .before .before .before .before .before .args in
-    let at-loop = c .before .before .before .before .before .before .loop in
-    let at-pair-at = c .before .before .before .before .before .pair-at in
-    let at-p = c .before .before .before .p in
+    let at-args = c .before .before .before .before .before .before .before .before .before .before .before .before .before .before .args in
+    let at-loop = c .before .before .before .before .before .before .before .before .loop in
+    let at-pair-at = c .before .before .before .before .before .before .before .pair-at in
+    let at-p = c .before .before .before .before .before .p in
     let h = pair-found (at-args .req .now) (at-loop .i) (at-pair-at .result) (at-p .given .0 .0) (at-p .given .0 .1 .0) (at-p .given .0 .1 .1 .0) (at-pair-at .ensures) (at-p .given .1) in
     omega (arith, h .2, h .3 .0, h .4, h .5 .0, h .5 .1, h .6)
 
 loop-again : tie.Need-loop-again Inv-loop μ-loop
 loop-again c =
-    let at-args = c .before .before .before .before .before .before .before .before .before .args in
-    let at-loop = c .before .before .before .before .before .before .loop in
-    let at-pair-at = c .before .before .before .before .before .pair-at in
-    let at-p = c .before .before .before .p in
+    let at-args = c .before .before .before .before .before .before .before .before .before .before .before .before .before .before .args in
+    let at-loop = c .before .before .before .before .before .before .before .before .loop in
+    let at-pair-at = c .before .before .before .before .before .before .before .pair-at in
+    let at-p = c .before .before .before .before .before .p in
     let at-mark = c .mark in
     let h = pair-found (at-args .req .now) (at-loop .i) (at-pair-at .result) (at-p .given .0 .0) (at-p .given .0 .1 .0) (at-p .given .0 .1 .1 .0) (at-pair-at .ensures) (at-p .given .1) in
     (omega (arith, h .5 .1, h .6), sym (some-more (at-args .req .now) (at-loop .i) (at-p .given .0 .0) (at-p .given .0 .1 .0) (at-p .given .0 .1 .1 .0) h) ∙ at-loop .inv .1, marks-on (auto (recordIn (at-args .d .now))) (pairsAt (at-args .req .now) (at-args .from)) (pairsAt (at-args .req .now) (at-loop .i)) (pairsAt (at-args .req .now) (at-p .given .0 .1 .1 .0)) (pairOf (at-args .req .now) (at-p .given .0 .0) (at-p .given .0 .1 .0)) (at-loop .seen) (at-mark .result) (at-loop .inv .2) (list-more (at-args .req .now) (at-loop .i) (at-p .given .0 .0) (at-p .given .0 .1 .0) (at-p .given .0 .1 .1 .0) h (at-loop .inv .1)) (at-mark .ensures))
@@ -109,6 +115,8 @@ mark-pairs-spec =
     enum-known-p
     enum-told
     returns
+    slice-aggregate-mark
+    slice-aggregate-mark-2
     sub-mark
     part-mark-start
     part-mark-end

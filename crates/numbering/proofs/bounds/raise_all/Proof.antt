@@ -18,20 +18,20 @@ use Rattle.numbering.proofs.bounds.raise_all.Statement.{statement}
 use Rattle.numbering.proofs.bounds.raise_all.Tie as tie
 use Rattle.numbering.proofs.bounds.raise_all.Reads as reads
 use Rattle.numbering.proofs.bounds.raise_all.Lts as lts
-use Rattle.dictionary.proofs.wordsets.place_of.Reads as place-of-reads
+use Rattle.dictionary.proofs.wordsets.place_in.Reads as place-in-reads
 use Rattle.numbering.proofs.bounds.raise_place.Reads as raise-place-reads
 use Rattle.records.proofs.next_field.Reads as next-field-reads
 
 abbrev Inv-loop : tie.InvT-loop
-Inv-loop d l s scratch₀ floors₀ count i₀ scratch floors i = (i ≤ length s) × (isReadable (drop i s) ≡ true) × (length scratch ≡ length scratch₀) × (length floors ≡ length floors₀) × (all (fitsIn (length scratch₀)) (fieldsFrom s i) ≡ true) × FieldsLeft s (auto (recordIn d)) floors₀ i floors
+Inv-loop d s scratch₀ floors₀ entries sets w count i₀ scratch floors i = (i ≤ length s) × (isReadable (drop i s) ≡ true) × (length scratch ≡ length scratch₀) × (length floors ≡ length floors₀) × (all (fitsIn (length scratch₀)) (fieldsFrom s i) ≡ true) × FieldsLeft s (auto (recordIn d)) floors₀ i floors
 
 abbrev μ-loop : tie.MeasureT-loop
-μ-loop d l s scratch₀ floors₀ count i₀ scratch floors i = length s - i
+μ-loop d s scratch₀ floors₀ entries sets w count i₀ scratch floors i = length s - i
 
 loop-holds : tie.Need-loop-holds Inv-loop μ-loop
 loop-holds c =
-    let at-pre = c .before .before .before .before .before .pre in
-    let at-args = c .before .before .before .before .before .args in
+    let at-pre = c .before .before .before .before .before .before .before .pre in
+    let at-args = c .before .before .before .before .before .before .before .args in
     (omega arith, at-pre .1 .0 .0, refl, refl, at-pre .1 .0 .2, fields-start (at-args .s .now) (auto (recordIn (at-args .d .now))) (at-args .floors .now))
 
 sub-next-field : tie.Need-sub-next-field Inv-loop μ-loop
@@ -45,7 +45,7 @@ part-next-field-end c = search needs
 
 next-field-requires : tie.Need-next-field-requires Inv-loop μ-loop
 next-field-requires c κs =
-    let at-args = c .before .before .before .before .before .before .before .args in
+    let at-args = c .before .before .before .before .before .before .before .before .before .args in
     let at-loop = c .before .loop in
     part-readable (at-args .s .now) (at-loop .i) (at-loop .inv .1)
 
@@ -67,119 +67,125 @@ same-length-2 c =
 
 returns : tie.Need-returns Inv-loop μ-loop
 returns c =
-    let at-args = c .before .before .before .before .before .before .before .before .before .before .args in
+    let at-args = c .before .before .before .before .before .before .before .before .before .before .before .before .args in
     let at-loop = c .before .before .before .before .loop in
     let at-next-field = c .before .before .next-field in
     let at-enum-told = c .enum-told in
     fields-end (at-args .s .now) (auto (recordIn (at-args .d .now))) (at-args .floors .now) (at-loop .i) (at-loop .floors) (at-loop .inv .5) (next-told (at-args .s .now) (at-loop .i) (at-next-field .result) (at-next-field .ensures) (at-enum-told .given .1))
 
-add-place-of : tie.Need-add-place-of Inv-loop μ-loop
-add-place-of c =
-    let at-args = c .before .before .before .before .before .before .before .before .before .before .before .args in
-    let at-loop = c .before .before .before .before .before .loop in
-    let at-next-field = c .before .before .before .next-field in
-    let at-f = c .before .f in
-    let at-pre = c .before .before .before .before .before .before .before .before .before .before .before .pre in
+slice-aggregate-place-in : tie.Need-slice-aggregate-place-in Inv-loop μ-loop
+slice-aggregate-place-in c = search needs
+
+slice-aggregate-place-in-2 : tie.Need-slice-aggregate-place-in-2 Inv-loop μ-loop
+slice-aggregate-place-in-2 c = search needs
+
+add-place-in : tie.Need-add-place-in Inv-loop μ-loop
+add-place-in c =
+    let at-args = c .before .before .before .before .before .before .before .before .before .before .before .before .before .before .before .args in
+    let at-loop = c .before .before .before .before .before .before .before .loop in
+    let at-next-field = c .before .before .before .before .before .next-field in
+    let at-f = c .before .before .before .f in
+    let at-pre = c .before .before .before .before .before .before .before .before .before .before .before .before .before .before .before .pre in
     let h = next-told (at-args .s .now) (at-loop .i) (at-next-field .result) (at-next-field .ensures) (at-f .given .1) in
     omega (arith, h .named, h .name-inside, h .inside, at-pre .1 .0 .1)
 
-add-place-of-2 : tie.Need-add-place-of-2 Inv-loop μ-loop
-add-place-of-2 c =
-    let at-args = c .before .before .before .before .before .before .before .before .before .before .before .args in
-    let at-loop = c .before .before .before .before .before .loop in
-    let at-next-field = c .before .before .before .next-field in
-    let at-f = c .before .f in
-    let at-pre = c .before .before .before .before .before .before .before .before .before .before .before .pre in
+add-place-in-2 : tie.Need-add-place-in-2 Inv-loop μ-loop
+add-place-in-2 c =
+    let at-args = c .before .before .before .before .before .before .before .before .before .before .before .before .before .before .before .args in
+    let at-loop = c .before .before .before .before .before .before .before .loop in
+    let at-next-field = c .before .before .before .before .before .next-field in
+    let at-f = c .before .before .before .f in
+    let at-pre = c .before .before .before .before .before .before .before .before .before .before .before .before .before .before .before .pre in
     let h = next-told (at-args .s .now) (at-loop .i) (at-next-field .result) (at-next-field .ensures) (at-f .given .1) in
     omega (arith, h .name-inside, h .inside, at-pre .1 .0 .1)
 
-sub-place-of : tie.Need-sub-place-of Inv-loop μ-loop
-sub-place-of c =
-    let at-args = c .before .before .before .before .before .before .before .before .before .before .before .args in
-    let at-loop = c .before .before .before .before .before .loop in
-    let at-next-field = c .before .before .before .next-field in
-    let at-f = c .before .f in
+sub-place-in : tie.Need-sub-place-in Inv-loop μ-loop
+sub-place-in c =
+    let at-args = c .before .before .before .before .before .before .before .before .before .before .before .before .before .before .before .args in
+    let at-loop = c .before .before .before .before .before .before .before .loop in
+    let at-next-field = c .before .before .before .before .before .next-field in
+    let at-f = c .before .before .before .f in
     let h = next-told (at-args .s .now) (at-loop .i) (at-next-field .result) (at-next-field .ensures) (at-f .given .1) in
     h .named
 
-part-place-of-start : tie.Need-part-place-of-start Inv-loop μ-loop
-part-place-of-start c =
-    let at-args = c .before .before .before .before .before .before .before .before .before .before .before .args in
-    let at-loop = c .before .before .before .before .before .loop in
-    let at-next-field = c .before .before .before .next-field in
-    let at-f = c .before .f in
+part-place-in-start : tie.Need-part-place-in-start Inv-loop μ-loop
+part-place-in-start c =
+    let at-args = c .before .before .before .before .before .before .before .before .before .before .before .before .before .before .before .args in
+    let at-loop = c .before .before .before .before .before .before .before .loop in
+    let at-next-field = c .before .before .before .before .before .next-field in
+    let at-f = c .before .before .before .f in
     let h = next-told (at-args .s .now) (at-loop .i) (at-next-field .result) (at-next-field .ensures) (at-f .given .1) in
     h .named
 
-part-place-of-end : tie.Need-part-place-of-end Inv-loop μ-loop
-part-place-of-end c =
-    let at-args = c .before .before .before .before .before .before .before .before .before .before .before .args in
-    let at-loop = c .before .before .before .before .before .loop in
-    let at-next-field = c .before .before .before .next-field in
-    let at-f = c .before .f in
+part-place-in-end : tie.Need-part-place-in-end Inv-loop μ-loop
+part-place-in-end c =
+    let at-args = c .before .before .before .before .before .before .before .before .before .before .before .before .before .before .before .args in
+    let at-loop = c .before .before .before .before .before .before .before .loop in
+    let at-next-field = c .before .before .before .before .before .next-field in
+    let at-f = c .before .before .before .f in
     let h = next-told (at-args .s .now) (at-loop .i) (at-next-field .result) (at-next-field .ensures) (at-f .given .1) in
     omega (arith, h .name-inside, h .inside)
 
-place-of-requires : tie.Need-place-of-requires Inv-loop μ-loop
-place-of-requires c κs =
-    let at-args = c .before .before .before .before .before .before .before .before .before .before .before .before .args in
-    let at-pre = c .before .before .before .before .before .before .before .before .before .before .before .before .pre in
+place-in-requires : tie.Need-place-in-requires Inv-loop μ-loop
+place-in-requires c κs =
+    let at-args = c .before .before .before .before .before .before .before .before .before .before .before .before .before .before .before .before .args in
+    let at-pre = c .before .before .before .before .before .before .before .before .before .before .before .before .before .before .before .before .pre in
     (auto (recordIn (at-args .d .now)), at-pre .0)
 
 add-raise-place : tie.Need-add-raise-place Inv-loop μ-loop
 add-raise-place c =
-    let at-args = c .before .before .before .before .before .before .before .before .before .before .before .before .before .args in
-    let at-loop = c .before .before .before .before .before .before .before .loop in
-    let at-next-field = c .before .before .before .before .before .next-field in
-    let at-f = c .before .before .before .f in
-    let at-pre = c .before .before .before .before .before .before .before .before .before .before .before .before .before .pre in
+    let at-args = c .before .before .before .before .before .before .before .before .before .before .before .before .before .before .before .before .before .args in
+    let at-loop = c .before .before .before .before .before .before .before .before .before .loop in
+    let at-next-field = c .before .before .before .before .before .before .before .next-field in
+    let at-f = c .before .before .before .before .before .f in
+    let at-pre = c .before .before .before .before .before .before .before .before .before .before .before .before .before .before .before .before .before .pre in
     let h = next-told (at-args .s .now) (at-loop .i) (at-next-field .result) (at-next-field .ensures) (at-f .given .1) in
     omega (arith, h .value-there, at-pre .1 .0 .1)
 
 raise-place-requires : tie.Need-raise-place-requires Inv-loop μ-loop
 raise-place-requires c κs =
-    let at-args = c .before .before .before .before .before .before .before .before .before .before .before .before .before .before .before .args in
-    let at-loop = c .before .before .before .before .before .before .before .before .before .loop in
-    let at-next-field = c .before .before .before .before .before .before .before .next-field in
-    let at-f = c .before .before .before .before .before .f in
-    let at-pre = c .before .before .before .before .before .before .before .before .before .before .before .before .before .before .before .pre in
+    let at-args = c .before .before .before .before .before .before .before .before .before .before .before .before .before .before .before .before .before .before .before .args in
+    let at-loop = c .before .before .before .before .before .before .before .before .before .before .before .loop in
+    let at-next-field = c .before .before .before .before .before .before .before .before .before .next-field in
+    let at-f = c .before .before .before .before .before .before .before .f in
+    let at-pre = c .before .before .before .before .before .before .before .before .before .before .before .before .before .before .before .before .before .before .before .pre in
     let h = next-told (at-args .s .now) (at-loop .i) (at-next-field .result) (at-next-field .ensures) (at-f .given .1) in
     let f = fits-here (length (at-args .scratch .now)) _ _ (fieldsFrom (at-args .s .now) (at-loop .i)) (h .fields) (at-loop .inv .4) in
     (omega (arith, h .value-there), omega (arith, f .0, ap length (h .ends-itself), at-loop .inv .2), omega (arith, at-loop .inv .3, at-pre .0 .few, at-pre .0 .count, at-pre .1 .1))
 
 add-i : tie.Need-add-i Inv-loop μ-loop
 add-i c =
-    let at-args = c .before .before .before .before .before .before .before .before .before .before .before .before .before .before .before .before .before .before .before .before .args in
-    let at-loop = c .before .before .before .before .before .before .before .before .before .before .before .before .before .before .loop in
-    let at-next-field = c .before .before .before .before .before .before .before .before .before .before .before .before .next-field in
-    let at-f = c .before .before .before .before .before .before .before .before .before .before .f in
-    let at-pre = c .before .before .before .before .before .before .before .before .before .before .before .before .before .before .before .before .before .before .before .before .pre in
+    let at-args = c .before .before .before .before .before .before .before .before .before .before .before .before .before .before .before .before .before .before .before .before .before .before .before .before .args in
+    let at-loop = c .before .before .before .before .before .before .before .before .before .before .before .before .before .before .before .before .loop in
+    let at-next-field = c .before .before .before .before .before .before .before .before .before .before .before .before .before .before .next-field in
+    let at-f = c .before .before .before .before .before .before .before .before .before .before .before .before .f in
+    let at-pre = c .before .before .before .before .before .before .before .before .before .before .before .before .before .before .before .before .before .before .before .before .before .before .before .before .pre in
     let h = next-told (at-args .s .now) (at-loop .i) (at-next-field .result) (at-next-field .ensures) (at-f .given .1) in
     omega (arith, h .inside, at-pre .1 .0 .1)
 
 loop-less : tie.Need-loop-less Inv-loop μ-loop
 loop-less c =
-    let at-args = c .before .before .before .before .before .before .before .before .before .before .before .before .before .before .before .before .before .before .before .before .args in
-    let at-loop = c .before .before .before .before .before .before .before .before .before .before .before .before .before .before .loop in
-    let at-next-field = c .before .before .before .before .before .before .before .before .before .before .before .before .next-field in
-    let at-f = c .before .before .before .before .before .before .before .before .before .before .f in
+    let at-args = c .before .before .before .before .before .before .before .before .before .before .before .before .before .before .before .before .before .before .before .before .before .before .before .before .args in
+    let at-loop = c .before .before .before .before .before .before .before .before .before .before .before .before .before .before .before .before .loop in
+    let at-next-field = c .before .before .before .before .before .before .before .before .before .before .before .before .before .before .next-field in
+    let at-f = c .before .before .before .before .before .before .before .before .before .before .before .before .f in
     let h = next-told (at-args .s .now) (at-loop .i) (at-next-field .result) (at-next-field .ensures) (at-f .given .1) in
     omega (arith, h .moves, h .begins, h .inside)
 
 loop-again : tie.Need-loop-again Inv-loop μ-loop
 loop-again c =
-    let at-args = c .before .before .before .before .before .before .before .before .before .before .before .before .before .before .before .before .before .before .before .before .args in
-    let at-loop = c .before .before .before .before .before .before .before .before .before .before .before .before .before .before .loop in
-    let at-next-field = c .before .before .before .before .before .before .before .before .before .before .before .before .next-field in
-    let at-f = c .before .before .before .before .before .before .before .before .before .before .f in
+    let at-args = c .before .before .before .before .before .before .before .before .before .before .before .before .before .before .before .before .before .before .before .before .before .before .before .before .args in
+    let at-loop = c .before .before .before .before .before .before .before .before .before .before .before .before .before .before .before .before .loop in
+    let at-next-field = c .before .before .before .before .before .before .before .before .before .before .before .before .before .before .next-field in
+    let at-f = c .before .before .before .before .before .before .before .before .before .before .before .before .f in
     let at-scratch = c .before .before .before .scratch in
     let at-floors = c .before .floors in
-    let at-place-of = c .before .before .before .before .before .before .before .place-of in
-    let at-pre = c .before .before .before .before .before .before .before .before .before .before .before .before .before .before .before .before .before .before .before .before .pre in
+    let at-place-in = c .before .before .before .before .before .before .before .place-in in
+    let at-pre = c .before .before .before .before .before .before .before .before .before .before .before .before .before .before .before .before .before .before .before .before .before .before .before .before .pre in
     let at-raise-place = c .before .before .before .before .raise-place in
     let h = next-told (at-args .s .now) (at-loop .i) (at-next-field .result) (at-next-field .ensures) (at-f .given .1) in
     let f = fits-here (length (at-args .scratch .now)) _ _ (fieldsFrom (at-args .s .now) (at-loop .i)) (h .fields) (at-loop .inv .4) in
-    (h .inside, h .readable, at-scratch .given ∙ at-loop .inv .2, at-floors .given ∙ at-loop .inv .3, f .1, fields-on (at-args .s .now) (auto (recordIn (at-args .d .now))) (at-args .floors .now) (at-loop .i) (at-loop .floors) (at-loop .inv .5) _ _ _ _ h (at-args .l .words .count) (at-place-of .result) (omega (arith, at-loop .inv .3, at-pre .0 .few, at-pre .1 .1)) (at-pre .0 .count) (at-place-of .ensures (auto (recordIn (at-args .d .now))) (at-pre .0)) _ (at-raise-place .ensures))
+    (h .inside, h .readable, at-scratch .given ∙ at-loop .inv .2, at-floors .given ∙ at-loop .inv .3, f .1, fields-on (at-args .s .now) (auto (recordIn (at-args .d .now))) (at-args .floors .now) (at-loop .i) (at-loop .floors) (at-loop .inv .5) _ _ _ _ h (at-args .l .words .count) (at-place-in .result) (omega (arith, at-loop .inv .3, at-pre .0 .few, at-pre .1 .1)) (at-pre .0 .count) (at-place-in .ensures (auto (recordIn (at-args .d .now))) (at-pre .0)) _ (at-raise-place .ensures))
 
 pub raise-all-spec : {M : Type 1} → statement M
 raise-all-spec =
@@ -197,12 +203,14 @@ raise-all-spec =
     same-length
     same-length-2
     returns
-    add-place-of
-    add-place-of-2
-    sub-place-of
-    part-place-of-start
-    part-place-of-end
-    place-of-requires
+    slice-aggregate-place-in
+    slice-aggregate-place-in-2
+    add-place-in
+    add-place-in-2
+    sub-place-in
+    part-place-in-start
+    part-place-in-end
+    place-in-requires
     add-raise-place
     raise-place-requires
     add-i
