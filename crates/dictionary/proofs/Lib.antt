@@ -1,4 +1,5 @@
 -- Laws of a descriptor's terms.
+pub mod Sets
 pub mod Numbering
 pub mod Places
 pub mod Finding

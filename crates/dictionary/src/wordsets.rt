@@ -1,8 +1,9 @@
 // The words of one of a descriptor's lists, each with its place in the list as tag: the places at which a name stands there are a set in one number.
 ghost use mathlib.Core.Path.{_≡_};
-ghost use mathlib.Core.Bool.{true, false};
+ghost use mathlib.Core.Bool.{true, false, _&&_, not};
 ghost use mathlib.Core.List.{List, []};
-ghost use Prim.Native.Nat.{ℕ, _+_, _<_, _≤_};
+ghost use Prim.Native.Nat.{ℕ, _+_, _-_, _^_, _<_, _≤_};
+ghost use lib.Dec.{ltb};
 ghost use lib.ListN.{length, drop};
 ghost use Rattle.format.specs.Bytes.{Bytes, all};
 ghost use Rattle.format.specs.Limits.{fileBytes, listWords};
@@ -140,4 +141,35 @@ pub fn list(d: &[u8], name: &[u8]) -> Listed
         sets,
         words,
     }
+}
+
+// The places at which a name stands in it.
+pub fn places(d: &[u8], l: Listed, name: &[u8]) -> u64
+    requires { ⌜ ((ws : List Bytes) × IsListed (now d) ws l) ⌝ }
+    ensures { λ r. ⌜ ((ws : List Bytes) → IsListed (now (d .entry)) ws l → Places ws (now (name .entry)) r) ⌝ }
+{
+    let entries = l.entries;
+    let sets = l.sets;
+    places_in(d, &entries, &sets, l.words, name)
+}
+
+// The set of the first so many places.
+fn all_places(count: usize) -> u64
+    requires { ⌜ count ≤ listWords ⌝ }
+    ensures { λ r. ⌜ r ≡ 2 ^ count - 1 ⌝ }
+{
+    if count == Descriptor::WORDS {
+        return 18446744073709551615;
+    }
+    let one: u64 = 1;
+    (one << (count as u64)) - 1
+}
+
+// Those of the first so many places that are not in a set: of a list's words, those that are missing.
+pub fn missing(set: u64, count: usize) -> u64
+    requires { ⌜ count ≤ listWords ⌝ }
+    ensures { λ r. ⌜ ((k : ℕ) → inSet k r ≡ (ltb k count && not (inSet k set))) ⌝ }
+{
+    let all = all_places(count);
+    all & (all ^ set)
 }

@@ -19,11 +19,11 @@ use Rattle.terms.specs.Sets.{inSet}
 use Rattle.terms.proofs.Sets.{in-none, in-or}
 use Rattle.dictionary.specs.Known.{Known}
 use Rattle.dictionary.specs.Numbered.{Places}
+use Rattle.dictionary.proofs.Sets.{in-and}
 use Rattle.rules.specs.Tallies.{empty, counted, Tallied}
 use Rattle.rules.specs.Tables.{Stands}
 use Rattle.rules.specs.declared.tallies.Tally.{Tally}
 use Rattle.rules.specs.declared.tables.Seen.{Seen}
-use Rattle.rules.proofs.Sets.{in-and}
 
 -- a test that fails of no field
 none-so-far : (k n : ℕ) (b : Bool) → inSet k 0 ≡ (b && leb (suc n) 0)

@@ -1,65 +1,57 @@
--- Sets of places.
-use Prim.Native.Nat.{ℕ, zero, suc, _-_, _/_, _%_, _≤_, _<_, min}
+-- Sets that have the first places of a list.
+use Prim.Native.Nat.{ℕ, zero, suc, _≤_, _<_}
 use native.Mathlib.Omega.{arith}
 use mathlib.Core.Path.{_≡_, refl, sym, ap, ap₂, _∙_}
-use mathlib.Core.Bool.{Bool, true, false, _&&_}
+use mathlib.Core.Bool.{Bool, true, false, _&&_, not, and-eq-true-iff}
 use mathlib.Core.List.{List, [], _∷_}
-use borrow.Author.Tests.{eqb-false}
-use lib.Bits.{bitAnd, and-step}
-use lib.Dec.{eqb}
+use borrow.Author.Tests.{eqb-true, eqb-false, eq-eqb, lt-ltb, le-ltb}
+use lib.Dec.{eqb, ltb}
 use lib.ListN.{length, getD, take}
 use lib.Seq.{take-suc}
 use Rattle.format.specs.Bytes.{Bytes, all}
 use Rattle.format.proofs.Lines.{all-append}
+use Rattle.values.proofs.Tests.{by-bool, dec-lt}
 use Rattle.terms.specs.Sets.{inSet}
+use Rattle.terms.proofs.Sets.{in-none}
+use Rattle.dictionary.proofs.Sets.{no-place}
 use Rattle.rules.specs.Tallies.{hasAll}
 
--- a set that has the first n places
-pub all-none : (x : ℕ) → hasAll 0 x ≡ true
+-- each of the first n places
+all-each : (n x k : ℕ) → hasAll n x ≡ true → k < n → inSet k x ≡ true
 unfolding hasAll
-all-none x = refl
+all-each zero x k e h = absurd (omega arith)
+all-each (suc n) x k e h =
+    let b = and-eq-true-iff (inSet n x) (hasAll n x) .0 e in
+    dec-lt k n (λ g. all-each n x k (b .1) g) (λ g. ap (λ (j : ℕ). inSet j x) (let q : k ≡ n = omega (arith, g, h) in q) ∙ b .0)
 
-pub all-last : (n m x : ℕ) (t : Bool) → n ≡ suc m → inSet m x ≡ t → hasAll n x ≡ t && hasAll m x
+each-all : (n x : ℕ) → ((k : ℕ) → k < n → inSet k x ≡ true) → hasAll n x ≡ true
 unfolding hasAll
-all-last n m x t e q = ap (λ (j : ℕ). hasAll j x) e ∙ ap (λ (b : Bool). b && hasAll m x) q
+each-all zero x f = refl
+each-all (suc n) x f = and-eq-true-iff (inSet n x) (hasAll n x) .1 (f n (omega arith), each-all n x (λ k h. f k (omega (arith, h))))
 
--- two sets have a place in common
-low-bits : (x y : ℕ) → x < 2 → y < 2 → eqb (min x y) 1 ≡ eqb x 1 && eqb y 1
-low-bits zero zero h g = refl
-low-bits zero (suc zero) h g = refl
-low-bits (suc zero) zero h g = refl
-low-bits (suc zero) (suc zero) h g = refl
-low-bits (suc (suc x)) y h g = absurd (omega arith)
-low-bits zero (suc (suc y)) h g = absurd (omega arith)
-low-bits (suc zero) (suc (suc y)) h g = absurd (omega arith)
-
-and-low : (a b : ℕ) → bitAnd a b % 2 ≡ min (a % 2) (b % 2)
-and-low a b = let e = and-step a b in omega arith
-
-and-half : (a b : ℕ) → bitAnd a b / 2 ≡ bitAnd (a / 2) (b / 2)
-and-half a b = let e = and-step a b in omega arith
-
-pub in-and : (k a b : ℕ) → inSet k (bitAnd a b) ≡ inSet k a && inSet k b
-unfolding inSet
-in-and zero a b = ap (λ (y : ℕ). eqb y 1) (and-low a b) ∙ low-bits (a % 2) (b % 2) (omega arith) (omega arith)
-in-and (suc k) a b = ap (inSet k) (and-half a b) ∙ in-and k (a / 2) (b / 2)
-
--- a set that has no place is 0
-none-below : (n x : ℕ) → x ≤ n → ((k : ℕ) → inSet k x ≡ false) → x ≡ 0
-unfolding inSet
-none-below zero x h f = omega arith
-none-below (suc n) x h f =
-    let low = eqb-false (x % 2) 1 (f 0) in
-    let high : x / 2 ≡ 0 = none-below n (x / 2) (omega arith) (λ k. f (suc k)) in
-    go (x % 2) refl high low
+-- a set has them all where none is missing
+pub none-missing : (n x r : ℕ) → ((k : ℕ) → inSet k r ≡ (ltb k n && not (inSet k x))) → eqb r 0 ≡ hasAll n x
+none-missing n x r f =
+    by-bool (hasAll n x)
+    (λ e.
+    let z : r ≡ 0 =
+    no-place r
+    (λ k.
+    f k
+    ∙ dec-lt k n (λ h. ap₂ (λ (a b : Bool). a && not b) (lt-ltb k n h) (all-each n x k e h)) (λ h. ap (λ (a : Bool). a && not (inSet k x)) (le-ltb k n h))) in
+    eq-eqb r 0 z ∙ sym e)
+    (λ e. go (eqb r 0) refl e ∙ sym e)
   where
-    go : (r : ℕ) → x % 2 ≡ r → x / 2 ≡ 0 → (x % 2 ≡ 1 → ⊥) → x ≡ 0
-    go zero e q l = omega arith
-    go (suc zero) e q l = absurd (l e)
-    go (suc (suc r)) e q l = absurd (omega arith)
+    flip : (b : Bool) → not b ≡ false → b ≡ true
+    flip true q = refl
+    flip false q = sym q
 
-pub no-place : (x : ℕ) → ((k : ℕ) → inSet k x ≡ false) → x ≡ 0
-no-place x f = none-below x x (omega arith) f
+    there : r ≡ 0 → (k : ℕ) → k < n → inSet k x ≡ true
+    there z k h = flip (inSet k x) (ap (λ (a : Bool). a && not (inSet k x)) (sym (lt-ltb k n h)) ∙ sym (f k) ∙ ap (inSet k) z ∙ in-none k)
+
+    go : (b : Bool) → eqb r 0 ≡ b → hasAll n x ≡ false → b ≡ false
+    go true q e = sym (each-all n x (there (eqb-true r 0 q))) ∙ e
+    go false q e = refl
 
 -- a test of the first words of a list, place by place
 pub all-tested : (p : Bytes → Bool) (ws : List Bytes) (x n : ℕ) → n ≤ length ws → ((k : ℕ) → k < n → inSet k x ≡ p (getD ws k [])) → hasAll n x ≡ all p (take n ws)

@@ -20,9 +20,10 @@ use Rattle.format.proofs.Judging.{recordRows}
 use Rattle.values.proofs.Tests.{by-bool, dec-lt}
 use Rattle.terms.specs.Sets.{inSet}
 use Rattle.terms.proofs.Sets.{in-none}
+use Rattle.dictionary.proofs.Sets.{no-place}
 use Rattle.rules.specs.Tallies.{hasAll, tallyNo, Tallied}
 use Rattle.rules.specs.declared.tallies.Tally.{Tally}
-use Rattle.rules.proofs.Sets.{no-place, all-tested}
+use Rattle.rules.proofs.Sets.{all-tested}
 
 -- the number, test by test
 pub number-by : (t : Tally) (limited keyed : Bool) (n : ℕ) {prohibited other present keyless single repeated : Bool}

@@ -7,6 +7,7 @@ ghost use Rattle.terms.specs.Sets.{inSet};
 ghost use Rattle.dictionary.specs.Tags.{prohibitedTag, allowedTag, keyTag};
 ghost use Rattle.rules.specs.Tallies.{hasAll, empty, counted, tallyNo};
 use dictionary::Tag;
+use dictionary::wordsets;
 use format::Refusal;
 
 // Whether a prohibited name and one that is not allowed occur; the mandatory words that occur; the unique words that occur, and those that do
@@ -67,14 +68,7 @@ fn has_all(set: u64, n: usize) -> bool
     requires { ⌜ n ≤ listWords ⌝ }
     ensures { λ r. ⌜ r ≡ hasAll n set ⌝ }
 {
-    let mut k = n;
-    while 0 < k {
-        k -= 1;
-        if !terms::has(set, k as u64) {
-            return false;
-        }
-    }
-    true
+    wordsets::missing(set, n) == 0
 }
 
 // The number of the first of questions 8 to 11 that the record fails, else 0: `limited` tells whether there are `%allowed` fields, `keyed` whether there is a key,
