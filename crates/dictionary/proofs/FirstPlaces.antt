@@ -13,7 +13,7 @@ use Rattle.terms.specs.Sets.{inSet}
 use Rattle.terms.proofs.Sets.{in-none}
 use Rattle.dictionary.specs.Numbered.{Places}
 
-first-place : (w : Bytes) (ws : List Bytes) (r : ℕ) → r ≤ length ws → (r < length ws → same w (getD ws r []) ≡ true) → ((k : ℕ) → k < r → same w (getD ws k []) ≡ false) → r ≡ placeIn w ws
+pub first-place : (w : Bytes) (ws : List Bytes) (r : ℕ) → r ≤ length ws → (r < length ws → same w (getD ws r []) ≡ true) → ((k : ℕ) → k < r → same w (getD ws k []) ≡ false) → r ≡ placeIn w ws
 first-place w [] r h a b = omega arith
 first-place w (v ∷ vs) zero h a b = go (same w v) (a (zero-lt-suc (length vs)))
   where

@@ -4,6 +4,9 @@ pub mod Numbering
 pub mod Places
 pub mod Finding
 pub mod FirstPlaces
+pub mod Firsts
+pub mod Ones
+pub mod Present
 pub mod Names
 pub mod Rows
 pub mod Listing

@@ -1,17 +1,16 @@
--- Sets of places: those in both of two, the first so many, those of the first so many that are missing; and how many there are in a set.
+-- Sets of places: those in both of two, the first so many, those of the first so many that are missing, one more, none.
 use Prim.Native.Nat.{ℕ, zero, suc, _+_, _-_, _*_, _/_, _%_, _^_, _≤_, _<_, min}
 use native.Mathlib.Nat.{pow-suc}
 use native.Mathlib.Omega.{arith}
 use mathlib.Core.Path.{_≡_, refl, sym, ap, ap₂, _∙_}
-use mathlib.Core.Bool.{Bool, true, false, _&&_, not}
+use mathlib.Core.Bool.{Bool, true, false, _&&_, _||_, not}
 use borrow.Author.Tests.{eqb-false, eq-eqb, lt-ltb, le-ltb}
-use lib.Bits.{bitAnd, bitXor, differ, and-step, xor-step}
+use lib.Bits.{bitAnd, bitOr, bitXor, differ, and-step, xor-step}
 use lib.Dec.{eqb, ltb}
 use lib.Pow.{pow-pos}
-use Rattle.format.specs.Bytes.{pick}
 use Rattle.values.proofs.Tests.{dec-lt}
 use Rattle.terms.specs.Sets.{inSet}
-use Rattle.terms.proofs.Sets.{in-none}
+use Rattle.terms.proofs.Sets.{in-none, in-or, in-single, one-bit}
 
 -- the lowest place, and the others
 pub in-low : (x : ℕ) → inSet 0 x ≡ eqb (x % 2) 1
@@ -95,6 +94,10 @@ in-missing k n a x e =
     go : (a b : Bool) → a && alone a b ≡ a && not b
     go true b = refl
     go false b = refl
+
+-- one place more
+pub in-with : (j k x : ℕ) → k < 64 → inSet j (bitOr x (1 * 2 ^ k % 18446744073709551616)) ≡ (inSet j x || eqb j k)
+in-with j k x h = ap (λ (y : ℕ). inSet j (bitOr x y)) (one-bit k h) ∙ in-or j x (2 ^ k) ∙ ap (λ (t : Bool). inSet j x || t) (in-single k j)
 
 -- a set that has no place is 0
 none-below : (n x : ℕ) → x ≤ n → ((k : ℕ) → inSet k x ≡ false) → x ≡ 0

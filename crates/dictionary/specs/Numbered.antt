@@ -1,15 +1,16 @@
 -- The words of a list, each with its place there as tag; sets of such places.
 use Prim.Native.Nat.{ℕ, suc, _≤_}
 use mathlib.Core.Path.{_≡_}
-use mathlib.Core.Bool.{true, _&&_}
+use mathlib.Core.Bool.{Bool, true, _&&_}
 use mathlib.Core.List.{List, [], _∷_}
-use lib.Dec.{ltb}
+use lib.Dec.{eqb, ltb}
 use lib.ListN.{length, getD, take}
-use Rattle.format.specs.Bytes.{Bytes, all, same}
+use Rattle.format.specs.Bytes.{Bytes, all, same, among}
 use Rattle.format.specs.Limits.{listWords}
 use Rattle.format.specs.Lines.{isName}
 use Rattle.format.specs.Records.{Record}
 use Rattle.format.specs.Rules.{listed}
+use Rattle.words.specs.RuleNames.{placeIn}
 use Rattle.terms.specs.Sets.{Term, termOf, inSet, tagged}
 use Rattle.terms.specs.Entries.{termsOf}
 use Rattle.terms.specs.Joined.{IsJoined}
@@ -40,3 +41,15 @@ IsListed d ws l = IsWords d ws (l .entries) (l .sets) (l .words)
 -- x is the set of the places at which w stands in ws
 abbrev pub Places : List Bytes → Bytes → ℕ → Type 0
 Places ws w x = (k : ℕ) → inSet k x ≡ (ltb k (length ws) && same w (getD ws k []))
+
+-- x is the set of the places of those words of ws that are among some names
+abbrev pub Present : List Bytes → List Bytes → ℕ → Type 0
+Present ws ns x = (k : ℕ) → inSet k x ≡ (ltb k (length ws) && among (getD ws k []) ns)
+
+-- does the word at place k stand there for the first time
+abbrev pub isFirst : ℕ → List Bytes → Bool
+isFirst k ws = eqb (placeIn (getD ws k []) ws) k
+
+-- x is the set of such places
+abbrev pub Firsts : List Bytes → ℕ → Type 0
+Firsts ws x = (k : ℕ) → inSet k x ≡ (ltb k (length ws) && isFirst k ws)

@@ -1,11 +1,11 @@
 // The words of one of a descriptor's lists, each with its place in the list as tag: the places at which a name stands there are a set in one number.
 ghost use mathlib.Core.Path.{_≡_};
-ghost use mathlib.Core.Bool.{true, false, _&&_, not};
-ghost use mathlib.Core.List.{List, []};
+ghost use mathlib.Core.Bool.{true, false, _&&_, _||_, not};
+ghost use mathlib.Core.List.{List, [], map};
 ghost use Prim.Native.Nat.{ℕ, _+_, _-_, _^_, _<_, _≤_};
-ghost use lib.Dec.{ltb};
+ghost use lib.Dec.{eqb, ltb};
 ghost use lib.ListN.{length, drop};
-ghost use Rattle.format.specs.Bytes.{Bytes, all};
+ghost use Rattle.format.specs.Bytes.{Bytes, all, same};
 ghost use Rattle.format.specs.Limits.{fileBytes, listWords};
 ghost use Rattle.format.specs.Lines.{isName};
 ghost use Rattle.format.specs.Words.{words};
@@ -15,11 +15,13 @@ ghost use Rattle.words.specs.RuleNames.{placeIn};
 ghost use Rattle.records.specs.Places.{isReadable};
 ghost use Rattle.records.specs.Walk.{recordIn};
 ghost use Rattle.terms.specs.Sets.{inSet};
+ghost use Rattle.terms.specs.Entries.{wordAt};
 ghost use Rattle.terms.specs.Adding.{Adding};
 ghost use Rattle.dictionary.specs.Known.{Described};
-ghost use Rattle.dictionary.specs.Numbered.{numbered, Lists, IsWords, IsListed, Places};
+ghost use Rattle.dictionary.specs.Numbered.{numbered, Lists, IsWords, IsListed, Places, isFirst, Firsts};
 use format::Descriptor;
 use records::FoundField;
+use sorting::Compared;
 use terms::Table;
 use values::NextWord;
 
@@ -172,4 +174,69 @@ pub fn missing(set: u64, count: usize) -> u64
 {
     let all = all_places(count);
     all & (all ^ set)
+}
+
+// Have two entries the same word?
+fn same_word(d: &[u8], x: u32, y: u32) -> bool
+    ensures { λ r. ⌜ r ≡ same (wordAt (now (d .entry)) x) (wordAt (now (d .entry)) y) ⌝ }
+{
+    let c = sorting::compare_words(d, sorting::place(x), sorting::place(y));
+    match c {
+        Compared::Equal => true,
+        Compared::Before => false,
+        Compared::Behind => false,
+    }
+}
+
+// Has no entry before entry k the same word?
+fn is_first(d: &[u8], entries: &[u32], k: usize) -> bool
+    requires { ⌜ k < length (now entries) ⌝ }
+    ensures { λ r. ⌜ r ≡ isFirst k (map (wordAt (now (d .entry))) (now (entries .entry))) ⌝ }
+{
+    let mut j = 0;
+    while j < k {
+        if same_word(d, entries[k], entries[j]) {
+            return false;
+        }
+        j += 1;
+    }
+    true
+}
+
+// A set, with place k if that is to be.
+fn with_place(set: u64, k: usize, more: bool) -> u64
+    requires { ⌜ k < listWords ⌝ }
+    ensures { λ r. ⌜ ((j : ℕ) → inSet j r ≡ (inSet j set || (more && eqb j k))) ⌝ }
+{
+    if more {
+        let one: u64 = 1;
+        return set | (one << (k as u64));
+    }
+    set
+}
+
+// The places of the entries whose words no entry before them has.
+fn first_entries(d: &[u8], entries: &[u32]) -> u64
+    requires { ⌜ length (now entries) ≤ listWords ⌝ }
+    ensures { λ r. ⌜ Firsts (map (wordAt (now (d .entry))) (now (entries .entry))) r ⌝ }
+{
+    let mut set = 0;
+    let mut k = 0;
+    while k < entries.len() {
+        let first = is_first(d, entries, k);
+        set = with_place(set, k, first);
+        k += 1;
+    }
+    set
+}
+
+// The first places of the words that the fields of a name list: one for each distinct word.
+pub fn firsts(d: &[u8], name: &[u8]) -> u64
+    requires { ⌜ Described (now d) × Lists (now name) (recordIn (now d)) ⌝ }
+    ensures { λ r. ⌜ Firsts (listed (now (name .entry)) (recordIn (now (d .entry)))) r ⌝ }
+{
+    let mut entries = [0u32; Descriptor::WORDS];
+    let n = add_list(d, name, &mut entries);
+    let written = &entries[..];
+    first_entries(d, &written[..n])
 }

@@ -11,7 +11,7 @@ use Rattle.dictionary.proofs.wordsets.all_places.Reads as reads
 use Rattle.dictionary.proofs.wordsets.all_places.Lts as lts
 
 returns : tie.Need-returns
-returns c = 
+returns c =
     let at-if1 = c .if1 in
     sym (ap (λ (n : ℕ). 2 ^ n - 1) (at-if1 .taken))
 
@@ -19,7 +19,7 @@ shl-result : tie.Need-shl-result
 shl-result c = search needs
 
 sub-result : tie.Need-sub-result
-sub-result c = 
+sub-result c =
     let at-args = c .before .args in
     let at-pre = c .before .pre in
     let at-if1 = c .if1 in
@@ -28,7 +28,7 @@ sub-result c =
     omega (arith, one-bit k h, pow-pos k)
 
 returns-2 : tie.Need-returns-2
-returns-2 c = 
+returns-2 c =
     let at-args = c .before .args in
     let at-pre = c .before .pre in
     let at-if1 = c .if1 in

@@ -11,7 +11,7 @@ all-places-requires : tie.Need-all-places-requires
 all-places-requires c κs = search needs
 
 returns : tie.Need-returns
-returns c = 
+returns c =
     let at-args = c .before .args in
     let at-all-places = c .all-places in
     λ k. in-missing k (at-args .count) (at-all-places .result) (at-args .set) (at-all-places .ensures)

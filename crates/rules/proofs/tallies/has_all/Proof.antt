@@ -11,7 +11,7 @@ missing-requires : tie.Need-missing-requires
 missing-requires c κs = search needs
 
 returns : tie.Need-returns
-returns c = 
+returns c =
     let at-args = c .before .args in
     let at-missing = c .missing in
     none-missing (at-args .n) (at-args .set) (at-missing .result) (at-missing .ensures)
