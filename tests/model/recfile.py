@@ -549,6 +549,20 @@ def write(req, out):
         return no.number, 0, out
 
 
+def to_fill(buf, used, req):
+    """(number, how many of the set's mandatory names and its key neither the draft nor an %auto list names)"""
+    try:
+        pieces, sets = passed(buf, used)
+        kind, got, pairs = parse_request(req)
+        if kind != 1:
+            raise No(20)
+        d = find_set(sets, got[2]).descriptor
+        wanted = set(listed(pieces, d, b'%mandatory')) | set(listed(pieces, d, b'%key'))
+        return 0, len(wanted - {n for n, _ in pairs} - set(listed(pieces, d, b'%auto')))
+    except No as no:
+        return no.number, 0
+
+
 def edited(pieces, sets, req):
     """The new file's bytes, or No(20 to 25 or 31)."""
     kind, got, pairs = parse_request(req)
