@@ -2,7 +2,9 @@
 
 It is slow and plain: every call reads the file anew. Tests compare the library with it.
 """
+import fractions
 import itertools
+import math
 import re
 
 FILE, NAME, VALUE, FIELDS = 65536, 64, 4096, 256
@@ -679,3 +681,29 @@ def edit_listed(buf, used, req, entries):
 def count_at(entries, position):
     """(number, count)"""
     return (0, entries[position][1]) if position < len(entries) else (21, 0)
+
+
+def amount(value):
+    """What a value adds to a total, exactly; None where it doesn't count."""
+    bare = value.strip(b' \t\n')
+    return fractions.Fraction(bare.decode()) if re.match(rb'-?[0-9]{1,8}(\.[0-9]{1,6})?\Z', bare) else None
+
+
+def hundredths(exact):
+    """The nearest whole number of hundredths, a half away from zero."""
+    size = math.floor(abs(exact) * 100 + fractions.Fraction(1, 2))
+    return -size if exact < 0 else size
+
+
+def total(buf, used, name, field):
+    """(number, hundredths, millionths, how many values)"""
+    try:
+        pieces, sets = passed(buf, used)
+        amounts = [amount(v) for r in find_set(sets, name).records for v in values(pieces, r, field)]
+        if None in amounts:
+            raise No(32)
+        exact = sum(amounts, fractions.Fraction(0))
+        assert (exact * 1000000).denominator == 1 and abs(exact) < 10 ** 12
+        return 0, hundredths(exact), int(exact * 1000000), len(amounts)
+    except No as no:
+        return no.number, 0, 0, 0
