@@ -1,5 +1,5 @@
 -- Names that are given one after another, and the number of a list's distinct words that are not.
-use Prim.Native.Nat.{ℕ, _+_, _≤_}
+use Prim.Native.Nat.{ℕ, suc, _+_, _≤_}
 use native.Mathlib.Omega.{arith}
 use mathlib.Core.Path.{_≡_, refl, sym, ap, _∙_, subst}
 use mathlib.Core.Bool.{Bool, true, false, _&&_, _||_, not}
@@ -153,3 +153,20 @@ pub counted : (d : Bytes) (ws : List Bytes) (l : Listed) → IsListed d ws l →
     × ((x m f r : ℕ) → ((k : ℕ) → inSet k m ≡ (ltb k (l .words .count) && not (inSet k x))) → Firsts ws f → r ≡ ones (bitAnd f m) → (ns : List Bytes) → Present ws ns x → r ≡ length (filter (λ (n : Bytes). not (among n ns)) (firsts ws)))
 counted d ws l h =
     (omega (arith, h .few, h .count), λ x m f r e g q ns p. q ∙ missing-counted ws ns x m f p (λ k. e k ∙ ap (λ (n : ℕ). ltb k n && not (inSet k x)) (h .count)) g)
+
+-- there are no more of them than words
+filter-most : {A : Type 0} (p : A → Bool) (xs : List A) → length (filter p xs) ≤ length xs
+filter-most p [] = omega arith
+filter-most {A = A} p (x ∷ xs) = go (p x) (filter-most p xs)
+  where
+    go : (c : Bool) → length (filter p xs) ≤ length xs → length (pick c (x ∷ filter p xs) (filter p xs)) ≤ suc (length xs)
+    go true h = omega (arith, h)
+    go false h = omega (arith, h)
+
+firsts-most : (ns : List Bytes) → length (firsts ns) ≤ length ns
+firsts-most [] = omega arith
+firsts-most (n ∷ ns) = omega (arith, filter-most (λ (m : Bytes). not (same n m)) (firsts ns), firsts-most ns)
+
+pub parts-few : (p q : Bytes → Bool) (ns ms : List Bytes) → length ns ≤ listWords → length ms ≤ listWords → length (filter p (firsts ns)) + length (filter p (filter q (firsts ms))) ≤ 128
+parts-few p q ns ms h g =
+    omega (arith, filter-most p (firsts ns), firsts-most ns, filter-most p (filter q (firsts ms)), filter-most q (firsts ms), firsts-most ms, h, g)

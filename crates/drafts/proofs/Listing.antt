@@ -1,18 +1,29 @@
 -- The words that the fields of a name list, from a byte of a descriptor on.
 use Prim.Native.Nat.{ℕ, _≤_}
-use mathlib.Core.Path.{_≡_, sym, ap, _∙_}
-use mathlib.Core.Bool.{Bool, true, and-eq-true-iff}
+use native.Mathlib.Omega.{arith}
+use mathlib.Core.Path.{_≡_, refl, sym, ap, _∙_}
+use mathlib.Core.Bool.{Bool, true, _&&_, and-eq-true-iff, or-false, false≢true}
 use mathlib.Core.List.{List, [], _∷_, _++_, map}
 use borrow.Author.Tests.{leb-true, le-leb}
 use lib.Dec.{leb}
 use lib.ListN.{length, drop, getD}
-use Rattle.format.specs.Bytes.{Bytes, all}
+use Rattle.format.specs.Bytes.{Bytes, text, all}
+use Rattle.format.specs.Lines.{isName}
 use Rattle.format.specs.Limits.{valueBytes}
 use Rattle.format.specs.Lists.{flat}
 use Rattle.format.specs.Words.{words}
+use Rattle.format.specs.Records.{Record}
+use Rattle.format.specs.Sets.{valuesOf}
+use Rattle.format.specs.Numbers.{intBounds}
+use Rattle.format.specs.Rules.{one, several, isShaped}
+use Rattle.format.proofs.Listing.{listed-all}
 use Rattle.values.specs.Value.{valueFrom}
 use Rattle.records.specs.Named.{valuesFrom, ValueHere}
+use Rattle.records.specs.Walk.{recordIn}
 use Rattle.dictionary.specs.Known.{Described}
+use Rattle.dictionary.specs.Numbered.{Lists}
+use Rattle.dictionary.proofs.Typing.{all-shaped}
+use Rattle.dictionary.proofs.Counting.{key-length}
 use Rattle.columns.proofs.Granted.{fits-at}
 use Rattle.numbering.proofs.Counted.{all-placed}
 
@@ -49,3 +60,21 @@ module _ (d n : Bytes) (i v e : ℕ) (f : ValueHere d n i v e) (x : Bytes) (q : 
 
   pub short-on : ShortFrom d n i → ShortFrom d n e
   short-on h = two h .1
+
+-- The key is listed at most once, and it is a name.
+
+one-several : (p : Bytes → Bool) (ws : List Bytes) → one p ws ≡ true → several p ws ≡ true
+one-several p [] e = e
+one-several p (w ∷ []) e = and-eq-true-iff (p w) true .1 (e, refl)
+one-several p (w ∷ v ∷ ws) e = absurd (false≢true e)
+
+pub key-lists : (d : Bytes) → Described d → Lists (text "%key") (recordIn d)
+key-lists d h =
+    let rules : Record = recordIn d in
+    let k : Bool = leb (length (valuesOf (text "%key") rules)) 1 in
+    let z : Bool = leb (length (valuesOf (text "%size") rules)) 1 in
+    let once : length (valuesOf (text "%key") rules) ≤ 1 = leb-true (length (valuesOf (text "%key") rules)) 1 (and-eq-true-iff (all (isShaped intBounds) rules) k .0 (and-eq-true-iff (all (isShaped intBounds) rules && k) z .0 (h .well) .0) .1) in
+    record {
+      few = omega (arith, key-length rules (all-shaped d h), once);
+      names = listed-all intBounds (text "%key") isName (λ v n e. one-several isName (words v) (sym (or-false (one isName (words v))) ∙ e)) rules (all-shaped d h);
+    }
