@@ -10,3 +10,4 @@ pub mod Editing
 pub mod Bits
 pub mod Stepping
 pub mod Folding
+pub mod Even
