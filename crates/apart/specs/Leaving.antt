@@ -1,23 +1,23 @@
 -- What an edit leaves, and a list of them.
 use Rattle.std.specs.Prelude.{ℕ, ◌≡◌, List, take}
 use Rattle.format.specs.Bytes.{Bytes}
-use Rattle.format.specs.Calls.{number_in, valueOr, editAnswer}
+use Rattle.format.specs.Calls.{number_in, value_or, edit_answer}
 use Rattle.format.specs.Runs.{Told, Ran}
 use Rattle.format.proofs.Elements.{Each}
 
 -- the buffer, the length that is returned, the given one where the edit is refused, and the file
-abbrev pub bufferAfter : Bytes → ℕ → Bytes → Bytes
-bufferAfter buffer used request = (editAnswer buffer used request).out
+abbrev pub buffer_after : Bytes → ℕ → Bytes → Bytes
+buffer_after buffer used request = (edit_answer buffer used request).out
 
-abbrev pub lengthAfter : Bytes → ℕ → Bytes → ℕ
-lengthAfter buffer used request = valueOr used (editAnswer buffer used request).result
+abbrev pub length_after : Bytes → ℕ → Bytes → ℕ
+length_after buffer used request = value_or used (edit_answer buffer used request).result
 
-abbrev pub fileAfter : Bytes → ℕ → Bytes → Bytes
-fileAfter buffer used request = take (lengthAfter buffer used request) (bufferAfter buffer used request)
+abbrev pub file_after : Bytes → ℕ → Bytes → Bytes
+file_after buffer used request = take (length_after buffer used request) (buffer_after buffer used request)
 
 -- accepted, and each edit of a list accepted
 abbrev pub IsAccepted : Bytes → ℕ → Bytes → Type 0
-IsAccepted buffer used request = number_in (editAnswer buffer used request).result ≡ 0
+IsAccepted buffer used request = number_in (edit_answer buffer used request).result ≡ 0
 
 abbrev pub AllAccepted : List Told → Type 0
 AllAccepted ts = Each (λ (t : Told). t.number ≡ 0) ts

@@ -8,31 +8,31 @@ use types.Run.{OneOf, miss}
 use Rattle.format.specs.Bytes.{Bytes}
 use Rattle.format.specs.Types.{uncomment}
 use Rattle.words.specs.Spans.{span}
-use Rattle.typing.specs.Meaning.{symbolsIn, Sound, meetsIn}
+use Rattle.typing.specs.Meaning.{symbols_in, Sound, meets_in}
 use Rattle.typing.specs.declared.Shape.{Shape}
 use Rattle.typing.specs.contracts.Shape.{the_type as shape-type}
-use Rattle.columns.specs.Readings.{metBy}
+use Rattle.columns.specs.Readings.{met_by}
 
-pub met-shape : (symbol : Bool) (v : Bytes) {k j : Shape} → k ≡ j → metBy j symbol v ≡ metBy k symbol v
-met-shape symbol v e = ap (λ (k : Shape). metBy k symbol v) (sym e)
+pub met-shape : (symbol : Bool) (v : Bytes) {k j : Shape} → k ≡ j → met_by j symbol v ≡ met_by k symbol v
+met-shape symbol v e = ap (λ (k : Shape). met_by k symbol v) (sym e)
 
 -- the symbols of a shape of the text s
-abbrev pub symbolsOf : Bytes → Shape → List Bytes
-symbolsOf s Shape.Int = []
-symbolsOf s (Shape.Range a b) = []
-symbolsOf s Shape.Real = []
-symbolsOf s Shape.Line = []
-symbolsOf s (Shape.Size n) = []
-symbolsOf s (Shape.Enum a e) = symbolsIn (uncomment false (span a e s))
-symbolsOf s Shape.Bool = []
-symbolsOf s Shape.Field = []
-symbolsOf s Shape.Uuid = []
-symbolsOf s (Shape.Alias a e) = []
+abbrev pub symbols_of : Bytes → Shape → List Bytes
+symbols_of s Shape.Int = []
+symbols_of s (Shape.Range a b) = []
+symbols_of s Shape.Real = []
+symbols_of s Shape.Line = []
+symbols_of s (Shape.Size n) = []
+symbols_of s (Shape.Enum a e) = symbols_in (uncomment false (span a e s))
+symbols_of s Shape.Bool = []
+symbols_of s Shape.Field = []
+symbols_of s Shape.Uuid = []
+symbols_of s (Shape.Alias a e) = []
 
 -- a kind that needs neither an int nor symbols
 pub record Apart (k : Shape) : Type 0 where
   pub sound : Sound [] k
-  pub meets : (symbol : Bool) (v : Bytes) → meetsIn [] k v ≡ metBy k symbol v
+  pub meets : (symbol : Bool) (v : Bytes) → meets_in [] k v ≡ met_by k symbol v
 
 abbrev others : List ℕ
 others = 2 ∷ 3 ∷ 4 ∷ 6 ∷ 7 ∷ 8 ∷ []

@@ -6,7 +6,7 @@ use mathlib.Core.Bool.{true, false, ◌&&◌, ◌||◌, not}
 use borrow.Author.Tests.{ne_eqb}
 use Rattle.format.specs.Bytes.{Bytes}
 use Rattle.terms.specs.Sets.{in_set}
-use Rattle.columns.specs.Meets.{rowMet, rowsMet}
+use Rattle.columns.specs.Meets.{row_met, rows_met}
 
 -- doubled j times, a number has no tag below j
 abbrev doubled : ℕ → ℕ → ℕ
@@ -28,7 +28,7 @@ none_below k x h e =
     ap (in_set k) whole ∙ none-doubled 32 k q h
 
 -- so no kind is asked for
-pub none-met : (d : Bytes) (x k m : ℕ) (v : Bytes) → k + m ≤ 32 → x % 4294967296 ≡ 0 → rowsMet d x k m v ≡ true
+pub none-met : (d : Bytes) (x k m : ℕ) (v : Bytes) → k + m ≤ 32 → x % 4294967296 ≡ 0 → rows_met d x k m v ≡ true
 none-met d x k zero v h e = refl
 none-met d x k (suc m) v h e =
-    (λ i. (not (none_below k x (omega arith) e i) || rowMet d k v) && rowsMet d x (suc k) m v) ∙ none-met d x (suc k) m v (omega arith) e
+    (λ i. (not (none_below k x (omega arith) e i) || row_met d k v) && rows_met d x (suc k) m v) ∙ none-met d x (suc k) m v (omega arith) e

@@ -3,19 +3,19 @@
 ghost use Rattle.std.specs.Prelude.{◌≡◌, true, [], ◌-◌, ◌<◌, ◌≤◌, length};
 ghost use Rattle.std.proofs.Math.Option.{some};
 ghost use Rattle.format.specs.Bytes.{Bytes, is_some};
-ghost use Rattle.format.specs.Limits.{valueBytes, typeFields};
+ghost use Rattle.format.specs.Limits.{value_bytes, type_fields};
 ghost use Rattle.format.specs.Words.{trim};
-ghost use Rattle.format.specs.Numbers.{intBounds, int_of};
-ghost use Rattle.values.specs.Value.{valueFrom};
-ghost use Rattle.numbers.specs.Meaning.{intAnswer};
-ghost use Rattle.typing.specs.Meaning.{typedIn, typeAnswer};
+ghost use Rattle.format.specs.Numbers.{int_bounds, int_of};
+ghost use Rattle.values.specs.Value.{value_from};
+ghost use Rattle.numbers.specs.Meaning.{int_answer};
+ghost use Rattle.typing.specs.Meaning.{typed_in, type_answer};
 ghost use Rattle.typedefs.specs.Names.{AreNames};
 ghost use Rattle.typedefs.specs.Typedefs.{AreTypedefs};
 ghost use Rattle.dictionary.specs.Known.{Described};
 ghost use Rattle.terms.specs.Sets.{tags, in_set};
-ghost use Rattle.enums.specs.Rows.{leaderOf, Leads, IsSymbols, Found};
-ghost use Rattle.columns.specs.Meets.{rowsMet};
-ghost use Rattle.columns.specs.Rows.{text_of, IsKinds, IsTyped, isSymbol, rowsAsk};
+ghost use Rattle.enums.specs.Rows.{leader_of, Leads, IsSymbols, Found};
+ghost use Rattle.columns.specs.Meets.{rows_met};
+ghost use Rattle.columns.specs.Rows.{text_of, IsKinds, IsTyped, is_symbol, rows_ask};
 
 use dictionary::Tag;
 use enums::Symbols;
@@ -43,8 +43,8 @@ pub struct Kinds {
 
 // The kind of a type that is one.
 fn shape_of(t: TypeOf) -> Shape
-    requires { is_some (typeAnswer [] t) ≡ true }
-    ensures { (s : Bytes) → typeAnswer s t ≡ some (typedIn s result) }
+    requires { is_some (type_answer [] t) ≡ true }
+    ensures { (s : Bytes) → type_answer s t ≡ some (typed_in s result) }
 {
     let TypeOf::Is(kind) = t else {
         return Shape::Line;
@@ -65,7 +65,7 @@ fn text_of(kind: Shape, value: usize) -> usize
 // The kinds of a descriptor, by its typedefs and their names.
 fn fill(d: &[u8], names: Names, defs: Typedefs, scratch: &mut [u8]) -> Kinds
     requires described { Described d.now × AreNames d.now names × AreTypedefs d.now names.places defs }
-    requires value_bytes_in_bounds { valueBytes ≤ length scratch.old }
+    requires value_bytes_in_bounds { value_bytes ≤ length scratch.old }
     ensures { IsKinds d.now result }
 {
     let mut rows = [Row { kind: Shape::Line }; Descriptor::TYPES];
@@ -97,7 +97,7 @@ fn fill(d: &[u8], names: Names, defs: Typedefs, scratch: &mut [u8]) -> Kinds
 // The kinds of a descriptor.
 pub fn read(d: &[u8], scratch: &mut [u8]) -> Kinds
     requires described { Described d.now }
-    requires value_bytes_in_bounds { valueBytes ≤ length scratch.old }
+    requires value_bytes_in_bounds { value_bytes ≤ length scratch.old }
     ensures { IsKinds d.now result }
 {
     let names = typedefs::read_names(d);
@@ -124,8 +124,8 @@ fn texts_with(d: &[u8], texts: &[usize], entries: &[u32], symbols: Symbols, v: &
 // Is a value a symbol of a row, if it is known of which texts it is one?
 fn is_symbol(texts: &[usize], from: usize, row: usize, found: u64) -> bool
     requires from_le_row { (from ≤ row) × (row < length texts.now) × (row < tags) }
-    requires row_value { in_set row found ≡ true → leaderOf texts.now from row ≡ row }
-    ensures { result ≡ isSymbol texts.now from found row }
+    requires row_value { in_set row found ≡ true → leader_of texts.now from row ≡ row }
+    ensures { result ≡ is_symbol texts.now from found row }
 {
     if texts[row] < File::BYTES {
         if terms::has(found, row as u64) {
@@ -146,10 +146,10 @@ pub struct Typed {
 
 // Does a value meet the kinds in a set of tags, of the rows that have their symbols? x is what it is as an int, found of which texts it is a symbol.
 fn rows_met(typed: Typed, found: u64, tags: u64, v: &[u8], x: IntOf) -> bool
-    requires from_le_next { (typed.symbols.from ≤ typed.symbols.next) × (typed.symbols.next ≤ typeFields) × (length typed.kinds.rows ≡ typeFields) × (length typed.kinds.texts ≡ typeFields) }
-    requires x_value { intAnswer x ≡ int_of intBounds (trim v.now) }
+    requires from_le_next { (typed.symbols.from ≤ typed.symbols.next) × (typed.symbols.next ≤ type_fields) × (length typed.kinds.rows ≡ type_fields) × (length typed.kinds.texts ≡ type_fields) }
+    requires x_value { int_answer x ≡ int_of int_bounds (trim v.now) }
     requires leads { Leads typed.kinds.texts typed.symbols.from typed.symbols.next found }
-    ensures { result ≡ rowsAsk typed.kinds typed.symbols.from found tags v.now typed.symbols.from (typed.symbols.next - typed.symbols.from) }
+    ensures { result ≡ rows_ask typed.kinds typed.symbols.from found tags v.now typed.symbols.from (typed.symbols.next - typed.symbols.from) }
 {
     let kinds = typed.kinds;
     let texts = kinds.texts;
@@ -183,8 +183,8 @@ pub fn value_met(
     scratch: &mut [u8],
 ) -> bool
     requires typed { IsTyped d.now entries.now typed }
-    requires s_in_bounds { length (valueFrom s.now) ≤ length scratch.old }
-    ensures { result ≡ rowsMet d.now tags typed.symbols.from (typed.symbols.next - typed.symbols.from) (valueFrom s.now) }
+    requires s_in_bounds { length (value_from s.now) ≤ length scratch.old }
+    ensures { result ≡ rows_met d.now tags typed.symbols.from (typed.symbols.next - typed.symbols.from) (value_from s.now) }
 {
     if tags % Tag::TYPES == 0 {
         return true;

@@ -5,28 +5,28 @@ use mathlib.Core.Path.{◌≡◌, refl, sym, ap, ◌∙◌, subst}
 use mathlib.Core.Bool.{Bool, true, false, ◌&&◌, ◌||◌, not, true≢false, or-false}
 use mathlib.Core.List.{List, [], ◌∷◌, map}
 use lib.ListN.{length, get_or}
-use Rattle.format.specs.Lines.{isName, isSpecial}
+use Rattle.format.specs.Lines.{is_name, is_special}
 use Rattle.format.specs.Bytes.{Bytes, text, any, same, pick}
-use Rattle.format.specs.Numbers.{intBounds}
+use Rattle.format.specs.Numbers.{int_bounds}
 use Rattle.format.specs.Rules.{Shape, shapes}
 use Rattle.format.proofs.Elements.{Each}
 use Rattle.format.proofs.Listing.{same_true}
-use Rattle.words.specs.RuleNames.{place_in, ruleNames}
+use Rattle.words.specs.RuleNames.{place_in, rule_names}
 use Rattle.words.proofs.RuleNames.{is-placed, not-placed}
-use Rattle.descriptors.specs.Contents.{listable, holds, isFree, asksName, asksSize, Asks}
+use Rattle.descriptors.specs.Contents.{listable, holds, is_free, asks_name, asks_size, Asks}
 use Rattle.descriptors.specs.declared.shapes.Content.{Content}
 use Rattle.descriptors.specs.contracts.shapes.Content.{the_type}
 use denote.Enum.Declared.{tag_of}
 use types.Run.{OneOf, miss}
 
 -- a word in a list of names
-pub listable-not : (b : Bool) (w : Bytes) → isName w ≡ false → listable b w ≡ false
+pub listable-not : (b : Bool) (w : Bytes) → is_name w ≡ false → listable b w ≡ false
 listable-not true w e = e
-listable-not false w e = ap (λ (x : Bool). x && not (isSpecial w)) e
+listable-not false w e = ap (λ (x : Bool). x && not (is_special w)) e
 
-pub listable-name : (b : Bool) (w : Bytes) → isName w ≡ true → listable b w ≡ (b || not (isSpecial w))
+pub listable-name : (b : Bool) (w : Bytes) → is_name w ≡ true → listable b w ≡ (b || not (is_special w))
 listable-name true w e = e
-listable-name false w e = ap (λ (x : Bool). x && not (isSpecial w)) e
+listable-name false w e = ap (λ (x : Bool). x && not (is_special w)) e
 
 -- the rows
 pub rec-asks : Asks (text "%rec") Content.TypeName
@@ -66,8 +66,8 @@ pub auto-asks : Asks (text "%auto") Content.Ordinary
 auto-asks = record { shaped = λ v k. or-false (holds Content.Ordinary v); key = refl; size = refl }
 
 -- a name that has the place of one of them
-pub asks_at : (n m : Bytes) (c : Content) (r k : ℕ) → r ≡ place_in n ruleNames → get_or ruleNames k [] ≡ m → k < length ruleNames → same m m ≡ true → Asks m c → r ≡ k → Asks n c
-asks_at n m c r k e f h s a q = subst (λ (x : Bytes). Asks x c) (same_true m n (is-placed n m ruleNames r k e f h s q)) a
+pub asks_at : (n m : Bytes) (c : Content) (r k : ℕ) → r ≡ place_in n rule_names → get_or rule_names k [] ≡ m → k < length rule_names → same m m ≡ true → Asks m c → r ≡ k → Asks n c
+asks_at n m c r k e f h s a q = subst (λ (x : Bytes). Asks x c) (same_true m n (is-placed n m rule_names r k e f h s q)) a
 
 -- one that has none of their places
 pub above : (r k : ℕ) → k ≤ r → (r ≡ k → ⊥) → k + 1 ≤ r
@@ -85,35 +85,35 @@ no_row : (n v : Bytes) (xs : List Shape) → Each (λ (x : Shape). same n x.name
 no_row n v [] h = refl
 no_row n v (x ∷ xs) h = ap (λ (b : Bool). (b && x.fits v) || any (λ (y : Shape). same n y.name && y.fits v) xs) h.0 ∙ no_row n v xs h.1
 
-pub asks_none : (n : Bytes) (r : ℕ) → isSpecial n ≡ true → r ≡ place_in n ruleNames → length ruleNames ≤ r → Asks n Content.Fault
+pub asks_none : (n : Bytes) (r : ℕ) → is_special n ≡ true → r ≡ place_in n rule_names → length rule_names ≤ r → Asks n Content.Fault
 asks_none n r s e h =
     record {
       shaped =
           λ v k.
-          ap (λ (b : Bool). not b || any (λ (x : Shape). same n x.name && x.fits v) (shapes intBounds)) s
-          ∙ no_row n v (shapes intBounds) (rows-passed n (shapes intBounds) (omega (arith, e, h)));
-      key = not-placed n (text "%key") ruleNames r 6 e refl (λ q. omega (arith, h, q));
-      size = not-placed n (text "%size") ruleNames r 7 e refl (λ q. omega (arith, h, q));
+          ap (λ (b : Bool). not b || any (λ (x : Shape). same n x.name && x.fits v) (shapes int_bounds)) s
+          ∙ no_row n v (shapes int_bounds) (rows-passed n (shapes int_bounds) (omega (arith, e, h)));
+      key = not-placed n (text "%key") rule_names r 6 e refl (λ q. omega (arith, h, q));
+      size = not-placed n (text "%size") rule_names r 7 e refl (λ q. omega (arith, h, q));
     }
 
 -- one that does not start with `%`
-not-special : (m n : Bytes) → isSpecial m ≡ true → isSpecial n ≡ false → same m n ≡ false
+not-special : (m n : Bytes) → is_special m ≡ true → is_special n ≡ false → same m n ≡ false
 not-special m n e f = go (same m n) refl
   where
     go : (b : Bool) → same m n ≡ b → b ≡ false
     go false q = refl
-    go true q = sym e ∙ ap isSpecial (same_true m n q) ∙ f
+    go true q = sym e ∙ ap is_special (same_true m n q) ∙ f
 
-pub asks-plain : (n : Bytes) → isSpecial n ≡ false → Asks n Content.Free
+pub asks-plain : (n : Bytes) → is_special n ≡ false → Asks n Content.Free
 asks-plain n e =
     record {
-      shaped = λ v k. ap (λ (b : Bool). not b || any (λ (x : Shape). same n x.name && x.fits v) (shapes intBounds)) e;
+      shaped = λ v k. ap (λ (b : Bool). not b || any (λ (x : Shape). same n x.name && x.fits v) (shapes int_bounds)) e;
       key = not-special (text "%key") n refl e;
       size = not-special (text "%size") n refl e;
     }
 
 -- any value is what is asked where nothing is
-pub free-holds : (c : Content) (v : Bytes) → isFree c ≡ true → true ≡ holds c v
+pub free-holds : (c : Content) (v : Bytes) → is_free c ≡ true → true ≡ holds c v
 free-holds Content.Free v e = refl
 free-holds Content.TypeName v e = absurd (true≢false (sym e))
 free-holds Content.Names v e = absurd (true≢false (sym e))
@@ -123,7 +123,7 @@ free-holds Content.Size v e = absurd (true≢false (sym e))
 free-holds Content.Fault v e = absurd (true≢false (sym e))
 
 -- what is asked is another thing
-pub not_free : (c : Content) → OneOf (1 ∷ 2 ∷ 3 ∷ 4 ∷ 5 ∷ 6 ∷ []) (tag_of the_type c) → false ≡ isFree c
+pub not_free : (c : Content) → OneOf (1 ∷ 2 ∷ 3 ∷ 4 ∷ 5 ∷ 6 ∷ []) (tag_of the_type c) → false ≡ is_free c
 not_free Content.Free h = absurd (miss (1 ∷ 2 ∷ 3 ∷ 4 ∷ 5 ∷ 6 ∷ []) 0 tt h)
 not_free Content.TypeName h = refl
 not_free Content.Names h = refl
@@ -132,7 +132,7 @@ not_free Content.Name h = refl
 not_free Content.Size h = refl
 not_free Content.Fault h = refl
 
-pub not-name : (c : Content) → OneOf (0 ∷ 1 ∷ 2 ∷ 3 ∷ 5 ∷ 6 ∷ []) (tag_of the_type c) → false ≡ asksName c
+pub not-name : (c : Content) → OneOf (0 ∷ 1 ∷ 2 ∷ 3 ∷ 5 ∷ 6 ∷ []) (tag_of the_type c) → false ≡ asks_name c
 not-name Content.Free h = refl
 not-name Content.TypeName h = refl
 not-name Content.Names h = refl
@@ -141,7 +141,7 @@ not-name Content.Name h = absurd (miss (0 ∷ 1 ∷ 2 ∷ 3 ∷ 5 ∷ 6 ∷ []) 
 not-name Content.Size h = refl
 not-name Content.Fault h = refl
 
-pub not-size : (c : Content) → OneOf (0 ∷ 1 ∷ 2 ∷ 3 ∷ 4 ∷ 6 ∷ []) (tag_of the_type c) → false ≡ asksSize c
+pub not-size : (c : Content) → OneOf (0 ∷ 1 ∷ 2 ∷ 3 ∷ 4 ∷ 6 ∷ []) (tag_of the_type c) → false ≡ asks_size c
 not-size Content.Free h = refl
 not-size Content.TypeName h = refl
 not-size Content.Names h = refl

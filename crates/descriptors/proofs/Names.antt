@@ -9,13 +9,13 @@ use lib.ListN.{length, take, drop, get_or, set, length-drop, length-take, take-a
 use lib.Seq.{drop-cons, drop-drop, take-suc-set, take-append-le, drop-append-le, length-take-le}
 use Rattle.format.specs.Pieces.{read_of}
 use Rattle.format.specs.Bytes.{Bytes, text}
-use Rattle.format.specs.Limits.{valueBytes}
-use Rattle.format.specs.Questions.{fitsRecord}
+use Rattle.format.specs.Limits.{value_bytes}
+use Rattle.format.specs.Questions.{fits_record}
 use Rattle.format.specs.Records.{fields_of}
 use Rattle.format.specs.Sets.{values_of}
 use Rattle.format.specs.Words.{first_word}
-use Rattle.format.proofs.Walking.{nameIn, headName}
-use Rattle.values.specs.Value.{valueFrom}
+use Rattle.format.proofs.Walking.{name_in, head_name}
+use Rattle.values.specs.Value.{value_from}
 use Rattle.values.proofs.Decoding.{nothing-at}
 use Rattle.records.proofs.Fields.{FieldFound}
 use Rattle.words.specs.Spans.{span}
@@ -96,11 +96,11 @@ module _ (s : Bytes) (bs es : List ℕ) (n b e : ℕ) (fits : n < length bs) (ro
 
 -- The name of a descriptor is the first word of the first `%rec` value.
 
-name-first : (w : Bytes) (vs : List Bytes) → 0 < length vs → w ≡ get_or vs 0 [] → first_word w ≡ nameIn vs
+name-first : (w : Bytes) (vs : List Bytes) → 0 < length vs → w ≡ get_or vs 0 [] → first_word w ≡ name_in vs
 name-first w [] h e = absurd (omega arith)
 name-first w (v ∷ vs) h e = ap first_word e
 
-name-none : (vs : List Bytes) → length vs ≤ 0 → nameIn vs ≡ []
+name-none : (vs : List Bytes) → length vs ≤ 0 → name_in vs ≡ []
 name-none [] h = refl
 name-none (v ∷ vs) h = absurd (omega arith)
 
@@ -108,11 +108,11 @@ module _ (d : Bytes) where
   pub rec-found : (start value end : ℕ) → FieldFound d (values_of (text "%rec") (fields_of (read_of d))) 0 start value end → NamedBy d (record { start = value; end = end })
   rec-found start value end f =
       let vs : List Bytes = values_of (text "%rec") (fields_of (read_of d)) in
-      (f.within, f.inside, name-first (valueFrom (span value end d)) vs f.there f.decodes, λ e. subst (λ (x : Bytes). length x ≤ valueBytes) (sym f.decodes) (first_short (text "%rec") (fields_of (read_of d)) (fits-fields (fields_of (read_of d)) e)))
+      (f.within, f.inside, name-first (value_from (span value end d)) vs f.there f.decodes, λ e. subst (λ (x : Bytes). length x ≤ value_bytes) (sym f.decodes) (first_short (text "%rec") (fields_of (read_of d)) (fits-fields (fields_of (read_of d)) e)))
 
   pub rec-missing : length (values_of (text "%rec") (fields_of (read_of d))) ≤ 0 → NamedBy d (record { start = 0; end = 0 })
   rec-missing h =
-      let z : valueFrom [] ≡ [] = nothing-at [] 0 (omega arith) in
+      let z : value_from [] ≡ [] = nothing-at [] 0 (omega arith) in
       (omega arith, omega arith, ap first_word z ∙ sym (name-none (values_of (text "%rec") (fields_of (read_of d))) h), λ e. omega (arith, ap length z))
 
 -- the same in the whole of which the descriptor is a part
@@ -123,8 +123,8 @@ module _ (s : Bytes) (a e : ℕ) (v : Span) (h : a ≤ e) (k : e ≤ length s) (
   pub name-inside : a + v.end ≤ length s
   name-inside = omega (arith, n.1, length-take (e - a) (drop a s))
 
-  pub name-part : name_at s (a + v.start) (a + v.end) ≡ headName (fields_of (read_of (span a e s)))
-  name-part = ap (λ (x : Bytes). first_word (valueFrom x)) (sym moved) ∙ n.2
+  pub name-part : name_at s (a + v.start) (a + v.end) ≡ head_name (fields_of (read_of (span a e s)))
+  name-part = ap (λ (x : Bytes). first_word (value_from x)) (sym moved) ∙ n.2
 
-  pub value-part : fitsRecord (fields_of (read_of (span a e s))) ≡ true → length (valueFrom (span (a + v.start) (a + v.end) s)) ≤ valueBytes
-  value-part f = subst (λ (x : Bytes). length (valueFrom x) ≤ valueBytes) moved (n.3 f)
+  pub value-part : fits_record (fields_of (read_of (span a e s))) ≡ true → length (value_from (span (a + v.start) (a + v.end) s)) ≤ value_bytes
+  value-part f = subst (λ (x : Bytes). length (value_from x) ≤ value_bytes) moved (n.3 f)

@@ -9,32 +9,32 @@ use Rattle.format.specs.Pieces.{read_of}
 use Rattle.format.proofs.Records.{records}
 use Rattle.format.specs.Bytes.{Bytes, all}
 use Rattle.format.specs.Limits.{descriptors}
-use Rattle.format.specs.Numbers.{intBounds}
-use Rattle.format.specs.Questions.{fitsRecord}
+use Rattle.format.specs.Numbers.{int_bounds}
+use Rattle.format.specs.Questions.{fits_record}
 use Rattle.format.specs.Records.{Record}
-use Rattle.format.proofs.Walking.{heads, walkFits, walkWell}
-use Rattle.records.specs.Walk.{recordIn}
-use Rattle.records.specs.Heads.{HeadHere, HeadRows, HeadParts, rowFrom}
-use Rattle.records.proofs.Cuts.{recordsFrom}
+use Rattle.format.proofs.Walking.{heads, walk_fits, walk_well}
+use Rattle.records.specs.Walk.{record_in}
+use Rattle.records.specs.Heads.{HeadHere, HeadRows, HeadParts, row_from}
+use Rattle.records.proofs.Cuts.{records_from}
 use Rattle.records.proofs.Rows.{row-heads}
 use Rattle.words.specs.Spans.{span}
 use Rattle.descriptors.specs.Names.{name_at, names_at, Inside, Told}
 use Rattle.descriptors.specs.declared.shapes.Head.{Head}
 use Rattle.descriptors.proofs.Names.{inside-more, names_more}
-use Rattle.descriptors.proofs.Judging.{wellFrom, well-start, well-stop, well-more, walk-fit}
+use Rattle.descriptors.proofs.Judging.{well_from, well-start, well-stop, well-more, walk-fit}
 
 pub record WalkAt (s : Bytes) (starts ends : List ℕ) (count n : ℕ) (from to : List ℕ) : Type 0 where
   pub afters : List ℕ
   pub rows : HeadRows s starts ends afters count
   pub few : count ≤ descriptors
-  pub fit : all fitsRecord (heads (recordsFrom s (rowFrom afters n))) ≡ true
+  pub fit : all fits_record (heads (records_from s (row_from afters n))) ≡ true
   pub met : n ≤ count
   pub room : length from ≡ descriptors
   pub room-beside : length to ≡ descriptors
   pub places : Inside s (take n from) (take n to)
-  pub judged : walkWell intBounds (records (read_of s)) ≡ wellFrom (names_at s (take n from) (take n to)) (heads (recordsFrom s (rowFrom afters n)))
+  pub judged : walk_well int_bounds (records (read_of s)) ≡ well_from (names_at s (take n from) (take n to)) (heads (records_from s (row_from afters n)))
 
-pub walk-starts : (s : Bytes) (starts ends : List ℕ) (count : ℕ) (from to : List ℕ) → length from ≡ descriptors → length to ≡ descriptors → HeadParts s starts ends count → count ≤ descriptors → walkFits (records (read_of s)) ≡ true → WalkAt s starts ends count 0 from to
+pub walk-starts : (s : Bytes) (starts ends : List ℕ) (count : ℕ) (from to : List ℕ) → length from ≡ descriptors → length to ≡ descriptors → HeadParts s starts ends count → count ≤ descriptors → walk_fits (records (read_of s)) ≡ true → WalkAt s starts ends count 0 from to
 walk-starts s starts ends count from to h k r few f =
     record {
       afters = r.0;
@@ -49,39 +49,39 @@ walk-starts s starts ends count from to h k r few f =
     }
 
 module _ (s : Bytes) (starts ends : List ℕ) (count n : ℕ) (from to : List ℕ) (w : WalkAt s starts ends count n from to) where
-  pub walk-done : count ≤ n → walkWell intBounds (records (read_of s)) ≡ true
+  pub walk-done : count ≤ n → walk_well int_bounds (records (read_of s)) ≡ true
   walk-done h =
       let e : n ≡ count = omega (arith, w.met) in
-      w.judged ∙ ap (wellFrom (names_at s (take n from) (take n to))) (ap (λ (j : ℕ). heads (recordsFrom s (rowFrom w.afters j))) e ∙ w.rows.last)
+      w.judged ∙ ap (well_from (names_at s (take n from) (take n to))) (ap (λ (j : ℕ). heads (records_from s (row_from w.afters j))) e ∙ w.rows.last)
 
   module _ (h : n < count) where
     here : Record
-    here = recordIn (span (get_or starts n 0) (get_or ends n 0) s)
+    here = record_in (span (get_or starts n 0) (get_or ends n 0) s)
 
     later : List Record
-    later = heads (recordsFrom s (rowFrom w.afters (n + 1)))
+    later = heads (records_from s (row_from w.afters (n + 1)))
 
-    pub row : HeadHere s (rowFrom w.afters n) (get_or starts n 0) (get_or ends n 0) (get_or w.afters n 0)
+    pub row : HeadHere s (row_from w.afters n) (get_or starts n 0) (get_or ends n 0) (get_or w.afters n 0)
     row = w.rows.row n h
 
-    both : (fitsRecord here ≡ true) × (all fitsRecord later ≡ true)
+    both : (fits_record here ≡ true) × (all fits_record later ≡ true)
     unfolding here later
-    both = (and-eq-true_iff (fitsRecord here) (all fitsRecord later)).0 (ap (all fitsRecord) (sym (row-heads w.rows n h)) ∙ w.fit)
+    both = (and-eq-true_iff (fits_record here) (all fits_record later)).0 (ap (all fits_record) (sym (row-heads w.rows n h)) ∙ w.fit)
 
-    pub part-fits : fitsRecord (recordIn (span (get_or starts n 0) (get_or ends n 0) s)) ≡ true
+    pub part-fits : fits_record (record_in (span (get_or starts n 0) (get_or ends n 0) s)) ≡ true
     unfolding here
     part-fits = both.0
 
-    module _ (x : Head) (t : Told s (recordIn (span (get_or starts n 0) (get_or ends n 0) s)) (names_at s (take n from) (take n to)) x) where
+    module _ (x : Head) (t : Told s (record_in (span (get_or starts n 0) (get_or ends n 0) s)) (names_at s (take n from) (take n to)) x) where
       told : {y : Head} → x ≡ y → Told s here (names_at s (take n from) (take n to)) y
       unfolding here
       told e = subst (Told s here (names_at s (take n from) (take n to))) e t
 
-      judged-here : walkWell intBounds (records (read_of s)) ≡ wellFrom (names_at s (take n from) (take n to)) (here ∷ later)
+      judged-here : walk_well int_bounds (records (read_of s)) ≡ well_from (names_at s (take n from) (take n to)) (here ∷ later)
       unfolding here later
-      judged-here = w.judged ∙ ap (wellFrom (names_at s (take n from) (take n to))) (row-heads w.rows n h)
+      judged-here = w.judged ∙ ap (well_from (names_at s (take n from) (take n to))) (row-heads w.rows n h)
 
-      pub walk-stops : x ≡ Head.Fault → walkWell intBounds (records (read_of s)) ≡ false
+      pub walk-stops : x ≡ Head.Fault → walk_well int_bounds (records (read_of s)) ≡ false
       walk-stops e = judged-here ∙ well-stop (names_at s (take n from) (take n to)) here later (told e)
 
       pub walk-head : (a b : ℕ) → x ≡ Head.Named a b → WalkAt s starts ends count (n + 1) (set from n a) (set to n b)
@@ -102,5 +102,5 @@ module _ (s : Bytes) (starts ends : List ℕ) (count n : ℕ) (from to : List �
             judged =
                 judged-here
                 ∙ well-more (names_at s (take n from) (take n to)) here later (name_at s a b) f.0 f.3
-                ∙ ap (λ (ns : List Bytes). wellFrom ns later) (sym (names_more s from to n a b i j w.places));
+                ∙ ap (λ (ns : List Bytes). well_from ns later) (sym (names_more s from to n a b i j w.places));
           }

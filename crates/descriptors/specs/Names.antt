@@ -2,21 +2,21 @@
 use Rattle.std.specs.Prelude.{ℕ, ◌≤◌, ◌≡◌, Bool, true, false, ◌&&◌, not, List, [], ◌∷◌, length}
 use Rattle.format.specs.Pieces.{read_of}
 use Rattle.format.specs.Bytes.{Bytes, among}
-use Rattle.format.specs.Numbers.{intBounds}
+use Rattle.format.specs.Numbers.{int_bounds}
 use Rattle.format.specs.Records.{Record, fields_of}
-use Rattle.format.specs.Limits.{valueBytes}
-use Rattle.format.specs.Questions.{fitsRecord}
-use Rattle.format.specs.Rules.{isWellFormed}
+use Rattle.format.specs.Limits.{value_bytes}
+use Rattle.format.specs.Questions.{fits_record}
+use Rattle.format.specs.Rules.{is_well_formed}
 use Rattle.format.specs.Words.{first_word}
-use Rattle.format.proofs.Walking.{headName}
-use Rattle.values.specs.Value.{valueFrom}
+use Rattle.format.proofs.Walking.{head_name}
+use Rattle.values.specs.Value.{value_from}
 use Rattle.words.specs.Spans.{span}
 use Rattle.words.specs.declared.Span.{Span}
 use Rattle.descriptors.specs.declared.shapes.Head.{Head}
 
 -- the first word of the value that stands from a to e
 abbrev pub name_at : Bytes → ℕ → ℕ → Bytes
-name_at s a e = first_word (valueFrom (span a e s))
+name_at s a e = first_word (value_from (span a e s))
 
 -- the same for each start and the end beside it
 abbrev pub names_at : Bytes → List ℕ → List ℕ → List Bytes
@@ -36,13 +36,13 @@ abbrev pub NamedBy : Bytes → Span → Type 0
 NamedBy d r =
     (r.start ≤ r.end)
     × (r.end ≤ length d)
-    × (name_at d r.start r.end ≡ headName (fields_of (read_of d)))
-    × (fitsRecord (fields_of (read_of d)) ≡ true → length (valueFrom (span r.start r.end d)) ≤ valueBytes)
+    × (name_at d r.start r.end ≡ head_name (fields_of (read_of d)))
+    × (fits_record (fields_of (read_of d)) ≡ true → length (value_from (span r.start r.end d)) ≤ value_bytes)
 
 -- a descriptor passes behind others: it is well formed, and none of them has its name
 abbrev pub passes : Record → List Bytes → Bool
-passes r seen = isWellFormed intBounds r && not (among (headName r) seen)
+passes r seen = is_well_formed int_bounds r && not (among (head_name r) seen)
 
 abbrev pub Told : Bytes → Record → List Bytes → Head → Type 0
 Told s r seen Head.Fault = passes r seen ≡ false
-Told s r seen (Head.Named a e) = (passes r seen ≡ true) × (a ≤ e) × (e ≤ length s) × (name_at s a e ≡ headName r)
+Told s r seen (Head.Named a e) = (passes r seen ≡ true) × (a ≤ e) × (e ≤ length s) × (name_at s a e ≡ head_name r)

@@ -3,19 +3,19 @@ ghost use Rattle.std.specs.Prelude.{◌≡◌, true, false, ◌≤◌, length};
 ghost use Rattle.format.specs.Pieces.{read_of};
 ghost use Rattle.format.proofs.Records.{records};
 ghost use Rattle.format.specs.Bytes.{all, among};
-ghost use Rattle.format.specs.Lines.{isName, isSpecial};
-ghost use Rattle.format.specs.Limits.{valueBytes, descriptors};
-ghost use Rattle.format.specs.Numbers.{intBounds};
+ghost use Rattle.format.specs.Lines.{is_name, is_special};
+ghost use Rattle.format.specs.Limits.{value_bytes, descriptors};
+ghost use Rattle.format.specs.Numbers.{int_bounds};
 ghost use Rattle.format.specs.Records.{fields_of};
-ghost use Rattle.format.specs.Rules.{one, several, isWellFormed};
-ghost use Rattle.format.specs.Questions.{fitsRecord};
-ghost use Rattle.format.specs.Words.{words, first_word, isTypeName};
-ghost use Rattle.format.proofs.Walking.{walkFits, walkWell};
-ghost use Rattle.values.specs.Value.{valueFrom};
-ghost use Rattle.records.specs.Places.{isReadable};
+ghost use Rattle.format.specs.Rules.{one, several, is_well_formed};
+ghost use Rattle.format.specs.Questions.{fits_record};
+ghost use Rattle.format.specs.Words.{words, first_word, is_type_name};
+ghost use Rattle.format.proofs.Walking.{walk_fits, walk_well};
+ghost use Rattle.values.specs.Value.{value_from};
+ghost use Rattle.records.specs.Places.{is_readable};
 ghost use Rattle.records.specs.Heads.{HeadParts};
 ghost use Rattle.words.specs.Spans.{span};
-ghost use Rattle.descriptors.specs.Contents.{OnlyWord, listable, holds, isFree, asksName, asksSize, Asks};
+ghost use Rattle.descriptors.specs.Contents.{OnlyWord, listable, holds, is_free, asks_name, asks_size, Asks};
 ghost use Rattle.descriptors.specs.Names.{names_at, Inside, NamedBy, Told};
 
 use super::sizes::{is_size, size_rule};
@@ -40,7 +40,7 @@ fn one_word(s: &[u8]) -> Word
 
 // Is this text one name?
 fn one_name(s: &[u8]) -> bool
-    ensures { result ≡ one isName (words s.now) }
+    ensures { result ≡ one is_name (words s.now) }
 {
     let w = one_word(s);
     let Word::At { start, end } = w else {
@@ -51,7 +51,7 @@ fn one_name(s: &[u8]) -> bool
 
 // Is this text one type name?
 fn one_type_name(s: &[u8]) -> bool
-    ensures { result ≡ one isTypeName (words s.now) }
+    ensures { result ≡ one is_type_name (words s.now) }
 {
     let w = one_word(s);
     let Word::At { start, end } = w else {
@@ -112,7 +112,7 @@ pub enum Content {
 
 // Is nothing asked?
 fn is_free(c: Content) -> bool
-    ensures { result ≡ isFree c }
+    ensures { result ≡ is_free c }
 {
     match c {
         Content::Free => true,
@@ -122,7 +122,7 @@ fn is_free(c: Content) -> bool
 
 // Is one name asked, as it is of `%key` fields alone?
 fn asks_name(c: Content) -> bool
-    ensures { result ≡ asksName c }
+    ensures { result ≡ asks_name c }
 {
     match c {
         Content::Name => true,
@@ -132,7 +132,7 @@ fn asks_name(c: Content) -> bool
 
 // Is a size asked, as it is of `%size` fields alone?
 fn asks_size(c: Content) -> bool
-    ensures { result ≡ asksSize c }
+    ensures { result ≡ asks_size c }
 {
     match c {
         Content::Size => true,
@@ -142,7 +142,7 @@ fn asks_size(c: Content) -> bool
 
 // What a name that starts with `%` asks of its value.
 fn special_content(name: &[u8]) -> Content
-    requires { isSpecial name.now ≡ true }
+    requires { is_special name.now ≡ true }
     ensures { Asks name.now result }
 {
     let k = words::rule_of(name);
@@ -191,8 +191,8 @@ pub fn text_holds(c: Content, s: &[u8]) -> bool
 
 // Is a value what is asked? It begins where value does, and is decoded into the scratch where something is asked of it.
 fn value_holds(c: Content, value: &[u8], scratch: &mut [u8]) -> bool
-    requires { length (valueFrom value.now) ≤ length scratch.old }
-    ensures { (result ≡ holds c (valueFrom value.now)) × (length scratch.new ≡ length scratch.old) }
+    requires { length (value_from value.now) ≤ length scratch.old }
+    ensures { (result ≡ holds c (value_from value.now)) × (length scratch.new ≡ length scratch.old) }
 {
     if is_free(c) {
         return true;
@@ -203,10 +203,10 @@ fn value_holds(c: Content, value: &[u8], scratch: &mut [u8]) -> bool
 
 // Is a descriptor well formed, `%typedef` and `%type` fields aside: are its fields shaped as their names ask, and is there at most one `%key` and one `%size`?
 pub fn well_formed(d: &[u8], scratch: &mut [u8]) -> bool
-    requires d_value { isReadable d.now ≡ true }
-    requires d_value_2 { fitsRecord (fields_of (read_of d.now)) ≡ true }
-    requires value_bytes_in_bounds { valueBytes ≤ length scratch.old }
-    ensures { (result ≡ isWellFormed intBounds (fields_of (read_of d.now))) × (length scratch.new ≡ length scratch.old) }
+    requires d_value { is_readable d.now ≡ true }
+    requires d_value_2 { fits_record (fields_of (read_of d.now)) ≡ true }
+    requires value_bytes_in_bounds { value_bytes ≤ length scratch.old }
+    ensures { (result ≡ is_well_formed int_bounds (fields_of (read_of d.now))) × (length scratch.new ≡ length scratch.old) }
 {
     let mut i = 0;
     let mut keyed = false;
@@ -239,7 +239,7 @@ pub fn well_formed(d: &[u8], scratch: &mut [u8]) -> bool
 
 // Where the first `%rec` value of a descriptor stands in it.
 fn rec_value(d: &[u8]) -> Span
-    requires { isReadable d.now ≡ true }
+    requires { is_readable d.now ≡ true }
     ensures { NamedBy d.now result }
 {
     let f = records::find_field(d, b"%rec", 0);
@@ -296,10 +296,10 @@ fn head_of(
     scratch: &mut [u8],
 ) -> Head
     requires a_le_e { (a ≤ e) × (e ≤ length s.now) }
-    requires s_value { isReadable (span a e s.now) ≡ true }
-    requires s_value_2 { fitsRecord (fields_of (read_of (span a e s.now))) ≡ true }
+    requires s_value { is_readable (span a e s.now) ≡ true }
+    requires s_value_2 { fits_record (fields_of (read_of (span a e s.now))) ≡ true }
     requires inside { Inside s.now starts.now ends.now }
-    requires value_bytes_in_bounds { valueBytes ≤ length scratch.old }
+    requires value_bytes_in_bounds { value_bytes ≤ length scratch.old }
     ensures { Told s.now (fields_of (read_of (span a e s.now))) (names_at s.now starts.now ends.now) result × (length scratch.new ≡ length scratch.old) }
 {
     if !well_formed(&s[a..e], scratch) {
@@ -324,9 +324,9 @@ pub fn described_well(
     scratch: &mut [u8],
 ) -> bool
     requires head_parts { HeadParts s.now starts.now ends.now count × (count ≤ descriptors) }
-    requires s_value { walkFits (records (read_of s.now)) ≡ true }
-    requires value_bytes_in_bounds { valueBytes ≤ length scratch.old }
-    ensures { (result ≡ walkWell intBounds (records (read_of s.now))) × (length scratch.new ≡ length scratch.old) }
+    requires s_value { walk_fits (records (read_of s.now)) ≡ true }
+    requires value_bytes_in_bounds { value_bytes ≤ length scratch.old }
+    ensures { (result ≡ walk_well int_bounds (records (read_of s.now))) × (length scratch.new ≡ length scratch.old) }
 {
     let mut from = [0usize; Descriptor::COUNT];
     let mut to = [0usize; Descriptor::COUNT];

@@ -3,16 +3,16 @@ ghost use Rattle.std.specs.Prelude.{◌≡◌, true, [], ◌∷◌, ◌≤◌, l
 ghost use Rattle.std.proofs.Math.Option.{some};
 ghost use Rattle.format.specs.Pieces.{read_of};
 ghost use Rattle.format.specs.Bytes.{text, all, is_some};
-ghost use Rattle.format.specs.Limits.{valueBytes};
-ghost use Rattle.format.specs.Numbers.{intBounds};
+ghost use Rattle.format.specs.Limits.{value_bytes};
+ghost use Rattle.format.specs.Numbers.{int_bounds};
 ghost use Rattle.format.specs.Records.{fields_of};
-ghost use Rattle.format.specs.Rules.{order_of, sizeBy, sizeRule, meetsSize};
+ghost use Rattle.format.specs.Rules.{order_of, size_by, size_rule, meets_size};
 ghost use Rattle.format.specs.Sets.{values_of};
-ghost use Rattle.format.specs.Questions.{fitsRecord};
+ghost use Rattle.format.specs.Questions.{fits_record};
 ghost use Rattle.format.specs.Words.{words};
-ghost use Rattle.values.specs.Value.{valueFrom};
-ghost use Rattle.records.specs.Places.{isReadable};
-ghost use Rattle.descriptors.specs.Sizes.{sizeAnswer};
+ghost use Rattle.values.specs.Value.{value_from};
+ghost use Rattle.records.specs.Places.{is_readable};
+ghost use Rattle.descriptors.specs.Sizes.{size_answer};
 
 use numbers::Natural;
 use records::FoundField;
@@ -31,7 +31,7 @@ pub enum SizeRule {
 
 // The size that a sign and a number make.
 fn size_by(sign: &[u8], n: u64) -> SizeRule
-    ensures { sizeAnswer result ≡ sizeBy (order_of sign.now) (some n) }
+    ensures { size_answer result ≡ size_by (order_of sign.now) (some n) }
 {
     let k = words::word_place(sign, b"< <= > >=");
     match k {
@@ -45,7 +45,7 @@ fn size_by(sign: &[u8], n: u64) -> SizeRule
 
 // The size that one word stands for.
 fn size_exactly(w: &[u8]) -> SizeRule
-    ensures { sizeAnswer result ≡ sizeRule intBounds (w.now ∷ []) }
+    ensures { size_answer result ≡ size_rule int_bounds (w.now ∷ []) }
 {
     let x = numbers::number_of(w);
     match x {
@@ -56,7 +56,7 @@ fn size_exactly(w: &[u8]) -> SizeRule
 
 // The size that two words stand for.
 fn size_signed(sign: &[u8], w: &[u8]) -> SizeRule
-    ensures { sizeAnswer result ≡ sizeRule intBounds (sign.now ∷ w.now ∷ []) }
+    ensures { size_answer result ≡ size_rule int_bounds (sign.now ∷ w.now ∷ []) }
 {
     let x = numbers::number_of(w);
     match x {
@@ -67,7 +67,7 @@ fn size_signed(sign: &[u8], w: &[u8]) -> SizeRule
 
 // The size that a text stands for.
 pub fn size_rule(s: &[u8]) -> SizeRule
-    ensures { sizeAnswer result ≡ sizeRule intBounds (words s.now) }
+    ensures { size_answer result ≡ size_rule int_bounds (words s.now) }
 {
     let w = words::next_word(s);
     let Word::At { start, end } = w else {
@@ -87,7 +87,7 @@ pub fn size_rule(s: &[u8]) -> SizeRule
 
 // Is this a size?
 pub fn is_size(r: SizeRule) -> bool
-    ensures { result ≡ is_some (sizeAnswer r) }
+    ensures { result ≡ is_some (size_answer r) }
 {
     match r {
         SizeRule::None => false,
@@ -101,7 +101,7 @@ pub fn is_size(r: SizeRule) -> bool
 
 // Is the size met by n records?
 pub fn size_holds(r: SizeRule, n: u64) -> bool
-    ensures { result ≡ meetsSize (sizeAnswer r) n }
+    ensures { result ≡ meets_size (size_answer r) n }
 {
     match r {
         SizeRule::None => true,
@@ -115,8 +115,8 @@ pub fn size_holds(r: SizeRule, n: u64) -> bool
 
 // Is the size that a value stands for met by n records? The value begins where value does, and is decoded into the scratch.
 fn value_met(value: &[u8], n: u64, scratch: &mut [u8]) -> bool
-    requires { length (valueFrom value.now) ≤ length scratch.old }
-    ensures { (result ≡ meetsSize (sizeRule intBounds (words (valueFrom value.now))) n) × (length scratch.new ≡ length scratch.old) }
+    requires { length (value_from value.now) ≤ length scratch.old }
+    ensures { (result ≡ meets_size (size_rule int_bounds (words (value_from value.now))) n) × (length scratch.new ≡ length scratch.old) }
 {
     let m = values::copy_value(value, scratch);
     let r = size_rule(&scratch[..m]);
@@ -125,10 +125,10 @@ fn value_met(value: &[u8], n: u64, scratch: &mut [u8]) -> bool
 
 // Is every size of a descriptor met by count records?
 pub fn size_met(d: &[u8], count: usize, scratch: &mut [u8]) -> bool
-    requires d_value { isReadable d.now ≡ true }
-    requires d_value_2 { fitsRecord (fields_of (read_of d.now)) ≡ true }
-    requires value_bytes_in_bounds { valueBytes ≤ length scratch.old }
-    ensures { (result ≡ all (λ v. meetsSize (sizeRule intBounds (words v)) count) (values_of (text "%size") (fields_of (read_of d.now)))) × (length scratch.new ≡ length scratch.old) }
+    requires d_value { is_readable d.now ≡ true }
+    requires d_value_2 { fits_record (fields_of (read_of d.now)) ≡ true }
+    requires value_bytes_in_bounds { value_bytes ≤ length scratch.old }
+    ensures { (result ≡ all (λ v. meets_size (size_rule int_bounds (words v)) count) (values_of (text "%size") (fields_of (read_of d.now)))) × (length scratch.new ≡ length scratch.old) }
 {
     let mut i = 0;
     loop {

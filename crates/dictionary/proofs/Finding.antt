@@ -10,7 +10,7 @@ use lib.ListN.{length, get_or, take}
 use Rattle.format.specs.Bytes.{Bytes, same}
 use Rattle.values.proofs.Tests.{dec-lt}
 use Rattle.terms.specs.Sets.{tagged, Answers}
-use Rattle.terms.specs.Entries.{termsOf}
+use Rattle.terms.specs.Entries.{terms_of}
 use Rattle.dictionary.specs.declared.wordsets.Words.{Words}
 use Rattle.terms.proofs.Tests.{or-none}
 use Rattle.dictionary.specs.Numbered.{numbered, IsWords, Places}
@@ -48,5 +48,5 @@ module _ (w : Bytes) where
       (λ h. above k 0 ws (omega arith) ∙ sym (ap (λ (t : Bool). t && same w (get_or ws k [])) (le-ltb k (length ws) h)))
 
 -- the tags that are found are the places
-pub places-found : (d : Bytes) (ws : List Bytes) (l sets : List ℕ) (r : Words) → IsWords d ws l sets r → (w : Bytes) (x : ℕ) → Answers w (termsOf d (take r.table.count l)) x → Places ws w x
+pub places-found : (d : Bytes) (ws : List Bytes) (l sets : List ℕ) (r : Words) → IsWords d ws l sets r → (w : Bytes) (x : ℕ) → Answers w (terms_of d (take r.table.count l)) x → Places ws w x
 places-found d ws l sets r h w x q k = q k ∙ h.terms w k ∙ tagged-place w ws k

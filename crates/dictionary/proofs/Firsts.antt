@@ -8,17 +8,17 @@ use borrow.Author.Tests.{eq-eqb, ne_eqb, lt-ltb, le-ltb}
 use lib.Dec.{eqb, ltb}
 use lib.ListN.{length, get_or, take}
 use Rattle.format.specs.Bytes.{Bytes, pick, same}
-use Rattle.sorting.specs.Texts.{textAt}
-use Rattle.sorting.specs.Order.{comparedOf}
+use Rattle.sorting.specs.Texts.{text_at}
+use Rattle.sorting.specs.Order.{compared_of}
 use Rattle.sorting.specs.declared.Compared.{Compared}
 use Rattle.values.proofs.Tests.{dec-lt, same_self, same-apart}
 use Rattle.sorting.proofs.Order.{equal-same, before-apart, behind-before}
 use Rattle.words.specs.RuleNames.{place_in}
 use Rattle.terms.specs.Sets.{Term, in_set}
-use Rattle.terms.specs.Entries.{word_at, termsOf}
+use Rattle.terms.specs.Entries.{word_at, terms_of}
 use Rattle.terms.specs.Adding.{Adding}
 use Rattle.terms.proofs.Sets.{in-none}
-use Rattle.dictionary.specs.Numbered.{numbered, isFirst, Firsts}
+use Rattle.dictionary.specs.Numbered.{numbered, is_first, Firsts}
 use Rattle.dictionary.proofs.FirstPlaces.{first-place}
 
 -- a word that stands at a place has its first place not behind it
@@ -55,26 +55,26 @@ module _ (d : Bytes) (l : List ℕ) (k : ℕ) (h : k < length l) where
   alike : (j : ℕ) → j < length l → same (get_or ws k []) (get_or ws j []) ≡ likeness j
   alike j g = ap₂ same (word-there d l k h) (word-there d l j g)
 
-  pub first-none : ((j : ℕ) → j < k → likeness j ≡ false) → true ≡ isFirst k ws
+  pub first-none : ((j : ℕ) → j < k → likeness j ≡ false) → true ≡ is_first k ws
   first-none f =
       sym (eq-eqb (place_in (get_or ws k []) ws) k
       (sym (first-place (get_or ws k []) ws k (omega (arith, h, words_long d l)) (λ g. same_self (get_or ws k [])) (λ j g. alike j (omega (arith, g, h)) ∙ f j g))))
 
-  pub first-not : (j : ℕ) → j < k → likeness j ≡ true → false ≡ isFirst k ws
+  pub first-not : (j : ℕ) → j < k → likeness j ≡ true → false ≡ is_first k ws
   first-not j g e =
       let m = place-most (get_or ws k []) ws j (omega (arith, g, h, words_long d l)) (alike j (omega (arith, g, h)) ∙ e) in
       sym (ne_eqb (place_in (get_or ws k []) ws) k (λ z. omega (arith, m, z, g)))
 
 -- two entries compared by their words
-module _ (d : Bytes) (x y i j : ℕ) (e : i ≡ x % 65536) (f : j ≡ y % 65536) (c : Compared) (q : c ≡ comparedOf (textAt true d i) (textAt true d j)) where
+module _ (d : Bytes) (x y i j : ℕ) (e : i ≡ x % 65536) (f : j ≡ y % 65536) (c : Compared) (q : c ≡ compared_of (text_at true d i) (text_at true d j)) where
   abbrev a : Bytes
   a = word_at d x
 
   abbrev b : Bytes
   b = word_at d y
 
-  told : (r : Compared) → c ≡ r → comparedOf a b ≡ r
-  told r g = sym (ap₂ (λ (m n : ℕ). comparedOf (textAt true d m) (textAt true d n)) e f) ∙ sym q ∙ g
+  told : (r : Compared) → c ≡ r → compared_of a b ≡ r
+  told r g = sym (ap₂ (λ (m n : ℕ). compared_of (text_at true d m) (text_at true d n)) e f) ∙ sym q ∙ g
 
   pub same-equal : c ≡ Compared.Equal → true ≡ same a b
   same-equal g = sym (ap (same a) (sym (equal-same a b (told Compared.Equal g))) ∙ same_self a)
@@ -114,7 +114,7 @@ firsts-on p k x r more f e g j =
     one false = refl
 
 -- entries that stand for the numbered words of a list have its words
-terms-words : (d : Bytes) (l : List ℕ) → map (λ (t : Term). t.word) (termsOf d l) ≡ map (word_at d) l
+terms-words : (d : Bytes) (l : List ℕ) → map (λ (t : Term). t.word) (terms_of d l) ≡ map (word_at d) l
 terms-words d [] = refl
 terms-words d (x ∷ l) = ap {B = List Bytes} (λ v. word_at d x ∷ v) (terms-words d l)
 
@@ -125,4 +125,4 @@ numbered-words k (w ∷ ws) = ap {B = List Bytes} (λ v. w ∷ v) (numbered-word
 pub added-firsts : (d : Bytes) (ws : List Bytes) (l m : List ℕ) (n x : ℕ) → Adding d l 0 (numbered 0 ws) [] m n → Firsts (map (word_at d) (take n m)) x → Firsts ws x
 added-firsts d ws l m n x a f =
     subst (λ (vs : List Bytes). Firsts vs x)
-    (sym (terms-words d (take n m)) ∙ ap (map (λ (t : Term). t.word)) (sym (append-nil (termsOf d (take n m))) ∙ a.terms) ∙ numbered-words 0 ws) f
+    (sym (terms-words d (take n m)) ∙ ap (map (λ (t : Term). t.word)) (sym (append-nil (terms_of d (take n m))) ∙ a.terms) ∙ numbered-words 0 ws) f

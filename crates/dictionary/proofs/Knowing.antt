@@ -9,11 +9,11 @@ use lib.Seq.{get_or-drop}
 use Rattle.format.specs.Bytes.{Bytes, text, among}
 use Rattle.format.specs.Records.{Record}
 use Rattle.format.specs.Sets.{values_of}
-use Rattle.format.specs.Rules.{typedNames}
+use Rattle.format.specs.Rules.{typed_names}
 use Rattle.terms.specs.Sets.{Term, tagged, Answers}
 use Rattle.terms.proofs.Tests.{or-none, tagged-append}
-use Rattle.dictionary.specs.Terms.{listTerms, rowTerms}
-use Rattle.dictionary.specs.Known.{typeValue, Known}
+use Rattle.dictionary.specs.Terms.{list_terms, row_terms}
+use Rattle.dictionary.specs.Known.{type_value, Known}
 use Rattle.dictionary.proofs.Rows.{row-above, row_below, row_at}
 use Rattle.dictionary.proofs.Listing.{list-low, tagged-mandatory, tagged-prohibited, tagged-allowed, tagged-unique, tagged-key}
 
@@ -23,31 +23,31 @@ module _ (rules : Record) (from next : ℕ) (ts : List Term) where
 
   -- the terms and those of the fields from the next on are the lists' and those from the first on
   abbrev pub Terms : Type 0
-  Terms = (w : Bytes) (k : ℕ) → tagged w k (ts ++ rowTerms next (drop next vs)) ≡ tagged w k (listTerms rules ++ rowTerms from (drop from vs))
+  Terms = (w : Bytes) (k : ℕ) → tagged w k (ts ++ row_terms next (drop next vs)) ≡ tagged w k (list_terms rules ++ row_terms from (drop from vs))
 
   module _ (f : Terms) (few : length vs ≤ 32) (begins : from ≤ next) (within : next ≤ length vs) (w : Bytes) where
-    both : (k : ℕ) → tagged w k ts || tagged w k (rowTerms next (drop next vs)) ≡ tagged w k (listTerms rules) || tagged w k (rowTerms from (drop from vs))
-    both k = sym (tagged-append w k ts (rowTerms next (drop next vs))) ∙ f w k ∙ tagged-append w k (listTerms rules) (rowTerms from (drop from vs))
+    both : (k : ℕ) → tagged w k ts || tagged w k (row_terms next (drop next vs)) ≡ tagged w k (list_terms rules) || tagged w k (row_terms from (drop from vs))
+    both k = sym (tagged-append w k ts (row_terms next (drop next vs))) ∙ f w k ∙ tagged-append w k (list_terms rules) (row_terms from (drop from vs))
 
     -- a tag of a list
-    in_list : (k : ℕ) → 32 ≤ k → tagged w k ts ≡ tagged w k (listTerms rules)
+    in_list : (k : ℕ) → 32 ≤ k → tagged w k ts ≡ tagged w k (list_terms rules)
     in_list k h =
         sym (or-none (tagged w k ts))
         ∙ ap (λ (t : Bool). tagged w k ts || t) (sym (row_below w k next (drop next vs) (omega (arith, length-drop next vs))))
         ∙ both k
-        ∙ ap (λ (t : Bool). tagged w k (listTerms rules) || t) (row_below w k from (drop from vs) (omega (arith, length-drop from vs)))
-        ∙ or-none (tagged w k (listTerms rules))
+        ∙ ap (λ (t : Bool). tagged w k (list_terms rules) || t) (row_below w k from (drop from vs) (omega (arith, length-drop from vs)))
+        ∙ or-none (tagged w k (list_terms rules))
 
     -- one of a `%type` field
-    in_row : (k : ℕ) → from ≤ k → k < next → tagged w k ts ≡ among w (typedNames (typeValue rules k))
+    in_row : (k : ℕ) → from ≤ k → k < next → tagged w k ts ≡ among w (typed_names (type_value rules k))
     in_row k h g =
         let e : from + (k - from) ≡ k = omega arith in
         sym (or-none (tagged w k ts))
         ∙ ap (λ (t : Bool). tagged w k ts || t) (sym (row-above w k next (drop next vs) g))
         ∙ both k
-        ∙ ap (λ (t : Bool). t || tagged w k (rowTerms from (drop from vs))) (list-low w k (omega arith) rules)
+        ∙ ap (λ (t : Bool). t || tagged w k (row_terms from (drop from vs))) (list-low w k (omega arith) rules)
         ∙ row_at w k from (drop from vs) h (omega (arith, length-drop from vs))
-        ∙ ap (λ (v : Bytes). among w (typedNames v)) (get_or-drop from vs (k - from) [] ∙ ap (λ (j : ℕ). get_or vs j []) e)
+        ∙ ap (λ (v : Bytes). among w (typed_names v)) (get_or-drop from vs (k - from) [] ∙ ap (λ (j : ℕ). get_or vs j []) e)
 
     pub knows : (x : ℕ) → Answers w ts x → Known rules from next w x
     knows x q = record {

@@ -5,7 +5,7 @@ use mathlib.Core.Path.{◌≡◌, refl, ap, ◌∙◌}
 use mathlib.Core.List.{List, [], ◌∷◌, ◌++◌}
 use lib.ListN.{length}
 use Rattle.format.specs.Bytes.{Bytes}
-use Rattle.terms.specs.Sets.{Term, termOf}
+use Rattle.terms.specs.Sets.{Term, term_of}
 use Rattle.dictionary.specs.Numbered.{numbered}
 
 pub numbered-length : (k : ℕ) (ws : List Bytes) → length (numbered k ws) ≡ length ws
@@ -16,4 +16,4 @@ pub numbered-append : (k : ℕ) (ws vs : List Bytes) → numbered k (ws ++ vs) �
 numbered-append k [] vs = ap (λ (j : ℕ). numbered j vs) (let e : k ≡ k + 0 = omega arith in e)
 numbered-append k (w ∷ ws) vs =
     let e : suc k + length ws ≡ k + suc (length ws) = omega arith in
-    ap {B = List Term} (λ ts. termOf k w ∷ ts) (numbered-append (suc k) ws vs ∙ ap (λ (j : ℕ). numbered (suc k) ws ++ numbered j vs) e)
+    ap {B = List Term} (λ ts. term_of k w ∷ ts) (numbered-append (suc k) ws vs ∙ ap (λ (j : ℕ). numbered (suc k) ws ++ numbered j vs) e)

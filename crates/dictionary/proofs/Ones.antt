@@ -16,7 +16,7 @@ use Rattle.format.proofs.Listing.{same-swap}
 use Rattle.values.proofs.Tests.{by_bool, same_self}
 use Rattle.words.specs.RuleNames.{place_in}
 use Rattle.terms.specs.Sets.{in_set}
-use Rattle.dictionary.specs.Numbered.{isFirst, Firsts}
+use Rattle.dictionary.specs.Numbered.{is_first, Firsts}
 use Rattle.dictionary.proofs.Sets.{in-low, in-high, in_and, ltb-suc, no_place}
 
 -- the ones of a number, from its lowest digit on
@@ -53,7 +53,7 @@ later_first w v ws k = go (same v w) ∙ ap (λ (t : Bool). not t && eqb (place_
 
 -- the places of the first words that pass a test
 abbrev Passing : (Bytes → Bool) → List Bytes → ℕ → Type 0
-Passing p ws x = (k : ℕ) → in_set k x ≡ (ltb k (length ws) && (isFirst k ws && p (get_or ws k [])))
+Passing p ws x = (k : ℕ) → in_set k x ≡ (ltb k (length ws) && (is_first k ws && p (get_or ws k [])))
 
 pass-first : (p : Bytes → Bool) (w : Bytes) (ws : List Bytes) (x : ℕ) → Passing p (w ∷ ws) x → in_set 0 x ≡ p w
 pass-first p w ws x f =
@@ -91,7 +91,7 @@ ones-passing p (w ∷ ws) x f =
 pub firsts-counted : (p : Bytes → Bool) (ws : List Bytes) (x y : ℕ) → Firsts ws x → ((k : ℕ) → in_set k y ≡ (ltb k (length ws) && p (get_or ws k []))) → ones (bit_and x y) ≡ length (filter p (firsts ws))
 firsts-counted p ws x y f g =
     ones-passing p ws (bit_and x y)
-    (λ k. in_and k x y ∙ ap₂ ◌&&◌ (f k) (g k) ∙ go (ltb k (length ws)) (isFirst k ws) (p (get_or ws k [])))
+    (λ k. in_and k x y ∙ ap₂ ◌&&◌ (f k) (g k) ∙ go (ltb k (length ws)) (is_first k ws) (p (get_or ws k [])))
   where
     go : (a b c : Bool) → ((a && b) && (a && c)) ≡ (a && (b && c))
     go true true c = refl

@@ -11,12 +11,12 @@ use lib.ListN.{length, drop, get_or, length-drop}
 use lib.Seq.{drop-cons}
 use Rattle.format.specs.Lists.{front, behind, onto}
 use Rattle.format.specs.Bytes.{Bytes, pick, all, same, among}
-use Rattle.format.specs.Words.{notGap, isGap, first_word, split}
-use Rattle.format.specs.Rules.{typedNames}
+use Rattle.format.specs.Words.{not_gap, is_gap, first_word, split}
+use Rattle.format.specs.Rules.{typed_names}
 use Rattle.values.proofs.Tests.{dec-lt}
-use Rattle.terms.specs.Sets.{termOf, tagged}
+use Rattle.terms.specs.Sets.{term_of, tagged}
 use Rattle.terms.proofs.Tests.{or-none, tagged-append}
-use Rattle.dictionary.specs.Terms.{rowTerms}
+use Rattle.dictionary.specs.Terms.{row_terms}
 
 -- the k-th of a list and what is behind it
 module _ {A : Type 0} (l : List A) (k : ℕ) (x : A) (rest : List A) (e : drop k l ≡ x ∷ rest) where
@@ -41,40 +41,40 @@ module _ (w : Bytes) where
   and_none true = refl
   and_none false = refl
 
-  pub same_tag : (k : ℕ) (ws : List Bytes) → tagged w k (map (termOf k) ws) ≡ among w ws
+  pub same_tag : (k : ℕ) (ws : List Bytes) → tagged w k (map (term_of k) ws) ≡ among w ws
   same_tag k [] = refl
   same_tag k (v ∷ ws) = ap₂ ◌||◌ (ap (λ (t : Bool). same w v && t) (eq-eqb k k refl) ∙ and-true (same w v)) (same_tag k ws)
 
-  pub other_tag : (k j : ℕ) → (k ≡ j → ⊥) → (ws : List Bytes) → tagged w k (map (termOf j) ws) ≡ false
+  pub other_tag : (k j : ℕ) → (k ≡ j → ⊥) → (ws : List Bytes) → tagged w k (map (term_of j) ws) ≡ false
   other_tag k j h [] = refl
   other_tag k j h (v ∷ ws) = ap₂ ◌||◌ (ap (λ (t : Bool). same w v && t) (ne_eqb k j h) ∙ and_none (same w v)) (other_tag k j h ws)
 
   -- the tags of rows are their numbers
-  row_cut : (k row : ℕ) (v : Bytes) (vs : List Bytes) → tagged w k (rowTerms row (v ∷ vs)) ≡ tagged w k (map (termOf row) (typedNames v)) || tagged w k (rowTerms (suc row) vs)
-  row_cut k row v vs = tagged-append w k (map (termOf row) (typedNames v)) (rowTerms (suc row) vs)
+  row_cut : (k row : ℕ) (v : Bytes) (vs : List Bytes) → tagged w k (row_terms row (v ∷ vs)) ≡ tagged w k (map (term_of row) (typed_names v)) || tagged w k (row_terms (suc row) vs)
+  row_cut k row v vs = tagged-append w k (map (term_of row) (typed_names v)) (row_terms (suc row) vs)
 
-  pub row-above : (k row : ℕ) (vs : List Bytes) → k < row → tagged w k (rowTerms row vs) ≡ false
+  pub row-above : (k row : ℕ) (vs : List Bytes) → k < row → tagged w k (row_terms row vs) ≡ false
   row-above k row [] h = refl
-  row-above k row (v ∷ vs) h = row_cut k row v vs ∙ ap₂ ◌||◌ (other_tag k row (λ e. omega arith) (typedNames v)) (row-above k (suc row) vs (omega arith))
+  row-above k row (v ∷ vs) h = row_cut k row v vs ∙ ap₂ ◌||◌ (other_tag k row (λ e. omega arith) (typed_names v)) (row-above k (suc row) vs (omega arith))
 
-  pub row_below : (k row : ℕ) (vs : List Bytes) → row + length vs ≤ k → tagged w k (rowTerms row vs) ≡ false
+  pub row_below : (k row : ℕ) (vs : List Bytes) → row + length vs ≤ k → tagged w k (row_terms row vs) ≡ false
   row_below k row [] h = refl
-  row_below k row (v ∷ vs) h = row_cut k row v vs ∙ ap₂ ◌||◌ (other_tag k row (λ e. omega arith) (typedNames v)) (row_below k (suc row) vs (omega arith))
+  row_below k row (v ∷ vs) h = row_cut k row v vs ∙ ap₂ ◌||◌ (other_tag k row (λ e. omega arith) (typed_names v)) (row_below k (suc row) vs (omega arith))
 
-  pub row_at : (k row : ℕ) (vs : List Bytes) → row ≤ k → k < row + length vs → tagged w k (rowTerms row vs) ≡ among w (typedNames (get_or vs (k - row) []))
+  pub row_at : (k row : ℕ) (vs : List Bytes) → row ≤ k → k < row + length vs → tagged w k (row_terms row vs) ≡ among w (typed_names (get_or vs (k - row) []))
   row_at k row [] h g = absurd (omega arith)
   row_at k row (v ∷ vs) h g =
       row_cut k row v vs
       ∙ dec-lt row k
       (λ l.
       let e : k - row ≡ suc (k - suc row) = omega arith in
-      ap₂ ◌||◌ (other_tag k row (λ q. omega arith) (typedNames v)) (row_at k (suc row) vs l (omega arith)) ∙ ap (λ (j : ℕ). among w (typedNames (get_or (v ∷ vs) j []))) (sym e))
+      ap₂ ◌||◌ (other_tag k row (λ q. omega arith) (typed_names v)) (row_at k (suc row) vs l (omega arith)) ∙ ap (λ (j : ℕ). among w (typed_names (get_or (v ∷ vs) j []))) (sym e))
       (λ l.
       let e : row ≡ k = omega arith in
       let z : k - row ≡ 0 = omega arith in
-      ap₂ ◌||◌ (ap (λ (j : ℕ). tagged w k (map (termOf j) (typedNames v))) e ∙ same_tag k (typedNames v)) (row-above k (suc row) vs (omega arith))
-      ∙ or-none (among w (typedNames v))
-      ∙ ap (λ (j : ℕ). among w (typedNames (get_or (v ∷ vs) j []))) (sym z))
+      ap₂ ◌||◌ (ap (λ (j : ℕ). tagged w k (map (term_of j) (typed_names v))) e ∙ same_tag k (typed_names v)) (row-above k (suc row) vs (omega arith))
+      ∙ or-none (among w (typed_names v))
+      ∙ ap (λ (j : ℕ). among w (typed_names (get_or (v ∷ vs) j []))) (sym z))
 
 -- a value of n bytes has at most n + 1 names
 
@@ -106,5 +106,5 @@ split-length (c ∷ s) = go (eqb c 44) (split-length s)
     go true h = omega arith
     go false h = omega (arith, onto-length c (length s) (split 44 s) h)
 
-pub names-few : (v : Bytes) → length (typedNames v) ≤ suc (length v)
-names-few v = omega (arith, split-length (first_word v), front_length notGap (behind isGap v), behind-length isGap v)
+pub names-few : (v : Bytes) → length (typed_names v) ≤ suc (length v)
+names-few v = omega (arith, split-length (first_word v), front_length not_gap (behind is_gap v), behind-length is_gap v)

@@ -2,19 +2,19 @@
 // looked up once: the answer is a set of tags, one for each list, and one for each `%type` field, its number.
 ghost use Rattle.std.specs.Prelude.{◌≡◌, true, [], map, ◌+◌, ◌<◌, ◌≤◌, length, drop};
 ghost use Rattle.format.specs.Bytes.{text, all};
-ghost use Rattle.format.specs.Limits.{fileBytes};
-ghost use Rattle.format.specs.Lines.{isName};
+ghost use Rattle.format.specs.Limits.{file_bytes};
+ghost use Rattle.format.specs.Lines.{is_name};
 ghost use Rattle.format.specs.Words.{words};
-ghost use Rattle.format.specs.Rules.{typedNames};
-ghost use Rattle.values.specs.Value.{valueFrom};
-ghost use Rattle.records.specs.Places.{isReadable};
-ghost use Rattle.records.specs.Walk.{recordIn};
-ghost use Rattle.records.specs.Named.{valuesFrom};
-ghost use Rattle.terms.specs.Sets.{tags, termOf};
-ghost use Rattle.dictionary.specs.Tags.{listTag};
+ghost use Rattle.format.specs.Rules.{typed_names};
+ghost use Rattle.values.specs.Value.{value_from};
+ghost use Rattle.records.specs.Places.{is_readable};
+ghost use Rattle.records.specs.Walk.{record_in};
+ghost use Rattle.records.specs.Named.{values_from};
+ghost use Rattle.terms.specs.Sets.{tags, term_of};
+ghost use Rattle.dictionary.specs.Tags.{list_tag};
 ghost use Rattle.terms.specs.Adding.{Adding};
-ghost use Rattle.dictionary.specs.Terms.{listTerms, areNames, RowsAdded};
-ghost use Rattle.dictionary.specs.Known.{Described, dictionaryRoom, IsDictionary, Known};
+ghost use Rattle.dictionary.specs.Terms.{list_terms, are_names, RowsAdded};
+ghost use Rattle.dictionary.specs.Known.{Described, dictionary_room, IsDictionary, Known};
 
 use records::{FoundField, NextField};
 use terms::Table;
@@ -46,7 +46,7 @@ impl Tag {
 
 // The tag of the words that a field of this name lists, `NONE` where it lists none.
 fn list_tag(name: &[u8]) -> u32
-    ensures { result ≡ listTag name.now }
+    ensures { result ≡ list_tag name.now }
 {
     let k = words::rule_of(name);
     match k {
@@ -61,10 +61,10 @@ fn list_tag(name: &[u8]) -> u32
 
 // The words of the value at i, which are names, put behind the first n entries; how many entries there are then.
 fn add_words(d: &[u8], i: usize, tag: u32, entries: &mut [u32], n: usize) -> usize
-    requires i_in_bounds { (i ≤ length d.now) × (length d.now ≤ fileBytes) × (tag < tags) }
-    requires d_in_bounds { n + length (words (valueFrom (drop i d.now))) ≤ length entries.old }
-    requires d_value { all isName (words (valueFrom (drop i d.now))) ≡ true }
-    ensures { Adding d.now entries.old n (map (termOf tag) (words (valueFrom (drop i d.now)))) [] entries.new result }
+    requires i_in_bounds { (i ≤ length d.now) × (length d.now ≤ file_bytes) × (tag < tags) }
+    requires d_in_bounds { n + length (words (value_from (drop i d.now))) ≤ length entries.old }
+    requires d_value { all is_name (words (value_from (drop i d.now))) ≡ true }
+    ensures { Adding d.now entries.old n (map (term_of tag) (words (value_from (drop i d.now)))) [] entries.new result }
 {
     let mut k = n;
     let mut from = i;
@@ -81,10 +81,10 @@ fn add_words(d: &[u8], i: usize, tag: u32, entries: &mut [u32], n: usize) -> usi
 
 // The same of the names, between commas, of the value's first word.
 fn add_names(d: &[u8], i: usize, tag: u32, entries: &mut [u32], n: usize) -> usize
-    requires i_in_bounds { (i ≤ length d.now) × (length d.now ≤ fileBytes) × (tag < tags) }
-    requires d_in_bounds { n + length (typedNames (valueFrom (drop i d.now))) ≤ length entries.old }
-    requires d_value { all isName (typedNames (valueFrom (drop i d.now))) ≡ true }
-    ensures { Adding d.now entries.old n (map (termOf tag) (typedNames (valueFrom (drop i d.now)))) [] entries.new result }
+    requires i_in_bounds { (i ≤ length d.now) × (length d.now ≤ file_bytes) × (tag < tags) }
+    requires d_in_bounds { n + length (typed_names (value_from (drop i d.now))) ≤ length entries.old }
+    requires d_value { all is_name (typed_names (value_from (drop i d.now))) ≡ true }
+    ensures { Adding d.now entries.old n (map (term_of tag) (typed_names (value_from (drop i d.now)))) [] entries.new result }
 {
     let mut k = n;
     let mut at = values::pass(d, i, Stretch::Gaps);
@@ -101,9 +101,9 @@ fn add_names(d: &[u8], i: usize, tag: u32, entries: &mut [u32], n: usize) -> usi
 
 // The words of all lists of a descriptor, put into entries; how many.
 fn add_lists(d: &[u8], entries: &mut [u32]) -> usize
-    requires d_value { (isReadable d.now ≡ true) × (length d.now ≤ fileBytes) }
-    requires d_in_bounds { (length (listTerms (recordIn d.now)) ≤ length entries.old) × (all areNames (recordIn d.now) ≡ true) }
-    ensures { Adding d.now entries.old 0 (listTerms (recordIn d.now)) [] entries.new result }
+    requires d_value { (is_readable d.now ≡ true) × (length d.now ≤ file_bytes) }
+    requires d_in_bounds { (length (list_terms (record_in d.now)) ≤ length entries.old) × (all are_names (record_in d.now) ≡ true) }
+    ensures { Adding d.now entries.old 0 (list_terms (record_in d.now)) [] entries.new result }
 {
     let mut n = 0;
     let mut i = 0;
@@ -128,9 +128,9 @@ fn add_lists(d: &[u8], entries: &mut [u32]) -> usize
 
 // The byte behind the first `%type` fields, as many as there are to be passed.
 fn pass_types(d: &[u8], count: usize) -> usize
-    requires d_value { isReadable d.now ≡ true }
-    requires count_in_bounds { count ≤ length (valuesFrom d.now (text "%type") 0) }
-    ensures { (result ≤ length d.now) × (isReadable (drop result d.now) ≡ true) × (valuesFrom d.now (text "%type") result ≡ drop count (valuesFrom d.now (text "%type") 0)) }
+    requires d_value { is_readable d.now ≡ true }
+    requires count_in_bounds { count ≤ length (values_from d.now (text "%type") 0) }
+    ensures { (result ≤ length d.now) × (is_readable (drop result d.now) ≡ true) × (values_from d.now (text "%type") result ≡ drop count (values_from d.now (text "%type") 0)) }
 {
     let mut i = 0;
     let mut row = 0;
@@ -160,7 +160,7 @@ pub struct Added {
 // The names of the `%type` fields from one on, put behind the first n entries: of as many fields as there is certainly room for.
 fn add_types(d: &[u8], from: usize, entries: &mut [u32], n: usize) -> Added
     requires described { Described d.now }
-    requires from_in_bounds { (from ≤ length (valuesFrom d.now (text "%type") 0)) × (n ≤ length entries.old) }
+    requires from_in_bounds { (from ≤ length (values_from d.now (text "%type") 0)) × (n ≤ length entries.old) }
     ensures { RowsAdded d.now from entries.old n entries.new result }
 {
     let mut k = n;
@@ -202,7 +202,7 @@ pub struct Dictionary {
 // The dictionary of a descriptor, from one of its `%type` fields on, in a lent array.
 pub fn read(d: &[u8], from: usize, entries: &mut [u32]) -> Dictionary
     requires described { Described d.now }
-    requires from_in_bounds { (from ≤ length (valuesFrom d.now (text "%type") 0)) × (dictionaryRoom ≤ length entries.old) }
+    requires from_in_bounds { (from ≤ length (values_from d.now (text "%type") 0)) × (dictionary_room ≤ length entries.old) }
     ensures { IsDictionary d.now entries.new result × (result.from ≡ from) }
 {
     let n = add_lists(d, &mut *entries);
@@ -220,7 +220,7 @@ pub fn read(d: &[u8], from: usize, entries: &mut [u32]) -> Dictionary
 pub fn look_up(d: &[u8], entries: &[u32], r: Dictionary, name: &[u8]) -> u64
     requires described { Described d.now }
     requires dictionary { IsDictionary d.now entries.now r }
-    ensures { Known (recordIn d.now) r.from r.next name.now result }
+    ensures { Known (record_in d.now) r.from r.next name.now result }
 {
     let t = r.table;
     terms::find(d, entries, t, name)

@@ -1,19 +1,19 @@
 // The words of one of a descriptor's lists, each with its place in the list as tag: the places at which a name stands there are a set in one number.
 ghost use Rattle.std.specs.Prelude.{◌≡◌, true, false, ◌&&◌, ◌||◌, not, List, [], map, ℕ, ◌+◌, ◌-◌, ◌^◌, ◌<◌, ◌≤◌, eqb, ltb, length, drop};
 ghost use Rattle.format.specs.Bytes.{Bytes, all, same};
-ghost use Rattle.format.specs.Limits.{fileBytes, listWords};
-ghost use Rattle.format.specs.Lines.{isName};
+ghost use Rattle.format.specs.Limits.{file_bytes, list_words};
+ghost use Rattle.format.specs.Lines.{is_name};
 ghost use Rattle.format.specs.Words.{words};
 ghost use Rattle.format.specs.Rules.{listed};
-ghost use Rattle.values.specs.Value.{valueFrom};
+ghost use Rattle.values.specs.Value.{value_from};
 ghost use Rattle.words.specs.RuleNames.{place_in};
-ghost use Rattle.records.specs.Places.{isReadable};
-ghost use Rattle.records.specs.Walk.{recordIn};
+ghost use Rattle.records.specs.Places.{is_readable};
+ghost use Rattle.records.specs.Walk.{record_in};
 ghost use Rattle.terms.specs.Sets.{in_set};
 ghost use Rattle.terms.specs.Entries.{word_at};
 ghost use Rattle.terms.specs.Adding.{Adding};
 ghost use Rattle.dictionary.specs.Known.{Described};
-ghost use Rattle.dictionary.specs.Numbered.{numbered, Lists, IsWords, IsListed, Places, isFirst, Firsts};
+ghost use Rattle.dictionary.specs.Numbered.{numbered, Lists, IsWords, IsListed, Places, is_first, Firsts};
 
 use format::Descriptor;
 use records::FoundField;
@@ -23,10 +23,10 @@ use values::NextWord;
 
 // The words of the value at i, which are names, put behind the first n entries; how many entries there are then.
 fn add_value(d: &[u8], i: usize, entries: &mut [u32], n: usize) -> usize
-    requires i_in_bounds { (i ≤ length d.now) × (length d.now ≤ fileBytes) }
-    requires d_bound { (n + length (words (valueFrom (drop i d.now))) ≤ listWords) × (listWords ≤ length entries.old) }
-    requires d_value { all isName (words (valueFrom (drop i d.now))) ≡ true }
-    ensures { Adding d.now entries.old n (numbered n (words (valueFrom (drop i d.now)))) [] entries.new result }
+    requires i_in_bounds { (i ≤ length d.now) × (length d.now ≤ file_bytes) }
+    requires d_bound { (n + length (words (value_from (drop i d.now))) ≤ list_words) × (list_words ≤ length entries.old) }
+    requires d_value { all is_name (words (value_from (drop i d.now))) ≡ true }
+    ensures { Adding d.now entries.old n (numbered n (words (value_from (drop i d.now)))) [] entries.new result }
 {
     let mut k = n;
     let mut from = i;
@@ -43,10 +43,10 @@ fn add_value(d: &[u8], i: usize, entries: &mut [u32], n: usize) -> usize
 
 // The same of all fields of a name.
 fn add_list(d: &[u8], name: &[u8], entries: &mut [u32]) -> usize
-    requires d_value { (isReadable d.now ≡ true) × (length d.now ≤ fileBytes) }
-    requires d_len_bound { (length (listed name.now (recordIn d.now)) ≤ listWords) × (listWords ≤ length entries.old) }
-    requires d_value_2 { all isName (listed name.now (recordIn d.now)) ≡ true }
-    ensures { Adding d.now entries.old 0 (numbered 0 (listed name.now (recordIn d.now))) [] entries.new result }
+    requires d_value { (is_readable d.now ≡ true) × (length d.now ≤ file_bytes) }
+    requires d_len_bound { (length (listed name.now (record_in d.now)) ≤ list_words) × (list_words ≤ length entries.old) }
+    requires d_value_2 { all is_name (listed name.now (record_in d.now)) ≡ true }
+    ensures { Adding d.now entries.old 0 (numbered 0 (listed name.now (record_in d.now))) [] entries.new result }
 {
     let mut n = 0;
     let mut i = 0;
@@ -74,9 +74,9 @@ pub struct Words {
 
 // The table of the words that the fields of a name list, and their sets, in lent arrays.
 pub fn read(d: &[u8], name: &[u8], entries: &mut [u32], sets: &mut [u64]) -> Words
-    requires described { Described d.now × Lists name.now (recordIn d.now) }
-    requires list_words_in_bounds { (listWords ≤ length entries.old) × (listWords ≤ length sets.old) }
-    ensures { IsWords d.now (listed name.now (recordIn d.now)) entries.new sets.new result }
+    requires described { Described d.now × Lists name.now (record_in d.now) }
+    requires list_words_in_bounds { (list_words ≤ length entries.old) × (list_words ≤ length sets.old) }
+    ensures { IsWords d.now (listed name.now (record_in d.now)) entries.new sets.new result }
 {
     let n = add_list(d, name, &mut *entries);
     let t = terms::build(d, &mut entries[..n]);
@@ -95,7 +95,7 @@ pub fn places_in(d: &[u8], entries: &[u32], sets: &[u64], w: Words, name: &[u8])
 
 // The first of some places that is in a set, and their number where none is.
 fn first_place(set: u64, count: usize) -> usize
-    requires { count ≤ listWords }
+    requires { count ≤ list_words }
     ensures { (result ≤ count) × (result < count → in_set result set ≡ true) × ((k : ℕ) → k < result → in_set k set ≡ false) }
 {
     let mut k = 0;
@@ -130,8 +130,8 @@ pub struct Listed {
 
 // The list of the words of all fields of a name.
 pub fn list(d: &[u8], name: &[u8]) -> Listed
-    requires { Described d.now × Lists name.now (recordIn d.now) }
-    ensures { IsListed d.now (listed name.now (recordIn d.now)) result }
+    requires { Described d.now × Lists name.now (record_in d.now) }
+    ensures { IsListed d.now (listed name.now (record_in d.now)) result }
 {
     let mut entries = [0u32; Descriptor::WORDS];
     let mut sets = [0u64; Descriptor::WORDS];
@@ -155,7 +155,7 @@ pub fn places(d: &[u8], l: Listed, name: &[u8]) -> u64
 
 // The set of the first so many places.
 fn all_places(count: usize) -> u64
-    requires { count ≤ listWords }
+    requires { count ≤ list_words }
     ensures { result ≡ 2 ^ count - 1 }
 {
     if count == Descriptor::WORDS {
@@ -167,7 +167,7 @@ fn all_places(count: usize) -> u64
 
 // Those of the first so many places that are not in a set: of a list's words, those that are missing.
 pub fn missing(set: u64, count: usize) -> u64
-    requires { count ≤ listWords }
+    requires { count ≤ list_words }
     ensures { (k : ℕ) → in_set k result ≡ (ltb k count && not (in_set k set)) }
 {
     let all = all_places(count);
@@ -189,7 +189,7 @@ fn same_word(d: &[u8], x: u32, y: u32) -> bool
 // Has no entry before entry k the same word?
 fn is_first(d: &[u8], entries: &[u32], k: usize) -> bool
     requires { k < length entries.now }
-    ensures { result ≡ isFirst k (map (word_at d.now) entries.now) }
+    ensures { result ≡ is_first k (map (word_at d.now) entries.now) }
 {
     let mut j = 0;
     while j < k {
@@ -203,7 +203,7 @@ fn is_first(d: &[u8], entries: &[u32], k: usize) -> bool
 
 // A set, with place k if that is to be.
 fn with_place(set: u64, k: usize, more: bool) -> u64
-    requires { k < listWords }
+    requires { k < list_words }
     ensures { (j : ℕ) → in_set j result ≡ (in_set j set || (more && eqb j k)) }
 {
     if more {
@@ -215,7 +215,7 @@ fn with_place(set: u64, k: usize, more: bool) -> u64
 
 // The places of the entries whose words no entry before them has.
 fn first_entries(d: &[u8], entries: &[u32]) -> u64
-    requires { length entries.now ≤ listWords }
+    requires { length entries.now ≤ list_words }
     ensures { Firsts (map (word_at d.now) entries.now) result }
 {
     let mut set = 0;
@@ -230,8 +230,8 @@ fn first_entries(d: &[u8], entries: &[u32]) -> u64
 
 // The first places of the words that the fields of a name list: one for each distinct word.
 pub fn firsts(d: &[u8], name: &[u8]) -> u64
-    requires { Described d.now × Lists name.now (recordIn d.now) }
-    ensures { Firsts (listed name.now (recordIn d.now)) result }
+    requires { Described d.now × Lists name.now (record_in d.now) }
+    ensures { Firsts (listed name.now (record_in d.now)) result }
 {
     let mut entries = [0u32; Descriptor::WORDS];
     let n = add_list(d, name, &mut entries);

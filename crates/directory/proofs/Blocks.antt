@@ -7,39 +7,39 @@ use Rattle.format.specs.Pieces.{Piece, read_of}
 use Rattle.records.proofs.Steps.{Passed, FieldAt}
 use Rattle.format.specs.declared.Entry.{Entry}
 use Rattle.records.specs.Places.{places_of}
-use Rattle.records.specs.Sets.{firstSet}
+use Rattle.records.specs.Sets.{first_set}
 use Rattle.records.specs.declared.RecordSet.{RecordSet}
 use Rattle.records.specs.declared.NextSet.{NextSet}
-use Rattle.directory.specs.Blocks.{blockFrom, noEntry, entryOn, nextEntry}
+use Rattle.directory.specs.Blocks.{block_from, no_entry, entry_on, next_entry}
 
 -- of the part from byte i on
 abbrev pub block_at : Bytes → ℕ → ℕ → ℕ
-block_at s start i = blockFrom start i (read_of (drop i s))
+block_at s start i = block_from start i (read_of (drop i s))
 
 module _ (s : Bytes) (start i : ℕ) where
   pub block_none : read_of (drop i s) ≡ [] → block_at s start i ≡ start
-  unfolding blockFrom
-  block_none e = ap (blockFrom start i) e
+  unfolding block_from
+  block_none e = ap (block_from start i) e
 
   module _ (k : ℕ) where
     pub block-blank : (l : Line) → Passed s i (Piece.blank l) k → block_at s start i ≡ block_at s (i + k) (i + k)
-    unfolding blockFrom
-    block-blank l h = ap (blockFrom start i) h.reads ∙ ap (λ (n : ℕ). blockFrom (i + n) (i + n) (read_of (drop (i + k) s))) h.size
+    unfolding block_from
+    block-blank l h = ap (block_from start i) h.reads ∙ ap (λ (n : ℕ). block_from (i + n) (i + n) (read_of (drop (i + k) s))) h.size
 
     pub block-comment : (l : Line) → Passed s i (Piece.comment l) k → block_at s start i ≡ block_at s start (i + k)
-    unfolding blockFrom
-    block-comment l h = ap (blockFrom start i) h.reads ∙ ap (λ (n : ℕ). blockFrom start (i + n) (read_of (drop (i + k) s))) h.size
+    unfolding block_from
+    block-comment l h = ap (block_from start i) h.reads ∙ ap (λ (n : ℕ). block_from start (i + n) (read_of (drop (i + k) s))) h.size
 
     pub block-field : (n v : ℕ) → FieldAt s i n v k → block_at s start i ≡ start
-    unfolding blockFrom
-    block-field n v h = ap (blockFrom start i) h.passed.reads
+    unfolding block_from
+    block-field n v h = ap (block_from start i) h.passed.reads
 
 -- the next set as an entry, once the form of the answer is known
-module _ (s : Bytes) (x : NextSet) (e : x ≡ firstSet (places_of s)) where
-  pub next-none : x ≡ NextSet.Nothing → noEntry ≡ nextEntry s
-  unfolding nextEntry
-  next-none h = ap (entryOn (blockFrom 0 0 (read_of s))) (sym h ∙ e)
+module _ (s : Bytes) (x : NextSet) (e : x ≡ first_set (places_of s)) where
+  pub next-none : x ≡ NextSet.Nothing → no_entry ≡ next_entry s
+  unfolding next_entry
+  next-none h = ap (entry_on (block_from 0 0 (read_of s))) (sym h ∙ e)
 
-  pub next-there : (q : RecordSet) (b : ℕ) → x ≡ NextSet.At q → b ≡ blockFrom 0 0 (read_of s) → ◌≡◌ {A = Entry} (record { place = b; count = q.count; end = q.after }) (nextEntry s)
-  unfolding nextEntry
-  next-there q b h r = λ i. entryOn (r i) ((sym h ∙ e) i)
+  pub next-there : (q : RecordSet) (b : ℕ) → x ≡ NextSet.At q → b ≡ block_from 0 0 (read_of s) → ◌≡◌ {A = Entry} (record { place = b; count = q.count; end = q.after }) (next_entry s)
+  unfolding next_entry
+  next-there q b h r = λ i. entry_on (r i) ((sym h ∙ e) i)

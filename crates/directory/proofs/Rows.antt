@@ -9,13 +9,13 @@ use lib.Seq.{take_all}
 use borrow.Author.Tests.{leb-true, lt-ltb, le-ltb}
 use Rattle.format.specs.Bytes.{Bytes, pick}
 use Rattle.format.specs.Questions.{verdict}
-use Rattle.format.specs.Calls.{Answer, value, answer, answered, valueOr, thenNo, leaves, over, Filled}
-use Rattle.format.specs.Directory.{fillAnswer, Kept, keptAnswer, countAtAnswer}
+use Rattle.format.specs.Calls.{Answer, value, answer, answered, value_or, then_no, leaves, over, Filled}
+use Rattle.format.specs.Directory.{fill_answer, Kept, kept_answer, count_at_answer}
 use Rattle.format.specs.declared.Answer.{Answer as Reply}
 use Rattle.format.specs.declared.Entry.{Entry}
 use Rattle.directory.specs.declared.core.Done.{Done}
-use Rattle.directory.specs.Blocks.{noEntry}
-use Rattle.directory.specs.Rows.{list_of, entry_of, filled, Fillable, countedIn, Does}
+use Rattle.directory.specs.Blocks.{no_entry}
+use Rattle.directory.specs.Rows.{list_of, entry_of, filled, Fillable, counted_in, Does}
 
 -- ---- the list
 -- the byte offset of an entry of a list fits
@@ -40,7 +40,7 @@ module _ {X : Type 0} (d : X) where
 
 filled-front : (b : Bytes) (u : ℕ) (old : List Entry) (n : ℕ) → n ≤ length (list_of b u) → n ≤ length old → filled b u old n ≡ take n (list_of b u) ++ drop n old
 filled-front b u old zero l k = refl
-filled-front b u old (suc n) l k = ap (λ (ys : List Entry). set ys n (entry_of b u n)) (filled-front b u old n (le_of_lt l) (le_of_lt k)) ∙ one_more noEntry n (list_of b u) old l k
+filled-front b u old (suc n) l k = ap (λ (ys : List Entry). set ys n (entry_of b u n)) (filled-front b u old n (le_of_lt l) (le_of_lt k)) ∙ one_more no_entry n (list_of b u) old l k
 
 filled-over : (b : Bytes) (u : ℕ) (old : List Entry) → length (list_of b u) ≤ length old → filled b u old (length (list_of b u)) ≡ over (list_of b u) old
 filled-over b u old k = filled-front b u old (length (list_of b u)) (omega arith) k ∙ ap (λ (s : List Entry). s ++ drop (length (list_of b u)) old) (take_all (length (list_of b u)) (list_of b u) (omega arith))
@@ -50,46 +50,46 @@ module _ (b : Bytes) (u m : ℕ) where
   abbrev sets : ℕ
   sets = length (list_of b u)
 
-  counted-fillable : (v : ℕ) → verdict b u ≡ v → (t : Bool) → leb sets m ≡ t → Fillable b u (valueOr 0 (answer (thenNo v (pick t 0 28)) sets)) m
+  counted-fillable : (v : ℕ) → verdict b u ≡ v → (t : Bool) → leb sets m ≡ t → Fillable b u (value_or 0 (answer (then_no v (pick t 0 28)) sets)) m
   counted-fillable zero v true t = (leb-true sets m t, λ k l. (v, l))
   counted-fillable zero v false t = (zero-le, λ k l. absurd (not-suc-le-zero l))
   counted-fillable (suc n) v t e = (zero-le, λ k l. absurd (not-suc-le-zero l))
 
-  pub fillable : (n : ℕ) → n ≡ valueOr 0 (countedIn b u m) → Fillable b u n m
+  pub fillable : (n : ℕ) → n ≡ value_or 0 (counted_in b u m) → Fillable b u n m
   fillable n e = subst (λ (k : ℕ). Fillable b u k m) (sym e) (counted-fillable (verdict b u) refl (leb sets m) refl)
 
 module _ (b : Bytes) (u : ℕ) (old : List Entry) where
   counted-leaves : (v : ℕ) (t : Bool) → leb (length (list_of b u)) (length old) ≡ t
-      → filled b u old (valueOr 0 (answer (thenNo v (pick t 0 28)) (length (list_of b u)))) ≡ leaves (answer (thenNo v (pick t 0 28)) (length (list_of b u))) (over (list_of b u) old) old
+      → filled b u old (value_or 0 (answer (then_no v (pick t 0 28)) (length (list_of b u)))) ≡ leaves (answer (then_no v (pick t 0 28)) (length (list_of b u))) (over (list_of b u) old) old
   counted-leaves zero true t = filled-over b u old (leb-true (length (list_of b u)) (length old) t)
   counted-leaves zero false t = refl
   counted-leaves (suc n) t e = refl
 
-  filled-answer : filled b u old (valueOr 0 (countedIn b u (length old))) ≡ (fillAnswer b u old).entries
-  unfolding fillAnswer
+  filled-answer : filled b u old (value_or 0 (counted_in b u (length old))) ≡ (fill_answer b u old).entries
+  unfolding fill_answer
   filled-answer = counted-leaves (verdict b u) (leb (length (list_of b u)) (length old)) refl
 
   -- ---- what the calls answer
-  pub fill_done : (r : Reply) (n : ℕ) (new : List Entry) → answered r ≡ countedIn b u (length old) → n ≡ valueOr 0 (answered r) → new ≡ filled b u old n → record { result = answered r; entries = new } ≡ fillAnswer b u old
-  unfolding fillAnswer
-  fill_done r n new e k f = λ i. record { result = e i; entries = (f ∙ ap (filled b u old) (k ∙ ap (valueOr 0) e) ∙ filled-answer) i }
+  pub fill_done : (r : Reply) (n : ℕ) (new : List Entry) → answered r ≡ counted_in b u (length old) → n ≡ value_or 0 (answered r) → new ≡ filled b u old n → record { result = answered r; entries = new } ≡ fill_answer b u old
+  unfolding fill_answer
+  fill_done r n new e k f = λ i. record { result = e i; entries = (f ∙ ap (filled b u old) (k ∙ ap (value_or 0) e) ∙ filled-answer) i }
 
 abbrev kept : Answer → Bytes → List Entry → Kept
 kept a out es = record { result = a; out = out; entries = es }
 
 pub edit-done : (b : Bytes) (u : ℕ) (q b' : Bytes) (old : List Entry) (d : Done) (new : List Entry) → Does b u q (length old) b' d → new ≡ filled b' d.used old d.sets
-    → record { result = answered d.answer; out = b'; entries = new } ≡ keptAnswer b u q old
-unfolding keptAnswer
+    → record { result = answered d.answer; out = b'; entries = new } ≡ kept_answer b u q old
+unfolding kept_answer
 edit-done b u q b' old d new does f =
-    let es : new ≡ (fillAnswer b' (valueOr u (answered d.answer)) old).entries = f ∙ ap (filled b' d.used old) does.2 ∙ filled-answer b' d.used old ∙ ap (λ (k : ℕ). (fillAnswer b' k old).entries) does.1 in
-    ap (λ (l : List Entry). kept (answered d.answer) b' l) es ∙ ap (λ (g : Filled). kept g.result g.out (fillAnswer g.out (valueOr u g.result) old).entries) does.0
+    let es : new ≡ (fill_answer b' (value_or u (answered d.answer)) old).entries = f ∙ ap (filled b' d.used old) does.2 ∙ filled-answer b' d.used old ∙ ap (λ (k : ℕ). (fill_answer b' k old).entries) does.1 in
+    ap (λ (l : List Entry). kept (answered d.answer) b' l) es ∙ ap (λ (g : Filled). kept g.result g.out (fill_answer g.out (value_or u g.result) old).entries) does.0
 
 -- ---- the count at a position
 module _ (es : List Entry) (i : ℕ) where
-  pub count-there : i < length es → answered (Reply.Value (get_or es i noEntry).count) ≡ countAtAnswer es i
-  unfolding countAtAnswer
-  count-there l = ap value (sym (get_d_map noEntry (λ (e : Entry). e.count) es i)) ∙ sym (ap (λ (t : Bool). answer (pick t 0 21) (get_or (map (λ (e : Entry). e.count) es) i 0)) (lt-ltb i (length es) l))
+  pub count-there : i < length es → answered (Reply.Value (get_or es i no_entry).count) ≡ count_at_answer es i
+  unfolding count_at_answer
+  count-there l = ap value (sym (get_d_map no_entry (λ (e : Entry). e.count) es i)) ∙ sym (ap (λ (t : Bool). answer (pick t 0 21) (get_or (map (λ (e : Entry). e.count) es) i 0)) (lt-ltb i (length es) l))
 
-  pub count_past : length es ≤ i → answered (Reply.Refused 21) ≡ countAtAnswer es i
-  unfolding countAtAnswer
+  pub count_past : length es ≤ i → answered (Reply.Refused 21) ≡ count_at_answer es i
+  unfolding count_at_answer
   count_past l = sym (ap (λ (t : Bool). answer (pick t 0 21) (get_or (map (λ (e : Entry). e.count) es) i 0)) (le-ltb i (length es) l))

@@ -1,5 +1,5 @@
 -- What the walks of functions over lent slices of structs share (the borrow checker covers no such function, so each is walked by hand, statement by statement). It says nothing of this crate.
---     type_at, envOf, after     a local's type, the locals' environment and what follows a statement, read off the code
+--     type_at, env_of, after     a local's type, the locals' environment and what follows a statement, read off the code
 --     stack                    the locals in a context: the last one in front, each with its value, if it holds one
 --     alloc_all, free_all      the locals are allocated, all empty; and freed, whatever they hold
 --     number, twice            what a number that fits owns is had for nothing; a `&` slice is copied
@@ -49,9 +49,9 @@ type_at (local τ h ∷ xs) zero = τ
 type_at (local τ h ∷ xs) (suc j) = type_at xs j
 
 -- the locals lie at the blocks that l gives
-abbrev pub envOf : List Local → (ℕ → ℕ) → List (Ty × ℕ)
-envOf [] l = []
-envOf (local τ h ∷ xs) l = (τ, l zero) ∷ envOf xs (λ i. l (suc i))
+abbrev pub env_of : List Local → (ℕ → ℕ) → List (Ty × ℕ)
+env_of [] l = []
+env_of (local τ h ∷ xs) l = (τ, l zero) ∷ env_of xs (λ i. l (suc i))
 
 abbrev pub after : Body → Body
 after skipᴹ = skipᴹ
@@ -94,11 +94,11 @@ module _ {M : Type 1} {𝓤 : Ura M} {𝓛 : Logic 𝓤} {K : Type 0} where
   open 𝓛 use {H}
 
   alloc-from : K → (xs : List Local) (Kt : Env 𝓤 H → Goal 𝓤 H) (Γ : List (Item 𝓤))
-      → ((l : ℕ → ℕ) → Seq K 𝓛 (stack (envOf xs l) (empties xs) Γ) (Kt (envOf xs l))) → Seq K 𝓛 Γ (allocs xs Kt)
+      → ((l : ℕ → ℕ) → Seq K 𝓛 (stack (env_of xs l) (empties xs) Γ) (Kt (env_of xs l))) → Seq K 𝓛 Γ (allocs xs Kt)
   alloc-from t [] Kt Γ k = alloc0 t $ k (λ _. zero)
   alloc-from t (local τ h ∷ xs) Kt Γ k = alloc1 t (λ b. alloc-from t xs (λ E. Kt ((τ, b) ∷ E)) (‵ (froom τ b zero) ∷ ‵ (fdies τ b) ∷ Γ) (λ l. k (first-at b l)))
 
-  pub alloc_all : K → {xs : List Local} {Kt : Env 𝓤 H → Goal 𝓤 H} {Γ : List (Item 𝓤)} → ((l : ℕ → ℕ) → Seq K 𝓛 (stack (envOf xs l) (empties xs) Γ) (Kt (envOf xs l))) → Seq K 𝓛 Γ (allocs xs Kt)
+  pub alloc_all : K → {xs : List Local} {Kt : Env 𝓤 H → Goal 𝓤 H} {Γ : List (Item 𝓤)} → ((l : ℕ → ℕ) → Seq K 𝓛 (stack (env_of xs l) (empties xs) Γ) (Kt (env_of xs l))) → Seq K 𝓛 Γ (allocs xs Kt)
   alloc_all t {xs} {Kt} {Γ} k = alloc-from t xs Kt Γ k
 
 module _ {M : Type 1} {𝓤 : Ura M} (𝓛 : Logic 𝓤) where
@@ -195,12 +195,12 @@ module _ {M : Type 1} {𝓤 : Ura M} {𝓛 : Logic 𝓤} {K : Type 0} {Γ : List
   dresses : K → (X : Type 0) (x y : X) {P Q : Fml} → x ≡ y → Step K 𝓛 (‵ (fsep (fsep (feq X x y) P) Q) ∷ Γ) G (‵ (fsep P Q) ∷ Γ) G
   dresses t X x y e = step (λ s. fsplit t $ feq_i t X x y e $ fjoin t $ fjoin t $ s)
 
-abbrev listAt : {X : Type 0} → ℕ × ℕ → GName → List X → MutBor (List X)
-listAt p γ ys = record { ref_ptr = p; ghost_name = γ; now = ys }
+abbrev list_at : {X : Type 0} → ℕ × ℕ → GName → List X → MutBor (List X)
+list_at p γ ys = record { ref_ptr = p; ghost_name = γ; now = ys }
 
 -- a slice whose count is n, as the machine's value has it, at a list of that length
 abbrev pub slice_at : {X : Type 0} → (MutBor (List X) → List Val → Fml) → ℕ × ℕ → ℕ → GName → List X → Fml
-slice_at own p n γ ys = own (listAt p γ ys) (slice_val p n ∷ [])
+slice_at own p n γ ys = own (list_at p γ ys) (slice_val p n ∷ [])
 
 counted : (p : ℕ × ℕ) (n : ℕ) {X : Type 0} (ys : List X) → length ys ≡ n → slice_val p n ∷ [] ≡ slice_val p (length ys) ∷ []
 counted p n ys e = ap (λ (m : ℕ). slice_val p m ∷ []) (sym e)
@@ -210,27 +210,27 @@ module _ {M : Type 1} {𝓤 : Ura M} {𝓛 : Logic 𝓤} {K : Type 0} {Γ : List
       → ((α : ℕ) (γ₁ : GName) → Seq K 𝓛 (‵ (slice_at (MutSlice ℓ' (α ∷ []) R).own_val p n γ₁ ys) ∷ ‵ (flft (α ∷ []) full_share) ∷ ‵ (kept_f R κ q (α ∷ []) γ γ₁ ys p.0 p.1) ∷ Γ) G)
       → Seq K 𝓛 (‵ (slice_at (MutSlice ℓ κ R).own_val p n γ ys) ∷ ‵ (flft κ q) ∷ Γ) G
   relends t z R ℓ ℓ' {κ} {q} p n γ ys e k = bares t $ lft_new t z (λ α. move t (1 ∷ 2 ∷ []) $
-      use2 𝓛 (later (some (λ (γ₁ : GName). ‵ ((Bare.MutSlice ℓ' (α ∷ []) R).own (listAt p γ₁ ys)) ⊛ ‵ (kept_f R κ q (α ∷ []) γ γ₁ ys p.0 p.1)))) (sl_relend 𝓛 R κ q (α ∷ []) p.0 p.1 γ ys) $ await t z $
+      use2 𝓛 (later (some (λ (γ₁ : GName). ‵ ((Bare.MutSlice ℓ' (α ∷ []) R).own (list_at p γ₁ ys)) ⊛ ‵ (kept_f R κ q (α ∷ []) γ γ₁ ys p.0 p.1)))) (sl_relend 𝓛 R κ q (α ∷ []) p.0 p.1 γ ys) $ await t z $
       pick t (λ γ₁. split t $ dresses t (List Val) (slice_val p n ∷ []) (slice_val p (length ys) ∷ []) (counted p n ys e) $ move t (0 ∷ 2 ∷ []) $ k α γ₁))
 
   pub comes_back : K → Soaks G → (R : RattleType) (ℓ : Lifetime) {κ : Lft} {q : Share} (p : ℕ × ℕ) (n : ℕ) (γ : GName) (ys : List R.Denot) (α : ℕ) (γ₁ : GName) (zs : List R.Denot) → length ys ≡ n
       → (length zs ≡ n → Seq K 𝓛 (‵ (slice_at (MutSlice ℓ κ R).own_val p n γ zs) ∷ ‵ (flft κ q) ∷ Γ) G)
       → Seq K 𝓛 (‵ (flft (α ∷ []) full_share) ∷ ‵ (kept_f R κ q (α ∷ []) γ γ₁ ys p.0 p.1) ∷ ‵ (finally R γ₁ zs) ∷ Γ) G
   comes_back t z R ℓ {κ} {q} p n γ ys α γ₁ zs e k = lft_end t z $
-      use3 𝓛 (later (given (length zs ≡ length ys) (‵ ((Bare.MutSlice ℓ κ R).own (listAt p γ zs)) ⊛ ‵ (flft κ q)))) (sl_relent_backˡ 𝓛 R κ q (α ∷ []) p.0 p.1 γ γ₁ ys zs) $ await t z $
+      use3 𝓛 (later (given (length zs ≡ length ys) (‵ ((Bare.MutSlice ℓ κ R).own (list_at p γ zs)) ⊛ ‵ (flft κ q)))) (sl_relent_backˡ 𝓛 R κ q (α ∷ []) p.0 p.1 γ γ₁ ys zs) $ await t z $
       learn t (λ l. split t $ dresses t (List Val) (slice_val p n ∷ []) (slice_val p (length zs) ∷ []) (counted p n zs (l ∙ e)) $ k (l ∙ e))
 
   pub reshares : K → Soaks G → (R : RattleType) (ℓ ℓ' : Lifetime) {κ : Lft} {q : Share} (p : ℕ × ℕ) (n : ℕ) (γ : GName) (ys : List R.Denot) → length ys ≡ n
       → ((α : ℕ) (γ₁ : GName) → Seq K 𝓛 (‵ (slice_at (ShrSlice ℓ' (α ∷ []) R).own_val p n γ₁ ys) ∷ ‵ (flft (α ∷ []) full_share) ∷ ‵ (kept_s R κ q (α ∷ []) γ ys p.0 p.1) ∷ Γ) G)
       → Seq K 𝓛 (‵ (slice_at (MutSlice ℓ κ R).own_val p n γ ys) ∷ ‵ (flft κ q) ∷ Γ) G
   reshares t z R ℓ ℓ' {κ} {q} p n γ ys e k = bares t $ lft_new t z (λ α. move t (1 ∷ 2 ∷ []) $
-      use2 𝓛 (later (some (λ (γ₁ : GName). ‵ ((Bare.ShrSlice ℓ' (α ∷ []) R).own (listAt p γ₁ ys)) ⊛ ‵ (kept_s R κ q (α ∷ []) γ ys p.0 p.1)))) (sl-reshare 𝓛 R κ q (α ∷ []) p.0 p.1 γ ys) $ await t z $
+      use2 𝓛 (later (some (λ (γ₁ : GName). ‵ ((Bare.ShrSlice ℓ' (α ∷ []) R).own (list_at p γ₁ ys)) ⊛ ‵ (kept_s R κ q (α ∷ []) γ ys p.0 p.1)))) (sl-reshare 𝓛 R κ q (α ∷ []) p.0 p.1 γ ys) $ await t z $
       pick t (λ γ₁. split t $ dresses t (List Val) (slice_val p n ∷ []) (slice_val p (length ys) ∷ []) (counted p n ys e) $ move t (0 ∷ 2 ∷ []) $ k α γ₁))
 
   pub shared_back : K → Soaks G → (R : RattleType) (ℓ : Lifetime) {κ : Lft} {q : Share} (p : ℕ × ℕ) (n : ℕ) (γ : GName) (ys : List R.Denot) (α : ℕ) → length ys ≡ n
       → Step K 𝓛 (‵ (slice_at (MutSlice ℓ κ R).own_val p n γ ys) ∷ ‵ (flft κ q) ∷ Γ) G (‵ (flft (α ∷ []) full_share) ∷ ‵ (kept_s R κ q (α ∷ []) γ ys p.0 p.1) ∷ Γ) G
   shared_back t z R ℓ {κ} {q} p n γ ys α e = step (λ s. lft_end t z $
-      use2 𝓛 (later (‵ ((Bare.MutSlice ℓ κ R).own (listAt p γ ys)) ⊛ ‵ (flft κ q))) (sl_reshare_back 𝓛 R κ q (α ∷ []) p.0 p.1 γ ys) $ await t z $
+      use2 𝓛 (later (‵ ((Bare.MutSlice ℓ κ R).own (list_at p γ ys)) ⊛ ‵ (flft κ q))) (sl_reshare_back 𝓛 R κ q (α ∷ []) p.0 p.1 γ ys) $ await t z $
       split t $ dresses t (List Val) (slice_val p n ∷ []) (slice_val p (length ys) ∷ []) (counted p n ys e) $ s)
 
 -- ---- the end

@@ -2,9 +2,9 @@
 ghost use Rattle.core.specs.Prelude.{◌≡◌, ◌<◌, true, length};
 ghost use Rattle.format.specs.Pieces.{read_of};
 ghost use Rattle.format.specs.Calls.{answered};
-ghost use Rattle.records.specs.Places.{isReadable};
-ghost use Rattle.directory.specs.Blocks.{blockFrom, nextEntry, listIn, entryIn, start_in};
-ghost use Rattle.directory.specs.Rows.{InDirectory, start_of, entry_of, countedIn, Does};
+ghost use Rattle.records.specs.Places.{is_readable};
+ghost use Rattle.directory.specs.Blocks.{block_from, next_entry, list_in, entry_in, start_in};
+ghost use Rattle.directory.specs.Rows.{InDirectory, start_of, entry_of, counted_in, Does};
 
 use editor::Text;
 use format::{Answer, Entry, File, Refusal};
@@ -21,8 +21,8 @@ pub struct Done {
 
 // Where the block begins in which the first field of a part stands: behind the last blank line before it.
 fn block_start(s: &[u8]) -> usize
-    requires { isReadable s.now ≡ true }
-    ensures { result ≡ blockFrom 0 0 (read_of s.now) }
+    requires { is_readable s.now ≡ true }
+    ensures { result ≡ block_from 0 0 (read_of s.now) }
 {
     let mut start = 0;
     let mut i = 0;
@@ -55,8 +55,8 @@ fn block_start(s: &[u8]) -> usize
 
 // The next set of a part that has a descriptor there, as an entry with places in the part.
 fn next_entry(s: &[u8]) -> Entry
-    requires { isReadable s.now ≡ true }
-    ensures { result ≡ nextEntry s.now }
+    requires { is_readable s.now ≡ true }
+    ensures { result ≡ next_entry s.now }
 {
     let n = records::next_set(s);
     let NextSet::At(q) = n else {
@@ -75,8 +75,8 @@ fn next_entry(s: &[u8]) -> Entry
 
 // Entry k of a text, which is looked for behind the one before it.
 fn entry_in(s: &[u8], k: usize, at: usize) -> Entry
-    requires { (isReadable s.now ≡ true) × (k < length (listIn s.now)) × (at ≡ start_in s.now k) }
-    ensures { result ≡ entryIn s.now k }
+    requires { (is_readable s.now ≡ true) × (k < length (list_in s.now)) × (at ≡ start_in s.now k) }
+    ensures { result ≡ entry_in s.now k }
 {
     if k == 0 {
         let m = records::next_members(s);
@@ -104,8 +104,8 @@ pub fn entry_at(buf: &[u8], used: usize, k: usize, at: usize) -> Entry
 
 // How many sets a text has, the default set among them.
 fn count_sets(s: &[u8]) -> usize
-    requires { isReadable s.now ≡ true }
-    ensures { result ≡ length (listIn s.now) }
+    requires { is_readable s.now ≡ true }
+    ensures { result ≡ length (list_in s.now) }
 {
     let m = records::next_members(s);
     let mut i = m.end;
@@ -122,7 +122,7 @@ fn count_sets(s: &[u8]) -> usize
 
 // The number of sets of a file, for a list of `room` entries.
 pub fn set_count(buf: &[u8], used: usize, room: usize) -> Answer
-    ensures { answered result ≡ countedIn buf.now used room }
+    ensures { answered result ≡ counted_in buf.now used room }
 {
     let k = integrity::check(buf, used);
     if k != 0 {

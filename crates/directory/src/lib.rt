@@ -1,7 +1,7 @@
 // The directory of sets: a lent list of entries, one a set, that is filled from a file, kept right by an edit, and read at a position without the file.
 ghost use Rattle.core.specs.Prelude.{◌≡◌, length};
 ghost use Rattle.format.specs.Calls.{answered};
-ghost use Rattle.format.specs.Directory.{fillAnswer, keptAnswer, countAtAnswer};
+ghost use Rattle.format.specs.Directory.{fill_answer, kept_answer, count_at_answer};
 ghost use Rattle.directory.specs.Rows.{Fillable, filled};
 
 use format::{Answer, Entry, Refusal};
@@ -25,7 +25,7 @@ fn fill_entries(entries: &mut [Entry], n: usize, buf: &[u8], used: usize)
 
 // The list filled from the file in the first `used` bytes of a buffer: the number of sets. A refusal writes no entry.
 pub fn fill(buf: &[u8], used: usize, entries: &mut [Entry]) -> Answer
-    ensures* { λ r. ⌜ record { result = answered r; entries = entries.new } ≡ fillAnswer buf.now used entries.old ⌝ }
+    ensures* { λ r. ⌜ record { result = answered r; entries = entries.new } ≡ fill_answer buf.now used entries.old ⌝ }
 {
     let a = core::set_count(buf, used, entries.len());
     let n = a.value_or(0);
@@ -35,7 +35,7 @@ pub fn fill(buf: &[u8], used: usize, entries: &mut [Entry]) -> Answer
 
 // One edit, given the list: it has afterwards what filling it from the file as it then stands would write.
 pub fn edit(buf: &mut [u8], used: usize, req: &[u8], entries: &mut [Entry]) -> Answer
-    ensures* { λ r. ⌜ record { result = answered r; out = buf.new; entries = entries.new } ≡ keptAnswer buf.old used req.now entries.old ⌝ }
+    ensures* { λ r. ⌜ record { result = answered r; out = buf.new; entries = entries.new } ≡ kept_answer buf.old used req.now entries.old ⌝ }
 {
     let d = core::edit_core(buf, used, req, entries.len());
     let n = d.sets;
@@ -45,7 +45,7 @@ pub fn edit(buf: &mut [u8], used: usize, req: &[u8], entries: &mut [Entry]) -> A
 
 // The number of records of the set at a position of the list.
 pub fn count_at(entries: &[Entry], position: usize) -> Answer
-    ensures { answered result ≡ countAtAnswer entries.now position }
+    ensures { answered result ≡ count_at_answer entries.now position }
 {
     if position < entries.len() {
         Answer::Value(entries[position].count)

@@ -8,21 +8,21 @@ use types.Run.{OneOf, miss}
 use denote.Enum.Declared.{tag_of}
 use Rattle.format.specs.Bytes.{Bytes}
 use Rattle.format.specs.Lists.{onward}
-use Rattle.format.specs.Limits.{fileBytes}
+use Rattle.format.specs.Limits.{file_bytes}
 use Rattle.format.specs.Pieces.{read_of}
 use Rattle.format.specs.Records.{Record}
-use Rattle.format.specs.Sets.{RecSet, setsOf}
-use Rattle.format.specs.Questions.{firstNo}
+use Rattle.format.specs.Sets.{RecSet, sets_of}
+use Rattle.format.specs.Questions.{first_no}
 use Rattle.format.specs.Written.{Pair}
-use Rattle.format.specs.Requests.{Request as Asked, requestOf}
+use Rattle.format.specs.Requests.{Request as Asked, request_of}
 use Rattle.format.specs.Edits.{Edit}
-use Rattle.format.specs.Plain.{index_of, foundRows}
-use Rattle.format.specs.Calls.{Answer, answer, thenNo, checkAnswer, setsIn, insertOf}
+use Rattle.format.specs.Plain.{index_of, found_rows}
+use Rattle.format.specs.Calls.{Answer, answer, then_no, check_answer, sets_in, insert_of}
 use Rattle.format.proofs.Dense.{dense}
 use Rattle.format.proofs.Passing.{SetsPass}
 use Rattle.words.specs.Spans.{span}
-use Rattle.records.specs.Sets.{setBehind}
-use Rattle.records.specs.Walk.{recordIn}
+use Rattle.records.specs.Sets.{set_behind}
+use Rattle.records.specs.Walk.{record_in}
 use Rattle.records.specs.declared.Head.{Head}
 use Rattle.records.proofs.Members.{HeadFound}
 use Rattle.records.proofs.SetOf.{SetOf, head-set, PassingSet, passing-set}
@@ -30,82 +30,82 @@ use Rattle.joints.proofs.Fields.{dense-same}
 use Rattle.dictionary.specs.Known.{Described}
 use Rattle.dictionary.proofs.SetRules.{set-described}
 use Rattle.requests.specs.Fields.{bytes_of}
-use Rattle.requests.specs.Pairs.{pairsAt}
-use Rattle.requests.specs.Kinds.{editOf, requestAnswer}
+use Rattle.requests.specs.Pairs.{pairs_at}
+use Rattle.requests.specs.Kinds.{edit_of, request_answer}
 use Rattle.requests.specs.declared.kinds.Edit.{Edit as ReadEdit}
 use Rattle.requests.specs.declared.kinds.Request.{Request}
 use Rattle.requests.specs.declared.kinds.RequestOf.{RequestOf}
 use Rattle.requests.specs.contracts.kinds.Edit.{the_type}
-use Rattle.drafts.specs.Drafts.{toFill, Draft, draftOf, rulesAt, draftAnswer, toFillAnswer}
+use Rattle.drafts.specs.Drafts.{to_fill, Draft, draft_of, rules_at, draft_answer, to_fill_answer}
 use Rattle.drafts.proofs.Giving.{toFill-bare}
 
 module _ (ss : List RecSet) (s : Bytes) where
   drafted : Bytes → Edit → Option Draft
-  drafted set e = map (λ (ps : List Pair). record { set = set; new = ps }) (insertOf e)
+  drafted set e = map (λ (ps : List Pair). record { set = set; new = ps }) (insert_of e)
 
   asked : Option Asked → Answer
-  asked x = draftAnswer 0 ss (onward (λ (q : Asked). drafted q.set q.edit) x)
+  asked x = draft_answer 0 ss (onward (λ (q : Asked). drafted q.set q.edit) x)
 
   -- no request, and a request of another kind
-  pub draft-fault : requestAnswer s RequestOf.Fault ≡ requestOf s → Answer.refusal 20 ≡ draftAnswer 0 ss (draftOf s)
+  pub draft-fault : request_answer s RequestOf.Fault ≡ request_of s → Answer.refusal 20 ≡ draft_answer 0 ss (draft_of s)
   unfolding asked drafted
   draft-fault e = ap asked e
 
-  module _ (q : Request) (e : requestAnswer s (RequestOf.Is q) ≡ requestOf s) where
-    by-asked : draftAnswer 0 ss (drafted (bytes_of s q.set) (editOf s q.edit)) ≡ draftAnswer 0 ss (draftOf s)
+  module _ (q : Request) (e : request_answer s (RequestOf.Is q) ≡ request_of s) where
+    by-asked : draft_answer 0 ss (drafted (bytes_of s q.set) (edit_of s q.edit)) ≡ draft_answer 0 ss (draft_of s)
     unfolding asked drafted
     by-asked = ap asked e
 
-    pub draft-other : OneOf (1 ∷ []) (tag_of the_type q.edit) → Answer.refusal 20 ≡ draftAnswer 0 ss (draftOf s)
+    pub draft-other : OneOf (1 ∷ []) (tag_of the_type q.edit) → Answer.refusal 20 ≡ draft_answer 0 ss (draft_of s)
     unfolding drafted
     draft-other h = go q.edit h ∙ by-asked
       where
-        go : (a : ReadEdit) → OneOf (1 ∷ []) (tag_of the_type a) → Answer.refusal 20 ≡ draftAnswer 0 ss (drafted (bytes_of s q.set) (editOf s a))
+        go : (a : ReadEdit) → OneOf (1 ∷ []) (tag_of the_type a) → Answer.refusal 20 ≡ draft_answer 0 ss (drafted (bytes_of s q.set) (edit_of s a))
         go (ReadEdit.Insert i) k = absurd (miss (1 ∷ []) 0 tt k)
         go (ReadEdit.On r a) k = refl
 
-    pub draft-insert : (i : ℕ) → q.edit ≡ ReadEdit.Insert i → draftAnswer 0 ss (some (record { set = bytes_of s q.set; new = pairsAt s i })) ≡ draftAnswer 0 ss (draftOf s)
+    pub draft-insert : (i : ℕ) → q.edit ≡ ReadEdit.Insert i → draft_answer 0 ss (some (record { set = bytes_of s q.set; new = pairs_at s i })) ≡ draft_answer 0 ss (draft_of s)
     unfolding drafted
-    draft-insert i a = ap (λ (x : ReadEdit). draftAnswer 0 ss (drafted (bytes_of s q.set) (editOf s x))) (sym a) ∙ by-asked
+    draft-insert i a = ap (λ (x : ReadEdit). draft_answer 0 ss (drafted (bytes_of s q.set) (edit_of s x))) (sym a) ∙ by-asked
 
 -- the set of a draft
 module _ (ss : List RecSet) (d : Draft) where
   by_place : Option ℕ → Answer
-  by_place x = answer (firstNo foundRows (record { sets = ss; set = x; row = none; field = none })) (length (toFill (rulesAt ss x) d.new))
+  by_place x = answer (first_no found_rows (record { sets = ss; set = x; row = none; field = none })) (length (to_fill (rules_at ss x) d.new))
 
-  pub draft-missing : index_of d.set ss ≡ none → Answer.refusal 21 ≡ draftAnswer 0 ss (some d)
+  pub draft-missing : index_of d.set ss ≡ none → Answer.refusal 21 ≡ draft_answer 0 ss (some d)
   unfolding by_place
   draft-missing e = sym (ap by_place e)
 
-  pub draft-found : (i : ℕ) → index_of d.set ss ≡ some i → Answer.value (length (toFill (rulesAt ss (some i)) d.new)) ≡ draftAnswer 0 ss (some d)
+  pub draft-found : (i : ℕ) → index_of d.set ss ≡ some i → Answer.value (length (to_fill (rules_at ss (some i)) d.new)) ≡ draft_answer 0 ss (some d)
   unfolding by_place
   draft-found i e = sym (ap by_place e)
 
 -- the descriptor of its set, in a text that passes
-module _ (s n : Bytes) (h : Head) (f : HeadFound s n (setsOf (read_of s)) h) where
-  pub head-described : length s ≤ fileBytes → SetsPass (setsOf (read_of s)) → Described (span h.start h.end s)
-  head-described short passes = set-described s n (setBehind s h) (passing-set s n (setBehind s h) (head-set s n h f) short passes)
+module _ (s n : Bytes) (h : Head) (f : HeadFound s n (sets_of (read_of s)) h) where
+  pub head-described : length s ≤ file_bytes → SetsPass (sets_of (read_of s)) → Described (span h.start h.end s)
+  head-described short passes = set-described s n (set_behind s h) (passing-set s n (set_behind s h) (head-set s n h f) short passes)
 
-  pub head-filled : (new : List Pair) → Answer.value (length (toFill (recordIn (span h.start h.end s)) new)) ≡ draftAnswer 0 (setsOf (read_of s)) (some (record { set = n; new = new }))
+  pub head-filled : (new : List Pair) → Answer.value (length (to_fill (record_in (span h.start h.end s)) new)) ≡ draft_answer 0 (sets_of (read_of s)) (some (record { set = n; new = new }))
   head-filled new =
-      let g : SetOf s n (setBehind s h) = head-set s n h f in
-      ap (λ (r : Record). Answer.value (length (toFill r new))) g.rules ∙ draft-found (setsOf (read_of s)) (record { set = n; new = new }) g.index g.there
+      let g : SetOf s n (set_behind s h) = head-set s n h f in
+      ap (λ (r : Record). Answer.value (length (to_fill r new))) g.rules ∙ draft-found (sets_of (read_of s)) (record { set = n; new = new }) g.index g.there
 
 -- what is to fill by a descriptor and by the dense one
-pub dense-filled : (d : Bytes) → Described d → (new : List Pair) → toFill (recordIn (dense d)) new ≡ toFill (recordIn d) new
-dense-filled d h new = dense-same d h.reads (λ (r : Record). toFill r new) (λ r. toFill-bare r new)
+pub dense-filled : (d : Bytes) → Described d → (new : List Pair) → to_fill (record_in (dense d)) new ≡ to_fill (record_in d) new
+dense-filled d h new = dense-same d h.reads (λ (r : Record). to_fill r new) (λ r. toFill-bare r new)
 
 -- the file's own questions come first
-refused-by : (k : ℕ) (ss : List RecSet) (x : Option Draft) → (k ≡ 0 → ⊥) → Answer.refusal k ≡ draftAnswer k ss x
+refused-by : (k : ℕ) (ss : List RecSet) (x : Option Draft) → (k ≡ 0 → ⊥) → Answer.refusal k ≡ draft_answer k ss x
 refused-by zero ss x h = absurd (h refl)
 refused-by (suc k) ss none h = refl
 refused-by (suc k) ss (some d) h = refl
 
 module _ (buffer : Bytes) (used : ℕ) (request : Bytes) where
-  pub call-refused : (k : ℕ) → k ≡ checkAnswer buffer used → (k ≡ 0 → ⊥) → Answer.refusal k ≡ toFillAnswer buffer used request
-  unfolding checkAnswer toFillAnswer
-  call-refused k e h = refused-by k (setsIn buffer used) (draftOf request) h ∙ ap (λ (n : ℕ). draftAnswer n (setsIn buffer used) (draftOf request)) e
+  pub call-refused : (k : ℕ) → k ≡ check_answer buffer used → (k ≡ 0 → ⊥) → Answer.refusal k ≡ to_fill_answer buffer used request
+  unfolding check_answer to_fill_answer
+  call-refused k e h = refused-by k (sets_in buffer used) (draft_of request) h ∙ ap (λ (n : ℕ). draft_answer n (sets_in buffer used) (draft_of request)) e
 
-  pub call-inside : checkAnswer buffer used ≡ 0 → draftAnswer 0 (setsOf (read_of (take used buffer))) (draftOf request) ≡ toFillAnswer buffer used request
-  unfolding checkAnswer toFillAnswer
-  call-inside e = ap (λ (n : ℕ). draftAnswer n (setsIn buffer used) (draftOf request)) (sym e)
+  pub call-inside : check_answer buffer used ≡ 0 → draft_answer 0 (sets_of (read_of (take used buffer))) (draft_of request) ≡ to_fill_answer buffer used request
+  unfolding check_answer to_fill_answer
+  call-inside e = ap (λ (n : ℕ). draft_answer n (sets_in buffer used) (draft_of request)) (sym e)

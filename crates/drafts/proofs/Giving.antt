@@ -12,18 +12,18 @@ use Rattle.format.specs.Bytes.{Bytes, text, pick, same, among}
 use Rattle.format.specs.Lists.{flat, filter}
 use Rattle.format.specs.Records.{Field, Record}
 use Rattle.format.specs.Sets.{values_of}
-use Rattle.format.specs.Limits.{listWords}
+use Rattle.format.specs.Limits.{list_words}
 use Rattle.format.specs.Words.{words}
 use Rattle.format.specs.Rules.{listed, mandatory, key, auto}
 use Rattle.format.specs.Written.{Pair}
-use Rattle.format.specs.Numbering.{firsts, pairNames}
+use Rattle.format.specs.Numbering.{firsts, pair_names}
 use Rattle.format.proofs.Listing.{same-swap}
 use Rattle.format.proofs.Uncounted.{bare}
 use Rattle.terms.specs.Sets.{in_set}
 use Rattle.dictionary.specs.Numbered.{Places, IsListed, Present, Firsts}
 use Rattle.dictionary.specs.declared.wordsets.Listed.{Listed}
 use Rattle.dictionary.proofs.Present.{present-more, missing-counted}
-use Rattle.drafts.specs.Drafts.{required, isGiven, toFill}
+use Rattle.drafts.specs.Drafts.{required, is_given, to_fill}
 use Rattle.drafts.specs.Giving.{onto, Gives}
 use Rattle.drafts.proofs.Distinct.{filter_alike, filter-both}
 
@@ -70,29 +70,29 @@ among-onto n ns (m ∷ ms) = among-onto n (m ∷ ns) ms ∙ go (among n ms) (sam
 -- the names that the draft and the `%auto` lists give
 module _ (rules : Record) (new : List Pair) where
   abbrev pub names : List Bytes
-  names = onto (onto [] (auto rules)) (pairNames new)
+  names = onto (onto [] (auto rules)) (pair_names new)
 
-  given-names : (n : Bytes) → among n names ≡ isGiven rules new n
-  given-names n = among-onto n (onto [] (auto rules)) (pairNames new) ∙ ap (λ (b : Bool). among n (pairNames new) || b) (among-onto n [] (auto rules) ∙ or-none (among n (auto rules)))
+  given-names : (n : Bytes) → among n names ≡ is_given rules new n
+  given-names n = among-onto n (onto [] (auto rules)) (pair_names new) ∙ ap (λ (b : Bool). among n (pair_names new) || b) (among-onto n [] (auto rules) ∙ or-none (among n (auto rules)))
     where
       or-none : (b : Bool) → (b || false) ≡ b
       or-none true = refl
       or-none false = refl
 
-  pub mandatory-left : (ws : List Bytes) → length (filter (λ (n : Bytes). not (among n names)) ws) ≡ length (filter (λ (n : Bytes). not (isGiven rules new n)) ws)
-  mandatory-left ws = ap length (filter_alike (λ (n : Bytes). not (among n names)) (λ (n : Bytes). not (isGiven rules new n)) (λ n. ap not (given-names n)) ws)
+  pub mandatory-left : (ws : List Bytes) → length (filter (λ (n : Bytes). not (among n names)) ws) ≡ length (filter (λ (n : Bytes). not (is_given rules new n)) ws)
+  mandatory-left ws = ap length (filter_alike (λ (n : Bytes). not (among n names)) (λ (n : Bytes). not (is_given rules new n)) (λ n. ap not (given-names n)) ws)
 
-  pub key_left : (ws : List Bytes) → length (filter (λ (n : Bytes). not (among n (onto names (mandatory rules)))) ws) ≡ length (filter (λ (n : Bytes). not (isGiven rules new n)) (filter (λ (n : Bytes). not (among n (mandatory rules))) ws))
+  pub key_left : (ws : List Bytes) → length (filter (λ (n : Bytes). not (among n (onto names (mandatory rules)))) ws) ≡ length (filter (λ (n : Bytes). not (is_given rules new n)) (filter (λ (n : Bytes). not (among n (mandatory rules))) ws))
   key_left ws =
       ap length (
-      filter_alike (λ (n : Bytes). not (among n (onto names (mandatory rules)))) (λ (n : Bytes). not (among n (mandatory rules)) && not (isGiven rules new n)) apart ws
-      ∙ filter-both (λ (n : Bytes). not (among n (mandatory rules))) (λ (n : Bytes). not (isGiven rules new n)) ws)
+      filter_alike (λ (n : Bytes). not (among n (onto names (mandatory rules)))) (λ (n : Bytes). not (among n (mandatory rules)) && not (is_given rules new n)) apart ws
+      ∙ filter-both (λ (n : Bytes). not (among n (mandatory rules))) (λ (n : Bytes). not (is_given rules new n)) ws)
     where
       both : (a b : Bool) → not (a || b) ≡ (not a && not b)
       both true b = refl
       both false b = refl
 
-      apart : (n : Bytes) → not (among n (onto names (mandatory rules))) ≡ (not (among n (mandatory rules)) && not (isGiven rules new n))
+      apart : (n : Bytes) → not (among n (onto names (mandatory rules))) ≡ (not (among n (mandatory rules)) && not (is_given rules new n))
       apart n = ap not (among-onto n names (mandatory rules)) ∙ both (among n (mandatory rules)) (among n names) ∙ ap (λ (b : Bool). not (among n (mandatory rules)) && not b) (given-names n)
 
 -- the distinct names of two lists: those of the first, and those of the second that the first has not
@@ -128,11 +128,11 @@ firsts-append (x ∷ xs) ys =
     apart m = ap (λ (b : Bool). not (among m xs) && not b) (same-swap x m) ∙ both (among m xs) (same m x)
 
 -- what is to fill, in two parts
-pub toFill-parts : (rules : Record) (new : List Pair) → length (toFill rules new) ≡ length (filter (λ (n : Bytes). not (isGiven rules new n)) (firsts (mandatory rules)))
-    + length (filter (λ (n : Bytes). not (isGiven rules new n)) (filter (λ (n : Bytes). not (among n (mandatory rules))) (firsts (key rules))))
-unfolding toFill
+pub toFill-parts : (rules : Record) (new : List Pair) → length (to_fill rules new) ≡ length (filter (λ (n : Bytes). not (is_given rules new n)) (firsts (mandatory rules)))
+    + length (filter (λ (n : Bytes). not (is_given rules new n)) (filter (λ (n : Bytes). not (among n (mandatory rules))) (firsts (key rules))))
+unfolding to_fill
 toFill-parts rules new =
-    let p : Bytes → Bool = λ (n : Bytes). not (isGiven rules new n) in
+    let p : Bytes → Bool = λ (n : Bytes). not (is_given rules new n) in
     let k : List Bytes = filter (λ (n : Bytes). not (among n (mandatory rules))) (firsts (key rules)) in
     ap (λ (ns : List Bytes). length (filter p ns)) (firsts-append (mandatory rules) (key rules)) ∙ ap length (filter-append p (firsts (mandatory rules)) k) ∙ length-append (filter p (firsts (mandatory rules))) (filter p k)
 
@@ -144,12 +144,12 @@ values-bare n (f ∷ fs) = λ i. pick (same n f.name) (f.value ∷ values-bare n
 listed-bare : (n : Bytes) (r : Record) → flat (map words (values_of n (bare r))) ≡ flat (map words (values_of n r))
 listed-bare n r = ap (λ (vs : List Bytes). flat (map words vs)) (values-bare n r)
 
-pub toFill-bare : (rules : Record) (new : List Pair) → toFill (bare rules) new ≡ toFill rules new
-unfolding toFill
-toFill-bare rules new = λ i. filter (λ (n : Bytes). not (among n (pairNames new) || among n (listed-bare (text "%auto") rules i))) (firsts (listed-bare (text "%mandatory") rules i ++ listed-bare (text "%key") rules i))
+pub toFill-bare : (rules : Record) (new : List Pair) → to_fill (bare rules) new ≡ to_fill rules new
+unfolding to_fill
+toFill-bare rules new = λ i. filter (λ (n : Bytes). not (among n (pair_names new) || among n (listed-bare (text "%auto") rules i))) (firsts (listed-bare (text "%mandatory") rules i ++ listed-bare (text "%key") rules i))
 
 -- the words of a list that are not given, counted by their first places
-pub counted : (d : Bytes) (ws : List Bytes) (l : Listed) → IsListed d ws l → (l.words.count ≤ listWords)
+pub counted : (d : Bytes) (ws : List Bytes) (l : Listed) → IsListed d ws l → (l.words.count ≤ list_words)
     × ((x m f r : ℕ) → ((k : ℕ) → in_set k m ≡ (ltb k l.words.count && not (in_set k x))) → Firsts ws f → r ≡ ones (bit_and f m) → (ns : List Bytes) → Present ws ns x → r ≡ length (filter (λ (n : Bytes). not (among n ns)) (firsts ws)))
 counted d ws l h =
     (omega (arith, h.few, h.count), λ x m f r e g q ns p. q ∙ missing-counted ws ns x m f p (λ k. e k ∙ ap (λ (n : ℕ). ltb k n && not (in_set k x)) h.count) g)
@@ -167,6 +167,6 @@ firsts-most : (ns : List Bytes) → length (firsts ns) ≤ length ns
 firsts-most [] = omega arith
 firsts-most (n ∷ ns) = omega (arith, filter-most (λ (m : Bytes). not (same n m)) (firsts ns), firsts-most ns)
 
-pub parts-few : (p q : Bytes → Bool) (ns ms : List Bytes) → length ns ≤ listWords → length ms ≤ listWords → length (filter p (firsts ns)) + length (filter p (filter q (firsts ms))) ≤ 128
+pub parts-few : (p q : Bytes → Bool) (ns ms : List Bytes) → length ns ≤ list_words → length ms ≤ list_words → length (filter p (firsts ns)) + length (filter p (filter q (firsts ms))) ≤ 128
 parts-few p q ns ms h g =
     omega (arith, filter-most p (firsts ns), firsts-most ns, filter-most p (filter q (firsts ms)), filter-most q (firsts ms), firsts-most ms, h, g)

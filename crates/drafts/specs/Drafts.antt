@@ -7,46 +7,46 @@ use Rattle.format.specs.Lists.{onward, filter}
 use Rattle.format.specs.Records.{Record}
 use Rattle.format.specs.Sets.{RecSet}
 use Rattle.format.specs.Rules.{mandatory, key, auto}
-use Rattle.format.specs.Questions.{firstNo, verdict}
-use Rattle.format.specs.Written.{Pair, newField}
-use Rattle.format.specs.Numbering.{firsts, pairNames}
-use Rattle.format.specs.Requests.{Request, requestOf}
-use Rattle.format.specs.Plain.{index_of, set_at, foundRows}
-use Rattle.format.specs.Calls.{Answer, answer, thenNo, setsIn, soughtSet, insertOf}
+use Rattle.format.specs.Questions.{first_no, verdict}
+use Rattle.format.specs.Written.{Pair, new_field}
+use Rattle.format.specs.Numbering.{firsts, pair_names}
+use Rattle.format.specs.Requests.{Request, request_of}
+use Rattle.format.specs.Plain.{index_of, set_at, found_rows}
+use Rattle.format.specs.Calls.{Answer, answer, then_no, sets_in, sought_set, insert_of}
 
 -- "the number of distinct mandatory names of the draft's set, the key among them": each once
 abbrev pub required : Record → List Bytes
 required rules = firsts (mandatory rules ++ key rules)
 
 -- "that neither the draft nor an `%auto` list names"
-abbrev pub isGiven : Record → List Pair → Bytes → Bool
-isGiven rules new n = among n (pairNames new) || among n (auto rules)
+abbrev pub is_given : Record → List Pair → Bytes → Bool
+is_given rules new n = among n (pair_names new) || among n (auto rules)
 
-unfoldable pub toFill : Record → List Pair → List Bytes
-toFill rules new = filter (λ (n : Bytes). not (isGiven rules new n)) (required rules)
+unfoldable pub to_fill : Record → List Pair → List Bytes
+to_fill rules new = filter (λ (n : Bytes). not (is_given rules new n)) (required rules)
 
 -- "that draft, with the `%auto` names added", as a record
-abbrev pub withAutos : Record → List Pair → Record
-withAutos rules new = map newField (new ++ map (λ (n : Bytes). record { name = n; value = [] }) (auto rules))
+abbrev pub with_autos : Record → List Pair → Record
+with_autos rules new = map new_field (new ++ map (λ (n : Bytes). record { name = n; value = [] }) (auto rules))
 
 -- "a draft insert": its set and its pairs; none of "a bad request or one of another kind"
 pub record Draft : Type 0 where
   pub set : Bytes
   pub new : List Pair
 
-abbrev pub draftOf : Bytes → Option Draft
-draftOf request = onward (λ (q : Request). Option.map (λ (ps : List Pair). record { set = q.set; new = ps }) (insertOf q.edit)) (requestOf request)
+abbrev pub draft_of : Bytes → Option Draft
+draft_of request = onward (λ (q : Request). Option.map (λ (ps : List Pair). record { set = q.set; new = ps }) (insert_of q.edit)) (request_of request)
 
 -- the rules of the set of a place
-abbrev pub rulesAt : List RecSet → Option ℕ → Record
-rulesAt ss none = []
-rulesAt ss (some i) = (set_at i ss).rules
+abbrev pub rules_at : List RecSet → Option ℕ → Record
+rules_at ss none = []
+rules_at ss (some i) = (set_at i ss).rules
 
 -- "A file that fails, a bad request or one of another kind, or an unknown set gets 1 to 14 and 30, 20 or 21, marked as refusals."
-abbrev pub draftAnswer : ℕ → List RecSet → Option Draft → Answer
-draftAnswer fileNo ss none = answer (thenNo fileNo 20) 0
-draftAnswer fileNo ss (some d) =
-    answer (thenNo fileNo (firstNo foundRows (soughtSet ss d.set))) (length (toFill (rulesAt ss (index_of d.set ss)) d.new))
+abbrev pub draft_answer : ℕ → List RecSet → Option Draft → Answer
+draft_answer file_no ss none = answer (then_no file_no 20) 0
+draft_answer file_no ss (some d) =
+    answer (then_no file_no (first_no found_rows (sought_set ss d.set))) (length (to_fill (rules_at ss (index_of d.set ss)) d.new))
 
-unfoldable pub toFillAnswer : Bytes → ℕ → Bytes → Answer
-toFillAnswer buffer used request = draftAnswer (verdict buffer used) (setsIn buffer used) (draftOf request)
+unfoldable pub to_fill_answer : Bytes → ℕ → Bytes → Answer
+to_fill_answer buffer used request = draft_answer (verdict buffer used) (sets_in buffer used) (draft_of request)

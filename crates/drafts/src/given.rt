@@ -1,12 +1,12 @@
 // Which words of a list are given: by the pairs of a request, and by the words of another list. Their places are a set in one number.
 ghost use Rattle.std.specs.Prelude.{true, List, [], ◌∷◌, ◌≡◌, ◌≤◌, length};
 ghost use Rattle.format.specs.Bytes.{Bytes, is_some};
-ghost use Rattle.format.specs.Limits.{fileBytes, valueBytes};
-ghost use Rattle.format.specs.Numbering.{pairNames};
+ghost use Rattle.format.specs.Limits.{file_bytes, value_bytes};
+ghost use Rattle.format.specs.Numbering.{pair_names};
 ghost use Rattle.format.specs.Rules.{listed};
 ghost use Rattle.format.specs.Words.{words as words_of};
-ghost use Rattle.records.specs.Walk.{recordIn};
-ghost use Rattle.requests.specs.Pairs.{pairsFrom, pairsAt};
+ghost use Rattle.records.specs.Walk.{record_in};
+ghost use Rattle.requests.specs.Pairs.{pairs_from, pairs_at};
 ghost use Rattle.dictionary.specs.Known.{Described};
 ghost use Rattle.dictionary.specs.Numbered.{IsListed};
 ghost use Rattle.drafts.specs.Giving.{Gives};
@@ -45,8 +45,8 @@ fn give_words(d: &[u8], l: Listed, set: u64, s: &[u8]) -> u64
 // The words of all fields of a name in the descriptor more.
 pub(crate) fn give_list(d: &[u8], l: Listed, set: u64, name: &[u8], scratch: &mut [u8]) -> u64
     requires listed { (ws : List Bytes) × IsListed d.now ws l }
-    requires described { Described d.now × (valueBytes ≤ length scratch.old) }
-    ensures { Gives d.now l (listed name.now (recordIn d.now)) set result }
+    requires described { Described d.now × (value_bytes ≤ length scratch.old) }
+    ensures { Gives d.now l (listed name.now (record_in d.now)) set result }
 {
     let mut given = set;
     let mut i = 0;
@@ -69,8 +69,8 @@ pub(crate) fn give_list(d: &[u8], l: Listed, set: u64, name: &[u8], scratch: &mu
 // The names of a request's pairs more.
 pub(crate) fn give_pairs(d: &[u8], l: Listed, set: u64, req: &[u8], from: usize) -> u64
     requires listed { (ws : List Bytes) × IsListed d.now ws l }
-    requires req_len_bound { (length req.now ≤ fileBytes) × (from ≤ length req.now) × (is_some (pairsFrom req.now from) ≡ true) }
-    ensures { Gives d.now l (pairNames (pairsAt req.now from)) set result }
+    requires req_len_bound { (length req.now ≤ file_bytes) × (from ≤ length req.now) × (is_some (pairs_from req.now from) ≡ true) }
+    ensures { Gives d.now l (pair_names (pairs_at req.now from)) set result }
 {
     let mut given = set;
     let mut i = from;

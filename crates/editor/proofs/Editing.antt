@@ -9,24 +9,24 @@ use lib.Dec.{leb}
 use lib.ListN.{length, take}
 use borrow.Author.Tests.{leb-true}
 use Rattle.format.specs.Bytes.{Bytes, pick}
-use Rattle.format.specs.Pieces.{bytes_of as piecesText, pieces, read_of}
-use Rattle.format.specs.Limits.{fileBytes}
-use Rattle.format.specs.Questions.{verdict, fitsLimits}
-use Rattle.format.specs.Requests.{Request, requestOf}
+use Rattle.format.specs.Pieces.{bytes_of as pieces_text, pieces, read_of}
+use Rattle.format.specs.Limits.{file_bytes}
+use Rattle.format.specs.Questions.{verdict, fits_limits}
+use Rattle.format.specs.Requests.{Request, request_of}
 use Rattle.format.specs.Plain.{plain_of}
-use Rattle.format.specs.Calls.{Answer, Filled, placed, editAnswer}
+use Rattle.format.specs.Calls.{Answer, Filled, placed, edit_answer}
 use Rattle.format.proofs.Passing.{verdict-read, holds-start}
 use Rattle.format.proofs.Requested.{request-pairs}
-use Rattle.format.proofs.Judging.{textNo}
-use Rattle.format.proofs.Results.{raisedNo, editNo, limit-text}
-use Rattle.format.proofs.Answers.{refusedEdit, answer-fault, answer-refused, answer-accepted}
+use Rattle.format.proofs.Judging.{text_no}
+use Rattle.format.proofs.Results.{raised_no, edit_no, limit-text}
+use Rattle.format.proofs.Answers.{refused_edit, answer-fault, answer-refused, answer-accepted}
 use Rattle.edits.specs.declared.Located.{Located}
 use Rattle.edits.specs.declared.Splice.{Splice}
-use Rattle.edits.specs.Splices.{madeBy, Sound, isWithin}
-use Rattle.edits.specs.Places.{placeNo, resultTo, OverAs, Locates}
+use Rattle.edits.specs.Splices.{made_by, Sound, is_within}
+use Rattle.edits.specs.Places.{place_no, result_to, OverAs, Locates}
 use Rattle.edits.proofs.Sizes.{over-file}
-use Rattle.editor.specs.Overs.{overNo}
-use Rattle.editor.specs.Plans.{plannedBy, Planned}
+use Rattle.editor.specs.Overs.{over_no}
+use Rattle.editor.specs.Plans.{planned_by, Planned}
 
 -- an accepted edit: its text is within the room
 
@@ -34,14 +34,14 @@ within_by : (b : Bool) (n : ℕ) → pick b n 26 ≡ 0 → b ≡ true
 within_by true n e = refl
 within_by false n e = absurd (omega arith)
 
-pub number-zero : (room : ℕ) (t : Bytes) → editNo room 0 t ≡ 0 → length t ≤ room
-number-zero room t e = leb-true (length t) room ((and-eq-true_iff (leb (length t) room) (leb (length t) fileBytes)).0 (within_by _ (raisedNo (textNo t)) e)).0
+pub number-zero : (room : ℕ) (t : Bytes) → edit_no room 0 t ≡ 0 → length t ≤ room
+number-zero room t e = leb-true (length t) room ((and-eq-true_iff (leb (length t) room) (leb (length t) file_bytes)).0 (within_by _ (raised_no (text_no t)) e)).0
 
 -- is it refused, and with which number
-abbrev isRefusal : Located → Bool
-isRefusal (Located.Refused k) = true
-isRefusal (Located.At x) = false
-isRefusal (Located.Over n) = false
+abbrev is_refusal : Located → Bool
+is_refusal (Located.Refused k) = true
+is_refusal (Located.At x) = false
+is_refusal (Located.Over n) = false
 
 abbrev number_of : Located → ℕ
 number_of (Located.Refused k) = k
@@ -51,64 +51,64 @@ number_of (Located.Over n) = 0
 -- the file in a used buffer that passes
 module _ (buffer : Bytes) (used : ℕ) (v : verdict buffer used ≡ 0) where
   -- a request that was read, and what was located of it
-  module _ (req : Bytes) (q : Request) (e : requestOf req ≡ some q) where
+  module _ (req : Bytes) (q : Request) (e : request_of req ≡ some q) where
     abbrev s : Bytes
     s = take used buffer
 
-    place-refused : (added : Bytes) (k : ℕ) → Locates (take used buffer) req added q (Located.Refused k) → refusedEdit k buffer ≡ editAnswer buffer used req
+    place-refused : (added : Bytes) (k : ℕ) → Locates (take used buffer) req added q (Located.Refused k) → refused_edit k buffer ≡ edit_answer buffer used req
     place-refused added zero l = absurd (omega (arith, l.1))
     place-refused added (suc k) l = sym (answer-refused buffer used req v q e (suc k) (l.0 (length buffer)) (suc k) (omega arith) refl)
 
     -- what is over a limit
-    over-text : (n : ℕ) → ((room : ℕ) → placeNo room s q ≡ 0) → OverAs n (length (piecesText (resultTo s q).pieces)) (fitsLimits (resultTo s q).sets) → editNo (length buffer) 0 (piecesText (resultTo s q).pieces) ≡ overNo (length buffer) n
-    over-text n y (inl h) = ap (λ (b : Bool). pick b (raisedNo (textNo (piecesText (resultTo s q).pieces))) 26) (over-file (length buffer) (length (piecesText (resultTo s q).pieces)) h.1) ∙ sym (ap (λ (b : Bool). pick b 104 26) (over-file (length buffer) n h.0))
+    over-text : (n : ℕ) → ((room : ℕ) → place_no room s q ≡ 0) → OverAs n (length (pieces_text (result_to s q).pieces)) (fits_limits (result_to s q).sets) → edit_no (length buffer) 0 (pieces_text (result_to s q).pieces) ≡ over_no (length buffer) n
+    over-text n y (inl h) = ap (λ (b : Bool). pick b (raised_no (text_no (pieces_text (result_to s q).pieces))) 26) (over-file (length buffer) (length (pieces_text (result_to s q).pieces)) h.1) ∙ sym (ap (λ (b : Bool). pick b 104 26) (over-file (length buffer) n h.0))
     over-text n y (inr h) =
-        let t : Bytes = piecesText (resultTo s q).pieces in
-        let k : textNo t ≡ 4 = limit-text buffer used (plain_of (read_of s)) (holds-start buffer used (read_of s) v (verdict-read buffer used v)) 0 q (request-pairs req q e) (y 0) h.1 in
-        (λ i. pick (isWithin (length buffer) (sym h.0 i)) (raisedNo (k i)) 26)
+        let t : Bytes = pieces_text (result_to s q).pieces in
+        let k : text_no t ≡ 4 = limit-text buffer used (plain_of (read_of s)) (holds-start buffer used (read_of s) v (verdict-read buffer used v)) 0 q (request-pairs req q e) (y 0) h.1 in
+        (λ i. pick (is_within (length buffer) (sym h.0 i)) (raised_no (k i)) 26)
 
     over-some : (b : Bool) → 0 < pick b 104 26
     over-some true = omega arith
     over-some false = omega arith
 
-    over-refused : (added : Bytes) (n k : ℕ) → Locates (take used buffer) req added q (Located.Over n) → k ≡ overNo (length buffer) n → refusedEdit k buffer ≡ editAnswer buffer used req
-    over-refused added n k l z = sym (answer-refused buffer used req v q e 0 (l.0 (length buffer)) k (subst (λ (x : ℕ). 0 < x) (sym z) (over-some (isWithin (length buffer) n))) (over-text n l.0 l.1 ∙ sym z))
+    over-refused : (added : Bytes) (n k : ℕ) → Locates (take used buffer) req added q (Located.Over n) → k ≡ over_no (length buffer) n → refused_edit k buffer ≡ edit_answer buffer used req
+    over-refused added n k l z = sym (answer-refused buffer used req v q e 0 (l.0 (length buffer)) k (subst (λ (x : ℕ). 0 < x) (sym z) (over-some (is_within (length buffer) n))) (over-text n l.0 l.1 ∙ sym z))
 
     module _ (added : Bytes) (x : Splice) (l : Locates (take used buffer) req added q (Located.At x)) where
-      edit-refused : (n : ℕ) → n ≢ 0 → n ≡ editNo (length buffer) 0 (madeBy (take used buffer) req added x) → refusedEdit n buffer ≡ editAnswer buffer used req
-      edit-refused n h z = sym (answer-refused buffer used req v q e 0 (l.0 (length buffer)) n (omega arith) (sym (z ∙ ap (editNo (length buffer) 0) l.1)))
+      edit-refused : (n : ℕ) → n ≢ 0 → n ≡ edit_no (length buffer) 0 (made_by (take used buffer) req added x) → refused_edit n buffer ≡ edit_answer buffer used req
+      edit-refused n h z = sym (answer-refused buffer used req v q e 0 (l.0 (length buffer)) n (omega arith) (sym (z ∙ ap (edit_no (length buffer) 0) l.1)))
 
       -- what was carried out is what the request asks for
-      edit-accepted : 0 ≡ editNo (length buffer) 0 (madeBy (take used buffer) req added x) → (n : ℕ) (after : Bytes) → n ≡ length (madeBy (take used buffer) req added x) → after ≡ placed (madeBy (take used buffer) req added x) used buffer → ◌≡◌ {A = Filled} (record { result = Answer.value n; out = after }) (editAnswer buffer used req)
+      edit-accepted : 0 ≡ edit_no (length buffer) 0 (made_by (take used buffer) req added x) → (n : ℕ) (after : Bytes) → n ≡ length (made_by (take used buffer) req added x) → after ≡ placed (made_by (take used buffer) req added x) used buffer → ◌≡◌ {A = Filled} (record { result = Answer.value n; out = after }) (edit_answer buffer used req)
       edit-accepted z n after h k =
           (λ i. record { result = Answer.value ((h ∙ ap length l.1) i); out = (k ∙ ap (λ (t : Bytes). placed t used buffer) l.1) i })
-          ∙ sym (answer-accepted buffer used req v q e 0 (l.0 (length buffer)) (sym (z ∙ ap (editNo (length buffer) 0) l.1)))
+          ∙ sym (answer-accepted buffer used req v q e 0 (l.0 (length buffer)) (sym (z ∙ ap (edit_no (length buffer) 0) l.1)))
 
   -- what was planned of a request
   module _ (req added : Bytes) where
-    plan-read : (x : Located) → isRefusal x ≡ false → Planned (take used buffer) req added x → (q : Request) × (requestOf req ≡ some q) × Locates (take used buffer) req added q x
-    plan-read x h p = go (requestOf req) refl p
+    plan-read : (x : Located) → is_refusal x ≡ false → Planned (take used buffer) req added x → (q : Request) × (request_of req ≡ some q) × Locates (take used buffer) req added q x
+    plan-read x h p = go (request_of req) refl p
       where
-        go : (o : Option Request) → requestOf req ≡ o → plannedBy o (take used buffer) req added x → (q : Request) × (requestOf req ≡ some q) × Locates (take used buffer) req added q x
-        go none e l = absurd (true≢false (ap isRefusal l ∙ h))
+        go : (o : Option Request) → request_of req ≡ o → planned_by o (take used buffer) req added x → (q : Request) × (request_of req ≡ some q) × Locates (take used buffer) req added q x
+        go none e l = absurd (true≢false (ap is_refusal l ∙ h))
         go (some q) e l = (q, e, l)
 
-    pub plan-refused : (k : ℕ) → Planned (take used buffer) req added (Located.Refused k) → refusedEdit k buffer ≡ editAnswer buffer used req
-    plan-refused k p = go (requestOf req) refl p
+    pub plan-refused : (k : ℕ) → Planned (take used buffer) req added (Located.Refused k) → refused_edit k buffer ≡ edit_answer buffer used req
+    plan-refused k p = go (request_of req) refl p
       where
-        go : (o : Option Request) → requestOf req ≡ o → plannedBy o (take used buffer) req added (Located.Refused k) → refusedEdit k buffer ≡ editAnswer buffer used req
-        go none e l = ap (λ (x : Located). refusedEdit (number_of x) buffer) (sym l) ∙ sym (answer-fault buffer used req v e)
+        go : (o : Option Request) → request_of req ≡ o → planned_by o (take used buffer) req added (Located.Refused k) → refused_edit k buffer ≡ edit_answer buffer used req
+        go none e l = ap (λ (x : Located). refused_edit (number_of x) buffer) (sym l) ∙ sym (answer-fault buffer used req v e)
         go (some q) e l = place-refused req q e added k l
 
-    pub plan-over : (n k : ℕ) → Planned (take used buffer) req added (Located.Over n) → k ≡ overNo (length buffer) n → refusedEdit k buffer ≡ editAnswer buffer used req
+    pub plan-over : (n k : ℕ) → Planned (take used buffer) req added (Located.Over n) → k ≡ over_no (length buffer) n → refused_edit k buffer ≡ edit_answer buffer used req
     plan-over n k p z = let r = plan-read (Located.Over n) refl p in over-refused req r.0 r.1 added n k r.2 z
 
     module _ (x : Splice) (p : Planned (take used buffer) req added (Located.At x)) where
       pub plan-sound : Sound (take used buffer) req added x
       plan-sound = (plan-read (Located.At x) refl p).2.2
 
-      pub plan-fails : (n : ℕ) → n ≢ 0 → n ≡ editNo (length buffer) 0 (madeBy (take used buffer) req added x) → refusedEdit n buffer ≡ editAnswer buffer used req
+      pub plan-fails : (n : ℕ) → n ≢ 0 → n ≡ edit_no (length buffer) 0 (made_by (take used buffer) req added x) → refused_edit n buffer ≡ edit_answer buffer used req
       plan-fails = let r = plan-read (Located.At x) refl p in edit-refused req r.0 r.1 added x r.2
 
-      pub plan-done : 0 ≡ editNo (length buffer) 0 (madeBy (take used buffer) req added x) → (n : ℕ) (after : Bytes) → n ≡ length (madeBy (take used buffer) req added x) → after ≡ placed (madeBy (take used buffer) req added x) used buffer → ◌≡◌ {A = Filled} (record { result = Answer.value n; out = after }) (editAnswer buffer used req)
+      pub plan-done : 0 ≡ edit_no (length buffer) 0 (made_by (take used buffer) req added x) → (n : ℕ) (after : Bytes) → n ≡ length (made_by (take used buffer) req added x) → after ≡ placed (made_by (take used buffer) req added x) used buffer → ◌≡◌ {A = Filled} (record { result = Answer.value n; out = after }) (edit_answer buffer used req)
       plan-done = let r = plan-read (Located.At x) refl p in edit-accepted req r.0 r.1 added x r.2

@@ -8,12 +8,12 @@ use borrow.Author.Tests.{leb-true}
 use lib.ListN.{length, take, drop}
 use lib.Seq.{take-append_seam}
 use Rattle.format.specs.Bytes.{Bytes, pick}
-use Rattle.format.specs.Limits.{fileBytes}
+use Rattle.format.specs.Limits.{file_bytes}
 use Rattle.format.specs.Calls.{over, placed}
 use Rattle.format.proofs.Passing.{placed-take}
-use Rattle.format.proofs.Judging.{textNo}
-use Rattle.format.proofs.Results.{raisedNo, editNo}
-use Rattle.edits.specs.Splices.{madeBy, Sound}
+use Rattle.format.proofs.Judging.{text_no}
+use Rattle.format.proofs.Results.{raised_no, edit_no}
+use Rattle.edits.specs.Splices.{made_by, Sound}
 use Rattle.edits.specs.declared.Splice.{Splice}
 
 -- s copied over the front of d
@@ -24,23 +24,23 @@ module _ (s d b req added : Bytes) (x : Splice) (e : b ≡ over s d) where
   pub copied-sound : Sound s req added x → Sound (take (length s) b) req added x
   copied-sound h = subst (λ (t : Bytes). Sound t req added x) (sym copied) h
 
-  pub copied-made : madeBy (take (length s) b) req added x ≡ madeBy s req added x
-  copied-made = ap (λ (t : Bytes). madeBy t req added x) copied
+  pub copied-made : made_by (take (length s) b) req added x ≡ made_by s req added x
+  copied-made = ap (λ (t : Bytes). made_by t req added x) copied
 
   -- what is judged, once the splice was carried out on the copy
-  pub copied-judged : (n : ℕ) (after : Bytes) → n ≡ length (madeBy (take (length s) b) req added x) → after ≡ placed (madeBy (take (length s) b) req added x) (length s) b → take n after ≡ madeBy s req added x
+  pub copied-judged : (n : ℕ) (after : Bytes) → n ≡ length (made_by (take (length s) b) req added x) → after ≡ placed (made_by (take (length s) b) req added x) (length s) b → take n after ≡ made_by s req added x
   copied-judged n after h k =
-      (λ i. take (h i) (k i)) ∙ placed-take (madeBy (take (length s) b) req added x) (length s) b ∙ copied-made
+      (λ i. take (h i) (k i)) ∙ placed-take (made_by (take (length s) b) req added x) (length s) b ∙ copied-made
 
 -- an edit's number, as the questions are asked: b says whether the made text is within the room
 
-pub number-asked : (room : ℕ) (t : Bytes) (b : Bool) → b ≡ (leb (length t) room && leb (length t) fileBytes) → editNo room 0 t ≡ pick b (raisedNo (textNo t)) 26
-number-asked room t b w = ap (λ (x : Bool). pick x (raisedNo (textNo t)) 26) (sym w)
+pub number-asked : (room : ℕ) (t : Bytes) (b : Bool) → b ≡ (leb (length t) room && leb (length t) file_bytes) → edit_no room 0 t ≡ pick b (raised_no (text_no t)) 26
+number-asked room t b w = ap (λ (x : Bool). pick x (raised_no (text_no t)) 26) (sym w)
 
-pub number-raised : (n : ℕ) → n ≢ 0 → 100 + n ≡ raisedNo n
+pub number-raised : (n : ℕ) → n ≢ 0 → 100 + n ≡ raised_no n
 number-raised zero h = absurd (h refl)
 number-raised (suc n) h = refl
 
 -- a text within the room is no longer than a file
-pub within-file : (room : ℕ) (t : Bytes) (b : Bool) → b ≡ (leb (length t) room && leb (length t) fileBytes) → b ≡ true → length t ≤ fileBytes
-within-file room t b w h = leb-true (length t) fileBytes ((and-eq-true_iff (leb (length t) room) (leb (length t) fileBytes)).0 (sym w ∙ h)).1
+pub within-file : (room : ℕ) (t : Bytes) (b : Bool) → b ≡ (leb (length t) room && leb (length t) file_bytes) → b ≡ true → length t ≤ file_bytes
+within-file room t b w h = leb-true (length t) file_bytes ((and-eq-true_iff (leb (length t) room) (leb (length t) file_bytes)).0 (sym w ∙ h)).1

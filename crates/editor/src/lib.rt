@@ -1,16 +1,16 @@
 // Edits of a file in a lent buffer: one request, and a run of them.
 ghost use Rattle.std.specs.Prelude.{◌≡◌, true, ◌≤◌, length, take};
-ghost use Rattle.format.specs.Limits.{fileBytes};
-ghost use Rattle.format.specs.Requests.{requestsIn};
-ghost use Rattle.format.specs.Calls.{answered, checkAnswer, editAnswer, filledBy};
-ghost use Rattle.format.specs.Runs.{runAnswer};
-ghost use Rattle.format.proofs.Judging.{textNo};
-ghost use Rattle.format.proofs.Results.{editNo};
-ghost use Rattle.edits.specs.Splices.{madeBy, Sound};
-ghost use Rattle.numbering.specs.Adding.{addedRoom};
+ghost use Rattle.format.specs.Limits.{file_bytes};
+ghost use Rattle.format.specs.Requests.{requests_in};
+ghost use Rattle.format.specs.Calls.{answered, check_answer, edit_answer, filled_by};
+ghost use Rattle.format.specs.Runs.{run_answer};
+ghost use Rattle.format.proofs.Judging.{text_no};
+ghost use Rattle.format.proofs.Results.{edit_no};
+ghost use Rattle.edits.specs.Splices.{made_by, Sound};
+ghost use Rattle.numbering.specs.Adding.{added_room};
 ghost use Rattle.editor.specs.Plans.{Planned};
-ghost use Rattle.editor.specs.Runs.{isRun, Sends};
-ghost use Rattle.editor.specs.Overs.{overNo};
+ghost use Rattle.editor.specs.Runs.{is_run, Sends};
+ghost use Rattle.editor.specs.Overs.{over_no};
 
 use edits::{Located, Splice};
 use format::{Answer, File, Refusal};
@@ -23,10 +23,10 @@ pub use edits::Text;
 
 // The number of the text that a splice makes of s, questions 2 to 14 and 30. It is made in a copy.
 fn result_no(x: Splice, s: &[u8], req: &[u8], added: &[u8], copy: &mut [u8]) -> u32
-    requires file_bytes_in_bounds { fileBytes ≤ length copy.old }
+    requires file_bytes_in_bounds { file_bytes ≤ length copy.old }
     requires sound { Sound s.now req.now added.now x }
-    requires s_len_bound { (length s.now ≤ fileBytes) × (length (madeBy s.now req.now added.now x) ≤ fileBytes) }
-    ensures { result ≡ textNo (madeBy s.now req.now added.now x) }
+    requires s_len_bound { (length s.now ≤ file_bytes) × (length (made_by s.now req.now added.now x) ≤ file_bytes) }
+    ensures { result ≡ text_no (made_by s.now req.now added.now x) }
 {
     let used = s.len();
     writing::put_bytes(&mut *copy, s);
@@ -36,10 +36,10 @@ fn result_no(x: Splice, s: &[u8], req: &[u8], added: &[u8], copy: &mut [u8]) -> 
 
 // The number of a splice of a text that passes, in a buffer of room bytes: the first question, 26 on, that says no, else 0.
 fn edit_no(x: Splice, s: &[u8], req: &[u8], added: &[u8], room: usize, copy: &mut [u8]) -> u32
-    requires file_bytes_in_bounds { fileBytes ≤ length copy.old }
+    requires file_bytes_in_bounds { file_bytes ≤ length copy.old }
     requires sound { Sound s.now req.now added.now x }
-    requires s_len_bound { (length s.now ≤ room) × (length s.now ≤ fileBytes) }
-    ensures { result ≡ editNo room 0 (madeBy s.now req.now added.now x) }
+    requires s_len_bound { (length s.now ≤ room) × (length s.now ≤ file_bytes) }
+    ensures { result ≡ edit_no room 0 (made_by s.now req.now added.now x) }
 {
     if !edits::fits(x, s, req, added, room) {
         return Refusal::LARGE;
@@ -53,7 +53,7 @@ fn edit_no(x: Splice, s: &[u8], req: &[u8], added: &[u8], room: usize, copy: &mu
 
 // The number of an edit that makes so many bytes, with a name among them that is longer than a field's may be.
 fn over_no(n: usize, room: usize) -> u32
-    ensures { result ≡ overNo room n }
+    ensures { result ≡ over_no room n }
 {
     let f = File::new(n);
     if f.fits(room) {
@@ -65,8 +65,8 @@ fn over_no(n: usize, room: usize) -> u32
 // What a request to a file that passes does, which is in the first `used` bytes of buf, or the number of the first of questions 20 to 25 and 31 that says no. The text of fields that an insert gets is put into
 // `added`; the copy is spent. The two steps of an edit are calls of their own, so that the room which this one takes on the stack is free again when the result is judged.
 pub fn plan(buf: &[u8], used: usize, req: &[u8], copy: &mut [u8], added: &mut [u8]) -> Located
-    requires used_value { checkAnswer buf.now used ≡ 0 }
-    requires file_bytes_in_bounds { (fileBytes ≤ length copy.old) × (addedRoom ≤ length added.old) }
+    requires used_value { check_answer buf.now used ≡ 0 }
+    requires file_bytes_in_bounds { (file_bytes ≤ length copy.old) × (added_room ≤ length added.old) }
     ensures { Planned (take used buf.now) req.now added.new result }
 {
     let r = requests::request_of(req);
@@ -85,9 +85,9 @@ pub fn settle(
     added: &[u8],
     copy: &mut [u8],
 ) -> Answer
-    requires used_value { (checkAnswer buf.old used ≡ 0) × Planned (take used buf.old) req.now added.now plan }
-    requires file_bytes_in_bounds { fileBytes ≤ length copy.old }
-    ensures { filledBy result buf.new ≡ editAnswer buf.old used req.now }
+    requires used_value { (check_answer buf.old used ≡ 0) × Planned (take used buf.old) req.now added.now plan }
+    requires file_bytes_in_bounds { file_bytes ≤ length copy.old }
+    ensures { filled_by result buf.new ≡ edit_answer buf.old used req.now }
 {
     let room = buf.len();
     match plan {
@@ -110,9 +110,9 @@ pub fn settle(
 
 // One request to a file of which the check's number k is known.
 fn edit_judged(buf: &mut [u8], used: usize, req: &[u8], k: u32, copy: &mut [u8]) -> Answer
-    requires used_value { checkAnswer buf.old used ≡ k }
-    requires file_bytes_in_bounds { fileBytes ≤ length copy.old }
-    ensures { filledBy result buf.new ≡ editAnswer buf.old used req.now }
+    requires used_value { check_answer buf.old used ≡ k }
+    requires file_bytes_in_bounds { file_bytes ≤ length copy.old }
+    ensures { filled_by result buf.new ≡ edit_answer buf.old used req.now }
 {
     if k != 0 {
         return Answer::Refused(k);
@@ -124,7 +124,7 @@ fn edit_judged(buf: &mut [u8], used: usize, req: &[u8], k: u32, copy: &mut [u8])
 
 // One request to the file in the first `used` bytes of buf. A refusal writes nothing.
 pub fn edit(buf: &mut [u8], used: usize, req: &[u8]) -> Answer
-    ensures { filledBy result buf.new ≡ editAnswer buf.old used req.now }
+    ensures { filled_by result buf.new ≡ edit_answer buf.old used req.now }
 {
     let mut copy = [0u8; File::BYTES];
     let k = integrity::check_with(buf, used, &mut copy);
@@ -141,10 +141,10 @@ fn edit_each(
     k: u32,
     copy: &mut [u8],
 ) -> usize
-    requires used_value { checkAnswer buf.old used ≡ k }
-    requires file_bytes_in_bounds { fileBytes ≤ length copy.old }
-    requires run_value { isRun (length answers.old) (requestsIn run.now) ≡ true }
-    ensures { Sends buf.old used (requestsIn run.now) answers.old result buf.new answers.new }
+    requires used_value { check_answer buf.old used ≡ k }
+    requires file_bytes_in_bounds { file_bytes ≤ length copy.old }
+    requires run_value { is_run (length answers.old) (requests_in run.now) ≡ true }
+    ensures { Sends buf.old used (requests_in run.now) answers.old result buf.new answers.new }
 {
     let mut rest = run;
     let mut n = used;
@@ -166,7 +166,7 @@ fn edit_each(
 // The requests of a run, each an edit of what the one before left. The file is checked once, and not at all where there is no request. The answer is the file's
 // length after the last, whatever the requests' own numbers, or that the run is refused, and then nothing is written.
 pub fn edit_run(buf: &mut [u8], used: usize, run: &[u8], answers: &mut [u32]) -> Answer
-    ensures* { λ r. ⌜ record { result = answered r; out = buf.new; answers = answers.new } ≡ runAnswer buf.old used run.now answers.old ⌝ }
+    ensures* { λ r. ⌜ record { result = answered r; out = buf.new; answers = answers.new } ≡ run_answer buf.old used run.now answers.old ⌝ }
 {
     if !runs::is_taken(run, answers.len()) {
         return Answer::Refused(Refusal::RUN);

@@ -1,8 +1,8 @@
 // A run of requests, read: each stands after its length, two bytes, high first.
 ghost use Rattle.std.specs.Prelude.{◌≡◌, ◌<◌, length};
-ghost use Rattle.format.specs.Requests.{requestsIn};
+ghost use Rattle.format.specs.Requests.{requests_in};
 ghost use Rattle.format.specs.Runs.{taken};
-ghost use Rattle.editor.specs.Runs.{FirstIn, isRun, is_taken};
+ghost use Rattle.editor.specs.Runs.{FirstIn, is_run, is_taken};
 
 // The most requests of a run.
 #[derive(Drop)]
@@ -37,7 +37,7 @@ pub(crate) fn first_request(run: &[u8]) -> First
 
 // Is it a run of at most so many requests?
 fn is_run(run: &[u8], most: usize) -> bool
-    ensures { result ≡ isRun most (requestsIn run.now) }
+    ensures { result ≡ is_run most (requests_in run.now) }
 {
     let mut rest = run;
     let mut left = most;

@@ -8,19 +8,19 @@ use mathlib.Core.Option.{Option}
 use lib.Dec.{ltb}
 use lib.ListN.{length, take, drop, length-drop}
 use lib.Seq.{length-take-le}
-use Rattle.format.specs.Pieces.{bytes_of as piecesText, read_of}
+use Rattle.format.specs.Pieces.{bytes_of as pieces_text, read_of}
 use Rattle.format.specs.Bytes.{Bytes, pick}
-use Rattle.format.specs.Limits.{fileBytes}
-use Rattle.format.specs.Sets.{values_of, setsOf}
-use Rattle.format.specs.Written.{Pair, written, isLegalPair, isLegalName, isLegalValue}
+use Rattle.format.specs.Limits.{file_bytes}
+use Rattle.format.specs.Sets.{values_of, sets_of}
+use Rattle.format.specs.Written.{Pair, written, is_legal_pair, is_legal_name, is_legal_value}
 use Rattle.format.specs.Edits.{Change, Act, Edit}
 use Rattle.format.specs.Requests.{Request}
-use Rattle.format.specs.Plain.{plain_of, apply, requestOr, membersAt, leavesField, isLegalEdit}
+use Rattle.format.specs.Plain.{plain_of, apply, request_or, members_at, leaves_field, is_legal_edit}
 use Rattle.format.proofs.Splices.{spliced as replaced}
 use Rattle.format.proofs.Completing.{completed-on}
 use Rattle.lines.proofs.Cuts.{rest}
-use Rattle.records.specs.Places.{isReadable, places_of, headPlace, recordPlace, fieldPlace}
-use Rattle.records.specs.Walk.{recordIn}
+use Rattle.records.specs.Places.{is_readable, places_of, head_place, record_place, field_place}
+use Rattle.records.specs.Walk.{record_in}
 use Rattle.records.specs.declared.Place.{Place}
 use Rattle.records.specs.declared.Head.{Head}
 use Rattle.records.specs.declared.FoundHead.{FoundHead}
@@ -29,12 +29,12 @@ use Rattle.records.specs.declared.FoundField.{FoundField}
 use Rattle.records.proofs.Members.{SetFrom, head-told, RecordFound, record-told}
 use Rattle.records.proofs.Fields.{field_told}
 use Rattle.records.proofs.Unfielding.{left_of}
-use Rattle.records.proofs.RecordEdits.{ownPart, name-inside}
-use Rattle.records.proofs.Applied.{appliedTo, add-applied, delete-applied, value-applied, dropped-applied, name-applied}
+use Rattle.records.proofs.RecordEdits.{own_part, name-inside}
+use Rattle.records.proofs.Applied.{applied_to, add-applied, delete-applied, value-applied, dropped-applied, name-applied}
 use Rattle.requests.specs.Fields.{bytes_of, InSpan}
 use Rattle.requests.specs.Pairs.{pair_of}
 use Rattle.words.specs.declared.Span.{Span}
-use Rattle.requests.specs.Kinds.{changeOf, actOf, editOf, InChange}
+use Rattle.requests.specs.Kinds.{change_of, act_of, edit_of, InChange}
 use Rattle.requests.specs.declared.kinds.Change.{Change as ReadChange}
 use Rattle.requests.specs.declared.kinds.Act.{Act as ReadAct}
 use Rattle.requests.specs.declared.kinds.Edit.{Edit as ReadEdit}
@@ -42,7 +42,7 @@ use Rattle.requests.proofs.Reading.{span-length}
 use Rattle.splices.specs.Space.{spliced}
 use Rattle.edits.specs.declared.Located.{Located}
 use Rattle.edits.specs.declared.Splice.{Splice}
-use Rattle.edits.specs.Places.{placeNo, resultTo, changeAt, Locates, LocatesIn}
+use Rattle.edits.specs.Places.{place_no, result_to, change_at, Locates, LocatesIn}
 use Rattle.edits.proofs.PlaceQuestions.{own-readable, no-set, no_record, delete-asked, add-asked, no_field, change-asked}
 
 -- a text with its bytes from x to y replaced, and with so many bytes replaced from x on
@@ -50,45 +50,45 @@ as-spliced : (s : Bytes) (x y old : ℕ) (t : Bytes) → y ≡ x + old → repla
 as-spliced s x y old t e = ap (λ (z : ℕ). take x s ++ (t ++ drop z s)) e
 
 -- what a search in the part from a on answers, once its form is known
-pub record-placed : (s : Bytes) (a row : ℕ) (x : FoundRecord) {y : FoundRecord} → x ≡ recordPlace (places_of (take (length s - a) (drop a s))) row → x ≡ y → recordPlace (places_of (drop a s)) row ≡ y
-record-placed s a row x f g = ap (λ (t : Bytes). recordPlace (places_of t) row) (sym (rest s a)) ∙ sym f ∙ g
+pub record-placed : (s : Bytes) (a row : ℕ) (x : FoundRecord) {y : FoundRecord} → x ≡ record_place (places_of (take (length s - a) (drop a s))) row → x ≡ y → record_place (places_of (drop a s)) row ≡ y
+record-placed s a row x f g = ap (λ (t : Bytes). record_place (places_of t) row) (sym (rest s a)) ∙ sym f ∙ g
 
 -- a set that is not there
-pub set-missing : (s req : Bytes) (q : Request) → isReadable s ≡ true → headPlace q.set (places_of s) ≡ FoundHead.Missing → (added : Bytes) → Locates s req added q (Located.Refused 21)
+pub set-missing : (s req : Bytes) (q : Request) → is_readable s ≡ true → head_place q.set (places_of s) ≡ FoundHead.Missing → (added : Bytes) → Locates s req added q (Located.Refused 21)
 set-missing s req q e f added = (λ room. no-set room s q.set q.edit (head-told s q.set FoundHead.Missing e (sym f) refl), omega arith)
 
 -- an edit and an act, once their form is known
-pub edit-as : (s req added set : Bytes) (r : Located) {x y : ReadEdit} → x ≡ y → Locates s req added (record { set = set; edit = editOf req y }) r → Locates s req added (record { set = set; edit = editOf req x }) r
-edit-as s req added set r e h = subst (λ (z : ReadEdit). Locates s req added (record { set = set; edit = editOf req z }) r) (sym e) h
+pub edit-as : (s req added set : Bytes) (r : Located) {x y : ReadEdit} → x ≡ y → Locates s req added (record { set = set; edit = edit_of req y }) r → Locates s req added (record { set = set; edit = edit_of req x }) r
+edit-as s req added set r e h = subst (λ (z : ReadEdit). Locates s req added (record { set = set; edit = edit_of req z }) r) (sym e) h
 
-pub act-as : (s req : Bytes) (head : Head) (row : ℕ) (r : Located) {x y : ReadAct} → x ≡ y → LocatesIn s req head (Edit.on row (actOf req y)) r → LocatesIn s req head (Edit.on row (actOf req x)) r
-act-as s req head row r e h = subst (λ (z : ReadAct). LocatesIn s req head (Edit.on row (actOf req z)) r) (sym e) h
+pub act-as : (s req : Bytes) (head : Head) (row : ℕ) (r : Located) {x y : ReadAct} → x ≡ y → LocatesIn s req head (Edit.on row (act_of req y)) r → LocatesIn s req head (Edit.on row (act_of req x)) r
+act-as s req head row r e h = subst (λ (z : ReadAct). LocatesIn s req head (Edit.on row (act_of req z)) r) (sym e) h
 
 -- what an act makes is what it makes as it is
-on-made : (s set : Bytes) (row : ℕ) (act : Act) → appliedTo s (record { set = set; edit = Edit.on row act }) ≡ piecesText (resultTo s (record { set = set; edit = Edit.on row act })).pieces
-on-made s set row act = ap (λ (x : Option Request). piecesText (apply (requestOr x) (plain_of (read_of s))).pieces) (sym (completed-on (plain_of (read_of s)) set row act))
+on-made : (s set : Bytes) (row : ℕ) (act : Act) → applied_to s (record { set = set; edit = Edit.on row act }) ≡ pieces_text (result_to s (record { set = set; edit = Edit.on row act })).pieces
+on-made s set row act = ap (λ (x : Option Request). pieces_text (apply (request_or x) (plain_of (read_of s))).pieces) (sym (completed-on (plain_of (read_of s)) set row act))
 
 -- A readable text s, and the head of a set.
-module _ (s : Bytes) (head : Head) (row : ℕ) (whole : isReadable s ≡ true) (within : head.begin ≤ length s) (readable : isReadable (drop head.begin s) ≡ true) where
-  set-at : (set : Bytes) → headPlace set (places_of s) ≡ FoundHead.At head → SetFrom s set (setsOf (read_of s)) head.begin
+module _ (s : Bytes) (head : Head) (row : ℕ) (whole : is_readable s ≡ true) (within : head.begin ≤ length s) (readable : is_readable (drop head.begin s) ≡ true) where
+  set-at : (set : Bytes) → head_place set (places_of s) ≡ FoundHead.At head → SetFrom s set (sets_of (read_of s)) head.begin
   set-at set f = (head-told s set (FoundHead.At head) whole (sym f) refl).set
 
   -- a record that is not there
-  no_row : recordPlace (places_of (drop head.begin s)) row ≡ FoundRecord.Missing → length (membersAt 0 (setsOf (read_of (drop head.begin s)))) ≤ row
+  no_row : record_place (places_of (drop head.begin s)) row ≡ FoundRecord.Missing → length (members_at 0 (sets_of (read_of (drop head.begin s)))) ≤ row
   no_row g = record-told (drop head.begin s) row FoundRecord.Missing readable (sym g) refl
 
-  pub record-missing : (req : Bytes) (act : Act) → recordPlace (places_of (drop head.begin s)) row ≡ FoundRecord.Missing → LocatesIn s req head (Edit.on row act) (Located.Refused 22)
+  pub record-missing : (req : Bytes) (act : Act) → record_place (places_of (drop head.begin s)) row ≡ FoundRecord.Missing → LocatesIn s req head (Edit.on row act) (Located.Refused 22)
   record-missing req act g added set f = (λ room. no_record room s set head.begin (set-at set f) row act (no_row g), omega arith)
 
   -- Its record is found at q.
-  module _ (q : Place) (g : recordPlace (places_of (drop head.begin s)) row ≡ FoundRecord.At q) where
-    record-at : RecordFound (drop head.begin s) (membersAt 0 (setsOf (read_of (drop head.begin s)))) row q
+  module _ (q : Place) (g : record_place (places_of (drop head.begin s)) row ≡ FoundRecord.At q) where
+    record-at : RecordFound (drop head.begin s) (members_at 0 (sets_of (read_of (drop head.begin s)))) row q
     record-at = record-told (drop head.begin s) row (FoundRecord.At q) readable (sym g) refl
 
     pub record-inside : (q.start < q.end) × (head.begin + q.end ≤ length s)
     record-inside = (record-at.stand.filled, omega (arith, record-at.stand.within, record-at.stand.inside, length-drop head.begin s))
 
-    pub record-readable : isReadable (ownPart s head.begin q) ≡ true
+    pub record-readable : is_readable (own_part s head.begin q) ≡ true
     record-readable = own-readable s head.begin q row record-at
 
     pub delete-located : (req : Bytes) → LocatesIn s req head (Edit.on row Act.delete) (Located.At (Splice.Unfield (head.begin + q.start) (head.begin + q.end)))
@@ -97,12 +97,12 @@ module _ (s : Bytes) (head : Head) (row : ℕ) (whole : isReadable s ≡ true) (
         let h = record-inside in
         let x : ℕ = head.begin + q.start in
         let y : ℕ = head.begin + q.end in
-        (λ room. delete-asked room s set head.begin (set-at set f) row q record-at, sym (delete-applied s r head whole f row q g refl ∙ as-spliced s x y (y - x) (left_of (ownPart s head.begin q)) (omega arith)) ∙ on-made s set row Act.delete, (omega arith, h.1, record-readable))
+        (λ room. delete-asked room s set head.begin (set-at set f) row q record-at, sym (delete-applied s r head whole f row q g refl ∙ as-spliced s x y (y - x) (left_of (own_part s head.begin q)) (omega arith)) ∙ on-made s set row Act.delete, (omega arith, h.1, record-readable))
 
-    pub add-illegal : (req : Bytes) (new : Pair) → isLegalPair new ≡ false → LocatesIn s req head (Edit.on row (Act.add new)) (Located.Refused 25)
+    pub add-illegal : (req : Bytes) (new : Pair) → is_legal_pair new ≡ false → LocatesIn s req head (Edit.on row (Act.add new)) (Located.Refused 25)
     add-illegal req new h added set f = (λ room. add-asked room s set head.begin (set-at set f) row q record-at new false h, omega arith)
 
-    pub add-located : (req : Bytes) (n v : Span) → length req ≤ fileBytes → InSpan req n → InSpan req v → isLegalPair (pair_of req n v) ≡ true → LocatesIn s req head (Edit.on row (Act.add (pair_of req n v))) (Located.At (Splice.Field (head.begin + q.end) 0 n v))
+    pub add-located : (req : Bytes) (n v : Span) → length req ≤ file_bytes → InSpan req n → InSpan req v → is_legal_pair (pair_of req n v) ≡ true → LocatesIn s req head (Edit.on row (Act.add (pair_of req n v))) (Located.At (Splice.Field (head.begin + q.end) 0 n v))
     add-located req n v l i j h added set f =
         let new : Pair = pair_of req n v in
         let r : Request = record { set = set; edit = Edit.on row (Act.add new) } in
@@ -110,39 +110,39 @@ module _ (s : Bytes) (head : Head) (row : ℕ) (whole : isReadable s ≡ true) (
         (λ room. add-asked room s set head.begin (set-at set f) row q record-at new true h, sym (add-applied s r head whole f row q g new refl ∙ as-spliced s x x 0 (written new.name new.value) (omega arith)) ∙ on-made s set row (Act.add new), (omega (arith, record-inside.1), l, i, j))
 
     -- an occurrence that is not there
-    pub field-missing : (req n : Bytes) (o : ℕ) (c : Change) → fieldPlace n (ownPart s head.begin q) o ≡ FoundField.Missing → LocatesIn s req head (Edit.on row (Act.change n o c)) (Located.Refused 23)
-    field-missing req n o c h added set f = (λ room. no_field room s set head.begin (set-at set f) row q record-at n o c (field_told n (ownPart s head.begin q) o FoundField.Missing record-readable (sym h) refl), omega arith)
+    pub field-missing : (req n : Bytes) (o : ℕ) (c : Change) → field_place n (own_part s head.begin q) o ≡ FoundField.Missing → LocatesIn s req head (Edit.on row (Act.change n o c)) (Located.Refused 23)
+    field-missing req n o c h added set f = (λ room. no_field room s set head.begin (set-at set f) row q record-at n o c (field_told n (own_part s head.begin q) o FoundField.Missing record-readable (sym h) refl), omega arith)
 
-    pub field-inside : (n : Bytes) (o x v z : ℕ) → fieldPlace n (ownPart s head.begin q) o ≡ FoundField.At x v z → (x < z) × (head.begin + q.start + z ≤ length s) × (o < length (values_of n (recordIn (ownPart s head.begin q))))
+    pub field-inside : (n : Bytes) (o x v z : ℕ) → field_place n (own_part s head.begin q) o ≡ FoundField.At x v z → (x < z) × (head.begin + q.start + z ≤ length s) × (o < length (values_of n (record_in (own_part s head.begin q))))
     field-inside n o x v z h =
-        let k = field_told n (ownPart s head.begin q) o (FoundField.At x v z) record-readable (sym h) refl in
+        let k = field_told n (own_part s head.begin q) o (FoundField.At x v z) record-readable (sym h) refl in
         let i = record-inside in
-        let l : length (ownPart s head.begin q) ≡ (head.begin + q.end) - (head.begin + q.start) = length-take-le ((head.begin + q.end) - (head.begin + q.start)) (drop (head.begin + q.start) s) (omega (arith, length-drop (head.begin + q.start) s)) in
+        let l : length (own_part s head.begin q) ≡ (head.begin + q.end) - (head.begin + q.start) = length-take-le ((head.begin + q.end) - (head.begin + q.start)) (drop (head.begin + q.start) s) (omega (arith, length-drop (head.begin + q.start) s)) in
         (omega (arith, k.begins, k.within), omega (arith, k.inside), k.there)
 
     -- The field is found from x to z, behind the record's first byte; its name is a part of the request.
-    module _ (req : Bytes) (n : Span) (o x v z : ℕ) (in-name : InSpan req n) (found : fieldPlace (bytes_of req n) (ownPart s head.begin q) o ≡ FoundField.At x v z) where
+    module _ (req : Bytes) (n : Span) (o x v z : ℕ) (in-name : InSpan req n) (found : field_place (bytes_of req n) (own_part s head.begin q) o ≡ FoundField.At x v z) where
       abbrev start : ℕ
       start = head.begin + q.start + x
 
       abbrev end : ℕ
       end = head.begin + q.start + z
 
-      inside : (x < z) × (head.begin + q.start + z ≤ length s) × (o < length (values_of (bytes_of req n) (recordIn (ownPart s head.begin q))))
+      inside : (x < z) × (head.begin + q.start + z ≤ length s) × (o < length (values_of (bytes_of req n) (record_in (own_part s head.begin q))))
       inside = field-inside (bytes_of req n) o x v z found
 
-      asks : (c : Change) (l b : Bool) → leavesField (Edit.on row (Act.change (bytes_of req n) o c)) (recordIn (ownPart s head.begin q)) ≡ l → isLegalEdit (Edit.on row (Act.change (bytes_of req n) o c)) ≡ b
-          → (set : Bytes) → headPlace set (places_of s) ≡ FoundHead.At head → (room : ℕ) → placeNo room s (record { set = set; edit = Edit.on row (Act.change (bytes_of req n) o c) }) ≡ pick l (pick b 0 25) 24
+      asks : (c : Change) (l b : Bool) → leaves_field (Edit.on row (Act.change (bytes_of req n) o c)) (record_in (own_part s head.begin q)) ≡ l → is_legal_edit (Edit.on row (Act.change (bytes_of req n) o c)) ≡ b
+          → (set : Bytes) → head_place set (places_of s) ≡ FoundHead.At head → (room : ℕ) → place_no room s (record { set = set; edit = Edit.on row (Act.change (bytes_of req n) o c) }) ≡ pick l (pick b 0 25) 24
       asks c l b h k set f room = change-asked room s set head.begin (set-at set f) row q record-at (bytes_of req n) o c inside.2 l b h k
 
       -- what stands from start to end becomes another text
-      made : (r : Request) (w : Bytes) → appliedTo s r ≡ replaced s start end w → spliced s start (end - start) w ≡ appliedTo s r
+      made : (r : Request) (w : Bytes) → applied_to s r ≡ replaced s start end w → spliced s start (end - start) w ≡ applied_to s r
       made r w h = sym (h ∙ as-spliced s start end (end - start) w (omega (arith, inside.0)))
 
       abbrev Does : ReadChange → Located → Type 0
-      Does c r = LocatesIn s req head (Edit.on row (Act.change (bytes_of req n) o (changeOf req c))) r
+      Does c r = LocatesIn s req head (Edit.on row (Act.change (bytes_of req n) o (change_of req c))) r
 
-      value-by : (w : Span) (t : Bool) → isLegalValue (bytes_of req w) ≡ t → length req ≤ fileBytes → InSpan req w → Does (ReadChange.Value w) (pick t (Located.At (Splice.Field start (end - start) n w)) (Located.Refused 25))
+      value-by : (w : Span) (t : Bool) → is_legal_value (bytes_of req w) ≡ t → length req ≤ file_bytes → InSpan req w → Does (ReadChange.Value w) (pick t (Located.At (Splice.Field start (end - start) n w)) (Located.Refused 25))
       value-by w false h l j added set f = (asks (Change.value (bytes_of req w)) true false refl h set f, omega arith)
       value-by w true h l j added set f =
           let r : Request = record { set = set; edit = Edit.on row (Act.change (bytes_of req n) o (Change.value (bytes_of req w))) } in (
@@ -151,7 +151,7 @@ module _ (s : Bytes) (head : Head) (row : ℕ) (whole : isReadable s ≡ true) (
             (omega (arith, inside.0, inside.1), l, in-name, j),
           )
 
-      drop-by : (t : Bool) → ltb 1 (length (recordIn (ownPart s head.begin q))) ≡ t → Does ReadChange.Dropped (pick t (Located.At (Splice.Cut start (end - start))) (Located.Refused 24))
+      drop-by : (t : Bool) → ltb 1 (length (record_in (own_part s head.begin q))) ≡ t → Does ReadChange.Dropped (pick t (Located.At (Splice.Cut start (end - start))) (Located.Refused 24))
       drop-by false h added set f = (asks Change.dropped false true h refl set f, omega arith)
       drop-by true h added set f =
           let r : Request = record { set = set; edit = Edit.on row (Act.change (bytes_of req n) o Change.dropped) } in (
@@ -160,7 +160,7 @@ module _ (s : Bytes) (head : Head) (row : ℕ) (whole : isReadable s ≡ true) (
             omega (arith, inside.0, inside.1),
           )
 
-      name_by : (m : Span) (t : Bool) → isLegalName (bytes_of req m) ≡ t → InSpan req m → Does (ReadChange.Name m) (pick t (Located.At (Splice.Name start (n.end - n.start) m)) (Located.Refused 25))
+      name_by : (m : Span) (t : Bool) → is_legal_name (bytes_of req m) ≡ t → InSpan req m → Does (ReadChange.Name m) (pick t (Located.At (Splice.Name start (n.end - n.start) m)) (Located.Refused 25))
       name_by m false h j added set f = (asks (Change.name (bytes_of req m)) true false refl h set f, omega arith)
       name_by m true h j added set f =
           let old : Bytes = bytes_of req n in
@@ -172,8 +172,8 @@ module _ (s : Bytes) (head : Head) (row : ℕ) (whole : isReadable s ≡ true) (
             (omega (arith, k, inside.1, b), j),
           )
 
-      pub change-located : (c : ReadChange) → length req ≤ fileBytes → InChange req c
-          → LocatesIn s req head (Edit.on row (Act.change (bytes_of req n) o (changeOf req c))) (changeAt (ownPart s head.begin q) req n (record { start = head.begin + q.start + x; end = head.begin + q.start + z }) c)
-      change-located (ReadChange.Value w) l j = value-by w (isLegalValue (bytes_of req w)) refl l j
-      change-located ReadChange.Dropped l j = drop-by (ltb 1 (length (recordIn (ownPart s head.begin q)))) refl
-      change-located (ReadChange.Name m) l j = name_by m (isLegalName (bytes_of req m)) refl j
+      pub change-located : (c : ReadChange) → length req ≤ file_bytes → InChange req c
+          → LocatesIn s req head (Edit.on row (Act.change (bytes_of req n) o (change_of req c))) (change_at (own_part s head.begin q) req n (record { start = head.begin + q.start + x; end = head.begin + q.start + z }) c)
+      change-located (ReadChange.Value w) l j = value-by w (is_legal_value (bytes_of req w)) refl l j
+      change-located ReadChange.Dropped l j = drop-by (ltb 1 (length (record_in (own_part s head.begin q)))) refl
+      change-located (ReadChange.Name m) l j = name_by m (is_legal_name (bytes_of req m)) refl j

@@ -9,29 +9,29 @@ use lib.ListN.{length, drop, length-append, length-drop}
 use lib.Seq.{length-take-le}
 use borrow.Author.Tests.{lt-leb, le-leb, ne_eqb}
 use Rattle.format.specs.Bytes.{Bytes, pick}
-use Rattle.format.specs.Limits.{fileBytes}
+use Rattle.format.specs.Limits.{file_bytes}
 use Rattle.format.specs.Calls.{placed}
 use Rattle.format.proofs.Splices.{spliced-length}
 use Rattle.words.specs.Spans.{span}
-use Rattle.records.specs.Places.{isReadable}
+use Rattle.records.specs.Places.{is_readable}
 use Rattle.records.proofs.Unfielding.{left_of, left_le}
 use Rattle.splices.specs.Space.{spliced, inserted}
 use Rattle.edits.specs.declared.Splice.{Splice}
-use Rattle.edits.specs.Splices.{madeBy, Sound, isWithin, madeLen}
+use Rattle.edits.specs.Splices.{made_by, Sound, is_within, made_len}
 
 -- a length by the two tests
 module _ (room n : ℕ) where
-  pub in-room : n ≤ room → isWithin room n ≡ leb n fileBytes
-  in-room h = ap (λ (t : Bool). t && leb n fileBytes) (le-leb n room h)
+  pub in-room : n ≤ room → is_within room n ≡ leb n file_bytes
+  in-room h = ap (λ (t : Bool). t && leb n file_bytes) (le-leb n room h)
 
-  pub not-longer : (m : ℕ) → n ≤ m → m ≤ room → m ≤ fileBytes → isWithin room n ≡ true
-  not-longer m h k l = in-room (omega arith) ∙ le-leb n fileBytes (omega arith)
+  pub not-longer : (m : ℕ) → n ≤ m → m ≤ room → m ≤ file_bytes → is_within room n ≡ true
+  not-longer m h k l = in-room (omega arith) ∙ le-leb n file_bytes (omega arith)
 
-  pub over-file : fileBytes < n → isWithin room n ≡ false
+  pub over-file : file_bytes < n → is_within room n ≡ false
   over-file h = go (leb n room)
     where
-      go : (t : Bool) → (t && leb n fileBytes) ≡ false
-      go true = lt-leb n fileBytes h
+      go : (t : Bool) → (t && leb n file_bytes) ≡ false
+      go true = lt-leb n file_bytes h
       go false = refl
 
 -- a text with a part exchanged
@@ -51,11 +51,11 @@ behind-length [] at t h k = absurd (omega arith)
 behind-length (c ∷ s) zero t h k = omega (arith, length-append t (10 ∷ c ∷ s))
 behind-length (c ∷ s) (suc at) t h k = omega (arith, exchanged-length (c ∷ s) (suc at) 0 (10 ∷ t) (omega arith))
 
-pub inserted-length : (s : Bytes) (at : ℕ) (t : Bytes) → at ≤ length s → length (inserted s at t) ≡ madeLen (length s) (length t)
+pub inserted-length : (s : Bytes) (at : ℕ) (t : Bytes) → at ≤ length s → length (inserted s at t) ≡ made_len (length s) (length t)
 inserted-length [] at t k = alone-length [] at t refl k
 inserted-length (c ∷ s) at t k = behind-length (c ∷ s) at t (omega arith) k ∙ sym (ap (λ (b : Bool). pick b (length t) (length (c ∷ s) + length t + 1)) (ne_eqb (length (c ∷ s)) 0 (λ e. omega arith)))
 
-pub made-least : (used len : ℕ) → len ≤ madeLen used len
+pub made-least : (used len : ℕ) → len ≤ made_len used len
 made-least used len = go (eqb used 0)
   where
     go : (b : Bool) → len ≤ pick b len (used + len + 1)
@@ -66,7 +66,7 @@ pub inserted-least : (s : Bytes) (at : ℕ) (t : Bytes) → at ≤ length s → 
 inserted-least s at t k = omega (arith, inserted-length s at t k, made-least (length s) (length t))
 
 -- a text without the fields of a part
-pub unfielded-length : (s : Bytes) (start end : ℕ) → start ≤ end → end ≤ length s → isReadable (span start end s) ≡ true → length (spliced s start (end - start) (left_of (span start end s))) ≤ length s
+pub unfielded-length : (s : Bytes) (start end : ℕ) → start ≤ end → end ≤ length s → is_readable (span start end s) ≡ true → length (spliced s start (end - start) (left_of (span start end s))) ≤ length s
 unfielded-length s start end h k r =
     let l : length (span start end s) ≡ end - start = length-take-le (end - start) (drop start s) (omega (arith, length-drop start s)) in
     omega (arith, exchanged-length s start (end - start) (left_of (span start end s)) (omega arith), left_le (span start end s) r)
@@ -76,11 +76,11 @@ module _ (s req added : Bytes) {x y : Splice} (e : x ≡ y) where
   pub sound-as : Sound s req added x → Sound s req added y
   sound-as h = subst (Sound s req added) e h
 
-  pub fits-as : (room : ℕ) {t : Bool} → isWithin room (length (madeBy s req added y)) ≡ t → t ≡ isWithin room (length (madeBy s req added x))
-  fits-as room h = sym (ap (λ (z : Splice). isWithin room (length (madeBy s req added z))) e ∙ h)
+  pub fits-as : (room : ℕ) {t : Bool} → is_within room (length (made_by s req added y)) ≡ t → t ≡ is_within room (length (made_by s req added x))
+  fits-as room h = sym (ap (λ (z : Splice). is_within room (length (made_by s req added z))) e ∙ h)
 
-  pub length-as : (m : ℕ) → length (madeBy s req added x) ≤ m → length (madeBy s req added y) ≤ m
-  length-as m h = subst (λ (z : Splice). length (madeBy s req added z) ≤ m) e h
+  pub length-as : (m : ℕ) → length (made_by s req added x) ≤ m → length (made_by s req added y) ≤ m
+  length-as m h = subst (λ (z : Splice). length (made_by s req added z) ≤ m) e h
 
-  pub carried-as : (used r : ℕ) (b b' : Bytes) → (r ≡ length (madeBy s req added y)) × (b' ≡ placed (madeBy s req added y) used b) → (r ≡ length (madeBy s req added x)) × (b' ≡ placed (madeBy s req added x) used b)
-  carried-as used r b b' h = subst (λ (z : Splice). (r ≡ length (madeBy s req added z)) × (b' ≡ placed (madeBy s req added z) used b)) (sym e) h
+  pub carried-as : (used r : ℕ) (b b' : Bytes) → (r ≡ length (made_by s req added y)) × (b' ≡ placed (made_by s req added y) used b) → (r ≡ length (made_by s req added x)) × (b' ≡ placed (made_by s req added x) used b)
+  carried-as used r b b' h = subst (λ (z : Splice). (r ≡ length (made_by s req added z)) × (b' ≡ placed (made_by s req added z) used b)) (sym e) h

@@ -1,12 +1,12 @@
 // An act on a record: where it acts in the text, and what it does there.
 ghost use Rattle.std.specs.Prelude.{◌≡◌, true, ◌≤◌, length, drop};
-ghost use Rattle.format.specs.Limits.{fileBytes};
+ghost use Rattle.format.specs.Limits.{file_bytes};
 ghost use Rattle.format.specs.Edits.{Edit};
-ghost use Rattle.records.specs.Places.{isReadable};
-ghost use Rattle.records.specs.Walk.{recordIn};
+ghost use Rattle.records.specs.Places.{is_readable};
+ghost use Rattle.records.specs.Walk.{record_in};
 ghost use Rattle.requests.specs.Fields.{InSpan};
-ghost use Rattle.requests.specs.Kinds.{actOf, InAct, InChange};
-ghost use Rattle.edits.specs.Places.{changeAt, LocatesIn};
+ghost use Rattle.requests.specs.Kinds.{act_of, InAct, InChange};
+ghost use Rattle.edits.specs.Places.{change_at, LocatesIn};
 
 use super::{Located, Splice};
 use format::Refusal;
@@ -16,8 +16,8 @@ use words::Span;
 
 // How many fields a part has.
 fn count_fields(s: &[u8]) -> usize
-    requires { isReadable s.now ≡ true }
-    ensures { result ≡ length (recordIn s.now) }
+    requires { is_readable s.now ≡ true }
+    ensures { result ≡ length (record_in s.now) }
 {
     let mut i = 0;
     let mut n = 0;
@@ -39,9 +39,9 @@ fn count_fields(s: &[u8]) -> usize
 
 // The change of a field of that name, which stands at a place of the text, in the record that fills `own`.
 fn locate_change(own: &[u8], req: &[u8], name: Span, field: Span, change: Change) -> Located
-    requires own_value { (isReadable own.now ≡ true) × (field.start ≤ field.end) }
+    requires own_value { (is_readable own.now ≡ true) × (field.start ≤ field.end) }
     requires in_span { InSpan req.now name × InChange req.now change }
-    ensures { result ≡ changeAt own.now req.now name field change }
+    ensures { result ≡ change_at own.now req.now name field change }
 {
     let at = field.start;
     let old = field.end - field.start;
@@ -82,10 +82,10 @@ fn locate_change(own: &[u8], req: &[u8], name: Span, field: Span, change: Change
 
 // An act on record `row` of the set of a head.
 pub(crate) fn locate_act(s: &[u8], req: &[u8], head: Head, row: usize, act: Act) -> Located
-    requires s_value { (isReadable s.now ≡ true) × (head.begin ≤ length s.now)
-        × (isReadable (drop head.begin s.now) ≡ true) }
-    requires req_len_bound { (length req.now ≤ fileBytes) × InAct req.now act }
-    ensures { LocatesIn s.now req.now head (Edit.on row (actOf req.now act)) result }
+    requires s_value { (is_readable s.now ≡ true) × (head.begin ≤ length s.now)
+        × (is_readable (drop head.begin s.now) ≡ true) }
+    requires req_len_bound { (length req.now ≤ file_bytes) × InAct req.now act }
+    ensures { LocatesIn s.now req.now head (Edit.on row (act_of req.now act)) result }
 {
     let begin = head.begin;
     let f = records::find_record(&s[begin..], row);

@@ -1,22 +1,22 @@
 // Where an insert acts in a text: questions 25 and 31. The fields that it gets for listed names which it omits are written into a lent buffer.
 ghost use Rattle.std.specs.Prelude.{◌≡◌, true, ◌≤◌, length};
 ghost use Rattle.format.specs.Bytes.{all, is_some};
-ghost use Rattle.format.specs.Limits.{fileBytes};
-ghost use Rattle.format.specs.Numbers.{intBounds};
-ghost use Rattle.format.specs.Numbering.{added as addedBy};
+ghost use Rattle.format.specs.Limits.{file_bytes};
+ghost use Rattle.format.specs.Numbers.{int_bounds};
+ghost use Rattle.format.specs.Numbering.{added as added_by};
 ghost use Rattle.format.specs.Pieces.{read_of};
-ghost use Rattle.format.specs.Questions.{fitsRecord};
-ghost use Rattle.format.specs.Sets.{setsOf};
+ghost use Rattle.format.specs.Questions.{fits_record};
+ghost use Rattle.format.specs.Sets.{sets_of};
 ghost use Rattle.format.proofs.Passing.{SetsPass};
 ghost use Rattle.format.proofs.Records.{records};
 ghost use Rattle.format.proofs.Walking.{ruled};
-ghost use Rattle.records.specs.Places.{isReadable};
-ghost use Rattle.records.specs.Walk.{recordIn};
-ghost use Rattle.requests.specs.Pairs.{pairsFrom, pairsAt};
-ghost use Rattle.requests.specs.Kinds.{editOf, InEdit};
+ghost use Rattle.records.specs.Places.{is_readable};
+ghost use Rattle.records.specs.Walk.{record_in};
+ghost use Rattle.requests.specs.Pairs.{pairs_from, pairs_at};
+ghost use Rattle.requests.specs.Kinds.{edit_of, InEdit};
 ghost use Rattle.requests.specs.declared.kinds.Edit.{Edit};
-ghost use Rattle.numbering.specs.Adding.{addedRoom, AddedAs};
-ghost use Rattle.edits.specs.Inserts.{Numberable, cappedLen, locatedBy};
+ghost use Rattle.numbering.specs.Adding.{added_room, AddedAs};
+ghost use Rattle.edits.specs.Inserts.{Numberable, capped_len, located_by};
 ghost use Rattle.edits.specs.Places.{IsHead, LocatesAt};
 
 use super::room::made_len;
@@ -44,11 +44,11 @@ fn complete(
     copy: &mut [u8],
     added: &mut [u8],
 ) -> Added
-    requires numberable { Numberable d.now × (fileBytes ≤ length copy.old) }
-    requires part_value { (isReadable part.now ≡ true) × (length part.now ≤ fileBytes) × (all fitsRecord (records (read_of part.now)) ≡ true) }
-    requires req_len_bound { (length req.now ≤ fileBytes) × (from ≤ length req.now) × (is_some (pairsFrom req.now from) ≡ true) }
-    requires added_room_in_bounds { addedRoom ≤ length added.old }
-    ensures { AddedAs (addedBy intBounds (ruled (recordIn d.now) (records (read_of part.now))) (pairsAt req.now from)) added.new result }
+    requires numberable { Numberable d.now × (file_bytes ≤ length copy.old) }
+    requires part_value { (is_readable part.now ≡ true) × (length part.now ≤ file_bytes) × (all fits_record (records (read_of part.now)) ≡ true) }
+    requires req_len_bound { (length req.now ≤ file_bytes) × (from ≤ length req.now) × (is_some (pairs_from req.now from) ≡ true) }
+    requires added_room_in_bounds { added_room ≤ length added.old }
+    ensures { AddedAs (added_by int_bounds (ruled (record_in d.now) (records (read_of part.now))) (pairs_at req.now from)) added.new result }
 {
     if joints::may_join(d) {
         let n = joints::put_dense(&mut *copy, d);
@@ -59,7 +59,7 @@ fn complete(
 
 // The length of a record's text, by those of its two parts: where one of them is longer than a file may be, a number that is so too.
 fn capped_len(own: usize, len: usize) -> usize
-    ensures { result ≡ cappedLen own len }
+    ensures { result ≡ capped_len own len }
 {
     if own > File::BYTES {
         return own;
@@ -72,8 +72,8 @@ fn capped_len(own: usize, len: usize) -> usize
 
 // What an insert does of which the added fields are known: the pairs from `from` on have a text of len bytes.
 fn located(used: usize, at: usize, from: usize, len: usize, a: Added) -> Located
-    requires { used ≤ fileBytes }
-    ensures { result ≡ locatedBy used at from len a }
+    requires { used ≤ file_bytes }
+    ensures { result ≡ located_by used at from len a }
 {
     match a {
         Added::Numberless => {
@@ -112,10 +112,10 @@ pub(crate) fn locate_insert(
     copy: &mut [u8],
     added: &mut [u8],
 ) -> Located
-    requires s_value { (isReadable s.now ≡ true) × (length s.now ≤ fileBytes) × SetsPass (setsOf (read_of s.now)) × IsHead s.now head }
-    requires req_len_bound { (length req.now ≤ fileBytes) × InEdit req.now (Edit.Insert from) }
-    requires file_bytes_in_bounds { (fileBytes ≤ length copy.old) × (addedRoom ≤ length added.old) }
-    ensures { LocatesAt s.now req.now added.new head (editOf req.now (Edit.Insert from)) result }
+    requires s_value { (is_readable s.now ≡ true) × (length s.now ≤ file_bytes) × SetsPass (sets_of (read_of s.now)) × IsHead s.now head }
+    requires req_len_bound { (length req.now ≤ file_bytes) × InEdit req.now (Edit.Insert from) }
+    requires file_bytes_in_bounds { (file_bytes ≤ length copy.old) × (added_room ≤ length added.old) }
+    ensures { LocatesAt s.now req.now added.new head (edit_of req.now (Edit.Insert from)) result }
 {
     let w = requests::weigh(req, from);
     let Weighed::Sums { len, count: _ } = w else {

@@ -1,7 +1,7 @@
 // Where an edit acts in a text, whether what it makes fits, and the edit carried out.
 ghost use Rattle.std.specs.Prelude.{◌≡◌, ◌≤◌, length, take};
 ghost use Rattle.format.specs.Calls.{placed};
-ghost use Rattle.edits.specs.Splices.{madeBy, Sound};
+ghost use Rattle.edits.specs.Splices.{made_by, Sound};
 
 use splices::NewRecord;
 use words::Span;
@@ -60,9 +60,9 @@ pub enum Located {
 // The splice carried out on the text of `used` bytes at the front of buf, with the text that was added to the request: the new text's length.
 pub fn carry_out(x: Splice, buf: &mut [u8], used: usize, req: &[u8], added: &[u8]) -> usize
     requires used_in_bounds { (used ≤ length buf.old) × Sound (take used buf.old) req.now added.now x }
-    requires x_in_bounds { length (madeBy (take used buf.old) req.now added.now x) ≤ length buf.old }
-    ensures { (result ≡ length (madeBy (take used buf.old) req.now added.now x))
-        × (buf.new ≡ placed (madeBy (take used buf.old) req.now added.now x) used buf.old) }
+    requires x_in_bounds { length (made_by (take used buf.old) req.now added.now x) ≤ length buf.old }
+    ensures { (result ≡ length (made_by (take used buf.old) req.now added.now x))
+        × (buf.new ≡ placed (made_by (take used buf.old) req.now added.now x) used buf.old) }
 {
     match x {
         Splice::Record { new, own } => {

@@ -1,14 +1,14 @@
 // Where a request acts in a text: questions 21 to 25 and 31.
 ghost use Rattle.std.specs.Prelude.{◌≡◌, true, ◌≤◌, length};
-ghost use Rattle.format.specs.Limits.{fileBytes};
+ghost use Rattle.format.specs.Limits.{file_bytes};
 ghost use Rattle.format.specs.Pieces.{read_of};
-ghost use Rattle.format.specs.Sets.{setsOf};
+ghost use Rattle.format.specs.Sets.{sets_of};
 ghost use Rattle.format.proofs.Passing.{SetsPass};
-ghost use Rattle.records.specs.Places.{isReadable};
+ghost use Rattle.records.specs.Places.{is_readable};
 ghost use Rattle.requests.specs.Kinds.{Inside};
 ghost use Rattle.requests.specs.declared.kinds.RequestOf.{RequestOf};
-ghost use Rattle.numbering.specs.Adding.{addedRoom};
-ghost use Rattle.edits.specs.Places.{askedBy, Locates};
+ghost use Rattle.numbering.specs.Adding.{added_room};
+ghost use Rattle.edits.specs.Places.{asked_by, Locates};
 
 use super::Located;
 use super::acts::locate_act;
@@ -19,10 +19,10 @@ use requests::{Edit, Request};
 
 // What a request does to a readable text, or the number of the first of questions 21 to 25 and 31 that says no. The text of fields that an insert gets is put into `added`; the copy is spent.
 pub fn locate(s: &[u8], req: &[u8], q: Request, copy: &mut [u8], added: &mut [u8]) -> Located
-    requires s_value { (isReadable s.now ≡ true) × (length s.now ≤ fileBytes) × SetsPass (setsOf (read_of s.now)) × (length req.now ≤ fileBytes) }
+    requires s_value { (is_readable s.now ≡ true) × (length s.now ≤ file_bytes) × SetsPass (sets_of (read_of s.now)) × (length req.now ≤ file_bytes) }
     requires inside { Inside req.now (RequestOf.Is q) }
-    requires file_bytes_in_bounds { (fileBytes ≤ length copy.old) × (addedRoom ≤ length added.old) }
-    ensures { Locates s.now req.now added.new (askedBy req.now q) result }
+    requires file_bytes_in_bounds { (file_bytes ≤ length copy.old) × (added_room ≤ length added.old) }
+    ensures { Locates s.now req.now added.new (asked_by req.now q) result }
 {
     let set = q.set;
     let a = set.start;

@@ -4,17 +4,17 @@ use mathlib.Core.Path.{◌≡◌, refl, sym, ◌∙◌}
 use mathlib.Core.Bool.{Bool, true, false, ◌&&◌, not, and-eq-true_iff, false≢true}
 use mathlib.Core.List.{List, [], ◌∷◌}
 use mathlib.Core.Option.{Option, none, some, map}
-use Rattle.format.specs.Lists.{only_if, onward, isFilled, behind, front}
+use Rattle.format.specs.Lists.{only_if, onward, is_filled, behind, front}
 use Rattle.format.specs.Bytes.{Bytes, text, pick, all, same, is_some}
-use Rattle.format.specs.Words.{isGap, words, isTypeName}
-use Rattle.format.specs.Numbers.{Int, Bounds, intBounds, number_of}
-use Rattle.format.specs.Types.{Kind, Typed, bare, end_of, ranged, range_of, size_of, aliasOf, plainKind, uncomment, isSymbol, enumIn as enum_of, beforeComment, type_of}
+use Rattle.format.specs.Words.{is_gap, words, is_type_name}
+use Rattle.format.specs.Numbers.{Int, Bounds, int_bounds, number_of}
+use Rattle.format.specs.Types.{Kind, Typed, bare, end_of, ranged, range_of, size_of, alias_of, plain_kind, uncomment, is_symbol, enum_in as enum_of, before_comment, type_of}
 use Rattle.typing.specs.Symbols.{words_in}
-use Rattle.enums.specs.Enums.{typeSymbols, listed}
+use Rattle.enums.specs.Enums.{type_symbols, listed}
 
 -- no other word makes an `enum`
 abbrev NoEnum : Option Typed → Type 0
-NoEnum t = is_some (typeSymbols t) ≡ false
+NoEnum t = is_some (type_symbols t) ≡ false
 
 pick_no : (b : Bool) (x y : Option Typed) → NoEnum x → NoEnum y → NoEnum (pick b x y)
 pick_no true x y p q = p
@@ -44,14 +44,14 @@ size-no b [] = refl
 size-no b (w ∷ []) = sized-no (number_of b w)
 size-no b (w ∷ v ∷ vs) = refl
 
-alias-no : (w : Bytes) (ws : List Bytes) → NoEnum (aliasOf w ws)
-alias-no w ws = go (not (isFilled ws) && isTypeName w)
+alias-no : (w : Bytes) (ws : List Bytes) → NoEnum (alias_of w ws)
+alias-no w ws = go (not (is_filled ws) && is_type_name w)
   where
     go : (t : Bool) → NoEnum (only_if t (Typed.alias w))
     go true = refl
     go false = refl
 
-plain-no : (b : Bounds) (ws : List Bytes) → NoEnum (plainKind b ws)
+plain-no : (b : Bounds) (ws : List Bytes) → NoEnum (plain_kind b ws)
 plain-no b [] = refl
 plain-no b (w ∷ ws) =
     pick_no (same w (text "int")) _ _ (bare-no Kind.int ws refl)
@@ -66,28 +66,28 @@ plain-no b (w ∷ ws) =
 
 -- the text behind the word `enum`
 abbrev pub body : Bytes → Bytes
-body s = behind beforeComment (behind isGap s)
+body s = behind before_comment (behind is_gap s)
 
 -- what its words are, if it makes an `enum`
 pub record Body (s : Bytes) (t : Option Typed) : Type 0 where
   pub sound : is_some (words_in (uncomment false (body s))) ≡ true
-  pub good : all isSymbol (listed (words_in (uncomment false (body s)))) ≡ true
-  pub are : listed (words_in (uncomment false (body s))) ≡ listed (typeSymbols t)
+  pub good : all is_symbol (listed (words_in (uncomment false (body s)))) ≡ true
+  pub are : listed (words_in (uncomment false (body s))) ≡ listed (type_symbols t)
 
-symbols-good : (ws : List Bytes) (t : Bool) → isFilled ws && all isSymbol ws ≡ t → is_some (typeSymbols (only_if t (Typed.kind (Kind.enum ws)))) ≡ true
-    → (all isSymbol ws ≡ true) × (ws ≡ listed (typeSymbols (only_if t (Typed.kind (Kind.enum ws)))))
-symbols-good ws true q e = (((and-eq-true_iff (isFilled ws) (all isSymbol ws)).0 q).1, refl)
+symbols-good : (ws : List Bytes) (t : Bool) → is_filled ws && all is_symbol ws ≡ t → is_some (type_symbols (only_if t (Typed.kind (Kind.enum ws)))) ≡ true
+    → (all is_symbol ws ≡ true) × (ws ≡ listed (type_symbols (only_if t (Typed.kind (Kind.enum ws)))))
+symbols-good ws true q e = (((and-eq-true_iff (is_filled ws) (all is_symbol ws)).0 q).1, refl)
 symbols-good ws false q e = absurd (false≢true e)
 
-enum-good : (o : Option Bytes) → is_some (typeSymbols (onward enum_of o)) ≡ true
-    → (is_some (words_in o) ≡ true) × (all isSymbol (listed (words_in o)) ≡ true) × (listed (words_in o) ≡ listed (typeSymbols (onward enum_of o)))
+enum-good : (o : Option Bytes) → is_some (type_symbols (onward enum_of o)) ≡ true
+    → (is_some (words_in o) ≡ true) × (all is_symbol (listed (words_in o)) ≡ true) × (listed (words_in o) ≡ listed (type_symbols (onward enum_of o)))
 enum-good none e = absurd (false≢true e)
-enum-good (some u) e = let h = symbols-good (words u) (isFilled (words u) && all isSymbol (words u)) refl e in (refl, h.0, h.1)
+enum-good (some u) e = let h = symbols-good (words u) (is_filled (words u) && all is_symbol (words u)) refl e in (refl, h.0, h.1)
 
-pub enum-body : (s : Bytes) → is_some (typeSymbols (type_of intBounds s)) ≡ true → Body s (type_of intBounds s)
-enum-body s e = go (same (front beforeComment (behind isGap s)) (text "enum")) e
+pub enum-body : (s : Bytes) → is_some (type_symbols (type_of int_bounds s)) ≡ true → Body s (type_of int_bounds s)
+enum-body s e = go (same (front before_comment (behind is_gap s)) (text "enum")) e
   where
-    go : (t : Bool) → is_some (typeSymbols (pick t (onward enum_of (uncomment false (body s))) (plainKind intBounds (words s)))) ≡ true
-        → Body s (pick t (onward enum_of (uncomment false (body s))) (plainKind intBounds (words s)))
+    go : (t : Bool) → is_some (type_symbols (pick t (onward enum_of (uncomment false (body s))) (plain_kind int_bounds (words s)))) ≡ true
+        → Body s (pick t (onward enum_of (uncomment false (body s))) (plain_kind int_bounds (words s)))
     go true h = let g = enum-good (uncomment false (body s)) h in record { sound = g.0; good = g.1; are = g.2 }
-    go false h = absurd (false≢true (sym (plain-no intBounds (words s)) ∙ h))
+    go false h = absurd (false≢true (sym (plain-no int_bounds (words s)) ∙ h))

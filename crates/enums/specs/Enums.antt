@@ -2,28 +2,28 @@
 use Rattle.std.specs.Prelude.{ℕ, ◌≤◌, ◌≡◌, Bool, true, false, List, [], length, drop}
 use Rattle.std.proofs.Math.Option.{Option, none, some}
 use Rattle.format.specs.Bytes.{Bytes, all, is_some}
-use Rattle.format.specs.Words.{afterWord}
-use Rattle.format.specs.Numbers.{intBounds}
-use Rattle.format.specs.Types.{Kind, Typed, uncomment, isSymbol, type_of}
-use Rattle.values.specs.Value.{valueFrom}
+use Rattle.format.specs.Words.{after_word}
+use Rattle.format.specs.Numbers.{int_bounds}
+use Rattle.format.specs.Types.{Kind, Typed, uncomment, is_symbol, type_of}
+use Rattle.values.specs.Value.{value_from}
 use Rattle.typing.specs.Symbols.{words_in}
 
 -- the symbols of a type, if it is an `enum`
-abbrev pub kindSymbols : Kind → Option (List Bytes)
-kindSymbols Kind.int = none
-kindSymbols (Kind.range x y) = none
-kindSymbols Kind.real = none
-kindSymbols Kind.line = none
-kindSymbols (Kind.size n) = none
-kindSymbols (Kind.enum ws) = some ws
-kindSymbols Kind.bool = none
-kindSymbols Kind.field = none
-kindSymbols Kind.uuid = none
+abbrev pub kind_symbols : Kind → Option (List Bytes)
+kind_symbols Kind.int = none
+kind_symbols (Kind.range x y) = none
+kind_symbols Kind.real = none
+kind_symbols Kind.line = none
+kind_symbols (Kind.size n) = none
+kind_symbols (Kind.enum ws) = some ws
+kind_symbols Kind.bool = none
+kind_symbols Kind.field = none
+kind_symbols Kind.uuid = none
 
-abbrev pub typeSymbols : Option Typed → Option (List Bytes)
-typeSymbols none = none
-typeSymbols (some (Typed.kind k)) = kindSymbols k
-typeSymbols (some (Typed.alias n)) = none
+abbrev pub type_symbols : Option Typed → Option (List Bytes)
+type_symbols none = none
+type_symbols (some (Typed.kind k)) = kind_symbols k
+type_symbols (some (Typed.alias n)) = none
 
 abbrev pub listed : Option (List Bytes) → List Bytes
 listed none = []
@@ -31,21 +31,21 @@ listed (some ws) = ws
 
 -- the type behind the first word of the value at v: is it an `enum`, and what are its symbols
 abbrev pub type_at : Bytes → ℕ → Option Typed
-type_at d v = type_of intBounds (afterWord (valueFrom (drop v d)))
+type_at d v = type_of int_bounds (after_word (value_from (drop v d)))
 
-unfoldable pub isEnumAt : Bytes → ℕ → Bool
-isEnumAt d v = is_some (typeSymbols (type_at d v))
+unfoldable pub is_enum_at : Bytes → ℕ → Bool
+is_enum_at d v = is_some (type_symbols (type_at d v))
 
-unfoldable pub enumIn : Bytes → ℕ → List Bytes
-enumIn d v = listed (typeSymbols (type_at d v))
+unfoldable pub enum_in : Bytes → ℕ → List Bytes
+enum_in d v = listed (type_symbols (type_at d v))
 
 -- the words from a place on, comments read as blanks; none where a parenthesis is wrong
 unfoldable pub symbols_from : Bytes → ℕ → Option (List Bytes)
-symbols_from d i = words_in (uncomment false (valueFrom (drop i d)))
+symbols_from d i = words_in (uncomment false (value_from (drop i d)))
 
 -- the symbols of the `enum` at v begin at r
 pub record Starts (d : Bytes) (v r : ℕ) : Type 0 where
   pub inside : r ≤ length d
   pub sound : is_some (symbols_from d r) ≡ true
-  pub symbols : all isSymbol (listed (symbols_from d r)) ≡ true
-  pub are : listed (symbols_from d r) ≡ enumIn d v
+  pub symbols : all is_symbol (listed (symbols_from d r)) ≡ true
+  pub are : listed (symbols_from d r) ≡ enum_in d v

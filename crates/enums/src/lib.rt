@@ -3,14 +3,14 @@
 // begins; the end of any file stands there for a row whose kind is no `enum`. Rows with one text share its symbols, under the number of the first of them.
 ghost use Rattle.std.specs.Prelude.{◌≡◌, true, [], map, ◌+◌, ◌<◌, ◌≤◌, length, drop};
 ghost use Rattle.format.specs.Bytes.{is_some};
-ghost use Rattle.format.specs.Limits.{fileBytes, typeFields};
+ghost use Rattle.format.specs.Limits.{file_bytes, type_fields};
 ghost use Rattle.format.specs.Types.{uncomment};
-ghost use Rattle.values.specs.Value.{valueFrom};
+ghost use Rattle.values.specs.Value.{value_from};
 ghost use Rattle.typing.specs.Symbols.{words_in};
-ghost use Rattle.terms.specs.Sets.{tags, termOf};
-ghost use Rattle.terms.specs.Adding.{valueTerms, Adding};
-ghost use Rattle.enums.specs.Enums.{symbols_from, Starts, enumIn, isEnumAt};
-ghost use Rattle.enums.specs.Rows.{leaderOf, Texts, RowsAdded, IsSymbols, Reaches, Found};
+ghost use Rattle.terms.specs.Sets.{tags, term_of};
+ghost use Rattle.terms.specs.Adding.{value_terms, Adding};
+ghost use Rattle.enums.specs.Enums.{symbols_from, Starts, enum_in, is_enum_at};
+ghost use Rattle.enums.specs.Rows.{leader_of, Texts, RowsAdded, IsSymbols, Reaches, Found};
 
 use format::File;
 use terms::Table;
@@ -18,7 +18,7 @@ use values::{Decoded, Stretch};
 
 // Where the symbols of the value at v begin: behind its name and the word `enum`.
 fn symbols_start(d: &[u8], v: usize) -> usize
-    requires { (v ≤ length d.now) × (isEnumAt d.now v ≡ true) }
+    requires { (v ≤ length d.now) × (is_enum_at d.now v ≡ true) }
     ensures { Starts d.now v result }
 {
     let name = values::pass(d, v, Stretch::Gaps);
@@ -30,8 +30,8 @@ fn symbols_start(d: &[u8], v: usize) -> usize
 // Where what follows a comment is looked for; behind its opening parenthesis the comment goes on at i.
 fn comment_end(d: &[u8], i: usize) -> usize
     requires i_in_bounds { i ≤ length d.now }
-    requires d_value { is_some (words_in (uncomment true (valueFrom (drop i d.now)))) ≡ true }
-    ensures { (i < result) × (result ≤ length d.now) × (words_in (uncomment true (valueFrom (drop i d.now))) ≡ symbols_from d.now result) }
+    requires d_value { is_some (words_in (uncomment true (value_from (drop i d.now)))) ≡ true }
+    ensures { (i < result) × (result ≤ length d.now) × (words_in (uncomment true (value_from (drop i d.now))) ≡ symbols_from d.now result) }
 {
     let close = values::pass(d, i, Stretch::Comment);
     let x = values::value_byte(d, close);
@@ -43,10 +43,10 @@ fn comment_end(d: &[u8], i: usize) -> usize
 
 // The symbols of the `enum` at v, put behind the first n entries; how many entries there are then.
 fn add_symbols(d: &[u8], v: usize, tag: u32, entries: &mut [u32], n: usize) -> usize
-    requires v_in_bounds { (v ≤ length d.now) × (length d.now ≤ fileBytes) × (tag < tags) }
-    requires v_in_bounds_2 { n + length (enumIn d.now v) ≤ length entries.old }
-    requires v_value { isEnumAt d.now v ≡ true }
-    ensures { Adding d.now entries.old n (map (termOf tag) (enumIn d.now v)) [] entries.new result }
+    requires v_in_bounds { (v ≤ length d.now) × (length d.now ≤ file_bytes) × (tag < tags) }
+    requires v_in_bounds_2 { n + length (enum_in d.now v) ≤ length entries.old }
+    requires v_value { is_enum_at d.now v ≡ true }
+    ensures { Adding d.now entries.old n (map (term_of tag) (enum_in d.now v)) [] entries.new result }
 {
     let mut k = n;
     let mut at = symbols_start(d, v);
@@ -72,7 +72,7 @@ fn add_symbols(d: &[u8], v: usize, tag: u32, entries: &mut [u32], n: usize) -> u
 // The first row from one on that has the text of a row.
 pub fn leader(texts: &[usize], from: usize, row: usize) -> usize
     requires { (from ≤ row) × (row < length texts.now) }
-    ensures { (result ≡ leaderOf texts.now from row) × (from ≤ result) × (result ≤ row) }
+    ensures { (result ≡ leader_of texts.now from row) × (from ≤ result) × (result ≤ row) }
 {
     let mut i = from;
     while i < row {
@@ -93,7 +93,7 @@ pub struct Added {
 
 // The symbols of the rows from one on before another, put into entries: of as many rows as there is certainly room for.
 fn add_rows(d: &[u8], texts: &[usize], from: usize, to: usize, entries: &mut [u32]) -> Added
-    requires d_len_bound { (length d.now ≤ fileBytes) × (from ≤ to) × (to ≤ typeFields) × (to ≤ length texts.now) }
+    requires d_len_bound { (length d.now ≤ file_bytes) × (from ≤ to) × (to ≤ type_fields) × (to ≤ length texts.now) }
     requires texts { Texts d.now texts.now to }
     ensures { RowsAdded d.now texts.now from to entries.old entries.new result }
 {
@@ -134,8 +134,8 @@ pub struct Symbols {
 
 // The symbols of the rows from one on before another, in a lent array.
 pub fn read(d: &[u8], texts: &[usize], from: usize, to: usize, entries: &mut [u32]) -> Symbols
-    requires d_len_bound { (length d.now ≤ fileBytes) × (from ≤ to) × (to ≤ typeFields) × (to ≤ length texts.now) }
-    requires texts { Texts d.now texts.now to × (valueTerms ≤ length entries.old) }
+    requires d_len_bound { (length d.now ≤ file_bytes) × (from ≤ to) × (to ≤ type_fields) × (to ≤ length texts.now) }
+    requires texts { Texts d.now texts.now to × (value_terms ≤ length entries.old) }
     ensures { IsSymbols d.now texts.now entries.new result × Reaches from to result }
 {
     let a = add_rows(d, texts, from, to, &mut *entries);

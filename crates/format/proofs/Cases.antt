@@ -8,14 +8,14 @@ use lib.Dec.{eqb}
 use lib.ListN.{length, replicate}
 use Rattle.format.specs.Bytes.{Bytes, text, class_of, all}
 use Rattle.format.specs.Pieces.{bytes_of, pieces, read_of}
-use Rattle.format.specs.Sets.{setsOf}
-use Rattle.format.specs.Questions.{fileOf, verdictIn, verdict}
+use Rattle.format.specs.Sets.{sets_of}
+use Rattle.format.specs.Questions.{file_of, verdict_in, verdict}
 use Rattle.format.specs.Written.{Pair, written}
 use Rattle.format.specs.Edits.{Change, Act, Edit}
-use Rattle.format.specs.Requests.{tagged, requestOf, encoded}
+use Rattle.format.specs.Requests.{tagged, request_of, encoded}
 use Rattle.format.specs.Numbering.{completed}
-use Rattle.format.specs.Plain.{plain_of, length_of, apply, completedBy, step}
-use Rattle.format.specs.Calls.{number_in, valueOr, Filled, checkAnswer, editAnswer}
+use Rattle.format.specs.Plain.{plain_of, length_of, apply, completed_by, step}
+use Rattle.format.specs.Calls.{number_in, value_or, Filled, check_answer, edit_answer}
 
 -- "One receipt book"
 abbrev pub book : Bytes
@@ -44,10 +44,10 @@ buffer c = c.file ++ replicate c.spare 170
 
 -- the file passes, and the edit answers that number and that length
 abbrev pub answers : Filled → ℕ → ℕ → ℕ → Bool
-answers a used k n = eqb (number_in a.result) k && eqb (valueOr used a.result) n
+answers a used k n = eqb (number_in a.result) k && eqb (value_or used a.result) n
 
 abbrev pub holds : Case → Bool
-holds c = eqb (checkAnswer (buffer c) (length c.file)) 0 && answers (editAnswer (buffer c) (length c.file) c.request) (length c.file) c.number c.length
+holds c = eqb (check_answer (buffer c) (length c.file)) 0 && answers (edit_answer (buffer c) (length c.file) c.request) (length c.file) c.number c.length
 
 abbrev on : ℕ → Bytes → ℕ → ℕ → Case
 on spare request k n = record { file = book; spare = spare; request = request; number = k; length = n }
@@ -83,7 +83,7 @@ cases =
     record { file = []; spare = large; request = []; number = 20; length = 0 } ∷ []
 
 pub marked : all holds cases ≡ true
-unfolding class_of bytes_of pieces read_of setsOf written fileOf verdictIn verdict tagged requestOf encoded plain_of length_of apply completed completedBy step checkAnswer editAnswer
+unfolding class_of bytes_of pieces read_of sets_of written file_of verdict_in verdict tagged request_of encoded plain_of length_of apply completed completed_by step check_answer edit_answer
 marked = refl
 
 -- the request of (f) is what the encoder gives

@@ -3,30 +3,30 @@ use mathlib.Core.Path.{◌≡◌, refl, sym, ap, ◌∙◌, subst}
 use mathlib.Core.Bool.{Bool, true, false, ◌&&◌, not, and-eq-true_iff}
 use mathlib.Core.List.{List, [], ◌∷◌, ◌++◌, map}
 use mathlib.Core.Option.{Option, none, some, none-ne-some, some-injective}
-use Rattle.format.specs.Bytes.{Bytes, pick, same, isAllowed, all}
+use Rattle.format.specs.Bytes.{Bytes, pick, same, is_allowed, all}
 use Rattle.format.specs.Lists.{onward, filter, onto, cut_at}
-use Rattle.format.specs.Lines.{Line, lines, bytes, isEnded, Form, cut}
-use Rattle.format.specs.Pieces.{Piece, Mode, after, seen, Reading, takeLine, readFrom, piecesIn, pieces}
-use Rattle.format.specs.Records.{Record, Block, isBlankLine, fields_of}
-use Rattle.format.specs.Numbers.{intBounds}
+use Rattle.format.specs.Lines.{Line, lines, bytes, is_ended, Form, cut}
+use Rattle.format.specs.Pieces.{Piece, Mode, after, seen, Reading, take_line, read_from, pieces_in, pieces}
+use Rattle.format.specs.Records.{Record, Block, is_blank_line, fields_of}
+use Rattle.format.specs.Numbers.{int_bounds}
 use Rattle.format.proofs.Elements.{Each, all-each, each_all}
 use Rattle.format.proofs.Lists.{each-filter}
 use Rattle.format.proofs.Lines.{Clean, lines-bytes, bytes-lines, lines-clean, ended-bytes, allowed-bytes}
 use Rattle.format.proofs.Listing.{same_true}
-use Rattle.format.proofs.Records.{close, recordsIn, records}
-use Rattle.format.proofs.Judging.{textNo}
-use Rattle.format.proofs.Walking.{recordsNo, text-walk}
+use Rattle.format.proofs.Records.{close, records_in, records}
+use Rattle.format.proofs.Judging.{text_no}
+use Rattle.format.proofs.Walking.{records_no, text-walk}
 use Rattle.format.proofs.Uncounted.{bare, number-bare}
 
-abbrev pub isJoint : Line → Bool
-isJoint l = same l (92 ∷ [])
+abbrev pub is_joint : Line → Bool
+is_joint l = same l (92 ∷ [])
 
-abbrev pub notJoint : Line → Bool
-notJoint l = not (isJoint l)
+abbrev pub not_joint : Line → Bool
+not_joint l = not (is_joint l)
 
 -- a text without the lines that are a backslash alone
 unfoldable pub dense : Bytes → Bytes
-dense s = bytes (filter notJoint (lines s))
+dense s = bytes (filter not_joint (lines s))
 
 -- two readings with the same names and values, where the first is one
 abbrev unlined : Piece → Piece
@@ -39,48 +39,48 @@ Alike none y = Unit {0}
 Alike (some r) none = ⊥
 Alike (some r) (some q) = (r.value ≡ q.value) × (map unlined r.pieces ≡ map unlined q.pieces)
 
-alike-take : (F : Form) (l : Line) (r q : Reading) → Alike (some r) (some q) → Alike (takeLine F l r) (takeLine F l q)
+alike-take : (F : Form) (l : Line) (r q : Reading) → Alike (some r) (some q) → Alike (take_line F l r) (take_line F l q)
 alike-take Form.blank l r q h = (refl, ap {B = List Piece} (λ ps. Piece.blank l ∷ ps) h.1)
 alike-take Form.comment l r q h = (refl, ap {B = List Piece} (λ ps. Piece.comment l ∷ ps) h.1)
 alike-take (Form.field n v) l r q h = (refl, λ i. Piece.field n (cut v ++ h.0 i) [] ∷ h.1 i)
 alike-take (Form.more v) l r q h = (ap (λ (w : Bytes). cut v ++ w) h.0, h.1)
 alike-take Form.fault l r q h = tt
 
-alike-line : (F : Form) (l : Line) (x y : Option Reading) → Alike x y → Alike (onward (takeLine F l) x) (onward (takeLine F l) y)
+alike-line : (F : Form) (l : Line) (x y : Option Reading) → Alike x y → Alike (onward (take_line F l) x) (onward (take_line F l) y)
 alike-line F l none y h = tt
 alike-line F l (some r) none h = absurd h
 alike-line F l (some r) (some q) h = alike-take F l r q h
 
 -- a backslash alone: where nothing takes it on it is a fault, else it adds nothing and the next line is taken on
-alike-fault : (l : Line) (x y : Option Reading) → Alike (onward (takeLine Form.fault l) x) y
+alike-fault : (l : Line) (x y : Option Reading) → Alike (onward (take_line Form.fault l) x) y
 alike-fault l none y = tt
 alike-fault l (some r) y = tt
 
-alike-joint : (x y : Option Reading) → Alike x y → Alike (onward (takeLine (Form.more (92 ∷ [])) (92 ∷ [])) x) y
+alike-joint : (x y : Option Reading) → Alike x y → Alike (onward (take_line (Form.more (92 ∷ [])) (92 ∷ [])) x) y
 alike-joint none y h = tt
 alike-joint (some r) none h = absurd h
 alike-joint (some r) (some q) h = h
 
-module _ (ls rest : List Line) (h : (m : Mode) → Alike (readFrom m ls) (readFrom m rest)) where
-  joint-read : (m : Mode) → Alike (readFrom m ((92 ∷ []) ∷ ls)) (readFrom m rest)
-  joint-read Mode.closed = alike-fault (92 ∷ []) (readFrom Mode.closed ls) (readFrom Mode.closed rest)
-  joint-read Mode.opened = alike-fault (92 ∷ []) (readFrom Mode.closed ls) (readFrom Mode.opened rest)
-  joint-read Mode.joined = alike-joint (readFrom Mode.joined ls) (readFrom Mode.joined rest) (h Mode.joined)
+module _ (ls rest : List Line) (h : (m : Mode) → Alike (read_from m ls) (read_from m rest)) where
+  joint-read : (m : Mode) → Alike (read_from m ((92 ∷ []) ∷ ls)) (read_from m rest)
+  joint-read Mode.closed = alike-fault (92 ∷ []) (read_from Mode.closed ls) (read_from Mode.closed rest)
+  joint-read Mode.opened = alike-fault (92 ∷ []) (read_from Mode.closed ls) (read_from Mode.opened rest)
+  joint-read Mode.joined = alike-joint (read_from Mode.joined ls) (read_from Mode.joined rest) (h Mode.joined)
 
-  dense-by : (t : Bool) (l : Line) (m : Mode) → isJoint l ≡ t → Alike (readFrom m (l ∷ ls)) (readFrom m (pick (not t) (l ∷ rest) rest))
-  dense-by true l m e = subst (λ (x : Line). Alike (readFrom m (x ∷ ls)) (readFrom m rest)) (sym (same_true l (92 ∷ []) e)) (joint-read m)
-  dense-by false l m e = alike-line (seen m l) l (readFrom (after (seen m l)) ls) (readFrom (after (seen m l)) rest) (h (after (seen m l)))
+  dense-by : (t : Bool) (l : Line) (m : Mode) → is_joint l ≡ t → Alike (read_from m (l ∷ ls)) (read_from m (pick (not t) (l ∷ rest) rest))
+  dense-by true l m e = subst (λ (x : Line). Alike (read_from m (x ∷ ls)) (read_from m rest)) (sym (same_true l (92 ∷ []) e)) (joint-read m)
+  dense-by false l m e = alike-line (seen m l) l (read_from (after (seen m l)) ls) (read_from (after (seen m l)) rest) (h (after (seen m l)))
 
-dense-read : (ls : List Line) (m : Mode) → Alike (readFrom m ls) (readFrom m (filter notJoint ls))
+dense-read : (ls : List Line) (m : Mode) → Alike (read_from m ls) (read_from m (filter not_joint ls))
 dense-read [] Mode.closed = (refl, refl)
 dense-read [] Mode.opened = (refl, refl)
 dense-read [] Mode.joined = tt
-dense-read (l ∷ ls) m = dense-by ls (filter notJoint ls) (dense-read ls) (isJoint l) l m refl
+dense-read (l ∷ ls) m = dense-by ls (filter not_joint ls) (dense-read ls) (is_joint l) l m refl
 
 -- the lines of the dense text are those that are left
-dense-lines : (s : Bytes) → lines (dense s) ≡ filter notJoint (lines s)
+dense-lines : (s : Bytes) → lines (dense s) ≡ filter not_joint (lines s)
 unfolding dense
-dense-lines s = lines-bytes (filter notJoint (lines s)) (each-filter Clean notJoint (lines s) (lines-clean s))
+dense-lines s = lines-bytes (filter not_joint (lines s)) (each-filter Clean not_joint (lines s) (lines-clean s))
 
 -- the pieces of a text that reads, and of the dense one
 pub record Denser (s : Bytes) (ps : List Piece) : Type 0 where
@@ -88,7 +88,7 @@ pub record Denser (s : Bytes) (ps : List Piece) : Type 0 where
   pub reads : pieces (dense s) ≡ some left
   pub alike : map unlined ps ≡ map unlined left
 
-denser-by : (s : Bytes) (ps : List Piece) (x y : Option Reading) → piecesIn x ≡ some ps → pieces (dense s) ≡ piecesIn y → Alike x y → Denser s ps
+denser-by : (s : Bytes) (ps : List Piece) (x y : Option Reading) → pieces_in x ≡ some ps → pieces (dense s) ≡ pieces_in y → Alike x y → Denser s ps
 denser-by s ps none y e f h = absurd (none-ne-some ps e)
 denser-by s ps (some r) none e f h = absurd h
 denser-by s ps (some r) (some q) e f h = record { left = q.pieces; reads = f; alike = ap (map unlined) (sym (some-injective r.pieces ps e)) ∙ h.1 }
@@ -96,20 +96,20 @@ denser-by s ps (some r) (some q) e f h = record { left = q.pieces; reads = f; al
 pub denser : (s : Bytes) (ps : List Piece) → pieces s ≡ some ps → Denser s ps
 unfolding pieces
 denser s ps e =
-    denser-by s ps (readFrom Mode.closed (lines s)) (readFrom Mode.closed (filter notJoint (lines s))) e
-    (ap (λ (ls : List Line). piecesIn (readFrom Mode.closed ls)) (dense-lines s)) (dense-read (lines s) Mode.closed)
+    denser-by s ps (read_from Mode.closed (lines s)) (read_from Mode.closed (filter not_joint (lines s))) e
+    (ap (λ (ls : List Line). pieces_in (read_from Mode.closed ls)) (dense-lines s)) (dense-read (lines s) Mode.closed)
 
 -- the records of pieces whose lines are left out take no byte
 onto-map : {A B : Type 0} (f : A → B) (x : A) (gs : List (List A)) → onto (f x) (map (map f) gs) ≡ map (map f) (onto x gs)
 onto-map f x [] = refl
 onto-map f x (g ∷ gs) = refl
 
-blocks-unlined : (ps : List Piece) → cut_at isBlankLine (map unlined ps) ≡ map (map unlined) (cut_at isBlankLine ps)
+blocks-unlined : (ps : List Piece) → cut_at is_blank_line (map unlined ps) ≡ map (map unlined) (cut_at is_blank_line ps)
 blocks-unlined [] = refl
 blocks-unlined (Piece.blank l ∷ ps) =
-    ap {B = List Block} (λ gs. [] ∷ onto (Piece.blank l) gs) (blocks-unlined ps) ∙ ap {B = List Block} (λ gs. [] ∷ gs) (onto-map unlined (Piece.blank l) (cut_at isBlankLine ps))
-blocks-unlined (Piece.comment l ∷ ps) = ap (onto (Piece.comment l)) (blocks-unlined ps) ∙ onto-map unlined (Piece.comment l) (cut_at isBlankLine ps)
-blocks-unlined (Piece.field n v ls ∷ ps) = ap (onto (Piece.field n v [])) (blocks-unlined ps) ∙ onto-map unlined (Piece.field n v ls) (cut_at isBlankLine ps)
+    ap {B = List Block} (λ gs. [] ∷ onto (Piece.blank l) gs) (blocks-unlined ps) ∙ ap {B = List Block} (λ gs. [] ∷ gs) (onto-map unlined (Piece.blank l) (cut_at is_blank_line ps))
+blocks-unlined (Piece.comment l ∷ ps) = ap (onto (Piece.comment l)) (blocks-unlined ps) ∙ onto-map unlined (Piece.comment l) (cut_at is_blank_line ps)
+blocks-unlined (Piece.field n v ls ∷ ps) = ap (onto (Piece.field n v [])) (blocks-unlined ps) ∙ onto-map unlined (Piece.field n v ls) (cut_at is_blank_line ps)
 
 fields-unlined : (b : Block) → fields_of (map unlined b) ≡ bare (fields_of b)
 fields-unlined [] = refl
@@ -121,40 +121,40 @@ close-bare : (r : Record) (rs : List Record) → close (bare r) (map bare rs) �
 close-bare [] rs = refl
 close-bare (f ∷ fs) rs = refl
 
-records-in : (bs : List Block) → recordsIn (map (map unlined) bs) ≡ map bare (recordsIn bs)
+records-in : (bs : List Block) → records_in (map (map unlined) bs) ≡ map bare (records_in bs)
 records-in [] = refl
-records-in (b ∷ bs) = (λ i. close (fields-unlined b i) (records-in bs i)) ∙ close-bare (fields_of b) (recordsIn bs)
+records-in (b ∷ bs) = (λ i. close (fields-unlined b i) (records-in bs i)) ∙ close-bare (fields_of b) (records_in bs)
 
 records-unlined : (ps : List Piece) → records (map unlined ps) ≡ map bare (records ps)
 unfolding records
-records-unlined ps = ap recordsIn (blocks-unlined ps) ∙ records-in (cut_at isBlankLine ps)
+records-unlined ps = ap records_in (blocks-unlined ps) ∙ records-in (cut_at is_blank_line ps)
 
-number-unlined : (ps : List Piece) → recordsNo intBounds (records (map unlined ps)) ≡ recordsNo intBounds (records ps)
-number-unlined ps = ap (recordsNo intBounds) (records-unlined ps) ∙ number-bare intBounds (records ps)
+number-unlined : (ps : List Piece) → records_no int_bounds (records (map unlined ps)) ≡ records_no int_bounds (records ps)
+number-unlined ps = ap (records_no int_bounds) (records-unlined ps) ∙ number-bare int_bounds (records ps)
 
 -- questions 2 to 14 and 30 of a text that reads are those of the dense one
-dense-allowed : (s : Bytes) → all isAllowed s ≡ true → isEnded s ≡ true → all isAllowed (dense s) ≡ true
+dense-allowed : (s : Bytes) → all is_allowed s ≡ true → is_ended s ≡ true → all is_allowed (dense s) ≡ true
 unfolding dense
 dense-allowed s a e =
-    let each : Each (λ (l : Line). all isAllowed l ≡ true) (lines s) = all-each (all isAllowed) (lines s) (sym (allowed-bytes (lines s)) ∙ ap (all isAllowed) (bytes-lines s e) ∙ a) in
-    allowed-bytes (filter notJoint (lines s)) ∙ each_all (all isAllowed) (filter notJoint (lines s)) (each-filter (λ (l : Line). all isAllowed l ≡ true) notJoint (lines s) each)
+    let each : Each (λ (l : Line). all is_allowed l ≡ true) (lines s) = all-each (all is_allowed) (lines s) (sym (allowed-bytes (lines s)) ∙ ap (all is_allowed) (bytes-lines s e) ∙ a) in
+    allowed-bytes (filter not_joint (lines s)) ∙ each_all (all is_allowed) (filter not_joint (lines s)) (each-filter (λ (l : Line). all is_allowed l ≡ true) not_joint (lines s) each)
 
-pub dense-ended : (s : Bytes) → isEnded (dense s) ≡ true
+pub dense-ended : (s : Bytes) → is_ended (dense s) ≡ true
 unfolding dense
-dense-ended s = ended-bytes (filter notJoint (lines s))
+dense-ended s = ended-bytes (filter not_joint (lines s))
 
-pub dense-text : (s : Bytes) → (all isAllowed s && isEnded s) ≡ true → (all isAllowed (dense s) && isEnded (dense s)) ≡ true
+pub dense-text : (s : Bytes) → (all is_allowed s && is_ended s) ≡ true → (all is_allowed (dense s) && is_ended (dense s)) ≡ true
 dense-text s t =
-    let h = (and-eq-true_iff (all isAllowed s) (isEnded s)).0 t in
-    (and-eq-true_iff (all isAllowed (dense s)) (isEnded (dense s))).1 (dense-allowed s h.0 h.1, dense-ended s)
+    let h = (and-eq-true_iff (all is_allowed s) (is_ended s)).0 t in
+    (and-eq-true_iff (all is_allowed (dense s)) (is_ended (dense s))).1 (dense-allowed s h.0 h.1, dense-ended s)
 
-pub dense-no : (s : Bytes) (ps : List Piece) → (all isAllowed s && isEnded s) ≡ true → pieces s ≡ some ps → textNo (dense s) ≡ textNo s
+pub dense-no : (s : Bytes) (ps : List Piece) → (all is_allowed s && is_ended s) ≡ true → pieces s ≡ some ps → text_no (dense s) ≡ text_no s
 dense-no s ps t e =
-    let h = (and-eq-true_iff (all isAllowed s) (isEnded s)).0 t in
+    let h = (and-eq-true_iff (all is_allowed s) (is_ended s)).0 t in
     let d : Denser s ps = denser s ps e in
     text-walk (dense s) d.left (dense-allowed s h.0 h.1) (dense-ended s) d.reads
     ∙ sym (number-unlined d.left)
-    ∙ ap (λ (qs : List Piece). recordsNo intBounds (records qs)) (sym d.alike)
+    ∙ ap (λ (qs : List Piece). records_no int_bounds (records qs)) (sym d.alike)
     ∙ number-unlined ps
     ∙ sym (text-walk s ps h.0 h.1 e)
 

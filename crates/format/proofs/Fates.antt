@@ -5,13 +5,13 @@ use mathlib.Core.Bool.{Bool, true, false}
 use mathlib.Core.List.{List, [], ◌∷◌, ◌++◌, append_assoc, append-nil, map}
 use lib.ListN.{get_or}
 use Rattle.format.specs.Bytes.{pick, any}
-use Rattle.format.specs.Lists.{flat, turn, at, always, nth, behindLast}
+use Rattle.format.specs.Lists.{flat, turn, at, always, nth, behind_last}
 use Rattle.format.specs.Pieces.{Piece}
-use Rattle.format.specs.Records.{Block, isField, isRecord, isBlankLine, blocks}
-use Rattle.format.specs.Sets.{isDescriptor, Group, groups, isMember}
-use Rattle.format.specs.Written.{Pair, newPiece}
-use Rattle.format.specs.Edits.{Change, Act, Edit, is_of, changePiece, unfielded, in_block, newline, inGroup, in_groups, newlineIf, inFront, editPieces}
-use Rattle.format.specs.Origins.{Fate, leftAll, addedAll, fatesAt, fatesBehind, one, blockFates, groupFates, inGroupFates, editFates}
+use Rattle.format.specs.Records.{Block, is_field, is_record, is_blank_line, blocks}
+use Rattle.format.specs.Sets.{is_descriptor, Group, groups, is_member}
+use Rattle.format.specs.Written.{Pair, new_piece}
+use Rattle.format.specs.Edits.{Change, Act, Edit, is_of, change_piece, unfielded, in_block, newline, in_group, in_groups, newline_if, in_front, edit_pieces}
+use Rattle.format.specs.Origins.{Fate, left_all, added_all, fates_at, fates_behind, one, block_fates, group_fates, in_group_fates, edit_fates}
 use Rattle.format.proofs.Lists.{flat_append, flat-cut}
 
 -- The pieces before and after: one that is left is the same on both sides, a named one stands before only, an added one after only.
@@ -36,11 +36,11 @@ goes-rest (Fate.left ∷ fs) (x ∷ xs) (y ∷ ys) zs h = (h.0, goes-rest fs xs 
 goes-rest (Fate.named ∷ fs) [] ys zs h = absurd h
 goes-rest (Fate.named ∷ fs) (x ∷ xs) ys zs h = goes-rest fs xs ys zs h
 
-goes_left : (b : List Piece) (fs : List Fate) (xs ys : List Piece) → Goes fs xs ys → Goes (leftAll b ++ fs) (b ++ xs) (b ++ ys)
+goes_left : (b : List Piece) (fs : List Fate) (xs ys : List Piece) → Goes fs xs ys → Goes (left_all b ++ fs) (b ++ xs) (b ++ ys)
 goes_left [] fs xs ys h = h
 goes_left (p ∷ b) fs xs ys h = (refl, goes_left b fs xs ys h)
 
-goes-added : (new xs : List Piece) → Goes (addedAll new) xs (new ++ xs)
+goes-added : (new xs : List Piece) → Goes (added_all new) xs (new ++ xs)
 goes-added [] xs = refl
 goes-added (p ∷ new) xs = (refl, goes-added new xs)
 
@@ -55,27 +55,27 @@ module _ {A : Type 0} (own : A → List Piece) where
 
   -- the k-th that passes a test
   module _ (t : A → Bool) (f : A → List A) (g : A → List Fate) (goes : (x : A) → Goes (g x) (own x) (owns (f x))) where
-    goes-turn : (b : Bool) (k : ℕ) (x : A) (xs : List A) → ((j : ℕ) → Goes (fatesAt own t j g xs) (owns xs) (owns (at t j f xs)))
-        → Goes (turn b k (g x) (λ (j : ℕ). leftAll (own x) ++ fatesAt own t j g xs)) (own x ++ owns xs) (owns (turn b k (f x ++ xs) (λ (j : ℕ). x ∷ at t j f xs)))
+    goes-turn : (b : Bool) (k : ℕ) (x : A) (xs : List A) → ((j : ℕ) → Goes (fates_at own t j g xs) (owns xs) (owns (at t j f xs)))
+        → Goes (turn b k (g x) (λ (j : ℕ). left_all (own x) ++ fates_at own t j g xs)) (own x ++ owns xs) (owns (turn b k (f x ++ xs) (λ (j : ℕ). x ∷ at t j f xs)))
     goes-turn true zero x xs ih = subst (Goes (g x) (own x ++ owns xs)) (sym (owns-append (f x) xs)) (goes-rest (g x) (own x) (owns (f x)) (owns xs) (goes x))
-    goes-turn true (suc k) x xs ih = goes_left (own x) (fatesAt own t k g xs) (owns xs) (owns (at t k f xs)) (ih k)
-    goes-turn false k x xs ih = goes_left (own x) (fatesAt own t k g xs) (owns xs) (owns (at t k f xs)) (ih k)
+    goes-turn true (suc k) x xs ih = goes_left (own x) (fates_at own t k g xs) (owns xs) (owns (at t k f xs)) (ih k)
+    goes-turn false k x xs ih = goes_left (own x) (fates_at own t k g xs) (owns xs) (owns (at t k f xs)) (ih k)
 
-    goes_at : (xs : List A) (k : ℕ) → Goes (fatesAt own t k g xs) (owns xs) (owns (at t k f xs))
+    goes_at : (xs : List A) (k : ℕ) → Goes (fates_at own t k g xs) (owns xs) (owns (at t k f xs))
     goes_at [] k = refl
     goes_at (x ∷ xs) k = goes-turn (t x) k x xs (goes_at xs)
 
   -- one more behind the last
   module _ (t : A → Bool) (y : A) where
-    goes-pick : (b : Bool) (xs : List A) → Goes (fatesBehind own t (addedAll (own y)) xs) (owns xs) (owns (behindLast t y xs))
-        → Goes (pick b (fatesBehind own t (addedAll (own y)) xs) (addedAll (own y))) (owns xs) (owns (pick b (behindLast t y xs) (y ∷ xs)))
+    goes-pick : (b : Bool) (xs : List A) → Goes (fates_behind own t (added_all (own y)) xs) (owns xs) (owns (behind_last t y xs))
+        → Goes (pick b (fates_behind own t (added_all (own y)) xs) (added_all (own y))) (owns xs) (owns (pick b (behind_last t y xs) (y ∷ xs)))
     goes-pick true xs h = h
     goes-pick false xs h = goes-added (own y) (owns xs)
 
-    goes-behind : (xs : List A) → Goes (fatesBehind own t (addedAll (own y)) xs) (owns xs) (owns (behindLast t y xs))
+    goes-behind : (xs : List A) → Goes (fates_behind own t (added_all (own y)) xs) (owns xs) (owns (behind_last t y xs))
     goes-behind [] = goes-added (own y) []
     goes-behind (x ∷ xs) =
-        goes_left (own x) (pick (any t xs) (fatesBehind own t (addedAll (own y)) xs) (addedAll (own y))) (owns xs) (owns (pick (any t xs) (behindLast t y xs) (y ∷ xs))) (goes-pick (any t xs) xs (goes-behind xs))
+        goes_left (own x) (pick (any t xs) (fates_behind own t (added_all (own y)) xs) (added_all (own y))) (owns xs) (owns (pick (any t xs) (behind_last t y xs) (y ∷ xs))) (goes-pick (any t xs) xs (goes-behind xs))
 
 -- a block's pieces are its own, a group's those of its blocks
 
@@ -100,60 +100,60 @@ along fs {xs} {ys} {xs'} {ys'} p q h = subst (λ (x : List Piece). Goes fs x ys'
 -- the groups of pieces, and their blocks: their pieces are those
 
 pub groups-blocks : (ps : List Piece) → flat (groups ps) ≡ blocks ps
-groups-blocks ps = flat-cut isDescriptor (blocks ps)
+groups-blocks ps = flat-cut is_descriptor (blocks ps)
 
 pub flat-blocks : (ps : List Piece) → flat (blocks ps) ≡ ps
-flat-blocks ps = flat-cut isBlankLine ps
+flat-blocks ps = flat-cut is_blank_line ps
 
 pub groups-pieces : (ps : List Piece) → flat (flat (groups ps)) ≡ ps
 groups-pieces ps = ap flat (groups-blocks ps) ∙ flat-blocks ps
 
 -- an act on a block
 
-goes-unfielded : (b : Block) → Goes (blockFates Act.delete b) b (unfielded b)
+goes-unfielded : (b : Block) → Goes (block_fates Act.delete b) b (unfielded b)
 goes-unfielded [] = refl
 goes-unfielded (Piece.blank l ∷ b) = (refl, goes-unfielded b)
 goes-unfielded (Piece.comment l ∷ b) = (refl, goes-unfielded b)
 goes-unfielded (Piece.field n v ls ∷ b) = goes-unfielded b
 
-goes-change : (c : Change) (p : Piece) → Goes (Fate.named ∷ addedAll (changePiece c p)) (p ∷ []) (owns one (changePiece c p))
-goes-change c p = subst (Goes (addedAll (changePiece c p)) []) (append-nil (changePiece c p) ∙ sym (owns-one (changePiece c p))) (goes-added (changePiece c p) [])
+goes-change : (c : Change) (p : Piece) → Goes (Fate.named ∷ added_all (change_piece c p)) (p ∷ []) (owns one (change_piece c p))
+goes-change c p = subst (Goes (added_all (change_piece c p)) []) (append-nil (change_piece c p) ∙ sym (owns-one (change_piece c p))) (goes-added (change_piece c p) [])
 
-goes-block : (a : Act) (b : Block) → Goes (blockFates a b) b (in_block a b)
+goes-block : (a : Act) (b : Block) → Goes (block_fates a b) b (in_block a b)
 goes-block Act.delete b = goes-unfielded b
-goes-block (Act.add p) b = along (blockFates (Act.add p) b) (owns-one b) (owns-one (in_block (Act.add p) b)) (goes-behind one isField (newPiece p) b)
+goes-block (Act.add p) b = along (block_fates (Act.add p) b) (owns-one b) (owns-one (in_block (Act.add p) b)) (goes-behind one is_field (new_piece p) b)
 goes-block (Act.change n o c) b =
-    along (blockFates (Act.change n o c) b) (owns-one b) (owns-one (in_block (Act.change n o c) b)) (goes_at one (is_of n) (changePiece c) (λ (p : Piece). Fate.named ∷ addedAll (changePiece c p)) (goes-change c) b o)
+    along (block_fates (Act.change n o c) b) (owns-one b) (owns-one (in_block (Act.change n o c) b)) (goes_at one (is_of n) (change_piece c) (λ (p : Piece). Fate.named ∷ added_all (change_piece c p)) (goes-change c) b o)
 
 -- an edit of a group
 
 -- the block that an insert writes
 abbrev pub fresh : List Pair → Block
-fresh new = newline ∷ map newPiece new
+fresh new = newline ∷ map new_piece new
 
-goes-act : (a : Act) (b : Block) → Goes (blockFates a b) b (owns whole (in_block a b ∷ []))
-goes-act a b = subst (Goes (blockFates a b) b) (sym (append-nil (in_block a b))) (goes-block a b)
+goes-act : (a : Act) (b : Block) → Goes (block_fates a b) b (owns whole (in_block a b ∷ []))
+goes-act a b = subst (Goes (block_fates a b) b) (sym (append-nil (in_block a b))) (goes-block a b)
 
-goes-group : (e : Edit) (g : Group) → Goes (groupFates e g) (flat g) (flat (inGroup e g))
-goes-group (Edit.insert new) g = along (groupFates (Edit.insert new) g) (owns-whole g) (owns-whole (inGroup (Edit.insert new) g)) (goes-behind whole isRecord (fresh new) g)
-goes-group (Edit.on j a) g = along (groupFates (Edit.on j a) g) (owns-whole g) (owns-whole (inGroup (Edit.on j a) g)) (goes_at whole isMember (λ (b : Block). in_block a b ∷ []) (blockFates a) (goes-act a) g j)
+goes-group : (e : Edit) (g : Group) → Goes (group_fates e g) (flat g) (flat (in_group e g))
+goes-group (Edit.insert new) g = along (group_fates (Edit.insert new) g) (owns-whole g) (owns-whole (in_group (Edit.insert new) g)) (goes-behind whole is_record (fresh new) g)
+goes-group (Edit.on j a) g = along (group_fates (Edit.on j a) g) (owns-whole g) (owns-whole (in_group (Edit.on j a) g)) (goes_at whole is_member (λ (b : Block). in_block a b ∷ []) (block_fates a) (goes-act a) g j)
 
-goes_one : (e : Edit) (g : Group) → Goes (groupFates e g) (flat g) (owns flat (inGroup e g ∷ []))
-goes_one e g = subst (Goes (groupFates e g) (flat g)) (sym (append-nil (flat (inGroup e g)))) (goes-group e g)
+goes_one : (e : Edit) (g : Group) → Goes (group_fates e g) (flat g) (owns flat (in_group e g ∷ []))
+goes_one e g = subst (Goes (group_fates e g) (flat g)) (sym (append-nil (flat (in_group e g)))) (goes-group e g)
 
 -- an edit of a file's pieces
 
-goes-groups : (i : ℕ) (e : Edit) (ps : List Piece) → Goes (inGroupFates i e ps) ps (in_groups i e ps)
+goes-groups : (i : ℕ) (e : Edit) (ps : List Piece) → Goes (in_group_fates i e ps) ps (in_groups i e ps)
 goes-groups i e ps =
-    along (inGroupFates i e ps) (owns-flat (groups ps) ∙ groups-pieces ps) (owns-flat (nth i (inGroup e) (groups ps))) (goes_at flat always (λ (g : Group). inGroup e g ∷ []) (groupFates e) (goes_one e) (groups ps) i)
+    along (in_group_fates i e ps) (owns-flat (groups ps) ∙ groups-pieces ps) (owns-flat (nth i (in_group e) (groups ps))) (goes_at flat always (λ (g : Group). in_group e g ∷ []) (group_fates e) (goes_one e) (groups ps) i)
 
-goes-front : (new : List Pair) (ps : List Piece) → Goes (addedAll (map newPiece new ++ newlineIf ps)) ps (inFront new ps)
-goes-front new ps = subst (Goes (addedAll (map newPiece new ++ newlineIf ps)) ps) (append_assoc (map newPiece new) (newlineIf ps) ps) (goes-added (map newPiece new ++ newlineIf ps) ps)
+goes-front : (new : List Pair) (ps : List Piece) → Goes (added_all (map new_piece new ++ newline_if ps)) ps (in_front new ps)
+goes-front new ps = subst (Goes (added_all (map new_piece new ++ newline_if ps)) ps) (append_assoc (map new_piece new) (newline_if ps) ps) (goes-added (map new_piece new ++ newline_if ps) ps)
 
-pub goes-edit : (i : ℕ) (e : Edit) (ps : List Piece) → Goes (editFates i e ps) ps (editPieces i e ps)
-goes-edit i (Edit.insert new) ps = go (any isRecord (get_or (groups ps) i []))
+pub goes-edit : (i : ℕ) (e : Edit) (ps : List Piece) → Goes (edit_fates i e ps) ps (edit_pieces i e ps)
+goes-edit i (Edit.insert new) ps = go (any is_record (get_or (groups ps) i []))
   where
-    go : (t : Bool) → Goes (pick t (inGroupFates i (Edit.insert new) ps) (addedAll (map newPiece new ++ newlineIf ps))) ps (pick t (in_groups i (Edit.insert new) ps) (inFront new ps))
+    go : (t : Bool) → Goes (pick t (in_group_fates i (Edit.insert new) ps) (added_all (map new_piece new ++ newline_if ps))) ps (pick t (in_groups i (Edit.insert new) ps) (in_front new ps))
     go true = goes-groups i (Edit.insert new) ps
     go false = goes-front new ps
 goes-edit i (Edit.on j a) ps = goes-groups i (Edit.on j a) ps

@@ -8,7 +8,7 @@ use mathlib.Core.List.{List, [], ◌∷◌, ◌++◌, map}
 use lib.Dec.{eqb}
 use borrow.Author.Tests.{ne_eqb}
 use Rattle.format.specs.Bytes.{pick, all}
-use Rattle.format.specs.Questions.{Row, firstNo}
+use Rattle.format.specs.Questions.{Row, first_no}
 
 -- the lesser of two numbers of questions, 0 being none
 abbrev pub least : ℕ → ℕ → ℕ
@@ -21,9 +21,9 @@ leasts [] = 0
 leasts (k ∷ ks) = least k (leasts ks)
 
 -- questions asked of each thing
-abbrev pub eachOf : {A : Type 0} → List (Row A) → List (Row (List A))
-eachOf [] = []
-eachOf (r ∷ rs) = record { number = r.number; asks = λ (xs : List _). all r.asks xs } ∷ eachOf rs
+abbrev pub each_of : {A : Type 0} → List (Row A) → List (Row (List A))
+each_of [] = []
+each_of (r ∷ rs) = record { number = r.number; asks = λ (xs : List _). all r.asks xs } ∷ each_of rs
 
 -- numbers that rise from above k
 abbrev pub Rise : {A : Type 0} → ℕ → List (Row A) → Type 0
@@ -42,11 +42,11 @@ first_by : (b : Bool) (k m n : ℕ) → k < n → Above n m → Above k (pick b 
 first_by true k m n h a = above_more n k m (omega arith) a
 first_by false k m n h a = inr h
 
-pub first_above : {A : Type 0} (rs : List (Row A)) (k : ℕ) → Rise k rs → (x : A) → Above k (firstNo rs x)
+pub first_above : {A : Type 0} (rs : List (Row A)) (k : ℕ) → Rise k rs → (x : A) → Above k (first_no rs x)
 first_above [] k h x = inl refl
-first_above (r ∷ rs) k h x = first_by (r.asks x) k (firstNo rs x) r.number h.0 (first_above rs r.number h.1 x)
+first_above (r ∷ rs) k h x = first_by (r.asks x) k (first_no rs x) r.number h.0 (first_above rs r.number h.1 x)
 
-rise-each : {A : Type 0} (rs : List (Row A)) (k : ℕ) → Rise k rs → Rise k (eachOf rs)
+rise-each : {A : Type 0} (rs : List (Row A)) (k : ℕ) → Rise k rs → Rise k (each_of rs)
 rise-each [] k h = tt
 rise-each (r ∷ rs) k h = (h.0, rise-each rs r.number h.1)
 
@@ -73,21 +73,21 @@ first-both false true n x xs both p ax axs e = sym (least-right xs n p axs)
 first-both false false n x xs both p ax axs e = sym (least_self n)
 
 -- asked of one thing and of others
-pub first-cons : {A : Type 0} (rs : List (Row A)) (k : ℕ) → Rise k rs → (x : A) (xs : List A) → firstNo (eachOf rs) (x ∷ xs) ≡ least (firstNo rs x) (firstNo (eachOf rs) xs)
+pub first-cons : {A : Type 0} (rs : List (Row A)) (k : ℕ) → Rise k rs → (x : A) (xs : List A) → first_no (each_of rs) (x ∷ xs) ≡ least (first_no rs x) (first_no (each_of rs) xs)
 first-cons [] k h x xs = refl
 first-cons (r ∷ rs) k h x xs =
     let n : ℕ = r.number in
-    first-both (r.asks x) (all r.asks xs) n (firstNo rs x) (firstNo (eachOf rs) xs) (firstNo (eachOf rs) (x ∷ xs)) (omega (arith, h.0))
-    (first_above rs n h.1 x) (first_above (eachOf rs) n (rise-each rs n h.1) xs) (first-cons rs n h.1 x xs)
+    first-both (r.asks x) (all r.asks xs) n (first_no rs x) (first_no (each_of rs) xs) (first_no (each_of rs) (x ∷ xs)) (omega (arith, h.0))
+    (first_above rs n h.1 x) (first_above (each_of rs) n (rise-each rs n h.1) xs) (first-cons rs n h.1 x xs)
 
-first-none : {A : Type 0} (rs : List (Row A)) → firstNo (eachOf rs) [] ≡ 0
+first-none : {A : Type 0} (rs : List (Row A)) → first_no (each_of rs) [] ≡ 0
 first-none [] = refl
 first-none (r ∷ rs) = first-none rs
 
 -- the first question that says no of some thing is the least that one of them fails
-pub first-leasts : {A : Type 0} (rs : List (Row A)) → Rise 0 rs → (xs : List A) → firstNo (eachOf rs) xs ≡ leasts (map (firstNo rs) xs)
+pub first-leasts : {A : Type 0} (rs : List (Row A)) → Rise 0 rs → (xs : List A) → first_no (each_of rs) xs ≡ leasts (map (first_no rs) xs)
 first-leasts rs h [] = first-none rs
-first-leasts rs h (x ∷ xs) = first-cons rs 0 h x xs ∙ ap (least (firstNo rs x)) (first-leasts rs h xs)
+first-leasts rs h (x ∷ xs) = first-cons rs 0 h x xs ∙ ap (least (first_no rs x)) (first-leasts rs h xs)
 
 pub rise-less : {A : Type 0} (rs : List (Row A)) (k : ℕ) → Rise k rs → Rise 0 rs
 rise-less [] k h = tt
@@ -98,6 +98,6 @@ first_then true both rs ts n p e = e
 first_then false both rs ts n p e = rw (ne_eqb n 0 (λ q. omega arith))
 
 -- questions one list after another
-pub first-append : {A : Type 0} (rs ts : List (Row A)) (x : A) → Rise 0 rs → firstNo (rs ++ ts) x ≡ pick (eqb (firstNo rs x) 0) (firstNo ts x) (firstNo rs x)
+pub first-append : {A : Type 0} (rs ts : List (Row A)) (x : A) → Rise 0 rs → first_no (rs ++ ts) x ≡ pick (eqb (first_no rs x) 0) (first_no ts x) (first_no rs x)
 first-append [] ts x h = refl
-first-append (r ∷ rs) ts x h = first_then (r.asks x) (firstNo (rs ++ ts) x) (firstNo rs x) (firstNo ts x) r.number h.0 (first-append rs ts x (rise-less rs r.number h.1))
+first-append (r ∷ rs) ts x h = first_then (r.asks x) (first_no (rs ++ ts) x) (first_no rs x) (first_no ts x) r.number h.0 (first-append rs ts x (rise-less rs r.number h.1))

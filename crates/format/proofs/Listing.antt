@@ -9,11 +9,11 @@ use lib.ListN.{length}
 use borrow.Author.Tests.{eqb-true, eqb-false, eq-eqb, ne_eqb}
 use Rattle.format.specs.Lists.{flat}
 use Rattle.format.specs.Bytes.{Bytes, text, pick, all, same}
-use Rattle.format.specs.Lines.{isName, isSpecial}
+use Rattle.format.specs.Lines.{is_name, is_special}
 use Rattle.format.specs.Words.{words}
 use Rattle.format.specs.Records.{Field, Record}
 use Rattle.format.specs.Sets.{values_of}
-use Rattle.format.specs.Rules.{listed, auto, several, isOrdinary, isShaped, isWellFormed}
+use Rattle.format.specs.Rules.{listed, auto, several, is_ordinary, is_shaped, is_well_formed}
 use Rattle.format.specs.Numbers.{Bounds}
 use Rattle.format.specs.Questions.{occurrences}
 use Rattle.format.proofs.Elements.{all_both}
@@ -42,12 +42,12 @@ same-swap (x ∷ s) [] = refl
 same-swap (x ∷ s) (y ∷ t) = (λ i. eqb_swap x y i && same-swap s t i)
 
 -- one more field in front: the words that it lists, and its occurrence
-listed_by : (b : Bool) (v : Bytes) (vs : List Bytes) → flat (map words (pick b (v ∷ vs) vs)) ≡ pick b (words v) [] ++ flat (map words vs)
-listed_by true v vs = refl
-listed_by false v vs = refl
+listed_by_lem : (b : Bool) (v : Bytes) (vs : List Bytes) → flat (map words (pick b (v ∷ vs) vs)) ≡ pick b (words v) [] ++ flat (map words vs)
+listed_by_lem true v vs = refl
+listed_by_lem false v vs = refl
 
 pub listed_cons : (n : Bytes) (f : Field) (r : Record) → listed n (f ∷ r) ≡ pick (same n f.name) (words f.value) [] ++ listed n r
-listed_cons n f r = listed_by (same n f.name) f.value (values_of n r)
+listed_cons n f r = listed_by_lem (same n f.name) f.value (values_of n r)
 
 occurs-by : (b : Bool) (v : Bytes) (vs : List Bytes) → length (pick b (v ∷ vs) vs) ≡ pick b 1 0 + length vs
 occurs-by true v vs = omega arith
@@ -57,36 +57,36 @@ pub occurrences-cons : (n : Bytes) (f : Field) (r : Record) → occurrences n (f
 occurrences-cons n f r = occurs-by (same n f.name) f.value (values_of n r)
 
 -- what the shape of a list's fields asks of each word, all words of the list have
-pub shaped-as : (b : Bounds) (f : Field) (n : Bytes) → same n f.name ≡ true → isShaped b f ≡ true → isShaped b (record { name = n; value = f.value; count = f.count }) ≡ true
-shaped-as b f n q s = ap (λ (x : Bytes). isShaped b (record { name = x; value = f.value; count = f.count })) (same_true n f.name q) ∙ s
+pub shaped-as : (b : Bounds) (f : Field) (n : Bytes) → same n f.name ≡ true → is_shaped b f ≡ true → is_shaped b (record { name = n; value = f.value; count = f.count }) ≡ true
+shaped-as b f n q s = ap (λ (x : Bytes). is_shaped b (record { name = x; value = f.value; count = f.count })) (same_true n f.name q) ∙ s
 
 pub several-all : (p : Bytes → Bool) (ws : List Bytes) → several p ws ≡ true → all p ws ≡ true
 several-all p [] s = refl
 several-all p (w ∷ ws) s = s
 
-pub listed-all : (b : Bounds) (n : Bytes) (p : Bytes → Bool) → ((v : Bytes) (k : ℕ) → isShaped b (record { name = n; value = v; count = k }) ≡ true → several p (words v) ≡ true) → (r : Record) → all (isShaped b) r ≡ true → all p (listed n r) ≡ true
+pub listed-all : (b : Bounds) (n : Bytes) (p : Bytes → Bool) → ((v : Bytes) (k : ℕ) → is_shaped b (record { name = n; value = v; count = k }) ≡ true → several p (words v) ≡ true) → (r : Record) → all (is_shaped b) r ≡ true → all p (listed n r) ≡ true
 listed-all b n p g [] e = refl
 listed-all b n p g (f ∷ r) e =
-    let h = (and-eq-true_iff (isShaped b f) (all (isShaped b) r)).0 e in
+    let h = (and-eq-true_iff (is_shaped b f) (all (is_shaped b) r)).0 e in
     ap (all p) (listed_cons n f r)
     ∙ all_append p (pick (same n f.name) (words f.value) []) (listed n r)
     ∙ (λ i. here (same n f.name) refl h.0 i && listed-all b n p g r h.1 i)
   where
-    here : (t : Bool) → same n f.name ≡ t → isShaped b f ≡ true → all p (pick t (words f.value) []) ≡ true
+    here : (t : Bool) → same n f.name ≡ t → is_shaped b f ≡ true → all p (pick t (words f.value) []) ≡ true
     here true q s = several-all p (words f.value) (g f.value f.count (shaped-as b f n q s))
     here false q s = refl
 
-module _ (b : Bounds) (r : Record) (well : isWellFormed b r ≡ true) where
-  pub well-shaped : all (isShaped b) r ≡ true
+module _ (b : Bounds) (r : Record) (well : is_well_formed b r ≡ true) where
+  pub well-shaped : all (is_shaped b) r ≡ true
   well-shaped =
       let k : Bool = leb (length (values_of (text "%key") r)) 1 in
-      ((and-eq-true_iff (all (isShaped b) r) k).0 ((and-eq-true_iff (all (isShaped b) r && k) (leb (length (values_of (text "%size") r)) 1)).0 well).0).0
+      ((and-eq-true_iff (all (is_shaped b) r) k).0 ((and-eq-true_iff (all (is_shaped b) r && k) (leb (length (values_of (text "%size") r)) 1)).0 well).0).0
 
   -- no name of an `%auto` list begins with `%`
-  pub auto-ordinary : all isOrdinary (auto r) ≡ true
-  auto-ordinary = listed-all b (text "%auto") isOrdinary (λ v k e. sym (or-false (several isOrdinary (words v))) ∙ e) r well-shaped
+  pub auto-ordinary : all is_ordinary (auto r) ≡ true
+  auto-ordinary = listed-all b (text "%auto") is_ordinary (λ v k e. sym (or-false (several is_ordinary (words v))) ∙ e) r well-shaped
 
-  pub auto-names : all isName (auto r) ≡ true
+  pub auto-names : all is_name (auto r) ≡ true
   auto-names =
-      let ordinary : Bytes → Bool = λ (n : Bytes). not (isSpecial n) in
-      ((and-eq-true_iff (all isName (auto r)) (all ordinary (auto r))).0 (sym (all_both isName ordinary (auto r)) ∙ auto-ordinary)).0
+      let ordinary : Bytes → Bool = λ (n : Bytes). not (is_special n) in
+      ((and-eq-true_iff (all is_name (auto r)) (all ordinary (auto r))).0 (sym (all_both is_name ordinary (auto r)) ∙ auto-ordinary)).0

@@ -6,7 +6,7 @@ use mathlib.Core.Bool.{Bool, true, false}
 use mathlib.Core.List.{List, [], ◌∷◌, ◌++◌, append_assoc, map}
 use mathlib.Core.Option.{Option, none, some}
 use Rattle.format.specs.Bytes.{pick, any}
-use Rattle.format.specs.Lists.{sum, flat, filter, keep, kept, onto, cut_at, turn, at, nth, behindLast}
+use Rattle.format.specs.Lists.{sum, flat, filter, keep, kept, onto, cut_at, turn, at, nth, behind_last}
 use Rattle.format.proofs.Elements.{Each, each_append, each-parts, each-imp, any_none, Filled, Has}
 
 abbrev pub None : {A : Type 0} → (A → Bool) → List A → Type 0
@@ -52,11 +52,11 @@ module _ {A B : Type 0} (g : A → Option B) where
     pub none_kept : (xs : List A) → any t xs ≡ false → kept g xs ≡ []
     none_kept xs e = kept-none xs (each-imp (λ (x : A). t x ≡ false) (λ (x : A). g x ≡ none) none_of xs (any_none t xs e))
 
-    behind-by : (b : Bool) (xs : List A) → any t xs ≡ b → kept g (behindLast t y xs) ≡ kept g xs ++ keep (g y) [] → kept g (pick b (behindLast t y xs) (y ∷ xs)) ≡ kept g xs ++ keep (g y) []
+    behind-by : (b : Bool) (xs : List A) → any t xs ≡ b → kept g (behind_last t y xs) ≡ kept g xs ++ keep (g y) [] → kept g (pick b (behind_last t y xs) (y ∷ xs)) ≡ kept g xs ++ keep (g y) []
     behind-by true xs e ih = ih
     behind-by false xs e ih = (λ i. keep (g y) (none_kept xs e i)) ∙ (λ i. sym (none_kept xs e) i ++ keep (g y) [])
 
-    pub kept-behind : (xs : List A) → kept g (behindLast t y xs) ≡ kept g xs ++ keep (g y) []
+    pub kept-behind : (xs : List A) → kept g (behind_last t y xs) ≡ kept g xs ++ keep (g y) []
     kept-behind [] = refl
     kept-behind (x ∷ xs) = ap (keep (g x)) (behind-by (any t xs) xs refl (kept-behind xs)) ∙ keep_append (g x) (kept g xs) (keep (g y) [])
 
@@ -84,9 +84,9 @@ module _ {A : Type 0} (P : A → Type 0) where
   pub each_on : (t : A → Bool) (f : A → List A) → ((x : A) → P x → t x ≡ true → Each P (f x)) → (xs : List A) → Each P xs → (k : ℕ) → Each P (at t k f xs)
   each_on t f h xs ps k = each_at t f xs ps (each-imp P (λ (x : A). t x ≡ true → Each P (f x)) h xs ps) k
 
-  pub each-behind : (t : A → Bool) (y : A) → P y → (xs : List A) → Each P xs → Each P (behindLast t y xs)
+  pub each-behind : (t : A → Bool) (y : A) → P y → (xs : List A) → Each P xs → Each P (behind_last t y xs)
   each-behind t y p [] h = (p, tt)
-  each-behind t y p (x ∷ xs) h = (h.0, each-pick (any t xs) (behindLast t y xs) (y ∷ xs) (each-behind t y p xs h.1) (p, h.1))
+  each-behind t y p (x ∷ xs) h = (h.0, each-pick (any t xs) (behind_last t y xs) (y ∷ xs) (each-behind t y p xs h.1) (p, h.1))
 
   pub each-flat : (gs : List (List A)) → Each (Each P) gs → Each P (flat gs)
   each-flat [] h = tt
@@ -130,9 +130,9 @@ module _ {A : Type 0} (w : A → ℕ) where
   sum-pick true n xs ys h k = h
   sum-pick false n xs ys h k = k
 
-  pub sum-behind : (t : A → Bool) (y : A) (xs : List A) → sum w (behindLast t y xs) ≡ w y + sum w xs
+  pub sum-behind : (t : A → Bool) (y : A) (xs : List A) → sum w (behind_last t y xs) ≡ w y + sum w xs
   sum-behind t y [] = refl
-  sum-behind t y (x ∷ xs) = omega (arith, sum-pick (any t xs) (w y + sum w xs) (behindLast t y xs) (y ∷ xs) (sum-behind t y xs) refl)
+  sum-behind t y (x ∷ xs) = omega (arith, sum-pick (any t xs) (w y + sum w xs) (behind_last t y xs) (y ∷ xs) (sum-behind t y xs) refl)
 
   pub sum-flat : (gs : List (List A)) → sum w (flat gs) ≡ sum (λ (g : List A). sum w g) gs
   sum-flat [] = refl

@@ -14,12 +14,12 @@ use Rattle.format.specs.Bytes.{Bytes, pick, all, same, among, is_some}
 use Rattle.format.specs.Records.{Field, Record}
 use Rattle.format.specs.Sets.{RecSet}
 use Rattle.format.specs.Words.{trim}
-use Rattle.format.specs.Numbers.{Int, plus, minus, Bounds, intBounds, int_of, isAtMost}
-use Rattle.format.specs.Types.{Kind, isInRange, meets}
-use Rattle.format.specs.Rules.{auto, TypeRule, typeRules, isTyped, distinct, kindsOf, Span, all_ints, span_of, isCounted}
-use Rattle.format.specs.Questions.{valuesIn}
-use Rattle.format.specs.Written.{Pair, newField, isLegalValue}
-use Rattle.format.specs.Numbering.{firsts, pairNames, omitted, intsOf, above, from, largest, leastIn, nextNumber, decimal, numbered, every, added, completed}
+use Rattle.format.specs.Numbers.{Int, plus, minus, Bounds, int_bounds, int_of, is_at_most}
+use Rattle.format.specs.Types.{Kind, is_in_range, meets}
+use Rattle.format.specs.Rules.{auto, TypeRule, type_rules, is_typed, distinct, kinds_of, Span, all_ints, span_of, is_counted}
+use Rattle.format.specs.Questions.{values_in}
+use Rattle.format.specs.Written.{Pair, new_field, is_legal_value}
+use Rattle.format.specs.Numbering.{firsts, pair_names, omitted, ints_of, above, from, largest, least_in, next_number, decimal, numbered, every, added, completed}
 use Rattle.format.proofs.Elements.{Each, all-each, each_all, each-imp, any_none, none_any}
 use Rattle.format.proofs.Lists.{each-filter}
 use Rattle.format.proofs.Digits.{decimal-digits, decimal-back, trim_digits, decimal-legal}
@@ -28,10 +28,10 @@ use Rattle.format.proofs.Digits.{decimal-digits, decimal-back, trim_digits, deci
 
 -- a number is above an int, and within a span
 abbrev pub IsAbove : ℕ → Int → Type 0
-IsAbove m x = isAtMost (plus m) x ≡ false
+IsAbove m x = is_at_most (plus m) x ≡ false
 
 abbrev pub IsWithin : ℕ → Span → Type 0
-IsWithin m s = (isAtMost s.low (plus m) ≡ true) × (isAtMost (plus m) s.high ≡ true)
+IsWithin m s = (is_at_most s.low (plus m) ≡ true) × (is_at_most (plus m) s.high ≡ true)
 
 abbrev pub Fits : List Span → List Int → ℕ → Type 0
 Fits ss is m = Each (IsWithin m) ss × Each (IsAbove m) is
@@ -60,15 +60,15 @@ le-above : (x : Int) (m : ℕ) → above x ≤ m → IsAbove m x
 le-above (plus n) m h = lt-leb m n h
 le-above (minus n) m h = zero-above m (eqb n 0) h
 
-from_le : (x : Int) (m : ℕ) → isAtMost x (plus m) ≡ true → from x ≤ m
+from_le : (x : Int) (m : ℕ) → is_at_most x (plus m) ≡ true → from x ≤ m
 from_le (plus n) m e = leb-true n m e
 from_le (minus n) m e = omega arith
 
-le_from : (x : Int) (m : ℕ) → from x ≤ m → isAtMost x (plus m) ≡ true
+le_from : (x : Int) (m : ℕ) → from x ≤ m → is_at_most x (plus m) ≡ true
 le_from (plus n) m h = le-leb n m h
 le_from (minus n) m h = refl
 
-at-most-less : (x : Int) (k m : ℕ) → k ≤ m → isAtMost (plus m) x ≡ true → isAtMost (plus k) x ≡ true
+at-most-less : (x : Int) (k m : ℕ) → k ≤ m → is_at_most (plus m) x ≡ true → is_at_most (plus k) x ≡ true
 at-most-less (plus n) k m h e = le-leb k n (le_trans h (leb-true m n e))
 at-most-less (minus n) k m h e =
     let q = (and-eq-true_iff (eqb m 0) (eqb n 0)).0 e in
@@ -95,36 +95,36 @@ module _ (ss : List Span) (is : List Int) where
       max-le (largest-le above is m (each-imp (IsAbove m) (λ (x : Int). above x ≤ m) (λ x e. above-le x m e) is h.1))
       (largest-le low ss m (each-imp (IsWithin m) (λ (s : Span). low s ≤ m) (λ s e. from_le s.low m e.0) ss h.0))
 
-  highs-less : (m : ℕ) → Fits ss is m → all (λ (s : Span). isAtMost (plus first) s.high) ss ≡ true
+  highs-less : (m : ℕ) → Fits ss is m → all (λ (s : Span). is_at_most (plus first) s.high) ss ≡ true
   highs-less m h =
-      each_all (λ (s : Span). isAtMost (plus first) s.high) ss
-      (each-imp (IsWithin m) (λ (s : Span). isAtMost (plus first) s.high ≡ true) (λ s e. at-most-less s.high first m (not-less m h) e.1) ss h.0)
+      each_all (λ (s : Span). is_at_most (plus first) s.high) ss
+      (each-imp (IsWithin m) (λ (s : Span). is_at_most (plus first) s.high ≡ true) (λ s e. at-most-less s.high first m (not-less m h) e.1) ss h.0)
 
-  first_fits : all (λ (s : Span). isAtMost (plus first) s.high) ss ≡ true → Fits ss is first
+  first_fits : all (λ (s : Span). is_at_most (plus first) s.high) ss ≡ true → Fits ss is first
   first_fits e = (
-    within-each ss (le-largest low ss first (le-max_right (largest above is) (largest low ss))) (all-each (λ (s : Span). isAtMost (plus first) s.high) ss e),
+    within-each ss (le-largest low ss first (le-max_right (largest above is) (largest low ss))) (all-each (λ (s : Span). is_at_most (plus first) s.high) ss e),
     each-imp (λ (x : Int). above x ≤ first) (IsAbove first) (λ x h. le-above x first h) is (le-largest above is first (le-max_left (largest above is) (largest low ss))),
   )
     where
-      within-each : (ts : List Span) → Each (λ (s : Span). low s ≤ first) ts → Each (λ (s : Span). isAtMost (plus first) s.high ≡ true) ts → Each (IsWithin first) ts
+      within-each : (ts : List Span) → Each (λ (s : Span). low s ≤ first) ts → Each (λ (s : Span). is_at_most (plus first) s.high ≡ true) ts → Each (IsWithin first) ts
       within-each [] h k = tt
       within-each (t ∷ ts) h k = ((le_from t.low first h.0, k.0), within-each ts h.1 k.1)
 
-  pub least-in : LeastOf (Fits ss is) (leastIn ss is)
-  least-in = go (all (λ (s : Span). isAtMost (plus first) s.high) ss) refl
+  pub least-in : LeastOf (Fits ss is) (least_in ss is)
+  least-in = go (all (λ (s : Span). is_at_most (plus first) s.high) ss) refl
     where
-      go : (c : Bool) → all (λ (s : Span). isAtMost (plus first) s.high) ss ≡ c → LeastOf (Fits ss is) (only_if c first)
+      go : (c : Bool) → all (λ (s : Span). is_at_most (plus first) s.high) ss ≡ c → LeastOf (Fits ss is) (only_if c first)
       go true e = (first_fits e, not-less)
       go false e = λ m h. false≢true (sym e ∙ highs-less m h)
 
 -- The number of a name meets its types, written
 
 -- every type that names a field holds of its value
-pub typed-kinds : (b : Bounds) (f : Field) (ts : List TypeRule) → isTyped b ts f ≡ all (λ (k : Kind). meets b k f.value) (kindsOf f.name ts)
+pub typed-kinds : (b : Bounds) (f : Field) (ts : List TypeRule) → is_typed b ts f ≡ all (λ (k : Kind). meets b k f.value) (kinds_of f.name ts)
 typed-kinds b f [] = refl
 typed-kinds b f (t ∷ ts) = go (among f.name t.names) (typed-kinds b f ts)
   where
-    go : (c : Bool) → isTyped b ts f ≡ all (λ (k : Kind). meets b k f.value) (kindsOf f.name ts) → ((not c || meets b t.kind f.value) && isTyped b ts f) ≡ all (λ (k : Kind). meets b k f.value) (map (λ (u : TypeRule). u.kind) (pick c (t ∷ filter (λ (u : TypeRule). among f.name u.names) ts) (filter (λ (u : TypeRule). among f.name u.names) ts)))
+    go : (c : Bool) → is_typed b ts f ≡ all (λ (k : Kind). meets b k f.value) (kinds_of f.name ts) → ((not c || meets b t.kind f.value) && is_typed b ts f) ≡ all (λ (k : Kind). meets b k f.value) (map (λ (u : TypeRule). u.kind) (pick c (t ∷ filter (λ (u : TypeRule). among f.name u.names) ts) (filter (λ (u : TypeRule). among f.name u.names) ts)))
     go true e = ap (λ (x : Bool). meets b t.kind f.value && x) e
     go false e = e
 
@@ -134,11 +134,11 @@ module _ (b : Bounds) (m : ℕ) (fits : m ≤ b.greatest) where
 
   abbrev Told : Kind → Option Span → Type 0
   Told k none = Unit {0}
-  Told k (some s) = meets b k (decimal m) ≡ (isAtMost s.low (plus m) && isAtMost (plus m) s.high)
+  Told k (some s) = meets b k (decimal m) ≡ (is_at_most s.low (plus m) && is_at_most (plus m) s.high)
 
   kind-told : (k : Kind) → Told k (span_of b k)
   kind-told Kind.int = rw (int-told, le-leb m b.greatest fits)
-  kind-told (Kind.range low high) = ap (isInRange low high) int-told
+  kind-told (Kind.range low high) = ap (is_in_range low high) int-told
   kind-told Kind.real = tt
   kind-told Kind.line = tt
   kind-told (Kind.size n) = tt
@@ -149,11 +149,11 @@ module _ (b : Bounds) (m : ℕ) (fits : m ≤ b.greatest) where
 
   within-told : (k : Kind) (x : Option Span) (ss : List Span) → Told k x → is_some x ≡ true → Each (IsWithin m) (keep x ss) → (meets b k (decimal m) ≡ true) × Each (IsWithin m) ss
   within-told k none ss t e h = absurd (false≢true e)
-  within-told k (some s) ss t e h = (t ∙ (and-eq-true_iff (isAtMost s.low (plus m)) (isAtMost (plus m) s.high)).1 h.0, h.1)
+  within-told k (some s) ss t e h = (t ∙ (and-eq-true_iff (is_at_most s.low (plus m)) (is_at_most (plus m) s.high)).1 h.0, h.1)
 
   told-within : (k : Kind) (x : Option Span) (ss : List Span) → Told k x → meets b k (decimal m) ≡ true → Each (IsWithin m) ss → Each (IsWithin m) (keep x ss)
   told-within k none ss t e h = h
-  told-within k (some s) ss t e h = ((and-eq-true_iff (isAtMost s.low (plus m)) (isAtMost (plus m) s.high)).0 (sym t ∙ e), h)
+  told-within k (some s) ss t e h = ((and-eq-true_iff (is_at_most s.low (plus m)) (is_at_most (plus m) s.high)).0 (sym t ∙ e), h)
 
   within-kinds : (ks : List Kind) → all (λ (k : Kind). is_some (span_of b k)) ks ≡ true → Each (IsWithin m) (kept (span_of b) ks) → all (λ (k : Kind). meets b k (decimal m)) ks ≡ true
   within-kinds [] c h = refl
@@ -194,47 +194,47 @@ module _ (m : ℕ) (g : Bytes → Option Int) where
 
 module _ (b : Bounds) (s : RecSet) (n : Bytes) where
   abbrev rules : List TypeRule
-  rules = typeRules b s.rules
+  rules = type_rules b s.rules
 
   -- a number whose text is a value for the name
   pub record Suits (m : ℕ) : Type 0 where
-    pub isInt : m ≤ b.greatest
-    pub isAbove : Each (λ (v : Bytes). AboveInt m (int_of b (trim v))) (valuesIn n s.members)
-    pub isMet : isTyped b rules (newField (record { name = n; value = decimal m })) ≡ true
+    pub is_int : m ≤ b.greatest
+    pub is_above : Each (λ (v : Bytes). AboveInt m (int_of b (trim v))) (values_in n s.members)
+    pub is_met : is_typed b rules (new_field (record { name = n; value = decimal m })) ≡ true
 
   abbrev spans : List Span
-  spans = all_ints b ∷ kept (span_of b) (kindsOf n rules)
+  spans = all_ints b ∷ kept (span_of b) (kinds_of n rules)
 
   abbrev written : ℕ → Field
-  written m = newField (record { name = n; value = decimal m })
+  written m = new_field (record { name = n; value = decimal m })
 
-  suits-fits : (m : ℕ) → Suits m → Fits spans (intsOf b n s.members) m
+  suits-fits : (m : ℕ) → Suits m → Fits spans (ints_of b n s.members) m
   suits-fits m h =
-      (((refl, le-leb m b.greatest h.isInt), kinds-within b m h.isInt (kindsOf n rules) (sym (typed-kinds b (written m) rules) ∙ h.isMet)), kept_above m (λ (v : Bytes). int_of b (trim v)) (valuesIn n s.members) h.isAbove)
+      (((refl, le-leb m b.greatest h.is_int), kinds-within b m h.is_int (kinds_of n rules) (sym (typed-kinds b (written m) rules) ∙ h.is_met)), kept_above m (λ (v : Bytes). int_of b (trim v)) (values_in n s.members) h.is_above)
 
-  fits-suits : isCounted b rules n ≡ true → (m : ℕ) → Fits spans (intsOf b n s.members) m → Suits m
+  fits-suits : is_counted b rules n ≡ true → (m : ℕ) → Fits spans (ints_of b n s.members) m → Suits m
   fits-suits c m h =
       let i : m ≤ b.greatest = leb-true m b.greatest h.0.0.1 in
-      record { isInt = i; isAbove = above_kept m (λ (v : Bytes). int_of b (trim v)) (valuesIn n s.members) h.1; isMet = typed-kinds b (written m) rules ∙ within-kinds b m i (kindsOf n rules) c h.0.1 }
+      record { is_int = i; is_above = above_kept m (λ (v : Bytes). int_of b (trim v)) (values_in n s.members) h.1; is_met = typed-kinds b (written m) rules ∙ within-kinds b m i (kinds_of n rules) c h.0.1 }
 
-  least-suits : isCounted b rules n ≡ true → (x : Option ℕ) → LeastOf (Fits spans (intsOf b n s.members)) x → LeastOf Suits x
+  least-suits : is_counted b rules n ≡ true → (x : Option ℕ) → LeastOf (Fits spans (ints_of b n s.members)) x → LeastOf Suits x
   least-suits c none h = λ m k. h m (suits-fits m k)
   least-suits c (some k) h = (fits-suits c k h.0, λ m t. h.1 m (suits-fits m t))
 
-  pub next-least : isCounted b rules n ≡ true → LeastOf Suits (nextNumber b s n)
-  next-least c = least-suits c (nextNumber b s n) (least-in spans (intsOf b n s.members))
+  pub next-least : is_counted b rules n ≡ true → LeastOf Suits (next_number b s n)
+  next-least c = least-suits c (next_number b s n) (least-in spans (ints_of b n s.members))
 
   -- it is an int, whatever the types
   abbrev pub UpTo : Option ℕ → Type 0
   UpTo none = Unit {0}
   UpTo (some k) = k ≤ b.greatest
 
-  up_to : (x : Option ℕ) → LeastOf (Fits spans (intsOf b n s.members)) x → UpTo x
+  up_to : (x : Option ℕ) → LeastOf (Fits spans (ints_of b n s.members)) x → UpTo x
   up_to none h = tt
   up_to (some k) h = leb-true k b.greatest h.0.0.0.1
 
-  pub next-int : UpTo (nextNumber b s n)
-  next-int = up_to (nextNumber b s n) (least-in spans (intsOf b n s.members))
+  pub next-int : UpTo (next_number b s n)
+  next-int = up_to (next_number b s n) (least-in spans (ints_of b n s.members))
 
 -- What an insert is completed to
 
@@ -255,11 +255,11 @@ each-firsts : (P : Bytes → Type 0) (ns : List Bytes) → Each P ns → Each P 
 each-firsts P [] h = tt
 each-firsts P (n ∷ ns) h = (h.0, each-filter P (λ (m : Bytes). not (same n m)) (firsts ns) (each-firsts P ns h.1))
 
-none-omitted : (rules : Record) (new : List Pair) → all (λ (n : Bytes). among n (pairNames new)) (auto rules) ≡ true → omitted rules new ≡ []
+none-omitted : (rules : Record) (new : List Pair) → all (λ (n : Bytes). among n (pair_names new)) (auto rules) ≡ true → omitted rules new ≡ []
 none-omitted rules new e =
-    filter_none (λ (n : Bytes). not (among n (pairNames new))) (firsts (auto rules))
-    (each-firsts (λ (n : Bytes). not (among n (pairNames new)) ≡ false) (auto rules)
-    (each-imp (λ (n : Bytes). among n (pairNames new) ≡ true) (λ (n : Bytes). not (among n (pairNames new)) ≡ false) (λ n q. ap not q) (auto rules) (all-each (λ (n : Bytes). among n (pairNames new)) (auto rules) e)))
+    filter_none (λ (n : Bytes). not (among n (pair_names new))) (firsts (auto rules))
+    (each-firsts (λ (n : Bytes). not (among n (pair_names new)) ≡ false) (auto rules)
+    (each-imp (λ (n : Bytes). among n (pair_names new) ≡ true) (λ (n : Bytes). not (among n (pair_names new)) ≡ false) (λ n q. ap not q) (auto rules) (all-each (λ (n : Bytes). among n (pair_names new)) (auto rules) e)))
 
 -- no name is added twice, nor one that the request has
 pub filter-distinct : (p : Bytes → Bool) (xs : List Bytes) → distinct xs ≡ true → distinct (filter p xs) ≡ true
@@ -281,27 +281,27 @@ firsts-distinct (n ∷ ns) =
     (and-eq-true_iff (not (among n (filter p (firsts ns)))) (distinct (filter p (firsts ns)))).1 (ap not k, filter-distinct p (firsts ns) (firsts-distinct ns))
 
 pub omitted-once : (rules : Record) (new : List Pair) → distinct (omitted rules new) ≡ true
-omitted-once rules new = filter-distinct (λ (n : Bytes). not (among n (pairNames new))) (firsts (auto rules)) (firsts-distinct (auto rules))
+omitted-once rules new = filter-distinct (λ (n : Bytes). not (among n (pair_names new))) (firsts (auto rules)) (firsts-distinct (auto rules))
 
-pub omitted-new : (rules : Record) (new : List Pair) → Each (λ (n : Bytes). among n (pairNames new) ≡ false) (omitted rules new)
+pub omitted-new : (rules : Record) (new : List Pair) → Each (λ (n : Bytes). among n (pair_names new) ≡ false) (omitted rules new)
 omitted-new rules new =
-    let p : Bytes → Bool = λ (n : Bytes). not (among n (pairNames new)) in
-    each-imp (λ (n : Bytes). p n ≡ true) (λ (n : Bytes). among n (pairNames new) ≡ false) (λ n e. not-true (among n (pairNames new)) e) (omitted rules new) (filter-each p (firsts (auto rules)))
+    let p : Bytes → Bool = λ (n : Bytes). not (among n (pair_names new)) in
+    each-imp (λ (n : Bytes). p n ≡ true) (λ (n : Bytes). among n (pair_names new) ≡ false) (λ n e. not-true (among n (pair_names new)) e) (omitted rules new) (filter-each p (firsts (auto rules)))
 
-pub completed-itself : (b : Bounds) (s : RecSet) (new : List Pair) → all (λ (n : Bytes). among n (pairNames new)) (auto s.rules) ≡ true → completed b s new ≡ some new
+pub completed-itself : (b : Bounds) (s : RecSet) (new : List Pair) → all (λ (n : Bytes). among n (pair_names new)) (auto s.rules) ≡ true → completed b s new ≡ some new
 unfolding completed
 completed-itself b s new e = ap (λ (ns : List Bytes). Option.map (λ (ps : List Pair). ps ++ new) (every (numbered b s) ns)) (none-omitted s.rules new e)
 
 -- the pairs that are added: the omitted names in their order, each with its number, which is a legal value
 module _ (b : Bounds) (s : RecSet) (short : b.greatest < 10 ^ 19) where
   abbrev pub IsAdded : Pair → Type 0
-  IsAdded p = (numbered b s p.name ≡ some p) × (isLegalValue p.value ≡ true)
+  IsAdded p = (numbered b s p.name ≡ some p) × (is_legal_value p.value ≡ true)
 
   abbrev pub Adds : List Bytes → Option (List Pair) → Type 0
-  Adds ns none = all (λ (n : Bytes). is_some (nextNumber b s n)) ns ≡ false
-  Adds ns (some ps) = (all (λ (n : Bytes). is_some (nextNumber b s n)) ns ≡ true) × (pairNames ps ≡ ns) × Each IsAdded ps
+  Adds ns none = all (λ (n : Bytes). is_some (next_number b s n)) ns ≡ false
+  Adds ns (some ps) = (all (λ (n : Bytes). is_some (next_number b s n)) ns ≡ true) × (pair_names ps ≡ ns) × Each IsAdded ps
 
-  added-one : (n : Bytes) (ns : List Bytes) (x : Option ℕ) (y : Option (List Pair)) → nextNumber b s n ≡ x → UpTo b s n x → Adds ns y → Adds (n ∷ ns) (onward (λ (p : Pair). Option.map (λ (ps : List Pair). p ∷ ps) y) (Option.map (λ (k : ℕ). record { name = n; value = decimal k }) x))
+  added-one : (n : Bytes) (ns : List Bytes) (x : Option ℕ) (y : Option (List Pair)) → next_number b s n ≡ x → UpTo b s n x → Adds ns y → Adds (n ∷ ns) (onward (λ (p : Pair). Option.map (λ (ps : List Pair). p ∷ ps) y) (Option.map (λ (k : ℕ). record { name = n; value = decimal k }) x))
   added-one n ns none y e u h = rw e
   added-one n ns (some k) none e u h = rw e h
   added-one n ns (some k) (some ps) e u h =
@@ -309,11 +309,11 @@ module _ (b : Bounds) (s : RecSet) (short : b.greatest < 10 ^ 19) where
 
   pub every-added : (ns : List Bytes) → Adds ns (every (numbered b s) ns)
   every-added [] = (refl, refl, tt)
-  every-added (n ∷ ns) = added-one n ns (nextNumber b s n) (every (numbered b s) ns) refl (next-int b s n) (every-added ns)
+  every-added (n ∷ ns) = added-one n ns (next_number b s n) (every (numbered b s) ns) refl (next-int b s n) (every-added ns)
 
   -- an insert is completed by them, its own pairs behind; or not at all, where an omitted name has no number
   abbrev pub Completes : List Pair → Option (List Pair) → Type 0
-  Completes new none = all (λ (n : Bytes). is_some (nextNumber b s n)) (omitted s.rules new) ≡ false
+  Completes new none = all (λ (n : Bytes). is_some (next_number b s n)) (omitted s.rules new) ≡ false
   Completes new (some ps) = (qs : List Pair) × (Adds (omitted s.rules new) (some qs) × (ps ≡ qs ++ new))
 
   completes : (new : List Pair) (x : Option (List Pair)) → Adds (omitted s.rules new) x → Completes new (Option.map (λ (ps : List Pair). ps ++ new) x)
@@ -327,19 +327,19 @@ module _ (b : Bounds) (s : RecSet) (short : b.greatest < 10 ^ 19) where
   -- its names: the omitted ones, then those of the request
   abbrev pub NamesOf : List Bytes → Option (List Pair) → Type 0
   NamesOf ns none = Unit {0}
-  NamesOf ns (some ps) = pairNames ps ≡ ns
+  NamesOf ns (some ps) = pair_names ps ≡ ns
 
-  names-append : (ps qs : List Pair) → pairNames (ps ++ qs) ≡ pairNames ps ++ pairNames qs
+  names-append : (ps qs : List Pair) → pair_names (ps ++ qs) ≡ pair_names ps ++ pair_names qs
   names-append [] qs = refl
   names-append (p ∷ ps) qs = ap (λ (ns : List Bytes). p.name ∷ ns) (names-append ps qs)
 
-  names-by : (new : List Pair) (x : Option (List Pair)) → Completes new x → NamesOf (omitted s.rules new ++ pairNames new) x
+  names-by : (new : List Pair) (x : Option (List Pair)) → Completes new x → NamesOf (omitted s.rules new ++ pair_names new) x
   names-by new none h = tt
-  names-by new (some ps) h = ap pairNames h.1.1 ∙ names-append h.0 new ∙ ap (λ (ns : List Bytes). ns ++ pairNames new) h.1.0.1
+  names-by new (some ps) h = ap pair_names h.1.1 ∙ names-append h.0 new ∙ ap (λ (ns : List Bytes). ns ++ pair_names new) h.1.0.1
 
-  pub completed-names : (new : List Pair) → NamesOf (omitted s.rules new ++ pairNames new) (completed b s new)
+  pub completed-names : (new : List Pair) → NamesOf (omitted s.rules new ++ pair_names new) (completed b s new)
   completed-names new = names-by new (completed b s new) (completed-by new)
 
 -- the ints of 64 bits have at most 19 digits
-pub short-ints : intBounds.greatest < 10 ^ 19
+pub short-ints : int_bounds.greatest < 10 ^ 19
 short-ints = omega arith

@@ -12,36 +12,36 @@ use Rattle.format.specs.Bytes.{pick, up_from, any}
 use Rattle.format.specs.Lists.{filter, kept, onward}
 use Rattle.format.specs.Pieces.{Piece}
 use Rattle.format.specs.Edits.{Edit}
-use Rattle.format.specs.Requests.{Request, requestOf}
-use Rattle.format.specs.Plain.{Plain, index_of, applyIn, apply, length_of}
-use Rattle.format.specs.Runs.{Single, requestIn, singleStep, plainRun}
-use Rattle.format.specs.Origins.{Fate, setFates, requestFates, singleFates, ifAccepted, fates, Origin, piece_of, number_of, Trace, carried, named_of, startFrom, traced, Stays}
+use Rattle.format.specs.Requests.{Request, request_of}
+use Rattle.format.specs.Plain.{Plain, index_of, apply_in, apply, length_of}
+use Rattle.format.specs.Runs.{Single, request_in, single_step, plain_run}
+use Rattle.format.specs.Origins.{Fate, set_fates, request_fates, single_fates, if_accepted, fates, Origin, piece_of, number_of, Trace, carried, named_of, start_from, traced, Stays}
 use Rattle.format.proofs.Fates.{Goes, goes-edit}
 use Rattle.format.proofs.Questions.{whole_of}
 use Rattle.format.proofs.SingleSteps.{single-accepted, single-refused}
 
 -- a request, on the plain file
 
-goes_in : (x : Option ℕ) (e : Edit) (p : Plain) → Goes (setFates x e p.pieces) p.pieces (applyIn x e p).pieces
+goes_in : (x : Option ℕ) (e : Edit) (p : Plain) → Goes (set_fates x e p.pieces) p.pieces (apply_in x e p).pieces
 goes_in none e p = refl
 goes_in (some i) e p = goes-edit i e p.pieces
 
-goes-apply : (q : Request) (p : Plain) → Goes (requestFates (some q) p) p.pieces (apply q p).pieces
+goes-apply : (q : Request) (p : Plain) → Goes (request_fates (some q) p) p.pieces (apply q p).pieces
 unfolding apply
 goes-apply q p = goes_in (index_of q.set p.sets) q.edit p
 
 -- an edit, accepted or refused
 
-goes_step : (room : ℕ) (p : Plain) (c : Single) (n : ℕ) → (singleStep room p c).number ≡ n → Goes (ifAccepted n (singleFates c p) []) p.pieces (singleStep room p c).file.pieces
+goes_step : (room : ℕ) (p : Plain) (c : Single) (n : ℕ) → (single_step room p c).number ≡ n → Goes (if_accepted n (single_fates c p) []) p.pieces (single_step room p c).file.pieces
 goes_step room p c zero e =
     let a = single-accepted room p c e in
-    let w : onward (whole_of p) (requestOf (requestIn c)) ≡ some a.whole = ap (onward (whole_of p)) a.reads ∙ a.completes in
-    subst (λ (x : Option Request). Goes (requestFates x p) p.pieces (singleStep room p c).file.pieces) (sym w) (subst (λ (x : Plain). Goes (requestFates (some a.whole) p) p.pieces x.pieces) (sym a.makes) (goes-apply a.whole p))
+    let w : onward (whole_of p) (request_of (request_in c)) ≡ some a.whole = ap (onward (whole_of p)) a.reads ∙ a.completes in
+    subst (λ (x : Option Request). Goes (request_fates x p) p.pieces (single_step room p c).file.pieces) (sym w) (subst (λ (x : Plain). Goes (request_fates (some a.whole) p) p.pieces x.pieces) (sym a.makes) (goes-apply a.whole p))
 goes_step room p c (suc k) e = ap (λ (x : Plain). x.pieces) (sym (single-refused room p c k e))
 
-single-goes : (room : ℕ) (p : Plain) (c : Single) → Goes (fates room p c) p.pieces (singleStep room p c).file.pieces
+single-goes : (room : ℕ) (p : Plain) (c : Single) → Goes (fates room p c) p.pieces (single_step room p c).file.pieces
 unfolding fates
-single-goes room p c = goes_step room p c (singleStep room p c).number refl
+single-goes room p c = goes_step room p c (single_step room p c).number refl
 
 -- the pieces of origins, carried
 
@@ -83,10 +83,10 @@ below_all : (n k : ℕ) (ns : List ℕ) → n < k → Rises k ns → any (eqb n)
 below_all n k [] l h = refl
 below_all n k (m ∷ ns) l h = ap (λ (b : Bool). b || any (eqb n) ns) (ne_eqb n m (λ e. omega (arith, h.0))) ∙ below_all n (suc m) ns (omega (arith, h.0)) h.1
 
-abbrev isLeft : List ℕ → ℕ → Bool
-isLeft named k = not (any (eqb k) named)
+abbrev is_left : List ℕ → ℕ → Bool
+is_left named k = not (any (eqb k) named)
 
-all_left : (ns : List ℕ) → filter (isLeft []) ns ≡ ns
+all_left : (ns : List ℕ) → filter (is_left []) ns ≡ ns
 all_left [] = refl
 all_left (n ∷ ns) = ap {B = List ℕ} (λ x. n ∷ x) (all_left ns)
 
@@ -97,22 +97,22 @@ filter_alike p q k (n ∷ ns) f h =
     (λ i. pick (f n h.0 i) (n ∷ rest i) (rest i))
 
 -- the numbers that stand after an edit are those before it that it did not name
-left-on : (n : ℕ) (ms : List ℕ) (ns : List ℕ) → Rises (suc n) ns → filter (isLeft (n ∷ ms)) ns ≡ filter (isLeft ms) ns
-left-on n ms ns h = filter_alike (isLeft (n ∷ ms)) (isLeft ms) (suc n) ns (λ m l. ap (λ (b : Bool). not (b || any (eqb m) ms)) (ne_eqb m n (λ e. omega arith))) h
+left-on : (n : ℕ) (ms : List ℕ) (ns : List ℕ) → Rises (suc n) ns → filter (is_left (n ∷ ms)) ns ≡ filter (is_left ms) ns
+left-on n ms ns h = filter_alike (is_left (n ∷ ms)) (is_left ms) (suc n) ns (λ m l. ap (λ (b : Bool). not (b || any (eqb m) ms)) (ne_eqb m n (λ e. omega arith))) h
 
-numbers-carried : (fs : List Fate) (os : List Origin) (k : ℕ) → Rises k (numbers os) → numbers (carried fs os) ≡ filter (isLeft (named_of fs os)) (numbers os)
+numbers-carried : (fs : List Fate) (os : List Origin) (k : ℕ) → Rises k (numbers os) → numbers (carried fs os) ≡ filter (is_left (named_of fs os)) (numbers os)
 numbers-carried [] os k h = sym (all_left (numbers os))
 numbers-carried (Fate.added p ∷ fs) os k h = numbers-carried fs os k h
 numbers-carried (Fate.left ∷ fs) [] k h = refl
 numbers-carried (Fate.left ∷ fs) (Origin.start n p ∷ os) k h =
     let r = rises-carried fs os (suc n) h.1 in
     ap {B = List ℕ} (λ x. n ∷ x) (numbers-carried fs os (suc n) h.1)
-    ∙ ap (λ (b : Bool). pick (not b) (n ∷ filter (isLeft (named_of fs os)) (numbers os)) (filter (isLeft (named_of fs os)) (numbers os))) (sym (below_all n (suc n) (named_of fs os) (omega arith) r.1))
+    ∙ ap (λ (b : Bool). pick (not b) (n ∷ filter (is_left (named_of fs os)) (numbers os)) (filter (is_left (named_of fs os)) (numbers os))) (sym (below_all n (suc n) (named_of fs os) (omega arith) r.1))
 numbers-carried (Fate.left ∷ fs) (Origin.new q ∷ os) k h = numbers-carried fs os k h
 numbers-carried (Fate.named ∷ fs) [] k h = refl
 numbers-carried (Fate.named ∷ fs) (Origin.start n p ∷ os) k h =
     numbers-carried fs os (suc n) h.1 ∙ sym (left-on n (named_of fs os) (numbers os) h.1)
-    ∙ ap (λ (b : Bool). pick (not (b || any (eqb n) (named_of fs os))) (n ∷ filter (isLeft (n ∷ named_of fs os)) (numbers os)) (filter (isLeft (n ∷ named_of fs os)) (numbers os))) (sym (eq-eqb n n refl))
+    ∙ ap (λ (b : Bool). pick (not (b || any (eqb n) (named_of fs os))) (n ∷ filter (is_left (n ∷ named_of fs os)) (numbers os)) (filter (is_left (n ∷ named_of fs os)) (numbers os))) (sym (eq-eqb n n refl))
 numbers-carried (Fate.named ∷ fs) (Origin.new q ∷ os) k h = numbers-carried fs os k h
 
 -- two filters, one after the other
@@ -122,27 +122,27 @@ both_by false true n f ns ms e h = (λ i. pick (e i) (n ∷ h i) (h i))
 both_by true false n f ns ms e h = h
 both_by false false n f ns ms e h = h
 
-any_append : (n : ℕ) (xs ys : List ℕ) → isLeft (xs ++ ys) n ≡ (isLeft xs n && isLeft ys n)
+any_append : (n : ℕ) (xs ys : List ℕ) → is_left (xs ++ ys) n ≡ (is_left xs n && is_left ys n)
 any_append n [] ys = refl
 any_append n (x ∷ xs) ys = go (eqb n x) (any_append n xs ys)
   where
-    go : (t : Bool) → isLeft (xs ++ ys) n ≡ (isLeft xs n && isLeft ys n) → not (t || any (eqb n) (xs ++ ys)) ≡ (not (t || any (eqb n) xs) && isLeft ys n)
+    go : (t : Bool) → is_left (xs ++ ys) n ≡ (is_left xs n && is_left ys n) → not (t || any (eqb n) (xs ++ ys)) ≡ (not (t || any (eqb n) xs) && is_left ys n)
     go true h = refl
     go false h = h
 
-left_both : (xs ys ns : List ℕ) → filter (isLeft xs) (filter (isLeft ys) ns) ≡ filter (isLeft (xs ++ ys)) ns
+left_both : (xs ys ns : List ℕ) → filter (is_left xs) (filter (is_left ys) ns) ≡ filter (is_left (xs ++ ys)) ns
 left_both xs ys [] = refl
 left_both xs ys (n ∷ ns) =
-    both_by (isLeft xs n) (isLeft ys n) n (isLeft xs) (filter (isLeft ys) ns) (filter (isLeft (xs ++ ys)) ns) refl (left_both xs ys ns)
-    ∙ ap (λ (b : Bool). pick b (n ∷ filter (isLeft (xs ++ ys)) ns) (filter (isLeft (xs ++ ys)) ns)) (sym (any_append n xs ys))
+    both_by (is_left xs n) (is_left ys n) n (is_left xs) (filter (is_left ys) ns) (filter (is_left (xs ++ ys)) ns) refl (left_both xs ys ns)
+    ∙ ap (λ (b : Bool). pick b (n ∷ filter (is_left (xs ++ ys)) ns) (filter (is_left (xs ++ ys)) ns)) (sym (any_append n xs ys))
 
 -- the start
 
-pieces-start : (k : ℕ) (ps : List Piece) → map piece_of (startFrom k ps) ≡ ps
+pieces-start : (k : ℕ) (ps : List Piece) → map piece_of (start_from k ps) ≡ ps
 pieces-start k [] = refl
 pieces-start k (p ∷ ps) = ap {B = List Piece} (λ x. p ∷ x) (pieces-start (suc k) ps)
 
-numbers-start : (k : ℕ) (ps : List Piece) → numbers (startFrom k ps) ≡ up_from (length ps) k
+numbers-start : (k : ℕ) (ps : List Piece) → numbers (start_from k ps) ≡ up_from (length ps) k
 numbers-start k [] = refl
 numbers-start k (p ∷ ps) = ap {B = List ℕ} (λ x. k ∷ x) (numbers-start (suc k) ps)
 
@@ -155,7 +155,7 @@ record Traced (first : List Piece) (t : Trace) (last : List Piece) : Type 0 wher
   stays : Stays first t last
   rises : Rises 0 (numbers t.standing)
 
-start-traced : (ps : List Piece) → Traced ps (record { standing = startFrom 0 ps; named = [] }) ps
+start-traced : (ps : List Piece) → Traced ps (record { standing = start_from 0 ps; named = [] }) ps
 start-traced ps =
     let n = numbers-start 0 ps in
     record { stays = record { pieces = pieces-start 0 ps; order = n ∙ sym (all_left (up_from (length ps) 0)) }; rises = subst (Rises 0) (sym n) (rises-start 0 (length ps)) }
@@ -163,24 +163,24 @@ start-traced ps =
 -- the list
 
 single-traced : (first : List Piece) (room : ℕ) (c : Single) (p : Plain) (t : Trace) → Traced first t p.pieces
-    → Traced first (record { standing = carried (fates room p c) t.standing; named = named_of (fates room p c) t.standing ++ t.named }) (singleStep room p c).file.pieces
+    → Traced first (record { standing = carried (fates room p c) t.standing; named = named_of (fates room p c) t.standing ++ t.named }) (single_step room p c).file.pieces
 single-traced first room c p t h =
     let fs : List Fate = fates room p c in
     let os : List Origin = t.standing in
     record {
       stays = record {
-        pieces = pieces-carried fs os (singleStep room p c).file.pieces (subst (λ (x : List Piece). Goes fs x (singleStep room p c).file.pieces) (sym h.stays.pieces) (single-goes room p c));
-        order = numbers-carried fs os 0 h.rises ∙ ap (filter (isLeft (named_of fs os))) h.stays.order ∙ left_both (named_of fs os) t.named (up_from (length first) 0);
+        pieces = pieces-carried fs os (single_step room p c).file.pieces (subst (λ (x : List Piece). Goes fs x (single_step room p c).file.pieces) (sym h.stays.pieces) (single-goes room p c));
+        order = numbers-carried fs os 0 h.rises ∙ ap (filter (is_left (named_of fs os))) h.stays.order ∙ left_both (named_of fs os) t.named (up_from (length first) 0);
       };
       rises = (rises-carried fs os 0 h.rises).0;
     }
 
-run-traced : (first : List Piece) (room : ℕ) (cs : List Single) (p : Plain) (most : ℕ) (t : Trace) → Traced first t p.pieces → Traced first (traced room cs p t) (plainRun room cs p most).file.pieces
-unfolding traced plainRun
+run-traced : (first : List Piece) (room : ℕ) (cs : List Single) (p : Plain) (most : ℕ) (t : Trace) → Traced first t p.pieces → Traced first (traced room cs p t) (plain_run room cs p most).file.pieces
+unfolding traced plain_run
 run-traced first room [] p most t h = h
 run-traced first room (c ∷ cs) p most t h =
-    let s : Plain = (singleStep room p c).file in
+    let s : Plain = (single_step room p c).file in
     run-traced first room cs s (max most (length_of s)) (record { standing = carried (fates room p c) t.standing; named = named_of (fates room p c) t.standing ++ t.named }) (single-traced first room c p t h)
 
-pub list-stays : (room : ℕ) (cs : List Single) (p : Plain) (most : ℕ) → Stays p.pieces (traced room cs p (record { standing = startFrom 0 p.pieces; named = [] })) (plainRun room cs p most).file.pieces
-list-stays room cs p most = (run-traced p.pieces room cs p most (record { standing = startFrom 0 p.pieces; named = [] }) (start-traced p.pieces)).stays
+pub list-stays : (room : ℕ) (cs : List Single) (p : Plain) (most : ℕ) → Stays p.pieces (traced room cs p (record { standing = start_from 0 p.pieces; named = [] })) (plain_run room cs p most).file.pieces
+list-stays room cs p most = (run-traced p.pieces room cs p most (record { standing = start_from 0 p.pieces; named = [] }) (start-traced p.pieces)).stays

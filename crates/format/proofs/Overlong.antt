@@ -7,13 +7,13 @@ use mathlib.Core.Option.{some}
 use lib.Dec.{leb}
 use lib.ListN.{length}
 use Rattle.format.specs.Bytes.{Bytes, all}
-use Rattle.format.specs.Lists.{isFilled, filter, nth}
+use Rattle.format.specs.Lists.{is_filled, filter, nth}
 use Rattle.format.specs.Records.{Record}
 use Rattle.format.specs.Sets.{RecSet}
-use Rattle.format.specs.Limits.{nameBytes, valueBytes, recordFields, descriptors}
-use Rattle.format.specs.Written.{Pair, newField}
+use Rattle.format.specs.Limits.{name_bytes, value_bytes, record_fields, descriptors}
+use Rattle.format.specs.Written.{Pair, new_field}
 use Rattle.format.specs.Edits.{Edit, in_set}
-use Rattle.format.specs.Questions.{fitsField, fitsRecord, fitsRules, fitsLimits}
+use Rattle.format.specs.Questions.{fits_field, fits_record, fits_rules, fits_limits}
 use Rattle.format.specs.Requests.{Request}
 use Rattle.format.specs.Plain.{Plain, index_of, apply}
 use Rattle.format.proofs.Elements.{Has}
@@ -22,19 +22,19 @@ use Rattle.format.proofs.Applying.{index-has}
 use Rattle.format.proofs.Tallying.{apply-sets}
 
 -- a name that a field may have
-abbrev pub isShort : Pair → Bool
-isShort p = leb (length p.name) nameBytes
+abbrev pub is_short : Pair → Bool
+is_short p = leb (length p.name) name_bytes
 
 long-by : (s v rest others : Bool) → (s && rest) ≡ false → (rest ≡ false → others ≡ false) → ((s && v) && others) ≡ false
 long-by true v rest others e h = ap (λ (x : Bool). v && x) (h e) ∙ and-false v
 long-by false v rest others e h = refl
 
-long-fields : (ps : List Pair) → all isShort ps ≡ false → all fitsField (map newField ps) ≡ false
+long-fields : (ps : List Pair) → all is_short ps ≡ false → all fits_field (map new_field ps) ≡ false
 long-fields [] e = e
-long-fields (p ∷ ps) e = long-by (isShort p) (leb (length p.value) valueBytes) (all isShort ps) (all fitsField (map newField ps)) e (long-fields ps)
+long-fields (p ∷ ps) e = long-by (is_short p) (leb (length p.value) value_bytes) (all is_short ps) (all fits_field (map new_field ps)) e (long-fields ps)
 
-long-record : (ps : List Pair) → all isShort ps ≡ false → fitsRecord (map newField ps) ≡ false
-long-record ps e = ap (λ (x : Bool). leb (length (map newField ps)) recordFields && x) (long-fields ps e) ∙ and-false (leb (length (map newField ps)) recordFields)
+long-record : (ps : List Pair) → all is_short ps ≡ false → fits_record (map new_field ps) ≡ false
+long-record ps e = ap (λ (x : Bool). leb (length (map new_field ps)) record_fields && x) (long-fields ps e) ∙ and-false (leb (length (map new_field ps)) record_fields)
 
 -- a test that what becomes of one set fails
 fails-at : (t : RecSet → Bool) (f : RecSet → RecSet) → ((s : RecSet) → t (f s) ≡ false) → (i : ℕ) (ss : List RecSet) → Has ss i → all t (nth i f ss) ≡ false
@@ -42,18 +42,18 @@ fails-at t f h i [] k = absurd k
 fails-at t f h zero (s ∷ ss) k = ap (λ (x : Bool). x && all t ss) (h s)
 fails-at t f h (suc i) (s ∷ ss) k = ap (λ (x : Bool). t s && x) (fails-at t f h i ss k) ∙ and-false (t s)
 
-abbrev fitsSet : RecSet → Bool
-fitsSet s = fitsRecord s.rules && all fitsRecord s.members && fitsRules s.rules
+abbrev fits_set : RecSet → Bool
+fits_set s = fits_record s.rules && all fits_record s.members && fits_rules s.rules
 
-set_fails : (ps : List Pair) → all isShort ps ≡ false → (s : RecSet) → fitsSet (in_set (Edit.insert ps) s) ≡ false
+set_fails : (ps : List Pair) → all is_short ps ≡ false → (s : RecSet) → fits_set (in_set (Edit.insert ps) s) ≡ false
 set_fails ps e s =
-    let own : all fitsRecord (map newField ps ∷ []) ≡ false = ap (λ (x : Bool). x && true) (long-record ps e) in
-    let members : all fitsRecord (s.members ++ (map newField ps ∷ [])) ≡ false = all_append fitsRecord s.members (map newField ps ∷ []) ∙ ap (λ (x : Bool). all fitsRecord s.members && x) own ∙ and-false (all fitsRecord s.members) in
-    ap (λ (x : Bool). (fitsRecord s.rules && x) && fitsRules s.rules) members
-    ∙ ap (λ (x : Bool). x && fitsRules s.rules) (and-false (fitsRecord s.rules))
+    let own : all fits_record (map new_field ps ∷ []) ≡ false = ap (λ (x : Bool). x && true) (long-record ps e) in
+    let members : all fits_record (s.members ++ (map new_field ps ∷ [])) ≡ false = all_append fits_record s.members (map new_field ps ∷ []) ∙ ap (λ (x : Bool). all fits_record s.members && x) own ∙ and-false (all fits_record s.members) in
+    ap (λ (x : Bool). (fits_record s.rules && x) && fits_rules s.rules) members
+    ∙ ap (λ (x : Bool). x && fits_rules s.rules) (and-false (fits_record s.rules))
 
-pub overlong-limits : (q : Request) (p : Plain) (i : ℕ) (ps : List Pair) → index_of q.set p.sets ≡ some i → q.edit ≡ Edit.insert ps → all isShort ps ≡ false → fitsLimits (apply q p).sets ≡ false
+pub overlong-limits : (q : Request) (p : Plain) (i : ℕ) (ps : List Pair) → index_of q.set p.sets ≡ some i → q.edit ≡ Edit.insert ps → all is_short ps ≡ false → fits_limits (apply q p).sets ≡ false
 overlong-limits q p i ps e f h =
-    let count : List RecSet → Bool = λ (ss : List RecSet). leb (length (filter (λ (s : RecSet). isFilled s.rules) ss)) descriptors in
-    ap fitsLimits (apply-sets q p i e ∙ ap (λ (x : Edit). nth i (in_set x) p.sets) f)
-    ∙ ap (λ (x : Bool). x && count (nth i (in_set (Edit.insert ps)) p.sets)) (fails-at fitsSet (in_set (Edit.insert ps)) (set_fails ps h) i p.sets (index-has q.set p.sets i e))
+    let count : List RecSet → Bool = λ (ss : List RecSet). leb (length (filter (λ (s : RecSet). is_filled s.rules) ss)) descriptors in
+    ap fits_limits (apply-sets q p i e ∙ ap (λ (x : Edit). nth i (in_set x) p.sets) f)
+    ∙ ap (λ (x : Bool). x && count (nth i (in_set (Edit.insert ps)) p.sets)) (fails-at fits_set (in_set (Edit.insert ps)) (set_fails ps h) i p.sets (index-has q.set p.sets i e))

@@ -4,57 +4,57 @@ use mathlib.Core.Path.{◌≡◌, refl, sym, ap, ◌∙◌}
 use mathlib.Core.Bool.{Bool, true, false, not, and-eq-true_iff}
 use mathlib.Core.List.{List, [], ◌∷◌, ◌++◌}
 use Rattle.format.specs.Bytes.{Bytes, pick, all}
-use Rattle.format.specs.Lists.{isFilled, filter, front, behind, onto, splitBy}
-use Rattle.format.specs.Words.{isGap, notGap, words}
+use Rattle.format.specs.Lists.{is_filled, filter, front, behind, onto, split_by}
+use Rattle.format.specs.Words.{is_gap, not_gap, words}
 
 -- the parts behind the first byte of a text, none of an empty one
-abbrev pub partsBehind : (ℕ → Bool) → Bytes → List Bytes
-partsBehind p [] = []
-partsBehind p (c ∷ s) = splitBy p s
+abbrev pub parts_behind : (ℕ → Bool) → Bytes → List Bytes
+parts_behind p [] = []
+parts_behind p (c ∷ s) = split_by p s
 
-pub split-cut : (p : ℕ → Bool) (s : Bytes) → splitBy p s ≡ front (λ c. not (p c)) s ∷ partsBehind p (behind (λ c. not (p c)) s)
+pub split-cut : (p : ℕ → Bool) (s : Bytes) → split_by p s ≡ front (λ c. not (p c)) s ∷ parts_behind p (behind (λ c. not (p c)) s)
 split-cut p [] = refl
 split-cut p (c ∷ s) = go (p c) (split-cut p s)
   where
     other : ℕ → Bool
     other d = not (p d)
 
-    go : (t : Bool) → splitBy p s ≡ front other s ∷ partsBehind p (behind other s)
-        → pick t ([] ∷ splitBy p s) (onto c (splitBy p s)) ≡ pick (not t) (c ∷ front other s) [] ∷ partsBehind p (pick (not t) (behind other s) (c ∷ s))
+    go : (t : Bool) → split_by p s ≡ front other s ∷ parts_behind p (behind other s)
+        → pick t ([] ∷ split_by p s) (onto c (split_by p s)) ≡ pick (not t) (c ∷ front other s) [] ∷ parts_behind p (pick (not t) (behind other s) (c ∷ s))
     go true e = refl
     go false e = ap (onto c) e
 
 -- the words of a text that begins with a byte, by whether it is a gap
-abbrev wordsBy : Bool → ℕ → Bytes → List Bytes
-wordsBy t c s = filter isFilled (pick t ([] ∷ splitBy isGap s) (onto c (splitBy isGap s)))
+abbrev words_by : Bool → ℕ → Bytes → List Bytes
+words_by t c s = filter is_filled (pick t ([] ∷ split_by is_gap s) (onto c (split_by is_gap s)))
 
 -- gaps at the front do not matter
-pub words-gap : (c : ℕ) (s : Bytes) → isGap c ≡ true → words (c ∷ s) ≡ words s
-words-gap c s e = ap (λ (t : Bool). wordsBy t c s) e
+pub words-gap : (c : ℕ) (s : Bytes) → is_gap c ≡ true → words (c ∷ s) ≡ words s
+words-gap c s e = ap (λ (t : Bool). words_by t c s) e
 
-pub words-skip : (s : Bytes) → words s ≡ words (behind isGap s)
+pub words-skip : (s : Bytes) → words s ≡ words (behind is_gap s)
 words-skip [] = refl
-words-skip (c ∷ s) = go (isGap c) refl (words-skip s)
+words-skip (c ∷ s) = go (is_gap c) refl (words-skip s)
   where
-    go : (t : Bool) → isGap c ≡ t → words s ≡ words (behind isGap s) → wordsBy t c s ≡ words (pick t (behind isGap s) (c ∷ s))
+    go : (t : Bool) → is_gap c ≡ t → words s ≡ words (behind is_gap s) → words_by t c s ≡ words (pick t (behind is_gap s) (c ∷ s))
     go true e h = h
-    go false e h = ap (λ (t : Bool). wordsBy t c s) (sym e)
+    go false e h = ap (λ (t : Bool). words_by t c s) (sym e)
 
 -- a word at the front, and the words behind it
-words-behind : (s : Bytes) → filter isFilled (partsBehind isGap (behind notGap s)) ≡ words (behind notGap s)
+words-behind : (s : Bytes) → filter is_filled (parts_behind is_gap (behind not_gap s)) ≡ words (behind not_gap s)
 words-behind [] = refl
-words-behind (c ∷ s) = go (isGap c) refl (words-behind s)
+words-behind (c ∷ s) = go (is_gap c) refl (words-behind s)
   where
-    go : (t : Bool) → isGap c ≡ t → filter isFilled (partsBehind isGap (behind notGap s)) ≡ words (behind notGap s)
-        → filter isFilled (partsBehind isGap (pick (not t) (behind notGap s) (c ∷ s))) ≡ words (pick (not t) (behind notGap s) (c ∷ s))
-    go true e h = ap (λ (t : Bool). wordsBy t c s) (sym e)
+    go : (t : Bool) → is_gap c ≡ t → filter is_filled (parts_behind is_gap (behind not_gap s)) ≡ words (behind not_gap s)
+        → filter is_filled (parts_behind is_gap (pick (not t) (behind not_gap s) (c ∷ s))) ≡ words (pick (not t) (behind not_gap s) (c ∷ s))
+    go true e h = ap (λ (t : Bool). words_by t c s) (sym e)
     go false e h = h
 
-pub words-cut : (c : ℕ) (s : Bytes) → isGap c ≡ false → words (c ∷ s) ≡ (c ∷ front notGap s) ∷ words (behind notGap s)
+pub words-cut : (c : ℕ) (s : Bytes) → is_gap c ≡ false → words (c ∷ s) ≡ (c ∷ front not_gap s) ∷ words (behind not_gap s)
 words-cut c s e =
-    ap (λ (t : Bool). wordsBy t c s) e
-    ∙ ap (λ (ps : List Bytes). filter isFilled (onto c ps)) (split-cut isGap s)
-    ∙ ap (λ (ws : List Bytes). (c ∷ front notGap s) ∷ ws) (words-behind s)
+    ap (λ (t : Bool). words_by t c s) e
+    ∙ ap (λ (ps : List Bytes). filter is_filled (onto c ps)) (split-cut is_gap s)
+    ∙ ap (λ (ws : List Bytes). (c ∷ front not_gap s) ∷ ws) (words-behind s)
 
 -- a text is its front and what is behind it, and the front passes the test
 pub front-behind : (p : ℕ → Bool) (s : Bytes) → front p s ++ behind p s ≡ s

@@ -7,8 +7,8 @@ use lib.Seq.{length-take-le}
 use Rattle.format.specs.Bytes.{Bytes}
 use Rattle.format.specs.Pieces.{bytes_of, read_of}
 use Rattle.format.specs.Plain.{Plain, plain_of, length_of, Step}
-use Rattle.format.specs.Calls.{number_in, valueOr, thenNo, Filled, placed, edited}
-use Rattle.format.specs.Runs.{Single, requestIn, singleAnswer, singleStep}
+use Rattle.format.specs.Calls.{number_in, value_or, then_no, Filled, placed, edited}
+use Rattle.format.specs.Runs.{Single, request_in, single_answer, single_step}
 use Rattle.format.proofs.Applying.{agrees-length}
 use Rattle.format.proofs.Questions.{Accepted, accepted-fits}
 use Rattle.format.proofs.SingleSteps.{single-answers, single-accepted, single-refused}
@@ -30,8 +30,8 @@ stands-start buffer used p h =
     record { holds = h; bytes = sym (ap (λ (s : Bytes). padded s used buffer) b ∙ padded-self used buffer f); uses = sym (ap length b ∙ length-take-le used buffer f); least = omega arith; fits = f }
 
 -- the answer of an edit by what it makes of the plain file
-abbrev editedStep : Step → Bytes → ℕ → Filled
-editedStep s buffer used = edited s.number (bytes_of s.file.pieces) buffer used
+abbrev edited_step : Step → Bytes → ℕ → Filled
+edited_step s buffer used = edited s.number (bytes_of s.file.pieces) buffer used
 
 edited-number : (n : ℕ) (s buffer : Bytes) (used : ℕ) → number_in (edited n s buffer used).result ≡ n
 edited-number zero s buffer used = refl
@@ -45,10 +45,10 @@ module _ (start : Bytes) (most : ℕ) (buffer : Bytes) (used : ℕ) (p : Plain) 
   stands-length = st.uses ∙ sym (agrees-length p (holds-agrees buffer used p st.holds))
 
   -- the answer of an edit is the plain file's step
-  single-answer : (c : Single) → singleAnswer c buffer used ≡ editedStep (singleStep (length start) p c) buffer used
+  single-answer : (c : Single) → single_answer c buffer used ≡ edited_step (single_step (length start) p c) buffer used
   single-answer c =
       let read : plain_of (read_of (take used buffer)) ≡ p = ap plain_of (reads_as (take used buffer) p.pieces st.holds.reads) ∙ st.holds.plain in
-      single-answers c buffer used ∙ (λ i. let s : Step = singleStep (stands-room i) (read i) c in edited (thenNo (st.holds.passes i) s.number) (bytes_of s.file.pieces) buffer used)
+      single-answers c buffer used ∙ (λ i. let s : Step = single_step (stands-room i) (read i) c in edited (then_no (st.holds.passes i) s.number) (bytes_of s.file.pieces) buffer used)
 
   stands-accepted : (request : Bytes) (p' : Plain) → Accepted (length buffer) p request p' → Stands start (max most (length_of p')) (placed (bytes_of p'.pieces) used buffer) (length (bytes_of p'.pieces)) p'
   stands-accepted request p' a =
@@ -65,17 +65,17 @@ module _ (start : Bytes) (most : ℕ) (buffer : Bytes) (used : ℕ) (p : Plain) 
       let m : most ≡ max most (length_of p) = omega (arith, stands-length, st.least) in
       subst (λ (x : Plain). Stands start (max most (length_of x)) buffer used x) (sym e) (subst (λ (n : ℕ). Stands start n buffer used p) m st)
 
-  step-stands : (c : Single) (s : Step) → singleStep (length buffer) p c ≡ s → (n : ℕ) → s.number ≡ n
-      → Stands start (max most (length_of s.file)) (edited n (bytes_of s.file.pieces) buffer used).out (valueOr used (edited n (bytes_of s.file.pieces) buffer used).result) s.file
-  step-stands c s e zero z = stands-accepted (requestIn c) s.file (subst (λ (x : Step). x.number ≡ 0 → Accepted (length buffer) p (requestIn c) x.file) e (single-accepted (length buffer) p c) z)
+  step-stands : (c : Single) (s : Step) → single_step (length buffer) p c ≡ s → (n : ℕ) → s.number ≡ n
+      → Stands start (max most (length_of s.file)) (edited n (bytes_of s.file.pieces) buffer used).out (value_or used (edited n (bytes_of s.file.pieces) buffer used).result) s.file
+  step-stands c s e zero z = stands-accepted (request_in c) s.file (subst (λ (x : Step). x.number ≡ 0 → Accepted (length buffer) p (request_in c) x.file) e (single-accepted (length buffer) p c) z)
   step-stands c s e (suc k) z = stands-refused s.file (subst (λ (x : Step). x.number ≡ suc k → x.file ≡ p) e (single-refused (length buffer) p c k) z)
 
-  pub single-stands : (c : Single) → let s : Step = singleStep (length start) p c in Stands start (max most (length_of s.file)) (singleAnswer c buffer used).out (valueOr used (singleAnswer c buffer used).result) s.file
+  pub single-stands : (c : Single) → let s : Step = single_step (length start) p c in Stands start (max most (length_of s.file)) (single_answer c buffer used).out (value_or used (single_answer c buffer used).result) s.file
   single-stands c =
-      let s : Step = singleStep (length start) p c in
-      subst (λ (x : Filled). Stands start (max most (length_of s.file)) x.out (valueOr used x.result) s.file) (sym (single-answer c)) (step-stands c s (ap (λ (n : ℕ). singleStep n p c) stands-room) s.number refl)
+      let s : Step = single_step (length start) p c in
+      subst (λ (x : Filled). Stands start (max most (length_of s.file)) x.out (value_or used x.result) s.file) (sym (single-answer c)) (step-stands c s (ap (λ (n : ℕ). single_step n p c) stands-room) s.number refl)
 
-  pub single-told : (c : Single) → number_in (singleAnswer c buffer used).result ≡ (singleStep (length start) p c).number
+  pub single-told : (c : Single) → number_in (single_answer c buffer used).result ≡ (single_step (length start) p c).number
   single-told c =
-      let s : Step = singleStep (length start) p c in
+      let s : Step = single_step (length start) p c in
       ap (λ (x : Filled). number_in x.result) (single-answer c) ∙ edited-number s.number (bytes_of s.file.pieces) buffer used

@@ -9,15 +9,15 @@ use lib.ListN.{length, take, drop, length-append, length-drop}
 use lib.Seq.{length-take-le, take_at, drop_at, drop-drop, drop-append-le}
 use Rattle.format.specs.Bytes.{Bytes, all}
 use Rattle.format.specs.Lines.{Line, bytes}
-use Rattle.format.specs.Pieces.{Piece, lines_of, allLines, bytes_of, pieces}
-use Rattle.format.specs.Sets.{setsOf}
-use Rattle.format.specs.Written.{Pair, written, writtenAll, newField, newPiece, isLegalPair}
-use Rattle.format.specs.Edits.{renamedLines, newline, newlineIf, inFront}
+use Rattle.format.specs.Pieces.{Piece, lines_of, all_lines, bytes_of, pieces}
+use Rattle.format.specs.Sets.{sets_of}
+use Rattle.format.specs.Written.{Pair, written, written_all, new_field, new_piece, is_legal_pair}
+use Rattle.format.specs.Edits.{renamed_lines, newline, newline_if, in_front}
 use Rattle.format.proofs.Elements.{Each, each-imp, all-each}
 use Rattle.format.proofs.Lines.{bytes-append}
-use Rattle.format.proofs.Legal.{isWritable, writable-name, ordinary-not-rec, record-reads-back}
+use Rattle.format.proofs.Legal.{is_writable, writable-name, ordinary-not-rec, record-reads-back}
 use Rattle.format.proofs.Named.{NotRec}
-use Rattle.format.proofs.Grouping.{setBy}
+use Rattle.format.proofs.Grouping.{set_by}
 use Rattle.format.proofs.Regrouping.{sets-front}
 use Rattle.format.proofs.Whole.{Sound, bytesOf-append}
 use Rattle.format.proofs.Writing.{written-bytes, writtenAll-bytes}
@@ -58,18 +58,18 @@ pub piece_bytes : (p : Piece) → bytes_of (p ∷ []) ≡ bytes (lines_of p)
 unfolding bytes_of
 piece_bytes p = ap bytes (append-nil (lines_of p))
 
-pub new-bytes : (q : Pair) → bytes_of (newPiece q ∷ []) ≡ written q.name q.value
-new-bytes q = piece_bytes (newPiece q) ∙ written-bytes q
+pub new-bytes : (q : Pair) → bytes_of (new_piece q ∷ []) ≡ written q.name q.value
+new-bytes q = piece_bytes (new_piece q) ∙ written-bytes q
 
-pub newline-bytes : (new : List Pair) → bytes_of (newline ∷ map newPiece new) ≡ 10 ∷ writtenAll new
+pub newline-bytes : (new : List Pair) → bytes_of (newline ∷ map new_piece new) ≡ 10 ∷ written_all new
 unfolding bytes_of
 newline-bytes new = ap {B = Bytes} (λ x. 10 ∷ x) (writtenAll-bytes new)
 
 -- a renamed field: its bytes behind the name stay
-pub rename-bytes : (n v : Bytes) (ls : List Line) (m : Bytes) → Sound (Piece.field n v ls) → (length n < length (bytes ls)) × (bytes (renamedLines n m ls) ≡ m ++ drop (length n) (bytes ls))
+pub rename-bytes : (n v : Bytes) (ls : List Line) (m : Bytes) → Sound (Piece.field n v ls) → (length n < length (bytes ls)) × (bytes (renamed_lines n m ls) ≡ m ++ drop (length n) (bytes ls))
 rename-bytes n v ls m h = go ls (sound-starts n v ls h)
   where
-    go : (ls : List Line) → (l : Line) × (rest : List Line) × (t : Bytes) × (ls ≡ l ∷ rest) × (l ≡ n ++ (58 ∷ t)) → (length n < length (bytes ls)) × (bytes (renamedLines n m ls) ≡ m ++ drop (length n) (bytes ls))
+    go : (ls : List Line) → (l : Line) × (rest : List Line) × (t : Bytes) × (ls ≡ l ∷ rest) × (l ≡ n ++ (58 ∷ t)) → (length n < length (bytes ls)) × (bytes (renamed_lines n m ls) ≡ m ++ drop (length n) (bytes ls))
     go [] f = let e = f.3 in absurd (let z : ◌≡◌ {A = ℕ} 0 1 = cc in omega arith)
     go (l ∷ own) f =
         let g = f.3 in
@@ -80,11 +80,11 @@ rename-bytes n v ls m h = go ls (sound-starts n v ls h)
         )
 
 -- In front of a file: the record, then a newline unless the file is empty.
-abbrev pub gapBytes : Bytes → Bytes
-gapBytes [] = []
-gapBytes (c ∷ s) = 10 ∷ []
+abbrev pub gap_bytes : Bytes → Bytes
+gap_bytes [] = []
+gap_bytes (c ∷ s) = 10 ∷ []
 
-gap-some : (s : Bytes) → 0 < length s → gapBytes s ≡ 10 ∷ []
+gap-some : (s : Bytes) → 0 < length s → gap_bytes s ≡ 10 ∷ []
 gap-some [] h = absurd (omega arith)
 gap-some (c ∷ s) h = refl
 
@@ -93,23 +93,23 @@ line-some l ls = omega (arith, length-append l (10 ∷ bytes ls))
 
 sound-some : (p : Piece) → Sound p → (ps : List Piece) → 0 < length (bytes_of (p ∷ ps))
 unfolding bytes_of
-sound-some (Piece.blank l) h ps = line-some l (allLines ps)
-sound-some (Piece.comment l) h ps = line-some l (allLines ps)
+sound-some (Piece.blank l) h ps = line-some l (all_lines ps)
+sound-some (Piece.comment l) h ps = line-some l (all_lines ps)
 sound-some (Piece.field n v ls) h ps =
     let f = sound-starts n v ls h in
-    omega (arith, ap length (bytes-append ls (allLines ps)), length-append (bytes ls) (bytes (allLines ps)), ap (λ (x : List Line). length (bytes x)) f.3, line-some f.0 f.1)
+    omega (arith, ap length (bytes-append ls (all_lines ps)), length-append (bytes ls) (bytes (all_lines ps)), ap (λ (x : List Line). length (bytes x)) f.3, line-some f.0 f.1)
 
-gap-bytes : (ps : List Piece) → Each Sound ps → bytes_of (newlineIf ps ++ ps) ≡ gapBytes (bytes_of ps) ++ bytes_of ps
+gap-bytes : (ps : List Piece) → Each Sound ps → bytes_of (newline_if ps ++ ps) ≡ gap_bytes (bytes_of ps) ++ bytes_of ps
 unfolding bytes_of
 gap-bytes [] h = refl
 gap-bytes (p ∷ ps) h = ap (λ (x : Bytes). x ++ bytes_of (p ∷ ps)) (sym (gap-some (bytes_of (p ∷ ps)) (sound-some p h.0 ps)))
 
-pub front_bytes : (new : List Pair) (ps : List Piece) → Each Sound ps → bytes_of (inFront new ps) ≡ writtenAll new ++ (gapBytes (bytes_of ps) ++ bytes_of ps)
-front_bytes new ps h = bytesOf-append (map newPiece new) (newlineIf ps ++ ps) ∙ (λ i. writtenAll-bytes new i ++ gap-bytes ps h i)
+pub front_bytes_lem : (new : List Pair) (ps : List Piece) → Each Sound ps → bytes_of (in_front new ps) ≡ written_all new ++ (gap_bytes (bytes_of ps) ++ bytes_of ps)
+front_bytes_lem new ps h = bytesOf-append (map new_piece new) (newline_if ps ++ ps) ∙ (λ i. writtenAll-bytes new i ++ gap-bytes ps h i)
 
 -- a record that is written alone reads back as a file of that record
-pub set-reads-back : (p : Pair) (ps : List Pair) → all isWritable (p ∷ ps) ≡ true → (qs : List Piece) × (pieces (writtenAll (p ∷ ps)) ≡ some qs) × (setsOf qs ≡ setBy [] (map newField (p ∷ ps) ∷ []) ∷ [])
-unfolding setsOf
+pub set-reads-back : (p : Pair) (ps : List Pair) → all is_writable (p ∷ ps) ≡ true → (qs : List Piece) × (pieces (written_all (p ∷ ps)) ≡ some qs) × (sets_of qs ≡ set_by [] (map new_field (p ∷ ps) ∷ []) ∷ [])
+unfolding sets_of
 set-reads-back p ps e =
-    let n = each-imp (λ (q : Pair). isWritable q ≡ true) (λ (q : Pair). NotRec q.name) (λ q x. ordinary-not-rec q.name (writable-name q x)) (p ∷ ps) (all-each isWritable (p ∷ ps) e) in
-    (map newPiece (p ∷ ps), record-reads-back (p ∷ ps) e, ap setsOf (sym (append-nil (map newPiece (p ∷ ps)))) ∙ sets-front p ps n [] refl)
+    let n = each-imp (λ (q : Pair). is_writable q ≡ true) (λ (q : Pair). NotRec q.name) (λ q x. ordinary-not-rec q.name (writable-name q x)) (p ∷ ps) (all-each is_writable (p ∷ ps) e) in
+    (map new_piece (p ∷ ps), record-reads-back (p ∷ ps) e, ap sets_of (sym (append-nil (map new_piece (p ∷ ps)))) ∙ sets-front p ps n [] refl)

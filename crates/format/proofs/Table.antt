@@ -7,8 +7,8 @@ use mathlib.Core.Bool.{Bool, true, false, ◌||◌, not, beq, and-eq-true_iff}
 use mathlib.Core.List.{map}
 use lib.Dec.{eqb}
 use lib.ListN.{get_or}
-use Rattle.format.specs.Bytes.{all, up_from, class_of, classTable, isLetter, isDigit, isBlank, isNewline, isAllowed}
-use Rattle.format.specs.Lines.{isFirst, isLater}
+use Rattle.format.specs.Bytes.{all, up_from, class_of, class_table, is_letter, is_digit, is_blank, is_newline, is_allowed}
+use Rattle.format.specs.Lines.{is_first, is_later}
 
 -- a test of all bytes from c on holds of each
 each : (p : ℕ → Bool) (n c i : ℕ) → all p (up_from n c) ≡ true → i < n → p (c + i) ≡ true
@@ -27,8 +27,8 @@ entry f (suc n) c zero h = rw add-zero
 entry f (suc n) c (suc i) h = entry f n (suc c) i (omega arith) ∙ ap f (omega arith)
 
 -- the table holds each byte's class
-pub class-at : (c : ℕ) → c < 256 → get_or classTable c 0 ≡ class_of c
-unfolding classTable
+pub class-at : (c : ℕ) → c < 256 → get_or class_table c 0 ≡ class_of c
+unfolding class_table
 class-at c h = entry class_of 256 0 c h ∙ ap class_of (zero-add c)
 
 -- two tests that agree on every byte
@@ -46,30 +46,30 @@ abbrev has : ℕ → ℕ → Bool
 has k c = eqb (class_of c) k
 
 module _ (c : ℕ) (h : c < 256) where
-  pub letter-class : isLetter c ≡ has 1 c
+  pub letter-class : is_letter c ≡ has 1 c
   unfolding class_of
-  letter-class = agree isLetter (has 1) refl c h
+  letter-class = agree is_letter (has 1) refl c h
 
-  pub digit-class : isDigit c ≡ has 2 c
+  pub digit-class : is_digit c ≡ has 2 c
   unfolding class_of
-  digit-class = agree isDigit (has 2) refl c h
+  digit-class = agree is_digit (has 2) refl c h
 
-  pub blank-class : isBlank c ≡ has 3 c
+  pub blank-class : is_blank c ≡ has 3 c
   unfolding class_of
-  blank-class = agree isBlank (has 3) refl c h
+  blank-class = agree is_blank (has 3) refl c h
 
-  pub newline-class : isNewline c ≡ has 4 c
+  pub newline-class : is_newline c ≡ has 4 c
   unfolding class_of
-  newline-class = agree isNewline (has 4) refl c h
+  newline-class = agree is_newline (has 4) refl c h
 
-  pub control-class : isAllowed c ≡ not (has 0 c)
+  pub control-class : is_allowed c ≡ not (has 0 c)
   unfolding class_of
-  control-class = agree isAllowed (λ (x : ℕ). not (has 0 x)) refl c h
+  control-class = agree is_allowed (λ (x : ℕ). not (has 0 x)) refl c h
 
-  pub first-class : isFirst c ≡ has 1 c || has 6 c
+  pub first-class : is_first c ≡ has 1 c || has 6 c
   unfolding class_of
-  first-class = agree isFirst (λ (x : ℕ). has 1 x || has 6 x) refl c h
+  first-class = agree is_first (λ (x : ℕ). has 1 x || has 6 x) refl c h
 
-  pub later-class : isLater c ≡ has 1 c || has 2 c || has 5 c
+  pub later-class : is_later c ≡ has 1 c || has 2 c || has 5 c
   unfolding class_of
-  later-class = agree isLater (λ (x : ℕ). has 1 x || has 2 x || has 5 x) refl c h
+  later-class = agree is_later (λ (x : ℕ). has 1 x || has 2 x || has 5 x) refl c h

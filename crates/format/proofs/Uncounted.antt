@@ -7,20 +7,20 @@ use mathlib.Core.Option
 use lib.Dec.{leb, eqb}
 use lib.ListN.{length, length-map}
 use Rattle.format.specs.Bytes.{Bytes, text, pick, all, any, same, among, is_some}
-use Rattle.format.specs.Lists.{isFilled, filter, flat, kept}
-use Rattle.format.specs.Lines.{isName, isSpecial}
+use Rattle.format.specs.Lists.{is_filled, filter, flat, kept}
+use Rattle.format.specs.Lines.{is_name, is_special}
 use Rattle.format.specs.Words.{first_word, words}
 use Rattle.format.specs.Records.{Field, Record}
 use Rattle.format.specs.Sets.{values_of}
-use Rattle.format.specs.Limits.{recordFields, descriptors, typedefs, typeFields, listWords}
+use Rattle.format.specs.Limits.{record_fields, descriptors, typedefs, type_fields, list_words}
 use Rattle.format.specs.Numbers.{Bounds}
-use Rattle.format.specs.Rules.{listed, typedNames, endKind, typedefOf, typeRuleOf, typedefsOf, typeRules, isTyped, isShaped, isWellFormed, isTypedefName, isCounted, autosCounted, areTypesDefined, isTypedWell, distinct, sizeRule, meetsSize, kindsOf, all_ints, span_of}
-use Rattle.format.specs.Questions.{fitsField, fitsRecord, fitsRules, hasRecOnce, noneProhibited, allAllowed, allPresent, noneRepeated, allTyped, keys_of, sizeMet, singularMet}
+use Rattle.format.specs.Rules.{listed, typed_names, end_kind, typedef_of, type_rule_of, typedefs_of, type_rules, is_typed, is_shaped, is_well_formed, is_typedef_name, is_counted, autos_counted, are_types_defined, is_typed_well, distinct, size_rule, meets_size, kinds_of, all_ints, span_of}
+use Rattle.format.specs.Questions.{fits_field, fits_record, fits_rules, has_rec_once, none_prohibited, all_allowed, all_present, none_repeated, all_typed, keys_of, size_met, singular_met}
 use Rattle.format.specs.Written.{Pair}
-use Rattle.format.specs.Numbering.{firsts, pairNames, intsOf, leastIn, decimal, every, added}
+use Rattle.format.specs.Numbering.{firsts, pair_names, ints_of, least_in, decimal, every, added}
 use Rattle.format.proofs.Least.{least, leasts}
-use Rattle.format.proofs.Judging.{recordNo, setNo}
-use Rattle.format.proofs.Walking.{isHead, nameIn, headName, heads, headNames, before, walkFits, walkWell, walkTypes, ruled, walkNo, recordsNo}
+use Rattle.format.proofs.Judging.{record_no, set_no}
+use Rattle.format.proofs.Walking.{is_head, name_in, head_name, heads, head_names, before, walk_fits, walk_well, walk_types, ruled, walk_no, records_no}
 
 -- a field as if it took no byte
 abbrev pub uncounted : Field → Field
@@ -51,25 +51,25 @@ listed-bare : (n : Bytes) (r : Record) → flat (map words (values_of n (bare r)
 listed-bare n r = ap (λ (vs : List Bytes). flat (map words vs)) (values-bare n r)
 
 -- 4
-pub fits-bare : (r : Record) → fitsRecord (bare r) ≡ fitsRecord r
-fits-bare r = λ i. leb (length-map r uncounted i) recordFields && all-through uncounted fitsField (λ f. refl) r i
+pub fits-bare : (r : Record) → fits_record (bare r) ≡ fits_record r
+fits-bare r = λ i. leb (length-map r uncounted i) record_fields && all-through uncounted fits_field (λ f. refl) r i
 
-pub rules-bare : (r : Record) → fitsRules (bare r) ≡ fitsRules r
+pub rules-bare : (r : Record) → fits_rules (bare r) ≡ fits_rules r
 rules-bare r =
     λ i. leb (length (values-bare (text "%typedef") r i)) typedefs
-    && leb (length (values-bare (text "%type") r i)) typeFields
-    && leb (length (listed-bare (text "%mandatory") r i)) listWords
-    && leb (length (listed-bare (text "%prohibit") r i)) listWords
-    && leb (length (listed-bare (text "%allowed") r i)) listWords
-    && leb (length (listed-bare (text "%unique") r i)) listWords
-    && leb (length (listed-bare (text "%singular") r i)) listWords
-    && leb (length (listed-bare (text "%auto") r i)) listWords
+    && leb (length (values-bare (text "%type") r i)) type_fields
+    && leb (length (listed-bare (text "%mandatory") r i)) list_words
+    && leb (length (listed-bare (text "%prohibit") r i)) list_words
+    && leb (length (listed-bare (text "%allowed") r i)) list_words
+    && leb (length (listed-bare (text "%unique") r i)) list_words
+    && leb (length (listed-bare (text "%singular") r i)) list_words
+    && leb (length (listed-bare (text "%auto") r i)) list_words
 
-head-bare : (r : Record) → isHead (bare r) ≡ isHead r
-head-bare r = ap isFilled (values-bare (text "%rec") r)
+head-bare : (r : Record) → is_head (bare r) ≡ is_head r
+head-bare r = ap is_filled (values-bare (text "%rec") r)
 
-name-bare : (r : Record) → headName (bare r) ≡ headName r
-name-bare r = ap nameIn (values-bare (text "%rec") r)
+name-bare : (r : Record) → head_name (bare r) ≡ head_name r
+name-bare r = ap name_in (values-bare (text "%rec") r)
 
 heads-by : (b : Bool) (r : Record) (rs hs : List Record) → rs ≡ map bare hs → pick b (bare r ∷ rs) rs ≡ map bare (pick b (r ∷ hs) hs)
 heads-by true r rs hs e = ap {B = List Record} (λ x. bare r ∷ x) e
@@ -79,83 +79,83 @@ heads-bare : (rs : List Record) → heads (map bare rs) ≡ map bare (heads rs)
 heads-bare [] = refl
 heads-bare (r ∷ rs) =
     ap (λ (b : Bool). pick b (bare r ∷ heads (map bare rs)) (heads (map bare rs))) (head-bare r)
-    ∙ heads-by (isHead r) r (heads (map bare rs)) (heads rs) (heads-bare rs)
+    ∙ heads-by (is_head r) r (heads (map bare rs)) (heads rs) (heads-bare rs)
 
-pub walk-fits : (rs : List Record) → walkFits (map bare rs) ≡ walkFits rs
+pub walk-fits : (rs : List Record) → walk_fits (map bare rs) ≡ walk_fits rs
 walk-fits rs =
     let count : length (heads (map bare rs)) ≡ length (heads rs) = ap length (heads-bare rs) ∙ length-map (heads rs) bare in
-    λ i. all-through bare (λ (r : Record). fitsRecord r && (not (isHead r) || fitsRules r)) (λ r j. fits-bare r j && (not (head-bare r j) || rules-bare r j)) rs i
+    λ i. all-through bare (λ (r : Record). fits_record r && (not (is_head r) || fits_rules r)) (λ r j. fits-bare r j && (not (head-bare r j) || rules-bare r j)) rs i
     && leb (count i) descriptors
 
 -- 5
-once-bare : (r : Record) → hasRecOnce (bare r) ≡ hasRecOnce r
-once-bare r = λ i. not (any-through uncounted (λ (f : Field). isSpecial f.name) (λ f. refl) r i) || eqb (length (values-bare (text "%rec") r i)) 1
+once-bare : (r : Record) → has_rec_once (bare r) ≡ has_rec_once r
+once-bare r = λ i. not (any-through uncounted (λ (f : Field). is_special f.name) (λ f. refl) r i) || eqb (length (values-bare (text "%rec") r i)) 1
 
 -- 6
-pub well-bare : (b : Bounds) (r : Record) → isWellFormed b (bare r) ≡ isWellFormed b r
+pub well-bare : (b : Bounds) (r : Record) → is_well_formed b (bare r) ≡ is_well_formed b r
 well-bare b r =
-    λ i. all-through uncounted (isShaped b) (λ f. refl) r i
+    λ i. all-through uncounted (is_shaped b) (λ f. refl) r i
     && leb (length (values-bare (text "%key") r i)) 1
     && leb (length (values-bare (text "%size") r i)) 1
 
-names-bare : (rs : List Record) → headNames (map bare rs) ≡ headNames rs
-names-bare rs = ap (map headName) (heads-bare rs) ∙ map-through bare headName name-bare (heads rs)
+names-bare : (rs : List Record) → head_names (map bare rs) ≡ head_names rs
+names-bare rs = ap (map head_name) (heads-bare rs) ∙ map-through bare head_name name-bare (heads rs)
 
-walk-well : (b : Bounds) (rs : List Record) → walkWell b (map bare rs) ≡ walkWell b rs
+walk-well : (b : Bounds) (rs : List Record) → walk_well b (map bare rs) ≡ walk_well b rs
 walk-well b rs =
-    λ i. all-through bare (λ (r : Record). not (isHead r) || isWellFormed b r) (λ r j. not (head-bare r j) || well-bare b r j) rs i && distinct (names-bare rs i)
+    λ i. all-through bare (λ (r : Record). not (is_head r) || is_well_formed b r) (λ r j. not (head-bare r j) || well-bare b r j) rs i && distinct (names-bare rs i)
 
 -- 7
-typedefs-bare : (b : Bounds) (r : Record) → typedefsOf b (bare r) ≡ typedefsOf b r
-typedefs-bare b r = ap (kept (typedefOf b)) (values-bare (text "%typedef") r)
+typedefs-bare : (b : Bounds) (r : Record) → typedefs_of b (bare r) ≡ typedefs_of b r
+typedefs-bare b r = ap (kept (typedef_of b)) (values-bare (text "%typedef") r)
 
-types-bare : (b : Bounds) (r : Record) → typeRules b (bare r) ≡ typeRules b r
-types-bare b r = λ i. kept (typeRuleOf b (typedefs-bare b r i)) (values-bare (text "%type") r i)
+types-bare : (b : Bounds) (r : Record) → type_rules b (bare r) ≡ type_rules b r
+types-bare b r = λ i. kept (type_rule_of b (typedefs-bare b r i)) (values-bare (text "%type") r i)
 
-pub defined-bare : (b : Bounds) (r : Record) → areTypesDefined b (bare r) ≡ areTypesDefined b r
+pub defined-bare : (b : Bounds) (r : Record) → are_types_defined b (bare r) ≡ are_types_defined b r
 defined-bare b r =
-    λ i. all (λ (v : Bytes). isTypedefName (first_word v)) (values-bare (text "%typedef") r i)
-    && all (λ (v : Bytes). is_some (endKind b (typedefs-bare b r i) v)) (values-bare (text "%typedef") r i)
+    λ i. all (λ (v : Bytes). is_typedef_name (first_word v)) (values-bare (text "%typedef") r i)
+    && all (λ (v : Bytes). is_some (end_kind b (typedefs-bare b r i) v)) (values-bare (text "%typedef") r i)
     && distinct (map first_word (values-bare (text "%typedef") r i))
-    && all (λ (v : Bytes). all isName (typedNames v)) (values-bare (text "%type") r i)
-    && all (λ (v : Bytes). is_some (endKind b (typedefs-bare b r i) v)) (values-bare (text "%type") r i)
+    && all (λ (v : Bytes). all is_name (typed_names v)) (values-bare (text "%type") r i)
+    && all (λ (v : Bytes). is_some (end_kind b (typedefs-bare b r i) v)) (values-bare (text "%type") r i)
 
-pub counted-bare : (b : Bounds) (r : Record) → autosCounted b (bare r) ≡ autosCounted b r
-counted-bare b r = λ i. all (isCounted b (types-bare b r i)) (listed-bare (text "%auto") r i)
+pub counted-bare : (b : Bounds) (r : Record) → autos_counted b (bare r) ≡ autos_counted b r
+counted-bare b r = λ i. all (is_counted b (types-bare b r i)) (listed-bare (text "%auto") r i)
 
-typed-bare : (b : Bounds) (r : Record) → isTypedWell b (bare r) ≡ isTypedWell b r
+typed-bare : (b : Bounds) (r : Record) → is_typed_well b (bare r) ≡ is_typed_well b r
 typed-bare b r = λ i. defined-bare b r i && counted-bare b r i
 
-walk-types : (b : Bounds) (rs : List Record) → walkTypes b (map bare rs) ≡ walkTypes b rs
-walk-types b rs = all-through bare (λ (r : Record). not (isHead r) || isTypedWell b r) (λ r j. not (head-bare r j) || typed-bare b r j) rs
+walk-types : (b : Bounds) (rs : List Record) → walk_types b (map bare rs) ≡ walk_types b rs
+walk-types b rs = all-through bare (λ (r : Record). not (is_head r) || is_typed_well b r) (λ r j. not (head-bare r j) || typed-bare b r j) rs
 
 -- 8 to 12
 module _ (b : Bounds) (rules : Record) where
   module _ (r : Record) where
-    none_bare : noneProhibited (bare rules) (bare r) ≡ noneProhibited rules r
+    none_bare : none_prohibited (bare rules) (bare r) ≡ none_prohibited rules r
     none_bare =
         all-through uncounted (λ (f : Field). not (among f.name (listed (text "%prohibit") (bare rules)))) (λ f. refl) r
         ∙ (λ i. all (λ (f : Field). not (among f.name (listed-bare (text "%prohibit") rules i))) r)
 
-    allowed-bare : allAllowed (bare rules) (bare r) ≡ allAllowed rules r
+    allowed-bare : all_allowed (bare rules) (bare r) ≡ all_allowed rules r
     allowed-bare =
         ap (λ (t : Bool). eqb (length (values_of (text "%allowed") (bare rules))) 0 || t) (all-through uncounted (λ (f : Field). among f.name (listed (text "%allowed") (bare rules))) (λ f. refl) r)
         ∙ (λ i. eqb (length (values-bare (text "%allowed") rules i)) 0 || all (λ (f : Field). among f.name (listed-bare (text "%allowed") rules i)) r)
 
-    present-bare : allPresent (bare rules) (bare r) ≡ allPresent rules r
+    present-bare : all_present (bare rules) (bare r) ≡ all_present rules r
     present-bare = λ i. all (λ (n : Bytes). leb 1 (length (values-bare n r i))) (listed-bare (text "%mandatory") rules i ++ listed-bare (text "%key") rules i)
 
-    repeated-bare : noneRepeated (bare rules) (bare r) ≡ noneRepeated rules r
+    repeated-bare : none_repeated (bare rules) (bare r) ≡ none_repeated rules r
     repeated-bare = λ i. all (λ (n : Bytes). leb (length (values-bare n r i)) 1) (listed-bare (text "%unique") rules i ++ listed-bare (text "%key") rules i)
 
-    met-bare : allTyped b (bare rules) (bare r) ≡ allTyped b rules r
-    met-bare = all-through uncounted (isTyped b (typeRules b (bare rules))) (λ f. refl) r ∙ (λ i. all (isTyped b (types-bare b rules i)) r)
+    met-bare : all_typed b (bare rules) (bare r) ≡ all_typed b rules r
+    met-bare = all-through uncounted (is_typed b (type_rules b (bare rules))) (λ f. refl) r ∙ (λ i. all (is_typed b (types-bare b rules i)) r)
 
-    record-bare : recordNo b (bare rules) (bare r) ≡ recordNo b rules r
-    unfolding recordNo
+    record-bare : record_no b (bare rules) (bare r) ≡ record_no b rules r
+    unfolding record_no
     record-bare = λ i. pick (none_bare i) (pick (allowed-bare i) (pick (present-bare i) (pick (repeated-bare i) (pick (met-bare i) 0 12) 11) 10) 9) 8
 
-  records-bare : (ms : List Record) → map (recordNo b (bare rules)) (map bare ms) ≡ map (recordNo b rules) ms
+  records-bare : (ms : List Record) → map (record_no b (bare rules)) (map bare ms) ≡ map (record_no b rules) ms
   records-bare [] = refl
   records-bare (m ∷ ms) = λ i. record-bare m i ∷ records-bare ms i
 
@@ -164,14 +164,14 @@ module _ (b : Bounds) (rules : Record) where
     keys-bare : keys_of (ruled (bare rules) (map bare ms)) ≡ keys_of (ruled rules ms)
     keys-bare = λ i. flat (map (λ (n : Bytes). flat (map-through bare (values_of n) (values-bare n) ms i)) (listed-bare (text "%key") rules i))
 
-    size-bare : sizeMet b (ruled (bare rules) (map bare ms)) ≡ sizeMet b (ruled rules ms)
-    size-bare = λ i. all (λ (v : Bytes). meetsSize (sizeRule b (words v)) (length-map ms bare i)) (values-bare (text "%size") rules i)
+    size-bare : size_met b (ruled (bare rules) (map bare ms)) ≡ size_met b (ruled rules ms)
+    size-bare = λ i. all (λ (v : Bytes). meets_size (size_rule b (words v)) (length-map ms bare i)) (values-bare (text "%size") rules i)
 
-    singular-bare : singularMet (ruled (bare rules) (map bare ms)) ≡ singularMet (ruled rules ms)
+    singular-bare : singular_met (ruled (bare rules) (map bare ms)) ≡ singular_met (ruled rules ms)
     singular-bare = λ i. all (λ (n : Bytes). distinct (flat (map-through bare (values_of n) (values-bare n) ms i))) (listed-bare (text "%singular") rules i)
 
-    set-bare : setNo b (ruled (bare rules) (map bare ms)) ≡ setNo b (ruled rules ms)
-    unfolding setNo
+    set-bare : set_no b (ruled (bare rules) (map bare ms)) ≡ set_no b (ruled rules ms)
+    unfolding set_no
     set-bare =
         λ i. let k : ℕ = leasts (records-bare ms i) in
         pick (eqb k 0) (pick (distinct (keys-bare i)) (pick (size-bare i) (pick (singular-bare i) 0 30) 14) 13) k
@@ -182,25 +182,25 @@ before-by false r ms rs e = ap {B = List Record} (λ x. bare r ∷ x) e
 
 before-bare : (rs : List Record) → before (map bare rs) ≡ map bare (before rs)
 before-bare [] = refl
-before-bare (r ∷ rs) = ap (λ (t : Bool). pick t [] (bare r ∷ before (map bare rs))) (head-bare r) ∙ before-by (isHead r) r (before (map bare rs)) (before rs) (before-bare rs)
+before-bare (r ∷ rs) = ap (λ (t : Bool). pick t [] (bare r ∷ before (map bare rs))) (head-bare r) ∙ before-by (is_head r) r (before (map bare rs)) (before rs) (before-bare rs)
 
-walk_no : (b : Bounds) (rs : List Record) → walkNo b (map bare rs) ≡ walkNo b rs
-walk_no b [] = refl
-walk_no b (r ∷ rs) =
-    let set : setNo b (ruled (bare r) (before (map bare rs))) ≡ setNo b (ruled r (before rs)) = ap (λ (ms : List Record). setNo b (ruled (bare r) ms)) (before-bare rs) ∙ set-bare b r (before rs) in
-    λ i. pick (head-bare r i) (least (set i) (walk_no b rs i)) (walk_no b rs i)
+walk_no_lem : (b : Bounds) (rs : List Record) → walk_no b (map bare rs) ≡ walk_no b rs
+walk_no_lem b [] = refl
+walk_no_lem b (r ∷ rs) =
+    let set : set_no b (ruled (bare r) (before (map bare rs))) ≡ set_no b (ruled r (before rs)) = ap (λ (ms : List Record). set_no b (ruled (bare r) ms)) (before-bare rs) ∙ set-bare b r (before rs) in
+    λ i. pick (head-bare r i) (least (set i) (walk_no_lem b rs i)) (walk_no_lem b rs i)
 
 -- all of them: records with the same names and values have the same number
-pub number-bare : (b : Bounds) (rs : List Record) → recordsNo b (map bare rs) ≡ recordsNo b rs
-unfolding recordsNo
+pub number-bare : (b : Bounds) (rs : List Record) → records_no b (map bare rs) ≡ records_no b rs
+unfolding records_no
 number-bare b rs =
     λ i. pick (walk-fits rs i)
-    (pick (all-through bare hasRecOnce once-bare rs i)
+    (pick (all-through bare has_rec_once once-bare rs i)
     (pick (walk-well b rs i)
-    (pick (walk-types b rs i) (walk_no b rs i) 7) 6) 5) 4
+    (pick (walk-types b rs i) (walk_no_lem b rs i) 7) 6) 5) 4
 
 -- nor does what an insert gets for the names that it omits
 pub added-bare : (b : Bounds) (rules : Record) (ms : List Record) (new : List Pair) → added b (ruled (bare rules) ms) new ≡ added b (ruled rules ms) new
 added-bare b rules ms new =
-    λ i. every (λ (n : Bytes). Option.map (λ (k : ℕ). record { name = n; value = decimal k }) (leastIn (all_ints b ∷ kept (span_of b) (kindsOf n (types-bare b rules i))) (intsOf b n ms)))
-    (filter (λ (n : Bytes). not (among n (pairNames new))) (firsts (listed-bare (text "%auto") rules i)))
+    λ i. every (λ (n : Bytes). Option.map (λ (k : ℕ). record { name = n; value = decimal k }) (least_in (all_ints b ∷ kept (span_of b) (kinds_of n (types-bare b rules i))) (ints_of b n ms)))
+    (filter (λ (n : Bytes). not (among n (pair_names new))) (firsts (listed-bare (text "%auto") rules i)))

@@ -12,9 +12,9 @@ abbrev pub onward : {A B : Type 0} → (A → Option B) → Option A → Option 
 onward f none = none
 onward f (some a) = f a
 
-abbrev pub isFilled : {A : Type 0} → List A → Bool
-isFilled [] = false
-isFilled (x ∷ xs) = true
+abbrev pub is_filled : {A : Type 0} → List A → Bool
+is_filled [] = false
+is_filled (x ∷ xs) = true
 
 -- those that pass a test
 abbrev pub filter : {A : Type 0} → (A → Bool) → List A → List A
@@ -58,9 +58,9 @@ cut_at t [] = [] ∷ []
 cut_at t (x ∷ xs) = pick (t x) ([] ∷ onto x (cut_at t xs)) (onto x (cut_at t xs))
 
 -- the parts between those that pass a test: at least one
-abbrev pub splitBy : {A : Type 0} → (A → Bool) → List A → List (List A)
-splitBy t [] = [] ∷ []
-splitBy t (x ∷ xs) = pick (t x) ([] ∷ splitBy t xs) (onto x (splitBy t xs))
+abbrev pub split_by : {A : Type 0} → (A → Bool) → List A → List (List A)
+split_by t [] = [] ∷ []
+split_by t (x ∷ xs) = pick (t x) ([] ∷ split_by t xs) (onto x (split_by t xs))
 
 -- the k-th that passes a test is here, or so many are still to be passed
 abbrev pub turn : {B : Type 0} → Bool → ℕ → B → (ℕ → B) → B
@@ -79,14 +79,14 @@ always x = true
 abbrev pub nth : {A : Type 0} → ℕ → (A → A) → List A → List A
 nth k f xs = at always k (λ x. f x ∷ []) xs
 
-abbrev pub behindLast : {A : Type 0} → (A → Bool) → A → List A → List A
-behindLast t y [] = y ∷ []
-behindLast t y (x ∷ xs) = x ∷ pick (any t xs) (behindLast t y xs) (y ∷ xs)
+abbrev pub behind_last : {A : Type 0} → (A → Bool) → A → List A → List A
+behind_last t y [] = y ∷ []
+behind_last t y (x ∷ xs) = x ∷ pick (any t xs) (behind_last t y xs) (y ∷ xs)
 
 -- what stands up to the last that passes a test
-abbrev pub untilLast : {A : Type 0} → (A → Bool) → List A → List A
-untilLast t [] = []
-untilLast t (x ∷ xs) = pick (any t (x ∷ xs)) (x ∷ untilLast t xs) []
+abbrev pub until_last : {A : Type 0} → (A → Bool) → List A → List A
+until_last t [] = []
+until_last t (x ∷ xs) = pick (any t (x ∷ xs)) (x ∷ until_last t xs) []
 
 -- what stands before the k-th that passes a test, or all where there is none
 abbrev pub before : {A : Type 0} → (A → Bool) → ℕ → List A → List A

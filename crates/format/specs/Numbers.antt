@@ -1,7 +1,7 @@
 -- Ints and reals.
 use Rattle.std.specs.Prelude.{ℕ, ◌+◌, ◌-◌, ◌*◌, Bool, true, false, ◌&&◌, not, [], ◌∷◌, leb, ltb, eqb, drop, get_or}
 use Rattle.std.proofs.Math.Option.{Option, some}
-use Rattle.format.specs.Bytes.{Bytes, pick, within, isDigit, isSpelt, is_some}
+use Rattle.format.specs.Bytes.{Bytes, pick, within, is_digit, is_spelt, is_some}
 use Rattle.format.specs.Lists.{only_if, onward, front, behind}
 
 -- a number below zero, or not: −n, n
@@ -15,15 +15,15 @@ pub record Bounds : Type 0 where
   pub greatest : ℕ
 
 -- "−9,223,372,036,854,775,808 to 9,223,372,036,854,775,807, in hex and octal too"; this is the one place
-abbrev pub intBounds : Bounds
-intBounds = record { least = 9223372036854775808; greatest = 9223372036854775807 }
+abbrev pub int_bounds : Bounds
+int_bounds = record { least = 9223372036854775808; greatest = 9223372036854775807 }
 
 -- the value of a digit of either case, 16 of any other byte
 abbrev pub digit : ℕ → ℕ
-digit c = pick (isDigit c) (c - 48) (pick (within 65 70 c) (c - 55) (pick (within 97 102 c) (c - 87) 16))
+digit c = pick (is_digit c) (c - 48) (pick (within 65 70 c) (c - 55) (pick (within 97 102 c) (c - 87) 16))
 
-abbrev pub isDigitOf : ℕ → ℕ → Bool
-isDigitOf base c = ltb (digit c) base
+abbrev pub is_digit_of : ℕ → ℕ → Bool
+is_digit_of base c = ltb (digit c) base
 
 -- the number that digits stand for, behind those that stand for m
 abbrev pub numeral : ℕ → ℕ → Bytes → ℕ
@@ -31,11 +31,11 @@ numeral base m [] = m
 numeral base m (c ∷ s) = numeral base (m * base + digit c) s
 
 -- one or more digits of a base
-abbrev pub areDigits : ℕ → Bytes → Bool
-areDigits base s = isSpelt (isDigitOf base) (isDigitOf base) s
+abbrev pub are_digits : ℕ → Bytes → Bool
+are_digits base s = is_spelt (is_digit_of base) (is_digit_of base) s
 
 abbrev pub natural : ℕ → Bytes → Option ℕ
-natural base s = only_if (areDigits base s) (numeral base 0 s)
+natural base s = only_if (are_digits base s) (numeral base 0 s)
 
 -- "`0x` and at least one hex digit, or 0 and any octal digits or none, or decimal digits not beginning with 0"
 abbrev pub unsigned : Bytes → Option ℕ
@@ -49,19 +49,19 @@ up_to limit sign x = onward (λ (n : ℕ). only_if (leb n limit) (sign n)) x
 abbrev pub int_of : Bounds → Bytes → Option Int
 int_of b s = pick (eqb (get_or s 0 0) 45) (up_to b.least minus (unsigned (drop 1 s))) (up_to b.greatest plus (unsigned s))
 
-abbrev pub isAtMost : Int → Int → Bool
-isAtMost (minus m) (minus n) = leb n m
-isAtMost (minus m) (plus n) = true
-isAtMost (plus m) (minus n) = eqb m 0 && eqb n 0
-isAtMost (plus m) (plus n) = leb m n
+abbrev pub is_at_most : Int → Int → Bool
+is_at_most (minus m) (minus n) = leb n m
+is_at_most (minus m) (plus n) = true
+is_at_most (plus m) (minus n) = eqb m 0 && eqb n 0
+is_at_most (plus m) (plus n) = leb m n
 
 -- "ints of at least 0"; −0 is 0
-abbrev pub notBelow0 : Int → Option ℕ
-notBelow0 (plus n) = some n
-notBelow0 (minus n) = only_if (eqb n 0) 0
+abbrev pub not_below0 : Int → Option ℕ
+not_below0 (plus n) = some n
+not_below0 (minus n) = only_if (eqb n 0) 0
 
 abbrev pub number_of : Bounds → Bytes → Option ℕ
-number_of b s = onward notBelow0 (int_of b s)
+number_of b s = onward not_below0 (int_of b s)
 
 -- "A real: optional `-`, digits, optionally a dot and digits."; no digits behind the dot where there is none
 pub record Decimal : Type 0 where
@@ -69,19 +69,19 @@ pub record Decimal : Type 0 where
   pub whole : Bytes
   pub fraction : Bytes
 
-abbrev pub notDot : ℕ → Bool
-notDot c = not (eqb c 46)
+abbrev pub not_dot : ℕ → Bool
+not_dot c = not (eqb c 46)
 
 -- by what stands before a dot, and the dot with what stands behind it
-abbrev pub decimalBy : Bool → Bytes → Bytes → Option Decimal
-decimalBy sign a [] = only_if (areDigits 10 a) (record { negative = sign; whole = a; fraction = [] })
-decimalBy sign a (c ∷ d) = only_if (areDigits 10 a && areDigits 10 d) (record { negative = sign; whole = a; fraction = d })
+abbrev pub decimal_by : Bool → Bytes → Bytes → Option Decimal
+decimal_by sign a [] = only_if (are_digits 10 a) (record { negative = sign; whole = a; fraction = [] })
+decimal_by sign a (c ∷ d) = only_if (are_digits 10 a && are_digits 10 d) (record { negative = sign; whole = a; fraction = d })
 
-abbrev pub decimalIn : Bool → Bytes → Option Decimal
-decimalIn sign s = decimalBy sign (front notDot s) (behind notDot s)
+abbrev pub decimal_in : Bool → Bytes → Option Decimal
+decimal_in sign s = decimal_by sign (front not_dot s) (behind not_dot s)
 
-abbrev pub decimalOf : Bytes → Option Decimal
-decimalOf s = pick (eqb (get_or s 0 0) 45) (decimalIn true (drop 1 s)) (decimalIn false s)
+abbrev pub decimal_of : Bytes → Option Decimal
+decimal_of s = pick (eqb (get_or s 0 0) 45) (decimal_in true (drop 1 s)) (decimal_in false s)
 
-abbrev pub isReal : Bytes → Bool
-isReal s = is_some (decimalOf s)
+abbrev pub is_real : Bytes → Bool
+is_real s = is_some (decimal_of s)

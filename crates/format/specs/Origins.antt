@@ -4,14 +4,14 @@ use Rattle.std.proofs.Math.Option.{Option, none, some}
 use Rattle.format.specs.Bytes.{pick, up_from, any}
 use Rattle.format.specs.Lists.{flat, filter, keep, kept, turn, always, onward}
 use Rattle.format.specs.Pieces.{Piece}
-use Rattle.format.specs.Records.{Block, isField, isRecord}
-use Rattle.format.specs.Sets.{Group, groups, isMember}
-use Rattle.format.specs.Written.{newPiece}
-use Rattle.format.specs.Edits.{Act, Edit, is_of, changePiece, newline, newlineIf}
-use Rattle.format.specs.Requests.{Request, requestOf}
-use Rattle.format.specs.Numbers.{intBounds}
-use Rattle.format.specs.Plain.{Plain, index_of, completedBy}
-use Rattle.format.specs.Runs.{Single, requestIn, singleStep}
+use Rattle.format.specs.Records.{Block, is_field, is_record}
+use Rattle.format.specs.Sets.{Group, groups, is_member}
+use Rattle.format.specs.Written.{new_piece}
+use Rattle.format.specs.Edits.{Act, Edit, is_of, change_piece, newline, newline_if}
+use Rattle.format.specs.Requests.{Request, request_of}
+use Rattle.format.specs.Numbers.{int_bounds}
+use Rattle.format.specs.Plain.{Plain, index_of, completed_by}
+use Rattle.format.specs.Runs.{Single, request_in, single_step}
 
 -- What an accepted edit does to the pieces, one after another: it leaves a piece, it names one, it adds one. Where no more is said, the rest is left.
 pub data Fate : Type 0 where
@@ -19,60 +19,60 @@ pub data Fate : Type 0 where
   named : Fate
   added : Piece → Fate
 
-abbrev pub leftAll : List Piece → List Fate
-leftAll ps = map (λ (p : Piece). left) ps
+abbrev pub left_all : List Piece → List Fate
+left_all ps = map (λ (p : Piece). left) ps
 
-abbrev pub addedAll : List Piece → List Fate
-addedAll ps = map added ps
+abbrev pub added_all : List Piece → List Fate
+added_all ps = map added ps
 
 -- the fates of the k-th that passes a test, what stands before it left; and what comes behind the last that passes it
-abbrev pub fatesAt : {A : Type 0} → (A → List Piece) → (A → Bool) → ℕ → (A → List Fate) → List A → List Fate
-fatesAt own t k f [] = []
-fatesAt own t k f (x ∷ xs) = turn (t x) k (f x) (λ (j : ℕ). leftAll (own x) ++ fatesAt own t j f xs)
+abbrev pub fates_at : {A : Type 0} → (A → List Piece) → (A → Bool) → ℕ → (A → List Fate) → List A → List Fate
+fates_at own t k f [] = []
+fates_at own t k f (x ∷ xs) = turn (t x) k (f x) (λ (j : ℕ). left_all (own x) ++ fates_at own t j f xs)
 
-abbrev pub fatesBehind : {A : Type 0} → (A → List Piece) → (A → Bool) → List Fate → List A → List Fate
-fatesBehind own t fs [] = fs
-fatesBehind own t fs (x ∷ xs) = leftAll (own x) ++ pick (any t xs) (fatesBehind own t fs xs) fs
+abbrev pub fates_behind : {A : Type 0} → (A → List Piece) → (A → Bool) → List Fate → List A → List Fate
+fates_behind own t fs [] = fs
+fates_behind own t fs (x ∷ xs) = left_all (own x) ++ pick (any t xs) (fates_behind own t fs xs) fs
 
 -- "An edit names the lines of each field that it deletes, sets, drops or renames, and adds those that it writes."
 abbrev pub one : Piece → List Piece
 one p = p ∷ []
 
-abbrev pub blockFates : Act → Block → List Fate
-blockFates Act.delete b = map (λ (p : Piece). pick (isField p) named left) b
-blockFates (Act.add p) b = fatesBehind one isField (addedAll (newPiece p ∷ [])) b
-blockFates (Act.change n o c) b = fatesAt one (is_of n) o (λ (p : Piece). named ∷ addedAll (changePiece c p)) b
+abbrev pub block_fates : Act → Block → List Fate
+block_fates Act.delete b = map (λ (p : Piece). pick (is_field p) named left) b
+block_fates (Act.add p) b = fates_behind one is_field (added_all (new_piece p ∷ [])) b
+block_fates (Act.change n o c) b = fates_at one (is_of n) o (λ (p : Piece). named ∷ added_all (change_piece c p)) b
 
 -- "each field it writes is a new piece, and so is the newline of an insert"
-abbrev pub groupFates : Edit → Group → List Fate
-groupFates (Edit.insert new) g = fatesBehind (λ (b : Block). b) isRecord (addedAll (newline ∷ map newPiece new)) g
-groupFates (Edit.on j a) g = fatesAt (λ (b : Block). b) isMember j (blockFates a) g
+abbrev pub group_fates : Edit → Group → List Fate
+group_fates (Edit.insert new) g = fates_behind (λ (b : Block). b) is_record (added_all (newline ∷ map new_piece new)) g
+group_fates (Edit.on j a) g = fates_at (λ (b : Block). b) is_member j (block_fates a) g
 
-abbrev pub inGroupFates : ℕ → Edit → List Piece → List Fate
-inGroupFates i e ps = fatesAt flat always i (groupFates e) (groups ps)
+abbrev pub in_group_fates : ℕ → Edit → List Piece → List Fate
+in_group_fates i e ps = fates_at flat always i (group_fates e) (groups ps)
 
-abbrev pub editFates : ℕ → Edit → List Piece → List Fate
-editFates i (Edit.insert new) ps = pick (any isRecord (get_or (groups ps) i [])) (inGroupFates i (Edit.insert new) ps) (addedAll (map newPiece new ++ newlineIf ps))
-editFates i (Edit.on j a) ps = inGroupFates i (Edit.on j a) ps
+abbrev pub edit_fates : ℕ → Edit → List Piece → List Fate
+edit_fates i (Edit.insert new) ps = pick (any is_record (get_or (groups ps) i [])) (in_group_fates i (Edit.insert new) ps) (added_all (map new_piece new ++ newline_if ps))
+edit_fates i (Edit.on j a) ps = in_group_fates i (Edit.on j a) ps
 
-abbrev pub setFates : Option ℕ → Edit → List Piece → List Fate
-setFates none e ps = []
-setFates (some i) e ps = editFates i e ps
+abbrev pub set_fates : Option ℕ → Edit → List Piece → List Fate
+set_fates none e ps = []
+set_fates (some i) e ps = edit_fates i e ps
 
-abbrev pub requestFates : Option Request → Plain → List Fate
-requestFates none p = []
-requestFates (some q) p = setFates (index_of q.set p.sets) q.edit p.pieces
+abbrev pub request_fates : Option Request → Plain → List Fate
+request_fates none p = []
+request_fates (some q) p = set_fates (index_of q.set p.sets) q.edit p.pieces
 
 -- of a single edit, whose request is completed; a refused one names nothing and adds nothing
-abbrev pub singleFates : Single → Plain → List Fate
-singleFates c p = requestFates (onward (completedBy intBounds p) (requestOf (requestIn c))) p
+abbrev pub single_fates : Single → Plain → List Fate
+single_fates c p = request_fates (onward (completed_by int_bounds p) (request_of (request_in c))) p
 
-abbrev pub ifAccepted : {A : Type 0} → ℕ → A → A → A
-ifAccepted zero a b = a
-ifAccepted (suc k) a b = b
+abbrev pub if_accepted : {A : Type 0} → ℕ → A → A → A
+if_accepted zero a b = a
+if_accepted (suc k) a b = b
 
 unfoldable pub fates : ℕ → Plain → Single → List Fate
-fates room p c = ifAccepted (singleStep room p c).number (singleFates c p) []
+fates room p c = if_accepted (single_step room p c).number (single_fates c p) []
 
 -- Where a piece comes from: it is the start's k-th, or an accepted edit added it.
 pub data Origin : Type 0 where
@@ -108,15 +108,15 @@ named_of (left ∷ fs) (o ∷ os) = named_of fs os
 named_of (named ∷ fs) [] = []
 named_of (named ∷ fs) (o ∷ os) = keep (number_of o) (named_of fs os)
 
-abbrev pub startFrom : ℕ → List Piece → List Origin
-startFrom k [] = []
-startFrom k (p ∷ ps) = start k p ∷ startFrom (suc k) ps
+abbrev pub start_from : ℕ → List Piece → List Origin
+start_from k [] = []
+start_from k (p ∷ ps) = start k p ∷ start_from (suc k) ps
 
 unfoldable pub traced : ℕ → List Single → Plain → Trace → Trace
 traced room [] p t = t
 traced room (c ∷ cs) p t =
     let fs : List Fate = fates room p c in
-    traced room cs (singleStep room p c).file (record { standing = carried fs t.standing; named = named_of fs t.standing ++ t.named })
+    traced room cs (single_step room p c).file (record { standing = carried fs t.standing; named = named_of fs t.standing ++ t.named })
 
 -- "Every line that no accepted edit named or added has its bytes and its order."
 pub record Stays (first : List Piece) (t : Trace) (last : List Piece) : Type 0 where

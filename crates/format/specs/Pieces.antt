@@ -17,12 +17,12 @@ lines_of (blank l) = l ∷ []
 lines_of (comment l) = l ∷ []
 lines_of (field n v ls) = ls
 
-abbrev pub allLines : List Piece → List Line
-allLines ps = flat (map lines_of ps)
+abbrev pub all_lines : List Piece → List Line
+all_lines ps = flat (map lines_of ps)
 
 -- the bytes of pieces, one after another
 unfoldable pub bytes_of : List Piece → Bytes
-bytes_of ps = bytes (allLines ps)
+bytes_of ps = bytes (all_lines ps)
 
 -- Before a line: no field is open; one is, so that a plus line may follow; the line before takes this one on.
 pub data Mode : Type 0 where
@@ -58,42 +58,42 @@ pub record Reading : Type 0 where
   pub own : List Line
   pub pieces : List Piece
 
-abbrev pub goesOn : Bytes → Line → Reading → Reading
-goesOn v l r = record { value = v ++ r.value; own = l ∷ r.own; pieces = r.pieces }
+abbrev pub goes_on : Bytes → Line → Reading → Reading
+goes_on v l r = record { value = v ++ r.value; own = l ∷ r.own; pieces = r.pieces }
 
 abbrev pub begins : Piece → Reading → Reading
 begins p r = record { value = []; own = []; pieces = p ∷ r.pieces }
 
 -- a line in front of what is read behind it
-abbrev pub takeLine : Form → Line → Reading → Option Reading
-takeLine Form.blank l r = some (begins (blank l) r)
-takeLine Form.comment l r = some (begins (comment l) r)
-takeLine (Form.field n v) l r = some (begins (field n (cut v ++ r.value) (l ∷ r.own)) r)
-takeLine (Form.more v) l r = some (goesOn (cut v) l r)
-takeLine Form.fault l r = none
+abbrev pub take_line : Form → Line → Reading → Option Reading
+take_line Form.blank l r = some (begins (blank l) r)
+take_line Form.comment l r = some (begins (comment l) r)
+take_line (Form.field n v) l r = some (begins (field n (cut v ++ r.value) (l ∷ r.own)) r)
+take_line (Form.more v) l r = some (goes_on (cut v) l r)
+take_line Form.fault l r = none
 
 -- "No next line is a fault."
-abbrev pub atEnd : Mode → Option Reading
-atEnd closed = some (record { value = []; own = []; pieces = [] })
-atEnd opened = some (record { value = []; own = []; pieces = [] })
-atEnd joined = none
+abbrev pub at_end : Mode → Option Reading
+at_end closed = some (record { value = []; own = []; pieces = [] })
+at_end opened = some (record { value = []; own = []; pieces = [] })
+at_end joined = none
 
-abbrev pub readFrom : Mode → List Line → Option Reading
-readFrom m [] = atEnd m
-readFrom m (l ∷ ls) = onward (takeLine (seen m l) l) (readFrom (after (seen m l)) ls)
+abbrev pub read_from : Mode → List Line → Option Reading
+read_from m [] = at_end m
+read_from m (l ∷ ls) = onward (take_line (seen m l) l) (read_from (after (seen m l)) ls)
 
-abbrev pub piecesIn : Option Reading → Option (List Piece)
-piecesIn x = Option.map (λ (r : Reading). r.pieces) x
+abbrev pub pieces_in : Option Reading → Option (List Piece)
+pieces_in x = Option.map (λ (r : Reading). r.pieces) x
 
 -- a file's pieces, or none where some line has no form that fits
 unfoldable pub pieces : Bytes → Option (List Piece)
-pieces s = piecesIn (readFrom closed (lines s))
+pieces s = pieces_in (read_from closed (lines s))
 
-abbrev pub someOf : Option (List Piece) → List Piece
-someOf none = []
-someOf (some ps) = ps
+abbrev pub some_of : Option (List Piece) → List Piece
+some_of none = []
+some_of (some ps) = ps
 
 -- the same, no piece where they do not read
 unfoldable pub read_of : Bytes → List Piece
 unfolding pieces
-read_of s = someOf (pieces s)
+read_of s = some_of (pieces s)

@@ -2,7 +2,7 @@
 use Rattle.std.specs.Prelude.{ℕ, Bool, true, false, not, List, length}
 use Rattle.std.proofs.Math.Option.{Option, none, some}
 use Rattle.format.specs.Bytes.{Bytes, is_some}
-use Rattle.format.specs.Lists.{isFilled, kept, cut_at}
+use Rattle.format.specs.Lists.{is_filled, kept, cut_at}
 use Rattle.format.specs.Lines.{Line, bytes}
 use Rattle.format.specs.Pieces.{Piece}
 
@@ -23,28 +23,28 @@ field_of (Piece.blank l) = none
 field_of (Piece.comment l) = none
 field_of (Piece.field n v ls) = some (record { name = n; value = v; count = count_of ls })
 
-abbrev pub isField : Piece → Bool
-isField p = is_some (field_of p)
+abbrev pub is_field : Piece → Bool
+is_field p = is_some (field_of p)
 
-abbrev pub isLoose : Piece → Bool
-isLoose p = not (isField p)
+abbrev pub is_loose : Piece → Bool
+is_loose p = not (is_field p)
 
-abbrev pub isBlankLine : Piece → Bool
-isBlankLine (Piece.blank l) = true
-isBlankLine (Piece.comment l) = false
-isBlankLine (Piece.field n v ls) = false
+abbrev pub is_blank_line : Piece → Bool
+is_blank_line (Piece.blank l) = true
+is_blank_line (Piece.comment l) = false
+is_blank_line (Piece.field n v ls) = false
 
 -- "A block is a run of lines without a blank line." Each blank line stands at the head of the block that follows it.
 abbrev pub Block : Type 0
 Block = List Piece
 
 abbrev pub blocks : List Piece → List Block
-blocks ps = cut_at isBlankLine ps
+blocks ps = cut_at is_blank_line ps
 
 -- "comments in it are skipped and don't divide it"
 abbrev pub fields_of : Block → Record
 fields_of b = kept field_of b
 
 -- "A block with a field is a record."
-abbrev pub isRecord : Block → Bool
-isRecord b = isFilled (fields_of b)
+abbrev pub is_record : Block → Bool
+is_record b = is_filled (fields_of b)

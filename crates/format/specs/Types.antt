@@ -2,11 +2,11 @@
 use Rattle.std.specs.Prelude.{ℕ, zero, suc, Bool, true, false, ◌&&◌, ◌||◌, not, List, [], ◌∷◌, map, leb, eqb, length}
 use Rattle.std.proofs.Math.Option
 use Rattle.std.proofs.Math.Option.{Option, none, some}
-use Rattle.format.specs.Lists.{only_if, onward, isFilled, filter, front, behind}
-use Rattle.format.specs.Bytes.{Bytes, text, pick, within, isLetter, isDigit, isNewline, all, any, isSpelt, same, among, is_some}
-use Rattle.format.specs.Lines.{isName}
-use Rattle.format.specs.Words.{isGap, notGap, words, split, trim, isTypeName}
-use Rattle.format.specs.Numbers.{Int, plus, minus, Bounds, isDigitOf, int_of, isAtMost, number_of, isReal}
+use Rattle.format.specs.Lists.{only_if, onward, is_filled, filter, front, behind}
+use Rattle.format.specs.Bytes.{Bytes, text, pick, within, is_letter, is_digit, is_newline, all, any, is_spelt, same, among, is_some}
+use Rattle.format.specs.Lines.{is_name}
+use Rattle.format.specs.Words.{is_gap, not_gap, words, split, trim, is_type_name}
+use Rattle.format.specs.Numbers.{Int, plus, minus, Bounds, is_digit_of, int_of, is_at_most, number_of, is_real}
 
 -- "A type is one of nine kinds, some with numbers"
 pub data Kind : Type 0 where
@@ -29,7 +29,7 @@ pub data Typed : Type 0 where
 
 -- kinds that take nothing after them
 abbrev pub bare : Kind → List Bytes → Option Typed
-bare k ws = only_if (not (isFilled ws)) (kind k)
+bare k ws = only_if (not (is_filled ws)) (kind k)
 
 -- "`MIN`, `MAX` are the ends of int"
 abbrev pub end_of : Bounds → Bytes → Option Int
@@ -53,12 +53,12 @@ size_of b (w ∷ []) = Option.map (λ (n : ℕ). kind (size n)) (number_of b w)
 size_of b (w ∷ v ∷ vs) = none
 
 -- a typedef's name, with nothing after it
-abbrev pub aliasOf : Bytes → List Bytes → Option Typed
-aliasOf w ws = only_if (not (isFilled ws) && isTypeName w) (alias w)
+abbrev pub alias_of : Bytes → List Bytes → Option Typed
+alias_of w ws = only_if (not (is_filled ws) && is_type_name w) (alias w)
 
-abbrev pub plainKind : Bounds → List Bytes → Option Typed
-plainKind b [] = none
-plainKind b (w ∷ ws) =
+abbrev pub plain_kind : Bounds → List Bytes → Option Typed
+plain_kind b [] = none
+plain_kind b (w ∷ ws) =
     pick (same w (text "int")) (bare int ws)
     (pick (same w (text "range")) (range_of b ws)
     (pick (same w (text "real")) (bare real ws)
@@ -67,40 +67,40 @@ plainKind b (w ∷ ws) =
     (pick (same w (text "bool")) (bare bool ws)
     (pick (same w (text "field")) (bare field ws)
     (pick (same w (text "uuid")) (bare uuid ws)
-    (aliasOf w ws))))))))
+    (alias_of w ws))))))))
 
 -- a byte in front of a text, where there is one
-abbrev pub consTo : ℕ → Option Bytes → Option Bytes
-consTo c x = Option.map (λ (s : Bytes). c ∷ s) x
+abbrev pub cons_to : ℕ → Option Bytes → Option Bytes
+cons_to c x = Option.map (λ (s : Bytes). c ∷ s) x
 
 -- "comments in unnested parentheses, each read as a blank"; true: the text begins within one
 abbrev pub uncomment : Bool → Bytes → Option Bytes
 uncomment false [] = some []
-uncomment false (c ∷ s) = pick (eqb c 40) (consTo 32 (uncomment true s)) (pick (eqb c 41) none (consTo c (uncomment false s)))
+uncomment false (c ∷ s) = pick (eqb c 40) (cons_to 32 (uncomment true s)) (pick (eqb c 41) none (cons_to c (uncomment false s)))
 uncomment true [] = none
 uncomment true (c ∷ s) = pick (eqb c 40) none (uncomment (not (eqb c 41)) s)
 
 -- "symbols (letter or digit, then letters, digits, `_`, `-`)"
-abbrev pub isSymbolByte : ℕ → Bool
-isSymbolByte c = isLetter c || isDigit c || eqb c 95 || eqb c 45
+abbrev pub is_symbol_byte : ℕ → Bool
+is_symbol_byte c = is_letter c || is_digit c || eqb c 95 || eqb c 45
 
-abbrev pub isSymbol : Bytes → Bool
-isSymbol s = isSpelt (λ (c : ℕ). isLetter c || isDigit c) isSymbolByte s
+abbrev pub is_symbol : Bytes → Bool
+is_symbol s = is_spelt (λ (c : ℕ). is_letter c || is_digit c) is_symbol_byte s
 
 -- "`enum` with one or more symbols"
-abbrev pub enumIn : Bytes → Option Typed
-enumIn s = let ws : List Bytes = words s in only_if (isFilled ws && all isSymbol ws) (kind (enum ws))
+abbrev pub enum_in : Bytes → Option Typed
+enum_in s = let ws : List Bytes = words s in only_if (is_filled ws && all is_symbol ws) (kind (enum ws))
 
 -- comments are looked for behind the word `enum`, which a parenthesis ends too
-abbrev pub beforeComment : ℕ → Bool
-beforeComment c = notGap c && not (eqb c 40)
+abbrev pub before_comment : ℕ → Bool
+before_comment c = not_gap c && not (eqb c 40)
 
 -- a type, by its first word
 abbrev pub type_of : Bounds → Bytes → Option Typed
 type_of b s =
-    pick (same (front beforeComment (behind isGap s)) (text "enum"))
-    (onward enumIn (uncomment false (behind beforeComment (behind isGap s))))
-    (plainKind b (words s))
+    pick (same (front before_comment (behind is_gap s)) (text "enum"))
+    (onward enum_in (uncomment false (behind before_comment (behind is_gap s))))
+    (plain_kind b (words s))
 
 -- typedefs
 
@@ -126,33 +126,33 @@ kind_of ds t = follow (length ds) ds t
 -- values
 
 -- "a value is an int within them, ends included"
-abbrev pub isInRange : Int → Int → Option Int → Bool
-isInRange low high none = false
-isInRange low high (some x) = isAtMost low x && isAtMost x high
+abbrev pub is_in_range : Int → Int → Option Int → Bool
+is_in_range low high none = false
+is_in_range low high (some x) = is_at_most low x && is_at_most x high
 
 -- "8-4-4-4-12 hex digits, of either case"
-abbrev pub isUuid : Bytes → Bool
-isUuid s = let gs : List Bytes = split 45 s in same (map length gs) (8 ∷ 4 ∷ 4 ∷ 4 ∷ 12 ∷ []) && all (all (isDigitOf 16)) gs
+abbrev pub is_uuid : Bytes → Bool
+is_uuid s = let gs : List Bytes = split 45 s in same (map length gs) (8 ∷ 4 ∷ 4 ∷ 4 ∷ 12 ∷ []) && all (all (is_digit_of 16)) gs
 
 -- "`yes no 0 1 true false`"
 abbrev pub truths : List Bytes
 truths = map text ("yes" ∷ "no" ∷ "0" ∷ "1" ∷ "true" ∷ "false" ∷ [])
 
 -- "From now on `size` counts the bytes outside hex 80 to BF, which in UTF-8 is the count of characters." (document 02, order 7)
-abbrev pub isContinuation : ℕ → Bool
-isContinuation c = within 128 191 c
+abbrev pub is_continuation : ℕ → Bool
+is_continuation c = within 128 191 c
 
-abbrev pub sizeCount : Bytes → ℕ
-sizeCount v = length (filter (λ (c : ℕ). not (isContinuation c)) v)
+abbrev pub size_count : Bytes → ℕ
+size_count v = length (filter (λ (c : ℕ). not (is_continuation c)) v)
 
 -- "`line` (no newline)", "Blanks and newlines around a value are ignored for all kinds but `line` and `size`."
 abbrev pub meets : Bounds → Kind → Bytes → Bool
 meets b int v = is_some (int_of b (trim v))
-meets b (range low high) v = isInRange low high (int_of b (trim v))
-meets b real v = isReal (trim v)
-meets b line v = not (any isNewline v)
-meets b (size n) v = leb (sizeCount v) n
+meets b (range low high) v = is_in_range low high (int_of b (trim v))
+meets b real v = is_real (trim v)
+meets b line v = not (any is_newline v)
+meets b (size n) v = leb (size_count v) n
 meets b (enum ws) v = among (trim v) ws
 meets b bool v = among (trim v) truths
-meets b field v = isName (trim v)
-meets b uuid v = isUuid (trim v)
+meets b field v = is_name (trim v)
+meets b uuid v = is_uuid (trim v)

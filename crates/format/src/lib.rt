@@ -1,9 +1,9 @@
 // What every crate shares: byte classes and their table, the limits, what a call answers and the numbers of refusals. The definitions of the format stand in specs/, the laws about them in proofs/.
 ghost use Rattle.std.specs.Prelude.{◌≡◌, ◌&&◌, leb};
-ghost use Rattle.format.specs.Bytes.{class_of, classTable};
-ghost use Rattle.format.specs.Lines.{isFirst, isLater};
-ghost use Rattle.format.specs.Calls.{answered, number_in, valueOr};
-ghost use Rattle.format.specs.Limits.{fileBytes, nameBytes, valueBytes, recordFields, typedefs, typeFields, listWords};
+ghost use Rattle.format.specs.Bytes.{class_of, class_table};
+ghost use Rattle.format.specs.Lines.{is_first, is_later};
+ghost use Rattle.format.specs.Calls.{answered, number_in, value_or};
+ghost use Rattle.format.specs.Limits.{file_bytes, name_bytes, value_bytes, record_fields, typedefs, type_fields, list_words};
 
 mod refusals;
 
@@ -51,13 +51,13 @@ const CLASSES: [u8; 256] = *b"\x00\x00\x00\x00\x00\x00\x00\x00\x00\x03\x04\x00\x
 
 // The table, for whoever asks for the classes of many bytes: an array that is copied once is cheaper than a constant that is indexed.
 pub fn classes() -> [u8; 256]
-    ensures { result ≡ classTable }
+    ensures { result ≡ class_table }
 {
     CLASSES
 }
 
 pub fn class_of(table: &[u8; 256], b: u8) -> u8
-    requires { table.now ≡ classTable }
+    requires { table.now ≡ class_table }
     ensures { result ≡ class_of b }
 {
     let i = b as usize;
@@ -66,8 +66,8 @@ pub fn class_of(table: &[u8; 256], b: u8) -> u8
 
 // May a name begin with this byte?
 pub fn is_first(table: &[u8; 256], b: u8) -> bool
-    requires { table.now ≡ classTable }
-    ensures { result ≡ isFirst b }
+    requires { table.now ≡ class_table }
+    ensures { result ≡ is_first b }
 {
     let k = class_of(table, b);
     k == Class::LETTER || k == Class::PERCENT
@@ -75,8 +75,8 @@ pub fn is_first(table: &[u8; 256], b: u8) -> bool
 
 // May a name go on with this byte?
 pub fn is_later(table: &[u8; 256], b: u8) -> bool
-    requires { table.now ≡ classTable }
-    ensures { result ≡ isLater b }
+    requires { table.now ≡ class_table }
+    ensures { result ≡ is_later b }
 {
     let k = class_of(table, b);
     if k == Class::LETTER {
@@ -105,7 +105,7 @@ impl Answer {
 
     // The number that is answered, another where it is refused.
     pub fn value_or(self, other: usize) -> usize
-        ensures { result ≡ valueOr other (answered self) }
+        ensures { result ≡ value_or other (answered self) }
     {
         match self {
             Answer::Value(n) => n,
@@ -140,7 +140,7 @@ impl File {
 
     // Is the used length at most the buffer's and the limit?
     pub fn fits(self, room: usize) -> bool
-        ensures { result ≡ (leb self.used room && leb self.used fileBytes) }
+        ensures { result ≡ (leb self.used room && leb self.used file_bytes) }
     {
         if self.used > room {
             return false;
@@ -175,7 +175,7 @@ impl Record {
     }
 
     pub fn fits(self) -> bool
-        ensures { result ≡ (leb self.fields recordFields && leb self.name nameBytes && leb self.value valueBytes) }
+        ensures { result ≡ (leb self.fields record_fields && leb self.name name_bytes && leb self.value value_bytes) }
     {
         if self.fields > Record::FIELDS {
             return false;
@@ -225,7 +225,7 @@ impl Descriptor {
     }
 
     pub fn fits(self) -> bool
-        ensures { result ≡ (leb self.typedefs typedefs && leb self.types typeFields && leb self.mandatory listWords && leb self.prohibited listWords && leb self.allowed listWords && leb self.unique listWords && leb self.singular listWords && leb self.auto listWords) }
+        ensures { result ≡ (leb self.typedefs typedefs && leb self.types type_fields && leb self.mandatory list_words && leb self.prohibited list_words && leb self.allowed list_words && leb self.unique list_words && leb self.singular list_words && leb self.auto list_words) }
     {
         if self.typedefs > Descriptor::TYPEDEFS {
             return false;

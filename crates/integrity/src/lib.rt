@@ -2,16 +2,16 @@
 ghost use Rattle.std.specs.Prelude.{◌≡◌, true, ◌&&◌, ◌≤◌, ltb, length, take, get_or};
 ghost use Rattle.format.specs.Pieces.{read_of};
 ghost use Rattle.format.proofs.Records.{records};
-ghost use Rattle.format.specs.Bytes.{pick, isAllowed, all};
-ghost use Rattle.format.specs.Lines.{isEnded};
-ghost use Rattle.format.specs.Limits.{fileBytes, valueBytes, descriptors};
-ghost use Rattle.format.specs.Numbers.{intBounds};
-ghost use Rattle.format.specs.Rules.{isTypedWell};
-ghost use Rattle.format.specs.Calls.{checkAnswer};
-ghost use Rattle.format.proofs.Judging.{textNo};
-ghost use Rattle.format.proofs.Walking.{walkFits, walkOnce, walkWell, walkTypes, walkNo, recordsNo};
+ghost use Rattle.format.specs.Bytes.{pick, is_allowed, all};
+ghost use Rattle.format.specs.Lines.{is_ended};
+ghost use Rattle.format.specs.Limits.{file_bytes, value_bytes, descriptors};
+ghost use Rattle.format.specs.Numbers.{int_bounds};
+ghost use Rattle.format.specs.Rules.{is_typed_well};
+ghost use Rattle.format.specs.Calls.{check_answer};
+ghost use Rattle.format.proofs.Judging.{text_no};
+ghost use Rattle.format.proofs.Walking.{walk_fits, walk_once, walk_well, walk_types, walk_no, records_no};
 ghost use Rattle.records.specs.Heads.{HeadRows, HeadParts};
-ghost use Rattle.records.specs.Walk.{recordIn};
+ghost use Rattle.records.specs.Walk.{record_in};
 ghost use Rattle.integrity.specs.Stages.{IsFormed, Granted};
 
 use format::{Descriptor, File, Record, Refusal};
@@ -21,14 +21,14 @@ use rules::tables::Tables;
 
 // Is a byte allowed? All tests are made, so that many bytes can be asked at once.
 fn is_allowed(b: u8) -> bool
-    ensures { result ≡ isAllowed b }
+    ensures { result ≡ is_allowed b }
 {
     (b >= b' ') & (b != 127) | (b == b'\t') | (b == b'\n')
 }
 
 // Are all bytes allowed?
 fn all_allowed(s: &[u8]) -> bool
-    ensures { result ≡ all isAllowed s.now }
+    ensures { result ≡ all is_allowed s.now }
 {
     let mut i = 0;
     let mut ok = true;
@@ -42,7 +42,7 @@ fn all_allowed(s: &[u8]) -> bool
 
 // Is a text empty or ended by a newline?
 fn is_ended(s: &[u8]) -> bool
-    ensures { result ≡ isEnded s.now }
+    ensures { result ≡ is_ended s.now }
 {
     let len = s.len();
     if len == 0 {
@@ -53,7 +53,7 @@ fn is_ended(s: &[u8]) -> bool
 
 // Question 2: are all bytes allowed, and is the text empty or ended by a newline?
 fn is_text(s: &[u8]) -> bool
-    ensures { result ≡ (all isAllowed s.now && isEnded s.now) }
+    ensures { result ≡ (all is_allowed s.now && is_ended s.now) }
 {
     if all_allowed(s) {
         return is_ended(s);
@@ -63,9 +63,9 @@ fn is_text(s: &[u8]) -> bool
 
 // Question 7 of a descriptor: are its types well formed, and those of `%auto` names int or range?
 fn typed_well(d: &[u8], scratch: &mut [u8]) -> bool
-    requires formed { IsFormed d.now × (length d.now ≤ fileBytes) }
-    requires value_bytes_in_bounds { valueBytes ≤ length scratch.old }
-    ensures { result ≡ isTypedWell intBounds (recordIn d.now) }
+    requires formed { IsFormed d.now × (length d.now ≤ file_bytes) }
+    requires value_bytes_in_bounds { value_bytes ≤ length scratch.old }
+    ensures { result ≡ is_typed_well int_bounds (record_in d.now) }
 {
     if !typedefs::types_well(d, &mut *scratch) {
         return false;
@@ -81,10 +81,10 @@ fn types_defined(
     count: usize,
     scratch: &mut [u8],
 ) -> bool
-    requires head_parts { HeadParts s.now starts.now ends.now count × (length s.now ≤ fileBytes) }
-    requires s_value { (walkFits (records (read_of s.now)) ≡ true) × (walkWell intBounds (records (read_of s.now)) ≡ true) }
-    requires value_bytes_in_bounds { valueBytes ≤ length scratch.old }
-    ensures { result ≡ walkTypes intBounds (records (read_of s.now)) }
+    requires head_parts { HeadParts s.now starts.now ends.now count × (length s.now ≤ file_bytes) }
+    requires s_value { (walk_fits (records (read_of s.now)) ≡ true) × (walk_well int_bounds (records (read_of s.now)) ≡ true) }
+    requires value_bytes_in_bounds { value_bytes ≤ length scratch.old }
+    ensures { result ≡ walk_types int_bounds (records (read_of s.now)) }
 {
     let mut k = 0;
     while k < count {
@@ -119,11 +119,11 @@ fn judge_sets(
     count: usize,
     scratch: &mut [u8],
 ) -> u32
-    requires s_len_bound { length s.now ≤ fileBytes }
+    requires s_len_bound { length s.now ≤ file_bytes }
     requires granted { Granted (records (read_of s.now)) }
     requires head_rows { HeadRows s.now starts.now ends.now afters.now count }
-    requires value_bytes_in_bounds { valueBytes ≤ length scratch.old }
-    ensures { result ≡ walkNo intBounds (records (read_of s.now)) }
+    requires value_bytes_in_bounds { value_bytes ≤ length scratch.old }
+    ensures { result ≡ walk_no int_bounds (records (read_of s.now)) }
 {
     let mut entries = [0u32; Tables::END];
     let mut k = 0;
@@ -148,10 +148,10 @@ fn judge_described(
     afters: &[usize],
     count: usize,
 ) -> u32
-    requires s_len_bound { length s.now ≤ fileBytes }
-    requires s_value { (walkFits (records (read_of s.now)) ≡ true) × (walkOnce (records (read_of s.now)) ≡ true) }
+    requires s_len_bound { length s.now ≤ file_bytes }
+    requires s_value { (walk_fits (records (read_of s.now)) ≡ true) × (walk_once (records (read_of s.now)) ≡ true) }
     requires head_rows { HeadRows s.now starts.now ends.now afters.now count × (count ≤ descriptors) }
-    ensures { result ≡ recordsNo intBounds (records (read_of s.now)) }
+    ensures { result ≡ records_no int_bounds (records (read_of s.now)) }
 {
     let mut scratch = [0u8; Record::VALUE];
     if !descriptors::described_well(s, starts, ends, count, &mut scratch) {
@@ -165,9 +165,9 @@ fn judge_described(
 
 // Questions 3 to 14 and 30 of a text of which 2 says yes.
 fn judge_lines(s: &[u8]) -> u32
-    requires s_value { (all isAllowed s.now && isEnded s.now) ≡ true }
-    requires s_len_bound { length s.now ≤ fileBytes }
-    ensures { result ≡ textNo s.now }
+    requires s_value { (all is_allowed s.now && is_ended s.now) ≡ true }
+    requires s_len_bound { length s.now ≤ file_bytes }
+    ensures { result ≡ text_no s.now }
 {
     let mut starts = [0usize; Descriptor::COUNT];
     let mut ends = [0usize; Descriptor::COUNT];
@@ -183,8 +183,8 @@ fn judge_lines(s: &[u8]) -> u32
 
 // Questions 2 to 14 and 30 of a text: the number of the first that says no, else 0.
 fn judge(s: &[u8]) -> u32
-    requires { length s.now ≤ fileBytes }
-    ensures { result ≡ textNo s.now }
+    requires { length s.now ≤ file_bytes }
+    ensures { result ≡ text_no s.now }
 {
     if is_text(s) {
         return judge_lines(s);
@@ -194,8 +194,8 @@ fn judge(s: &[u8]) -> u32
 
 // The same of the text of `used` bytes at the front of a slice, which is spent: the text is made dense first.
 fn judge_dense(text: &mut [u8], used: usize) -> u32
-    requires { (used ≤ length text.old) × (used ≤ fileBytes) }
-    ensures { result ≡ textNo (take used text.old) }
+    requires { (used ≤ length text.old) × (used ≤ file_bytes) }
+    ensures { result ≡ text_no (take used text.old) }
 {
     if !is_text(&text[..used]) {
         return Refusal::BYTE;
@@ -209,8 +209,8 @@ fn judge_dense(text: &mut [u8], used: usize) -> u32
 
 // The same of a text that the caller has no further use for.
 pub fn judge_spent(text: &mut [u8], used: usize) -> u32
-    requires { (used ≤ length text.old) × (used ≤ fileBytes) }
-    ensures { result ≡ textNo (take used text.old) }
+    requires { (used ≤ length text.old) × (used ≤ file_bytes) }
+    ensures { result ≡ text_no (take used text.old) }
 {
     if joints::may_join(&text[..used]) {
         return judge_dense(text, used);
@@ -220,8 +220,8 @@ pub fn judge_spent(text: &mut [u8], used: usize) -> u32
 
 // The same of a text that is to stay as it is, with room for a copy of it.
 fn judge_kept(s: &[u8], copy: &mut [u8]) -> u32
-    requires { (length s.now ≤ fileBytes) × (fileBytes ≤ length copy.old) }
-    ensures { result ≡ textNo s.now }
+    requires { (length s.now ≤ file_bytes) × (file_bytes ≤ length copy.old) }
+    ensures { result ≡ text_no s.now }
 {
     if joints::may_join(s) {
         writing::put_bytes(&mut *copy, s);
@@ -232,8 +232,8 @@ fn judge_kept(s: &[u8], copy: &mut [u8]) -> u32
 
 // The number of the first question that says no of the first `used` bytes of a buffer, else 0, with room for a copy of them.
 pub fn check_with(buf: &[u8], used: usize, copy: &mut [u8]) -> u32
-    requires { fileBytes ≤ length copy.old }
-    ensures { result ≡ checkAnswer buf.now used }
+    requires { file_bytes ≤ length copy.old }
+    ensures { result ≡ check_answer buf.now used }
 {
     let f = File::new(used);
     if !f.fits(buf.len()) {
@@ -244,7 +244,7 @@ pub fn check_with(buf: &[u8], used: usize, copy: &mut [u8]) -> u32
 
 // The number of the first question that says no of the first `used` bytes of a buffer, else 0.
 pub fn check(buf: &[u8], used: usize) -> u32
-    ensures { result ≡ checkAnswer buf.now used }
+    ensures { result ≡ check_answer buf.now used }
 {
     let mut copy = [0u8; File::BYTES];
     check_with(buf, used, &mut copy)

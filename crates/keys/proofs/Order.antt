@@ -6,13 +6,13 @@ use mathlib.Core.Logic.{◌⊎◌, inl, inr, ⊎_elim}
 use mathlib.Core.List.{◌∷◌}
 use borrow.Author.Tests.{lt-ltb, le-ltb}
 use Rattle.format.specs.Bytes.{Bytes}
-use Rattle.values.specs.Likeness.{likenessOf}
+use Rattle.values.specs.Likeness.{likeness_of}
 use Rattle.sorting.specs.Order.{order_of}
 use Rattle.sorting.specs.declared.Compared.{Compared}
 use Rattle.values.proofs.Tests.{three_ways}
 use Rattle.sorting.proofs.Order.{never}
 use Rattle.sorting.proofs.Ordered.{order_same, order-apart, order_trans}
-use Rattle.keys.specs.Order.{number_in, valueIn, ranked}
+use Rattle.keys.specs.Order.{number_in, value_in, ranked}
 
 -- what the numbers decide
 module _ (a b : Bytes) where
@@ -24,15 +24,15 @@ module _ (a b : Bytes) where
   unfolding ranked
   ranked-gt h = rw (le-ltb (number_in a) (number_in b) (omega arith), lt-ltb (number_in b) (number_in a) h)
 
-  pub ranked-on : number_in a ≡ number_in b → ranked a b ≡ order_of (likenessOf (valueIn a) (valueIn b))
+  pub ranked-on : number_in a ≡ number_in b → ranked a b ≡ order_of (likeness_of (value_in a) (value_in b))
   unfolding ranked
   ranked-on h = rw (le-ltb (number_in a) (number_in b) (omega arith), le-ltb (number_in b) (number_in a) (omega arith))
 
-  before-cases : ranked a b ≡ Compared.Before → (number_in a < number_in b) ⊎ ((number_in a ≡ number_in b) × (order_of (likenessOf (valueIn a) (valueIn b)) ≡ Compared.Before))
+  before-cases : ranked a b ≡ Compared.Before → (number_in a < number_in b) ⊎ ((number_in a ≡ number_in b) × (order_of (likeness_of (value_in a) (value_in b)) ≡ Compared.Before))
   before-cases e = three_ways (number_in a) (number_in b) (λ h. inl h) (λ h. never (cc (ranked-gt h))) (λ h. inr (h, sym (ranked-on h) ∙ e))
 
   pub ranked-apart : ranked a b ≡ Compared.Before → a ≡ b → ⊥
-  ranked-apart e q = order-apart (valueIn a) (valueIn b) (sym (ranked-on (ap number_in q)) ∙ e) (ap valueIn q)
+  ranked-apart e q = order-apart (value_in a) (value_in b) (sym (ranked-on (ap number_in q)) ∙ e) (ap value_in q)
 
 pub ranked-same : (m n : ℕ) (a b : Bytes) → ranked (m ∷ a) (n ∷ b) ≡ Compared.Equal → ◌≡◌ {A = Bytes} (m ∷ a) (n ∷ b)
 ranked-same m n a b e =
@@ -46,5 +46,5 @@ ranked-trans a b c e f =
     (λ p. ⊎_elim (λ q. ranked-lt a c (omega arith)) (λ q. let h = q.0 in ranked-lt a c (omega arith)) (before-cases b c f))
     (λ p.
     let h = p.0 in
-    ⊎_elim (λ q. ranked-lt a c (omega arith)) (λ q. ranked-on a c (h ∙ q.0) ∙ order_trans (valueIn a) (valueIn b) (valueIn c) p.1 q.1) (before-cases b c f))
+    ⊎_elim (λ q. ranked-lt a c (omega arith)) (λ q. ranked-on a c (h ∙ q.0) ∙ order_trans (value_in a) (value_in b) (value_in c) p.1 q.1) (before-cases b c f))
     (before-cases a b e)

@@ -7,17 +7,17 @@ use lib.ListN.{length, get_or, drop}
 use Rattle.format.specs.Bytes.{Bytes, same, among}
 use Rattle.format.specs.Rules.{distinct}
 use Rattle.lines.proofs.Cuts.{at-cons}
-use Rattle.keys.specs.Marks.{markAt, marksOf}
+use Rattle.keys.specs.Marks.{mark_at, marks_of}
 
 module _ (s : Bytes) (l : List ℕ) (i : ℕ) (h : i < length l) where
-  pub among-hit : (k : Bytes) → same k (markAt s (get_or l i 0)) ≡ true → among k (marksOf s (drop i l)) ≡ true
+  pub among-hit : (k : Bytes) → same k (mark_at s (get_or l i 0)) ≡ true → among k (marks_of s (drop i l)) ≡ true
   among-hit k e = rw (at-cons l i h, e)
 
-  pub among-miss : (k : Bytes) → same k (markAt s (get_or l i 0)) ≡ false → among k (marksOf s (drop i l)) ≡ among k (marksOf s (drop (i + 1) l))
+  pub among-miss : (k : Bytes) → same k (mark_at s (get_or l i 0)) ≡ false → among k (marks_of s (drop i l)) ≡ among k (marks_of s (drop (i + 1) l))
   among-miss k e = rw (at-cons l i h, e)
 
-  pub distinct-hit : among (markAt s (get_or l i 0)) (marksOf s (drop (i + 1) l)) ≡ true → distinct (marksOf s (drop i l)) ≡ false
+  pub distinct-hit : among (mark_at s (get_or l i 0)) (marks_of s (drop (i + 1) l)) ≡ true → distinct (marks_of s (drop i l)) ≡ false
   distinct-hit e = rw (at-cons l i h, e)
 
-  pub distinct-miss : among (markAt s (get_or l i 0)) (marksOf s (drop (i + 1) l)) ≡ false → distinct (marksOf s (drop i l)) ≡ distinct (marksOf s (drop (i + 1) l))
+  pub distinct-miss : among (mark_at s (get_or l i 0)) (marks_of s (drop (i + 1) l)) ≡ false → distinct (marks_of s (drop i l)) ≡ distinct (marks_of s (drop (i + 1) l))
   distinct-miss e = rw (at-cons l i h, e)

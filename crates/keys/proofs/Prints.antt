@@ -10,30 +10,30 @@ use lib.ListN.{length, get_or, set, take, drop, length-drop}
 use lib.Seq.{get_or-set_same, get_or-set_other, take-suc-set, get_or-take, get_or-drop, length-take-le}
 use Rattle.format.specs.Bytes.{Bytes}
 use Rattle.format.specs.Rules.{distinct}
-use Rattle.values.specs.Value.{valueFrom}
+use Rattle.values.specs.Value.{value_from}
 use Rattle.lines.proofs.Cuts.{rest}
-use Rattle.keys.specs.Marks.{markAt, marksOf, Inside}
-use Rattle.keys.specs.Keys.{printOf, entry_of, key_at, keys_of, IsEntry, Entries}
-use Rattle.keys.specs.Order.{valueIn}
+use Rattle.keys.specs.Marks.{mark_at, marks_of, Inside}
+use Rattle.keys.specs.Keys.{print_of, entry_of, key_at, keys_of, IsEntry, Entries}
+use Rattle.keys.specs.Order.{value_in}
 use Rattle.keys.proofs.Apart.{bool_same, apart_distinct, distinct_apart}
 
 -- the entry of the key at a place
 module _ (s : Bytes) (at : ℕ) (low : at < 65536) where
-  pub entry_place : entry_of at (valueFrom (drop at s)) % 65536 ≡ at
+  pub entry_place : entry_of at (value_from (drop at s)) % 65536 ≡ at
   entry_place = omega arith
 
-  pub entry_key : key_at s (entry_of at (valueFrom (drop at s))) ≡ valueFrom (drop at s)
-  entry_key = ap (λ (k : ℕ). valueFrom (drop k s)) entry_place
+  pub entry_key : key_at s (entry_of at (value_from (drop at s))) ≡ value_from (drop at s)
+  entry_key = ap (λ (k : ℕ). value_from (drop k s)) entry_place
 
-  pub entry-is : at ≤ length s → IsEntry s (entry_of at (valueFrom (drop at s)))
+  pub entry-is : at ≤ length s → IsEntry s (entry_of at (value_from (drop at s)))
   entry-is h = record {
     inside = omega arith;
-    print = (let p : entry_of at (valueFrom (drop at s)) / 65536 ≡ printOf (valueFrom (drop at s)) = omega arith in p) ∙ ap printOf (sym entry_key);
+    print = (let p : entry_of at (value_from (drop at s)) / 65536 ≡ print_of (value_from (drop at s)) = omega arith in p) ∙ ap print_of (sym entry_key);
   }
 
 -- the value at an entry's place, in the part that begins there
-pub value-part : (s : Bytes) (a e : ℕ) → a ≡ e % 65536 → valueFrom (take (length s - a) (drop a s)) ≡ valueIn (markAt s e)
-value-part s a e q = ap valueFrom (rest s a) ∙ ap (λ (k : ℕ). valueFrom (drop k s)) q
+pub value-part : (s : Bytes) (a e : ℕ) → a ≡ e % 65536 → value_from (take (length s - a) (drop a s)) ≡ value_in (mark_at s e)
+value-part s a e q = ap value_from (rest s a) ∙ ap (λ (k : ℕ). value_from (drop k s)) q
 
 -- places of entries up to one, and from one on
 pub inside-front : (s : Bytes) (l : List ℕ) (n : ℕ) → n ≤ length l → Inside s n l → Inside s (length (take n l)) (take n l)
@@ -46,15 +46,15 @@ inside-rest s l i h = rw (rest l i) (λ p g. rw get_or-drop (h (i + p) (omega (a
 pub entries-inside : (s : Bytes) (n : ℕ) (l : List ℕ) → Entries s n l → Inside s n l
 entries-inside s n l e i h = (e i h).inside
 
-pub marks-keys : (s : Bytes) (l : List ℕ) → Entries s (length l) l → distinct (marksOf s l) ≡ distinct (keys_of s l)
+pub marks-keys : (s : Bytes) (l : List ℕ) → Entries s (length l) l → distinct (marks_of s l) ≡ distinct (keys_of s l)
 marks-keys s l e =
-    bool_same (distinct (marksOf s l)) (distinct (keys_of s l))
-    (λ q. apart_distinct (key_at s) l (λ j g i k same. distinct_apart (markAt s) l q j g i k (one i j (omega arith) g same)))
-    (λ q. apart_distinct (markAt s) l (λ j g i k same. distinct_apart (key_at s) l q j g i k (ap valueIn same)))
+    bool_same (distinct (marks_of s l)) (distinct (keys_of s l))
+    (λ q. apart_distinct (key_at s) l (λ j g i k same. distinct_apart (mark_at s) l q j g i k (one i j (omega arith) g same)))
+    (λ q. apart_distinct (mark_at s) l (λ j g i k same. distinct_apart (key_at s) l q j g i k (ap value_in same)))
   where
-    one : (i j : ℕ) → i < length l → j < length l → key_at s (get_or l i 0) ≡ key_at s (get_or l j 0) → markAt s (get_or l i 0) ≡ markAt s (get_or l j 0)
+    one : (i j : ℕ) → i < length l → j < length l → key_at s (get_or l i 0) ≡ key_at s (get_or l j 0) → mark_at s (get_or l i 0) ≡ mark_at s (get_or l j 0)
     one i j h g same =
-        let p : get_or l i 0 / 65536 ≡ get_or l j 0 / 65536 = (e i h).print ∙ ap printOf same ∙ sym (e j g).print in
+        let p : get_or l i 0 / 65536 ≡ get_or l j 0 / 65536 = (e i h).print ∙ ap print_of same ∙ sym (e j g).print in
         λ k. p k ∷ same k
 
 pub entries-front : (s : Bytes) (l : List ℕ) (n : ℕ) → n ≤ length l → Entries s n l → Entries s (length (take n l)) (take n l)

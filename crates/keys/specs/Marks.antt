@@ -1,13 +1,13 @@
 -- An entry is a place of the file with a number above it; it stands for that number and the value at the place. Two entries are alike where both are.
 use Rattle.std.specs.Prelude.{ℕ, ◌/◌, ◌%◌, ◌<◌, ◌≤◌, List, ◌∷◌, map, length, get_or, drop}
 use Rattle.format.specs.Bytes.{Bytes}
-use Rattle.values.specs.Value.{valueFrom}
+use Rattle.values.specs.Value.{value_from}
 
-abbrev pub markAt : Bytes → ℕ → Bytes
-markAt s e = (e / 65536) ∷ valueFrom (drop (e % 65536) s)
+abbrev pub mark_at : Bytes → ℕ → Bytes
+mark_at s e = (e / 65536) ∷ value_from (drop (e % 65536) s)
 
-abbrev pub marksOf : Bytes → List ℕ → List Bytes
-marksOf s l = map (markAt s) l
+abbrev pub marks_of : Bytes → List ℕ → List Bytes
+marks_of s l = map (mark_at s) l
 
 -- the places of the first n entries are in the file
 abbrev pub Inside : Bytes → ℕ → List ℕ → Type 0

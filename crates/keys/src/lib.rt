@@ -2,13 +2,13 @@
 // quadratic time. An entry has the place of its value and a number above it: of a key, a fingerprint of the value. Entries with any numbers are told apart here (`distinct_marks`).
 ghost use Rattle.std.specs.Prelude.{◌≡◌, true, ◌%◌, ◌<◌, ◌≤◌, length, take, drop};
 ghost use Rattle.format.specs.Bytes.{same, among};
-ghost use Rattle.format.specs.Limits.{fileBytes};
+ghost use Rattle.format.specs.Limits.{file_bytes};
 ghost use Rattle.format.specs.Rules.{distinct};
 ghost use Rattle.format.specs.Sets.{values_of};
-ghost use Rattle.values.specs.Value.{valueFrom};
-ghost use Rattle.records.specs.Places.{isReadable};
-ghost use Rattle.records.specs.Walk.{recordIn};
-ghost use Rattle.keys.specs.Marks.{markAt, marksOf, Inside};
+ghost use Rattle.values.specs.Value.{value_from};
+ghost use Rattle.records.specs.Places.{is_readable};
+ghost use Rattle.records.specs.Walk.{record_in};
+ghost use Rattle.keys.specs.Marks.{mark_at, marks_of, Inside};
 ghost use Rattle.keys.specs.Keys.{entry_of};
 ghost use Rattle.keys.specs.Order.{ranked, Tells};
 ghost use Rattle.keys.specs.Gathered.{Gathered};
@@ -18,8 +18,8 @@ use sorting::{Compared, Entry};
 
 // The entry of the key that begins at a place.
 fn entry(s: &[u8], at: usize) -> u32
-    requires { (at < fileBytes) × (at ≤ length s.now) }
-    ensures { result ≡ entry_of at (valueFrom (drop at s.now)) }
+    requires { (at < file_bytes) × (at ≤ length s.now) }
+    ensures { result ≡ entry_of at (value_from (drop at s.now)) }
 {
     let p = sorting::narrow(sorting::mix(s, at, false)) / Entry::PLACES;
     sorting::narrow(at) + Entry::PLACES * p
@@ -28,7 +28,7 @@ fn entry(s: &[u8], at: usize) -> u32
 // What two entries stand for, compared: as values only where the numbers are equal.
 fn compare_entries(s: &[u8], x: u32, y: u32) -> Compared
     requires { (x % 65536 ≤ length s.now) × (y % 65536 ≤ length s.now) }
-    ensures { result ≡ ranked (markAt s.now x) (markAt s.now y) }
+    ensures { result ≡ ranked (mark_at s.now x) (mark_at s.now y) }
 {
     let p = x / Entry::PLACES;
     let q = y / Entry::PLACES;
@@ -46,7 +46,7 @@ fn compare_entries(s: &[u8], x: u32, y: u32) -> Compared
 // Is each before the next? The first neighbours that are not decide.
 fn neighbours(s: &[u8], entries: &[u32]) -> Compared
     requires { Inside s.now (length entries.now) entries.now }
-    ensures { Tells result (distinct (marksOf s.now entries.now)) }
+    ensures { Tells result (distinct (marks_of s.now entries.now)) }
 {
     let mut i = 1;
     while i < entries.len() {
@@ -69,7 +69,7 @@ fn neighbours(s: &[u8], entries: &[u32]) -> Compared
 // Do two entries stand for the same?
 fn alike(s: &[u8], x: u32, y: u32) -> bool
     requires { (x % 65536 ≤ length s.now) × (y % 65536 ≤ length s.now) }
-    ensures { result ≡ same (markAt s.now x) (markAt s.now y) }
+    ensures { result ≡ same (mark_at s.now x) (mark_at s.now y) }
 {
     if x / Entry::PLACES != y / Entry::PLACES {
         return false;
@@ -83,7 +83,7 @@ fn alike(s: &[u8], x: u32, y: u32) -> bool
 fn mark_among(s: &[u8], x: u32, entries: &[u32]) -> bool
     requires x_in_bounds { x % 65536 ≤ length s.now }
     requires inside { Inside s.now (length entries.now) entries.now }
-    ensures { result ≡ among (markAt s.now x) (marksOf s.now entries.now) }
+    ensures { result ≡ among (mark_at s.now x) (marks_of s.now entries.now) }
 {
     let mut i = 0;
     while i < entries.len() {
@@ -98,7 +98,7 @@ fn mark_among(s: &[u8], x: u32, entries: &[u32]) -> bool
 // All pairs, in any order of the entries.
 fn distinct_pairs(s: &[u8], entries: &[u32]) -> bool
     requires { Inside s.now (length entries.now) entries.now }
-    ensures { result ≡ distinct (marksOf s.now entries.now) }
+    ensures { result ≡ distinct (marks_of s.now entries.now) }
 {
     let mut i = 0;
     while i < entries.len() {
@@ -114,7 +114,7 @@ fn distinct_pairs(s: &[u8], entries: &[u32]) -> bool
 // Sorted entries answer by their neighbours; were the sort wrong and these said nothing, all pairs would answer.
 fn distinct_entries(s: &[u8], entries: &mut [u32]) -> bool
     requires { Inside s.now (length entries.old) entries.old }
-    ensures { result ≡ distinct (marksOf s.now entries.old) }
+    ensures { result ≡ distinct (marks_of s.now entries.old) }
 {
     sorting::sort(s, &mut *entries, false);
     let c = neighbours(s, &*entries);
@@ -129,15 +129,15 @@ fn distinct_entries(s: &[u8], entries: &mut [u32]) -> bool
 pub fn distinct_marks(s: &[u8], entries: &mut [u32], n: usize) -> bool
     requires n_in_bounds { n ≤ length entries.old }
     requires inside { Inside s.now n entries.old }
-    ensures { result ≡ distinct (marksOf s.now (take n entries.old)) }
+    ensures { result ≡ distinct (marks_of s.now (take n entries.old)) }
 {
     distinct_entries(s, &mut entries[..n])
 }
 
 // The entries of the values in s of the fields of a name; how many there are.
 fn gather(name: &[u8], s: &[u8], entries: &mut [u32]) -> usize
-    requires s_value { (isReadable s.now ≡ true) × (length s.now ≤ fileBytes) }
-    requires s_in_bounds { length (values_of name.now (recordIn s.now)) ≤ length entries.old }
+    requires s_value { (is_readable s.now ≡ true) × (length s.now ≤ file_bytes) }
+    requires s_in_bounds { length (values_of name.now (record_in s.now)) ≤ length entries.old }
     ensures { Gathered name.now s.now entries.new result }
 {
     let mut i = 0;
@@ -160,9 +160,9 @@ fn gather(name: &[u8], s: &[u8], entries: &mut [u32]) -> usize
 
 // Are the values in s of the fields of a name distinct?
 pub fn keys_distinct(name: &[u8], s: &[u8], entries: &mut [u32]) -> bool
-    requires s_value { (isReadable s.now ≡ true) × (length s.now ≤ fileBytes) }
-    requires s_in_bounds { length (values_of name.now (recordIn s.now)) ≤ length entries.old }
-    ensures { result ≡ distinct (values_of name.now (recordIn s.now)) }
+    requires s_value { (is_readable s.now ≡ true) × (length s.now ≤ file_bytes) }
+    requires s_in_bounds { length (values_of name.now (record_in s.now)) ≤ length entries.old }
+    ensures { result ≡ distinct (values_of name.now (record_in s.now)) }
 {
     let n = gather(name, s, &mut *entries);
     distinct_marks(s, &mut *entries, n)

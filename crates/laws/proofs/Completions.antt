@@ -8,14 +8,14 @@ use lib.Dec.{eqb}
 use lib.ListN.{length, take, replicate}
 use Rattle.format.specs.Bytes.{Bytes, text, class_of, same, all}
 use Rattle.format.specs.Pieces.{bytes_of, pieces, read_of}
-use Rattle.format.specs.Sets.{setsOf}
-use Rattle.format.specs.Questions.{fileOf, verdictIn, verdict}
+use Rattle.format.specs.Sets.{sets_of}
+use Rattle.format.specs.Questions.{file_of, verdict_in, verdict}
 use Rattle.format.specs.Written.{Pair, written}
 use Rattle.format.specs.Edits.{Edit}
-use Rattle.format.specs.Requests.{tagged, requestOf, encoded}
+use Rattle.format.specs.Requests.{tagged, request_of, encoded}
 use Rattle.format.specs.Numbering.{decimal, completed}
-use Rattle.format.specs.Plain.{plain_of, length_of, apply, completedBy, step}
-use Rattle.format.specs.Calls.{number_in, valueOr, Filled, editAnswer}
+use Rattle.format.specs.Plain.{plain_of, length_of, apply, completed_by, step}
+use Rattle.format.specs.Calls.{number_in, value_or, Filled, edit_answer}
 use Rattle.format.proofs.Cases.{asks, pair}
 
 -- a file, so many bytes behind it in the buffer, the pairs of an insert into its set Scan, the number of the answer and the file after it
@@ -28,8 +28,8 @@ pub record Inserted : Type 0 where
 
 abbrev holds : Inserted → Bool
 holds c =
-    let a : Filled = editAnswer (c.file ++ replicate c.spare 0) (length c.file) (asks "Scan" (Edit.insert c.new)) in
-    eqb (number_in a.result) c.number && same (take (valueOr (length c.file) a.result) a.out) c.after
+    let a : Filled = edit_answer (c.file ++ replicate c.spare 0) (length c.file) (asks "Scan" (Edit.insert c.new)) in
+    eqb (number_in a.result) c.number && same (take (value_or (length c.file) a.result) a.out) c.after
 
 -- accepted, with what is written behind the file; and refused
 abbrev adds : Bytes → ℕ → List Pair → String → Inserted
@@ -75,5 +75,5 @@ numbered-inserts : all holds (
     refuses (forbidden "%allowed: A\n") 40 (pair "A" "x" ∷ []) 109 ∷
     adds (forbidden "%mandatory: Id\n") 40 (pair "A" "x" ∷ []) "\nId: 0\nA: x\n" ∷
     adds (forbidden "%key: Id\n%singular: Id\n") 40 (pair "A" "x" ∷ []) "\nId: 0\nA: x\n" ∷ []) ≡ true
-unfolding class_of bytes_of pieces read_of setsOf written fileOf verdictIn verdict tagged requestOf encoded plain_of length_of apply decimal completed completedBy step editAnswer
+unfolding class_of bytes_of pieces read_of sets_of written file_of verdict_in verdict tagged request_of encoded plain_of length_of apply decimal completed completed_by step edit_answer
 numbered-inserts = refl

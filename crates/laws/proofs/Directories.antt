@@ -8,15 +8,15 @@ use lib.Dec.{eqb}
 use lib.ListN.{length}
 use Rattle.format.specs.Bytes.{Bytes, text, all}
 use Rattle.format.specs.Pieces.{bytes_of, pieces, read_of}
-use Rattle.format.specs.Sets.{setsOf}
-use Rattle.format.specs.Questions.{fileOf, verdictIn, verdict}
+use Rattle.format.specs.Sets.{sets_of}
+use Rattle.format.specs.Questions.{file_of, verdict_in, verdict}
 use Rattle.format.specs.Written.{written}
 use Rattle.format.specs.Edits.{Act, Edit}
-use Rattle.format.specs.Requests.{tagged, requestOf, encoded}
+use Rattle.format.specs.Requests.{tagged, request_of, encoded}
 use Rattle.format.specs.Numbering.{completed}
-use Rattle.format.specs.Plain.{plain_of, length_of, apply, completedBy, step}
-use Rattle.format.specs.Calls.{Answer, number_in, valueOr}
-use Rattle.format.specs.Directory.{directoryOf, Listed, fillAnswer, listedStep, listedAnswer, Kept, keptAnswer, countAtAnswer}
+use Rattle.format.specs.Plain.{plain_of, length_of, apply, completed_by, step}
+use Rattle.format.specs.Calls.{Answer, number_in, value_or}
+use Rattle.format.specs.Directory.{directory_of, Listed, fill_answer, listed_step, listed_answer, Kept, kept_answer, count_at_answer}
 use Rattle.format.specs.declared.Entry.{Entry}
 
 abbrev entry : ℕ → ℕ → ℕ → Entry
@@ -43,8 +43,8 @@ pub record Case : Type 0 where
 abbrev holds : Case → Bool
 holds c =
     let s : Bytes = text c.file in
-    let l : Listed = fillAnswer s (length s) c.before in
-    eqb (number_in l.result) c.number && eqb (valueOr 0 l.result) c.value && alike l.entries c.after
+    let l : Listed = fill_answer s (length s) c.before in
+    eqb (number_in l.result) c.number && eqb (value_or 0 l.result) c.value && alike l.entries c.after
 
 -- filled, and two entries behind the last set stay
 abbrev fills : String → List Entry → Case
@@ -76,7 +76,7 @@ cases =
     stops "%rec: A\n\n%rec: A\n" (old ∷ []) 6 ∷ []
 
 pub filled-told : all holds cases ≡ true
-unfolding pieces read_of setsOf fileOf verdictIn verdict bytes_of directoryOf fillAnswer
+unfolding pieces read_of sets_of file_of verdict_in verdict bytes_of directory_of fill_answer
 filled-told = refl
 
 -- an edit given the list: a delete, a request of no form, and the same with a list too short
@@ -89,7 +89,7 @@ pub record Given : Type 0 where
 abbrev keeps : Given → Bool
 keeps g =
     let s : Bytes = text shop in
-    let k : Kept = keptAnswer s (length s) g.request g.before in
+    let k : Kept = kept_answer s (length s) g.request g.before in
     eqb (number_in k.result) g.number && alike k.entries g.after
 
 abbrev deletes : ℕ → Bytes
@@ -104,10 +104,10 @@ givens =
     record { request = []; before = old ∷ old ∷ old ∷ []; number = 28; after = entry 9 9 9 ∷ entry 9 9 9 ∷ entry 9 9 9 ∷ [] } ∷ []
 
 pub kept-told : all keeps givens ≡ true
-unfolding pieces read_of setsOf fileOf verdictIn verdict bytes_of written tagged requestOf encoded plain_of length_of apply completed completedBy step directoryOf fillAnswer listedStep listedAnswer keptAnswer
+unfolding pieces read_of sets_of file_of verdict_in verdict bytes_of written tagged request_of encoded plain_of length_of apply completed completed_by step directory_of fill_answer listed_step listed_answer kept_answer
 kept-told = refl
 
 -- the count at a position, and past the list's end
-counts-told : (countAtAnswer (entry 0 3 4 ∷ entry 5 7 9 ∷ []) 1 ≡ Answer.value 7) × (countAtAnswer (entry 0 3 4 ∷ entry 5 7 9 ∷ []) 2 ≡ Answer.refusal 21)
-unfolding countAtAnswer
+counts-told : (count_at_answer (entry 0 3 4 ∷ entry 5 7 9 ∷ []) 1 ≡ Answer.value 7) × (count_at_answer (entry 0 3 4 ∷ entry 5 7 9 ∷ []) 2 ≡ Answer.refusal 21)
+unfolding count_at_answer
 counts-told = (refl, refl)

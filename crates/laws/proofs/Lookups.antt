@@ -9,12 +9,12 @@ use lib.ListN.{length, drop, replicate}
 use Rattle.format.specs.Bytes.{Bytes, text, all, same}
 use Rattle.format.specs.Lists.{flat}
 use Rattle.format.specs.Pieces.{bytes_of, pieces, read_of}
-use Rattle.format.specs.Sets.{setsOf}
-use Rattle.format.specs.Questions.{fileOf, verdictIn, verdict}
+use Rattle.format.specs.Sets.{sets_of}
+use Rattle.format.specs.Questions.{file_of, verdict_in, verdict}
 use Rattle.format.specs.Written.{Pair, written}
 use Rattle.format.specs.Edits.{Change, Act, Edit}
-use Rattle.format.specs.Requests.{tagged, requestOf, encoded}
-use Rattle.format.specs.Calls.{Answer, answer, Filled, Viewed, checkAnswer, countAnswer, fetchAnswer, nameAnswer, viewAnswer, writeAnswer}
+use Rattle.format.specs.Requests.{tagged, request_of, encoded}
+use Rattle.format.specs.Calls.{Answer, answer, Filled, Viewed, check_answer, count_answer, fetch_answer, name_answer, view_answer, write_answer}
 use Rattle.format.proofs.Cases.{book, asks, pair, change}
 
 -- a call, and what it answers: a number or a refusal's, and the bytes of a second buffer after it or of the part that is viewed
@@ -27,12 +27,12 @@ pub data Call : Type 0 where
   write : Bytes → Bytes → Call
 
 abbrev calls : Bytes → ℕ → Call → Filled
-calls b n check = record { result = answer (checkAnswer b n) 0; out = [] }
-calls b n (count set) = record { result = countAnswer b n (text set); out = [] }
-calls b n (fetch set row m o out) = fetchAnswer b n (text set) row (text m) o out
-calls b n (view set row) = let v : Viewed = viewAnswer b n (text set) row in record { result = v.result; out = v.part }
-calls b n (name k out) = nameAnswer b n k out
-calls b n (write q out) = writeAnswer q out
+calls b n check = record { result = answer (check_answer b n) 0; out = [] }
+calls b n (count set) = record { result = count_answer b n (text set); out = [] }
+calls b n (fetch set row m o out) = fetch_answer b n (text set) row (text m) o out
+calls b n (view set row) = let v : Viewed = view_answer b n (text set) row in record { result = v.result; out = v.part }
+calls b n (name k out) = name_answer b n k out
+calls b n (write q out) = write_answer q out
 
 pub record Case : Type 0 where
   pub buffer : Bytes
@@ -294,8 +294,8 @@ abbrev one : String → String → Bytes
 one n v = inserts (pair n v ∷ [])
 
 -- refused, the second buffer stays as it is
-abbrev refusesWrite : ℕ → Bytes → Case
-refusesWrite k q = writes q (text "..") (no k) (text "..")
+abbrev refuses_write : ℕ → Bytes → Case
+refuses_write k q = writes q (text "..") (no k) (text "..")
 
 -- a text in a buffer that just holds it, in one with two bytes more, and in one with a byte too few
 abbrev fills : Bytes → Bytes → List Case
@@ -315,8 +315,8 @@ scan = inserts (pair "Id" "2" ∷ pair "Page" "p\nq" ∷ [])
 abbrev head : Bytes
 head = 1 ∷ 0 ∷ 1 ∷ 1 ∷ 2 ∷ 0 ∷ 0 ∷ []
 
-abbrev oneField : Bytes
-oneField = 4 ∷ 0 ∷ 1 ∷ 65 ∷ 6 ∷ 0 ∷ 1 ∷ 66 ∷ []
+abbrev one_field : Bytes
+one_field = 4 ∷ 0 ∷ 1 ∷ 65 ∷ 6 ∷ 0 ∷ 1 ∷ 66 ∷ []
 
 -- the form of a request, and other kinds
 abbrev formed : List Case
@@ -325,33 +325,33 @@ formed =
     writes scan (replicate 17 46) (no 27) (replicate 17 46) ∷
     writes scan [] (no 27) [] ∷
     writes scan (replicate 20 46) (is 18) (text "Id: 2\nPage: p\n+ q\n..") ∷
-    writes (head ++ oneField) (text "......") (is 5) (text "A: B\n.") ∷
+    writes (head ++ one_field) (text "......") (is 5) (text "A: B\n.") ∷
     writes (head ++ (4 ∷ 0 ∷ 1 ∷ 65 ∷ 6 ∷ 1 ∷ 2 ∷ []) ++ replicate 258 66) (replicate 262 46) (is 262) (text "A: " ++ replicate 258 66 ++ text "\n") ∷
-    refusesWrite 20 [] ∷
-    refusesWrite 20 (1 ∷ 0 ∷ []) ∷
-    refusesWrite 20 (1 ∷ 0 ∷ 2 ∷ 1 ∷ []) ∷
-    refusesWrite 20 head ∷
-    refusesWrite 20 (head ++ (4 ∷ 0 ∷ 1 ∷ 65 ∷ [])) ∷
-    refusesWrite 20 (head ++ (6 ∷ 0 ∷ 1 ∷ 66 ∷ 4 ∷ 0 ∷ 1 ∷ 65 ∷ [])) ∷
-    refusesWrite 20 (head ++ oneField ++ (0 ∷ [])) ∷
-    refusesWrite 20 (head ++ oneField ++ (4 ∷ 0 ∷ 1 ∷ 65 ∷ [])) ∷
-    refusesWrite 20 (head ++ (4 ∷ 0 ∷ 1 ∷ 65 ∷ 6 ∷ 0 ∷ 2 ∷ 66 ∷ [])) ∷
-    refusesWrite 20 (head ++ (5 ∷ 0 ∷ 2 ∷ 0 ∷ 0 ∷ []) ++ oneField) ∷
-    refusesWrite 20 ((1 ∷ 0 ∷ 1 ∷ 0 ∷ 2 ∷ 0 ∷ 0 ∷ []) ++ oneField) ∷
-    refusesWrite 20 ((1 ∷ 0 ∷ 1 ∷ 7 ∷ 2 ∷ 0 ∷ 0 ∷ []) ++ oneField) ∷
-    refusesWrite 20 ((1 ∷ 0 ∷ 2 ∷ 1 ∷ 1 ∷ 2 ∷ 0 ∷ 0 ∷ []) ++ oneField) ∷
-    refusesWrite 20 ((1 ∷ 0 ∷ 0 ∷ 2 ∷ 0 ∷ 0 ∷ []) ++ oneField) ∷
-    refusesWrite 20 ((2 ∷ 0 ∷ 0 ∷ 1 ∷ 0 ∷ 1 ∷ 1 ∷ []) ++ oneField) ∷
-    refusesWrite 20 ((1 ∷ 0 ∷ 1 ∷ 1 ∷ []) ++ oneField) ∷
-    refusesWrite 20 (asks "Scan" (Edit.on 0 Act.delete)) ∷
-    refusesWrite 20 (asks "Scan" (Edit.on 0 (Act.add (pair "A" "B")))) ∷
-    refusesWrite 20 (asks "Scan" (change 0 "A" 0 (Change.value (text "B")))) ∷
-    refusesWrite 20 (asks "Scan" (change 0 "A" 0 Change.dropped)) ∷
-    refusesWrite 20 (asks "Scan" (change 0 "A" 0 (Change.name (text "B")))) ∷ []
+    refuses_write 20 [] ∷
+    refuses_write 20 (1 ∷ 0 ∷ []) ∷
+    refuses_write 20 (1 ∷ 0 ∷ 2 ∷ 1 ∷ []) ∷
+    refuses_write 20 head ∷
+    refuses_write 20 (head ++ (4 ∷ 0 ∷ 1 ∷ 65 ∷ [])) ∷
+    refuses_write 20 (head ++ (6 ∷ 0 ∷ 1 ∷ 66 ∷ 4 ∷ 0 ∷ 1 ∷ 65 ∷ [])) ∷
+    refuses_write 20 (head ++ one_field ++ (0 ∷ [])) ∷
+    refuses_write 20 (head ++ one_field ++ (4 ∷ 0 ∷ 1 ∷ 65 ∷ [])) ∷
+    refuses_write 20 (head ++ (4 ∷ 0 ∷ 1 ∷ 65 ∷ 6 ∷ 0 ∷ 2 ∷ 66 ∷ [])) ∷
+    refuses_write 20 (head ++ (5 ∷ 0 ∷ 2 ∷ 0 ∷ 0 ∷ []) ++ one_field) ∷
+    refuses_write 20 ((1 ∷ 0 ∷ 1 ∷ 0 ∷ 2 ∷ 0 ∷ 0 ∷ []) ++ one_field) ∷
+    refuses_write 20 ((1 ∷ 0 ∷ 1 ∷ 7 ∷ 2 ∷ 0 ∷ 0 ∷ []) ++ one_field) ∷
+    refuses_write 20 ((1 ∷ 0 ∷ 2 ∷ 1 ∷ 1 ∷ 2 ∷ 0 ∷ 0 ∷ []) ++ one_field) ∷
+    refuses_write 20 ((1 ∷ 0 ∷ 0 ∷ 2 ∷ 0 ∷ 0 ∷ []) ++ one_field) ∷
+    refuses_write 20 ((2 ∷ 0 ∷ 0 ∷ 1 ∷ 0 ∷ 1 ∷ 1 ∷ []) ++ one_field) ∷
+    refuses_write 20 ((1 ∷ 0 ∷ 1 ∷ 1 ∷ []) ++ one_field) ∷
+    refuses_write 20 (asks "Scan" (Edit.on 0 Act.delete)) ∷
+    refuses_write 20 (asks "Scan" (Edit.on 0 (Act.add (pair "A" "B")))) ∷
+    refuses_write 20 (asks "Scan" (change 0 "A" 0 (Change.value (text "B")))) ∷
+    refuses_write 20 (asks "Scan" (change 0 "A" 0 Change.dropped)) ∷
+    refuses_write 20 (asks "Scan" (change 0 "A" 0 (Change.name (text "B")))) ∷ []
 
 -- names and values
-abbrev pairsLegal : List Case
-pairsLegal =
+abbrev pairs_legal : List Case
+pairs_legal =
     legal "a_1" "" "a_1: \n"
     ++ legal "Z" " \t~" "Z:  \t~\n"
     ++ legal "A" "a\\b" "A: a\\b\n"
@@ -361,26 +361,26 @@ pairsLegal =
     ++ fills (inserts (pair_of (replicate 64 78) (text "v") ∷ [])) (replicate 64 78 ++ text ": v\n")
     ++ fills (inserts (pair_of (text "A") (replicate 4096 118) ∷ [])) (text "A: " ++ replicate 4096 118 ++ text "\n")
 
-abbrev pairsIllegal : List Case
-pairsIllegal =
-    refusesWrite 25 (one "" "v") ∷
-    refusesWrite 25 (one "%" "v") ∷
-    refusesWrite 25 (one "%A" "v") ∷
-    refusesWrite 25 (one "1" "v") ∷
-    refusesWrite 25 (one "_" "v") ∷
-    refusesWrite 25 (one "A-" "v") ∷
-    refusesWrite 25 (one "A " "v") ∷
-    refusesWrite 25 (inserts (pair_of (replicate 65 78) (text "v") ∷ [])) ∷
-    refusesWrite 25 (inserts (pair_of (text "A") (replicate 4097 118) ∷ [])) ∷
-    refusesWrite 25 (inserts (pair_of (text "A") (0 ∷ []) ∷ [])) ∷
-    refusesWrite 25 (inserts (pair_of (text "A") (8 ∷ []) ∷ [])) ∷
-    refusesWrite 25 (inserts (pair_of (text "A") (11 ∷ []) ∷ [])) ∷
-    refusesWrite 25 (inserts (pair_of (text "A") (31 ∷ []) ∷ [])) ∷
-    refusesWrite 25 (inserts (pair_of (text "A") (127 ∷ []) ∷ [])) ∷
-    refusesWrite 25 (one "A" "\\") ∷
-    refusesWrite 25 (one "A" "a\\\nb") ∷
-    refusesWrite 25 (one "A" "a\nb\\") ∷
-    refusesWrite 25 (inserts (pair "A" "v" ∷ pair "B" "\\" ∷ [])) ∷ []
+abbrev pairs_illegal : List Case
+pairs_illegal =
+    refuses_write 25 (one "" "v") ∷
+    refuses_write 25 (one "%" "v") ∷
+    refuses_write 25 (one "%A" "v") ∷
+    refuses_write 25 (one "1" "v") ∷
+    refuses_write 25 (one "_" "v") ∷
+    refuses_write 25 (one "A-" "v") ∷
+    refuses_write 25 (one "A " "v") ∷
+    refuses_write 25 (inserts (pair_of (replicate 65 78) (text "v") ∷ [])) ∷
+    refuses_write 25 (inserts (pair_of (text "A") (replicate 4097 118) ∷ [])) ∷
+    refuses_write 25 (inserts (pair_of (text "A") (0 ∷ []) ∷ [])) ∷
+    refuses_write 25 (inserts (pair_of (text "A") (8 ∷ []) ∷ [])) ∷
+    refuses_write 25 (inserts (pair_of (text "A") (11 ∷ []) ∷ [])) ∷
+    refuses_write 25 (inserts (pair_of (text "A") (31 ∷ []) ∷ [])) ∷
+    refuses_write 25 (inserts (pair_of (text "A") (127 ∷ []) ∷ [])) ∷
+    refuses_write 25 (one "A" "\\") ∷
+    refuses_write 25 (one "A" "a\\\nb") ∷
+    refuses_write 25 (one "A" "a\nb\\") ∷
+    refuses_write 25 (inserts (pair "A" "v" ∷ pair "B" "\\" ∷ [])) ∷ []
 
 -- Lengths and numbers of pairs. A newline of a value is one byte of the request and three of the text, so 84 of them and a name of one byte make 256 bytes of text.
 abbrev lined : Pair
@@ -406,8 +406,8 @@ sized =
     writes (inserts (replicate 257 (pair "A" ""))) [] (no 104) [] ∷ []
 
 abbrev pub cases : List Case
-cases = lookups ++ failing ++ limited ++ formed ++ pairsLegal ++ pairsIllegal ++ sized
+cases = lookups ++ failing ++ limited ++ formed ++ pairs_legal ++ pairs_illegal ++ sized
 
 pub looked-up : all holds cases ≡ true
-unfolding bytes_of pieces read_of setsOf written fileOf verdictIn verdict tagged requestOf encoded checkAnswer countAnswer fetchAnswer nameAnswer viewAnswer writeAnswer
+unfolding bytes_of pieces read_of sets_of written file_of verdict_in verdict tagged request_of encoded check_answer count_answer fetch_answer name_answer view_answer write_answer
 looked-up = refl

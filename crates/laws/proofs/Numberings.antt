@@ -8,15 +8,15 @@ use lib.ListN.{get_or}
 use Rattle.format.specs.Bytes.{Bytes, text, same, all}
 use Rattle.format.specs.Pieces.{pieces, read_of}
 use Rattle.format.specs.Records.{Field, fields_of}
-use Rattle.format.specs.Sets.{RecSet, setsOf}
-use Rattle.format.specs.Numbers.{intBounds}
-use Rattle.format.specs.Written.{Pair, written, writtenAll}
-use Rattle.format.specs.Rules.{autosCounted}
+use Rattle.format.specs.Sets.{RecSet, sets_of}
+use Rattle.format.specs.Numbers.{int_bounds}
+use Rattle.format.specs.Written.{Pair, written, written_all}
+use Rattle.format.specs.Rules.{autos_counted}
 use Rattle.format.specs.Numbering.{decimal, completed}
 
 -- the set T of a file: its descriptor's further lines, then its records and what follows
 abbrev set_t : String → String → RecSet
-set_t rules rs = get_or (setsOf (read_of (text "%rec: T\n" ++ text rules ++ text "\n" ++ text rs))) 1 (record { name = []; rules = []; members = [] })
+set_t rules rs = get_or (sets_of (read_of (text "%rec: T\n" ++ text rules ++ text "\n" ++ text rs))) 1 (record { name = []; rules = []; members = [] })
 
 -- what an insert into it makes, all records as their text; none where a name has no number
 pub record Example : Type 0 where
@@ -28,12 +28,12 @@ abbrev makes : String → String → String → String → Example
 makes rules rs new whole =
     record { set = set_t rules rs; new = map (λ (f : Field). record { name = f.name; value = f.value }) (fields_of (read_of (text new))); whole = text whole }
 
-abbrev textOr : Option (List Pair) → Bytes
-textOr none = []
-textOr (some ps) = writtenAll ps
+abbrev text_or : Option (List Pair) → Bytes
+text_or none = []
+text_or (some ps) = written_all ps
 
 abbrev holds : Example → Bool
-holds e = same (textOr (completed intBounds e.set e.new)) e.whole
+holds e = same (text_or (completed int_bounds e.set e.new)) e.whole
 
 -- ints at both ends of 64 bits
 ends-told : all holds (
@@ -49,7 +49,7 @@ ends-told : all holds (
     makes "%auto: Id\n" "Id: 9223372036854775808\n\nId: 41\n" "A: x\n" "Id: 42\nA: x\n" ∷
     makes "%auto: Id\n" "Id: -9223372036854775809\n\nId: 18446744073709551616\n" "A: x\n" "Id: 0\nA: x\n" ∷
     makes "%auto: Id\n" "Id: 0x8000000000000000\n" "A: x\n" "Id: 0\nA: x\n" ∷ []) ≡ true
-unfolding pieces read_of setsOf written decimal completed
+unfolding pieces read_of sets_of written decimal completed
 ends-told = refl
 
 -- what is there: any base, any order, any occurrence, blanks around; others do not count
@@ -73,7 +73,7 @@ ints-told : all holds (
     makes "%auto: Id\n" "id: 9\nIdx: 9\n" "A: x\n" "Id: 0\nA: x\n" ∷
     makes "%auto: Id\n" "A: 9\n" "A: x\n" "Id: 0\nA: x\n" ∷
     makes "%auto: Id\n" "Id: 3\n\n%rec: U\n%auto: Id\n\nId: 9\n" "A: x\n" "Id: 4\nA: x\n" ∷ []) ≡ true
-unfolding pieces read_of setsOf written decimal completed
+unfolding pieces read_of sets_of written decimal completed
 ints-told = refl
 
 -- ranges that leave one number, none, or begin above what is there
@@ -98,7 +98,7 @@ ranges-told : all holds (
     makes "%auto: Id\n%type: Id range MAX MAX\n" "Id: 9223372036854775807\n" "A: x\n" "" ∷
     makes "%auto: Id\n%type: Id range MIN MAX\n" "Id: -7\n" "A: x\n" "Id: 0\nA: x\n" ∷
     makes "%auto: Id\n%type: Id range MIN\n" "" "A: x\n" "" ∷ []) ≡ true
-unfolding pieces read_of setsOf written decimal completed
+unfolding pieces read_of sets_of written decimal completed
 ranges-told = refl
 
 -- several types for one name, aliases, names typed with others
@@ -110,7 +110,7 @@ types-told : all holds (
     makes "%auto: Id\n%typedef: Low Mid\n%typedef: Mid High\n%typedef: High range 7 9\n%type: A,Id Low\n" "Id: 7\n" "A: x\n" "Id: 8\nA: x\n" ∷
     makes "%auto: Id\n%typedef: N int\n%type: Id N\n" "Id: 41\n" "A: x\n" "Id: 42\nA: x\n" ∷
     makes "%auto: Id\n%type: No range 50\n%type: A real\n" "Id: 3\nNo: 8\n" "A: 1\n" "Id: 4\nA: 1\n" ∷ []) ≡ true
-unfolding pieces read_of setsOf written decimal completed
+unfolding pieces read_of sets_of written decimal completed
 types-told = refl
 
 -- names listed in several fields, once or twice, and those that the insert has
@@ -127,12 +127,12 @@ names-told : all holds (
     makes "%auto: Id No\n%type: No range 5 4\n" "" "No: 9\n" "Id: 0\nNo: 9\n" ∷
     makes "%key: Id\n" "Id: 3\n" "A: x\n" "A: x\n" ∷
     makes "%mandatory: Id\n%singular: Id\n" "Id: 3\n" "A: x\n" "A: x\n" ∷ []) ≡ true
-unfolding pieces read_of setsOf written decimal completed
+unfolding pieces read_of sets_of written decimal completed
 names-told = refl
 
 -- "fields whose types are all int or range, or that have no type": `%auto` lists that question 7 lets pass, and others
 abbrev counts : String → Bool
-counts rules = autosCounted intBounds (set_t rules "").rules
+counts rules = autos_counted int_bounds (set_t rules "").rules
 
 counted-told : all counts (
     "" ∷
@@ -141,7 +141,7 @@ counted-told : all counts (
     "%type: Id,No range 5 3\n%auto: Id\n%auto: No\n%type: No int\n" ∷
     "%auto: Id\n%typedef: T U\n%typedef: U range MAX\n%type: Id T\n" ∷
     "%auto: Id\n%typedef: T real\n" ∷ []) ≡ true
-unfolding pieces read_of setsOf
+unfolding pieces read_of sets_of
 counted-told = refl
 
 uncounted-told : all (λ (rules : String). not (counts rules)) (
@@ -156,5 +156,5 @@ uncounted-told : all (λ (rules : String). not (counts rules)) (
     "%auto: Id\n%type: No,Id real\n" ∷
     "%auto: Id\n%typedef: T U\n%typedef: U real\n%type: Id T\n" ∷
     "%auto: No\n%type: Id int\n%type: No real\n%auto: Id\n" ∷ []) ≡ true
-unfolding pieces read_of setsOf
+unfolding pieces read_of sets_of
 uncounted-told = refl

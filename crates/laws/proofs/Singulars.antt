@@ -7,14 +7,14 @@ use mathlib.Core.List.{List, [], ◌∷◌}
 use lib.ListN.{length}
 use Rattle.format.specs.Bytes.{Bytes, text, class_of, all}
 use Rattle.format.specs.Pieces.{bytes_of, pieces, read_of}
-use Rattle.format.specs.Sets.{setsOf}
-use Rattle.format.specs.Questions.{fileOf, verdictIn, verdict}
+use Rattle.format.specs.Sets.{sets_of}
+use Rattle.format.specs.Questions.{file_of, verdict_in, verdict}
 use Rattle.format.specs.Written.{Pair, written}
 use Rattle.format.specs.Edits.{Change, Act, Edit}
-use Rattle.format.specs.Requests.{tagged, requestOf, encoded}
+use Rattle.format.specs.Requests.{tagged, request_of, encoded}
 use Rattle.format.specs.Numbering.{completed}
-use Rattle.format.specs.Plain.{plain_of, length_of, apply, completedBy, step}
-use Rattle.format.specs.Calls.{checkAnswer, editAnswer}
+use Rattle.format.specs.Plain.{plain_of, length_of, apply, completed_by, step}
+use Rattle.format.specs.Calls.{check_answer, edit_answer}
 use Rattle.format.proofs.Cases.{asks, pair, change, Case, holds}
 
 -- two sets with tax stamps; those of one set do not matter to the other
@@ -59,5 +59,5 @@ singular-edits : all holds (
     renames 1 "Stamp" 0 "Roll" 0 163 ∷
     edits (change 0 "Stamp" 0 Change.dropped) 0 155 ∷
     edits (Edit.on 0 Act.delete) 0 134 ∷ []) ≡ true
-unfolding class_of bytes_of pieces read_of setsOf written fileOf verdictIn verdict tagged requestOf encoded plain_of length_of apply completed completedBy step checkAnswer editAnswer
+unfolding class_of bytes_of pieces read_of sets_of written file_of verdict_in verdict tagged request_of encoded plain_of length_of apply completed completed_by step check_answer edit_answer
 singular-edits = refl

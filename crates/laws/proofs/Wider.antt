@@ -11,18 +11,18 @@ use mathlib.Core.Option.{Option, none, some}
 use lib.Dec.{leb, eqb}
 use lib.ListN.{length, get_or, drop}
 use borrow.Author.Tests.{leb-true, le-leb}
-use Rattle.format.specs.Lists.{only_if, onward, isFilled, filter, keep, kept, front, behind}
-use Rattle.format.specs.Bytes.{Bytes, text, pick, isAllowed, all, any, same, among, is_some}
-use Rattle.format.specs.Lines.{isEnded, isSpecial, isName}
+use Rattle.format.specs.Lists.{only_if, onward, is_filled, filter, keep, kept, front, behind}
+use Rattle.format.specs.Bytes.{Bytes, text, pick, is_allowed, all, any, same, among, is_some}
+use Rattle.format.specs.Lines.{is_ended, is_special, is_name}
 use Rattle.format.specs.Pieces.{pieces}
 use Rattle.format.specs.Records.{Field, Record}
-use Rattle.format.specs.Sets.{RecSet, values_of, setsOf}
-use Rattle.format.specs.Limits.{fileBytes}
-use Rattle.format.specs.Words.{isGap, words, trim, first_word, afterWord, isTypeName}
-use Rattle.format.specs.Numbers.{Int, plus, minus, Bounds, intBounds, unsigned, up_to, int_of, isAtMost, notBelow0, number_of}
-use Rattle.format.specs.Types.{Kind, Typed, Typedef, bare, end_of, ranged, range_of, size_of, plainKind, isSymbol, enumIn, uncomment, beforeComment, type_of, lookup, follow, kind_of, isInRange, sizeCount, meets}
-use Rattle.format.specs.Rules.{order_of, sizeBy, sizeRule, meetsSize, typedefOf, typedefsOf, TypeRule, typedNames, endKind, typeRuleOf, typeRules, isTyped, Shape, shapes, isShaped, isWellFormed, isTypedefName, distinct, span_of, isCounted, autosCounted, auto, areTypesDefined, isTypedWell}
-use Rattle.format.specs.Questions.{Row, firstNo, File, fileOf, fitsLimits, describesOnce, name_of, describesWell, typesWell, eachRecord, noneProhibited, allAllowed, allPresent, noneRepeated, allTyped, keysDistinct, sizeMet, singularMet, descriptorRows, ruleRows, verdictIn, verdict}
+use Rattle.format.specs.Sets.{RecSet, values_of, sets_of}
+use Rattle.format.specs.Limits.{file_bytes}
+use Rattle.format.specs.Words.{is_gap, words, trim, first_word, after_word, is_type_name}
+use Rattle.format.specs.Numbers.{Int, plus, minus, Bounds, int_bounds, unsigned, up_to, int_of, is_at_most, not_below0, number_of}
+use Rattle.format.specs.Types.{Kind, Typed, Typedef, bare, end_of, ranged, range_of, size_of, plain_kind, is_symbol, enum_in, uncomment, before_comment, type_of, lookup, follow, kind_of, is_in_range, size_count, meets}
+use Rattle.format.specs.Rules.{order_of, size_by, size_rule, meets_size, typedef_of, typedefs_of, TypeRule, typed_names, end_kind, type_rule_of, type_rules, is_typed, Shape, shapes, is_shaped, is_well_formed, is_typedef_name, distinct, span_of, is_counted, autos_counted, auto, are_types_defined, is_typed_well}
+use Rattle.format.specs.Questions.{Row, first_no, File, file_of, fits_limits, describes_once, name_of, describes_well, types_well, each_record, none_prohibited, all_allowed, all_present, none_repeated, all_typed, keys_distinct, size_met, singular_met, descriptor_rows, rule_rows, verdict_in, verdict}
 use Rattle.format.proofs.Elements.{Each, each-imp, each_both, all-each, each_all, all-imp, all_both}
 use Rattle.format.proofs.Listing.{same_true}
 use Rattle.format.proofs.Least.{Above, Rise, first_above}
@@ -35,35 +35,35 @@ pub record Wider (n w : Bounds) : Type 0 where
   pub greatest : n.greatest ≤ w.greatest
 
 -- "no range in it has `MAX` as its lower end or `MIN` as its upper": by the words behind `range`
-abbrev pub endsWiden : List Bytes → Bool
-endsWiden [] = true
-endsWiden (high ∷ []) = not (same high (text "MIN"))
-endsWiden (low ∷ high ∷ []) = not (same low (text "MAX")) && not (same high (text "MIN"))
-endsWiden (low ∷ high ∷ w ∷ ws) = true
+abbrev pub ends_widen : List Bytes → Bool
+ends_widen [] = true
+ends_widen (high ∷ []) = not (same high (text "MIN"))
+ends_widen (low ∷ high ∷ []) = not (same low (text "MAX")) && not (same high (text "MIN"))
+ends_widen (low ∷ high ∷ w ∷ ws) = true
 
 -- by the words of a type
-abbrev pub typeWidens : List Bytes → Bool
-typeWidens [] = true
-typeWidens (w ∷ ws) = not (same w (text "range")) || endsWiden ws
+abbrev pub type_widens : List Bytes → Bool
+type_widens [] = true
+type_widens (w ∷ ws) = not (same w (text "range")) || ends_widen ws
 
 -- by the value of a `%type` or `%typedef` field: its type stands behind the first word
-abbrev pub valueWidens : Bytes → Bool
-valueWidens v = typeWidens (words (afterWord v))
+abbrev pub value_widens : Bytes → Bool
+value_widens v = type_widens (words (after_word v))
 
 -- by all those fields of all descriptors, used or not
-abbrev pub rulesWiden : Record → Bool
-rulesWiden r = all valueWidens (values_of (text "%typedef") r) && all valueWidens (values_of (text "%type") r)
+abbrev pub rules_widen : Record → Bool
+rules_widen r = all value_widens (values_of (text "%typedef") r) && all value_widens (values_of (text "%type") r)
 
-abbrev pub rangesWiden : List RecSet → Bool
-rangesWiden ss = all (λ (s : RecSet). rulesWiden s.rules) ss
+abbrev pub ranges_widen : List RecSet → Bool
+ranges_widen ss = all (λ (s : RecSet). rules_widen s.rules) ss
 
 -- the questions that ints answer: is the number of `%size` one, are those of types, are the values
-abbrev pub asksInts : ℕ → Bool
-asksInts k = eqb k 6 || eqb k 7 || eqb k 12
+abbrev pub asks_ints : ℕ → Bool
+asks_ints k = eqb k 6 || eqb k 7 || eqb k 12
 
 -- a file's number under narrower ints and under wider ones: the same; or that of such a question, which then says yes, and 0 or a later one
 abbrev pub Eased : ℕ → ℕ → Type 0
-Eased k m = (m ≡ k) ⊎ ((asksInts k ≡ true) × Above k m)
+Eased k m = (m ≡ k) ⊎ ((asks_ints k ≡ true) × Above k m)
 
 -- what there is, there is again, with something said of the two
 
@@ -216,17 +216,17 @@ module _ (n w : Bounds) (wide : Wider n w) where
 
   number-again : (s : Bytes) → Again Equal (number_of n s) (number_of w s)
   number-again s =
-      again-onward notBelow0 notBelow0
-      (λ x y e. subst (λ (z : Int). Again Equal (notBelow0 x) (notBelow0 z)) e (again-same (λ a. refl) (notBelow0 x)))
+      again-onward not_below0 not_below0
+      (λ x y e. subst (λ (z : Int). Again Equal (not_below0 x) (not_below0 z)) e (again-same (λ a. refl) (not_below0 x)))
       (int_of n s) (int_of w s) (int-again s)
 
   -- a lower end that is no higher, and an upper one that is no lower
 
   abbrev Lower : Int → Int → Type 0
-  Lower a b = (x : Int) → isAtMost a x ≡ true → isAtMost b x ≡ true
+  Lower a b = (x : Int) → is_at_most a x ≡ true → is_at_most b x ≡ true
 
   abbrev Upper : Int → Int → Type 0
-  Upper a b = (x : Int) → isAtMost x a ≡ true → isAtMost x b ≡ true
+  Upper a b = (x : Int) → is_at_most x a ≡ true → is_at_most x b ≡ true
 
   lower-min : Lower (minus n.least) (minus w.least)
   lower-min (minus m) e = at-most-more m n.least w.least wide.least e
@@ -261,14 +261,14 @@ module _ (n w : Bounds) (wide : Wider n w) where
   int-covers = (λ v e. again-some (int_of n (trim v)) (int_of w (trim v)) (int-again (trim v)) e, refl)
 
   size-covers : (k m : ℕ) → k ≡ m → Covers (Kind.size k) (Kind.size m)
-  size-covers k m h = (λ v e. subst (λ (x : ℕ). leb (sizeCount v) x ≡ true) h e, refl)
+  size-covers k m h = (λ v e. subst (λ (x : ℕ). leb (size_count v) x ≡ true) h e, refl)
 
-  in-range : (a b c d : Int) → Lower a c → Upper b d → (x y : Option Int) → Again Equal x y → isInRange a b x ≡ true → isInRange c d y ≡ true
+  in-range : (a b c d : Int) → Lower a c → Upper b d → (x y : Option Int) → Again Equal x y → is_in_range a b x ≡ true → is_in_range c d y ≡ true
   in-range a b c d l u none y h e = absurd (false≢true e)
   in-range a b c d l u (some x) none h e = absurd h.holds
   in-range a b c d l u (some x) (some y) h e =
-      let k = (and-eq-true_iff (isAtMost a x) (isAtMost x b)).0 e in
-      subst (λ (z : Int). isInRange c d (some z) ≡ true) h.holds ((and-eq-true_iff (isAtMost c x) (isAtMost x d)).1 (l x k.0, u x k.1))
+      let k = (and-eq-true_iff (is_at_most a x) (is_at_most x b)).0 e in
+      subst (λ (z : Int). is_in_range c d (some z) ≡ true) h.holds ((and-eq-true_iff (is_at_most c x) (is_at_most x d)).1 (l x k.0, u x k.1))
 
   range-covers : (a b c d : Int) → Lower a c → Upper b d → Covers (Kind.range a b) (Kind.range c d)
   range-covers a b c d l u = (λ v e. in-range a b c d l u (int_of n (trim v)) (int_of w (trim v)) (int-again (trim v)) e, refl)
@@ -279,7 +279,7 @@ module _ (n w : Bounds) (wide : Wider n w) where
       (λ x y h. again-map (λ (z : Int). Typed.kind (Kind.range x z)) (λ (z : Int). Typed.kind (Kind.range y z)) (λ p q k. range-covers x p y q h k) b d u)
       a c l
 
-  range-again : (ws : List Bytes) → endsWiden ws ≡ true → Again CoversTyped (range_of n ws) (range_of w ws)
+  range-again : (ws : List Bytes) → ends_widen ws ≡ true → Again CoversTyped (range_of n ws) (range_of w ws)
   range-again [] h = absent
   range-again (v ∷ []) h = ranged-again (some (plus 0)) (end_of n v) (some (plus 0)) (end_of w v) (again (λ x e. e)) (high-again v (not-no (same v (text "MIN")) h))
   range-again (u ∷ v ∷ []) h =
@@ -296,32 +296,32 @@ module _ (n w : Bounds) (wide : Wider n w) where
   only-again c t r = again-only c c t t (λ e. e) r
 
   bare-again : (k : Kind) (ws : List Bytes) → Covers k k → Again CoversTyped (bare k ws) (bare k ws)
-  bare-again k ws h = only-again (not (isFilled ws)) (Typed.kind k) h
+  bare-again k ws h = only-again (not (is_filled ws)) (Typed.kind k) h
 
-  plain-again : (ws : List Bytes) → typeWidens ws ≡ true → Again CoversTyped (plainKind n ws) (plainKind w ws)
+  plain-again : (ws : List Bytes) → type_widens ws ≡ true → Again CoversTyped (plain_kind n ws) (plain_kind w ws)
   plain-again [] h = absent
   plain-again (v ∷ ws) h =
       again-pick (same v (text "int")) (bare-again Kind.int ws int-covers)
-      (again-if (same v (text "range")) (λ e. range-again ws (if_yes (same v (text "range")) (endsWiden ws) h e)) (λ e.
+      (again-if (same v (text "range")) (λ e. range-again ws (if_yes (same v (text "range")) (ends_widen ws) h e)) (λ e.
       again-pick (same v (text "real")) (bare-again Kind.real ws (λ x e. e, refl))
       (again-pick (same v (text "line")) (bare-again Kind.line ws (λ x e. e, refl))
       (again-pick (same v (text "size")) (size-again ws)
       (again-pick (same v (text "bool")) (bare-again Kind.bool ws (λ x e. e, refl))
       (again-pick (same v (text "field")) (bare-again Kind.field ws (λ x e. e, refl))
       (again-pick (same v (text "uuid")) (bare-again Kind.uuid ws (λ x e. e, refl))
-      (only-again (not (isFilled ws) && isTypeName v) (Typed.alias v) refl))))))))
+      (only-again (not (is_filled ws) && is_type_name v) (Typed.alias v) refl))))))))
 
-  enum-again : (s : Bytes) → Again CoversTyped (enumIn s) (enumIn s)
-  enum-again s = only-again (isFilled (words s) && all isSymbol (words s)) (Typed.kind (Kind.enum (words s))) (λ x e. e, refl)
+  enum-again : (s : Bytes) → Again CoversTyped (enum_in s) (enum_in s)
+  enum-again s = only-again (is_filled (words s) && all is_symbol (words s)) (Typed.kind (Kind.enum (words s))) (λ x e. e, refl)
 
-  enums-again : (x : Option Bytes) → Again CoversTyped (onward enumIn x) (onward enumIn x)
+  enums-again : (x : Option Bytes) → Again CoversTyped (onward enum_in x) (onward enum_in x)
   enums-again none = absent
   enums-again (some s) = enum-again s
 
-  type-again : (s : Bytes) → typeWidens (words s) ≡ true → Again CoversTyped (type_of n s) (type_of w s)
+  type-again : (s : Bytes) → type_widens (words s) ≡ true → Again CoversTyped (type_of n s) (type_of w s)
   type-again s h =
-      again-pick (same (front beforeComment (behind isGap s)) (text "enum"))
-      (enums-again (uncomment false (behind beforeComment (behind isGap s))))
+      again-pick (same (front before_comment (behind is_gap s)) (text "enum"))
+      (enums-again (uncomment false (behind before_comment (behind is_gap s))))
       (plain-again (words s) h)
 
   -- typedefs: an alias leads to the same place
@@ -352,15 +352,15 @@ module _ (n w : Bounds) (wide : Wider n w) where
     kind-again : (t u : Typed) → CoversTyped t u → Again Covers (kind_of ds t) (kind_of es u)
     kind-again t u h = subst (λ (k : ℕ). Again Covers (follow (length ds) ds t) (follow k es u)) (pairs-length CoversDef ds es p) (follow-again (length ds) t u h)
 
-    end-again : (v : Bytes) → valueWidens v ≡ true → Again Covers (endKind n ds v) (endKind w es v)
-    end-again v h = again-onward (kind_of ds) (kind_of es) kind-again (type_of n (afterWord v)) (type_of w (afterWord v)) (type-again (afterWord v) h)
+    end-again : (v : Bytes) → value_widens v ≡ true → Again Covers (end_kind n ds v) (end_kind w es v)
+    end-again v h = again-onward (kind_of ds) (kind_of es) kind-again (type_of n (after_word v)) (type_of w (after_word v)) (type-again (after_word v) h)
 
   -- the types of a descriptor
 
-  def-again : (v : Bytes) → valueWidens v ≡ true → Again CoversDef (typedefOf n v) (typedefOf w v)
+  def-again : (v : Bytes) → value_widens v ≡ true → Again CoversDef (typedef_of n v) (typedef_of w v)
   def-again v h =
       again-map (λ (t : Typed). record { name = first_word v; type = t }) (λ (t : Typed). record { name = first_word v; type = t }) (λ t u k. (refl, k))
-      (type_of n (afterWord v)) (type_of w (afterWord v)) (type-again (afterWord v) h)
+      (type_of n (after_word v)) (type_of w (after_word v)) (type-again (after_word v) h)
 
   abbrev CoversRule : TypeRule → TypeRule → Type 0
   CoversRule t u = (t.names ≡ u.names) × Covers t.kind u.kind
@@ -372,58 +372,58 @@ module _ (n w : Bounds) (wide : Wider n w) where
   types r = values_of (text "%type") r
 
   abbrev ends : Record → Bytes → Bool
-  ends r v = is_some (endKind n (typedefsOf n r) v)
+  ends r v = is_some (end_kind n (typedefs_of n r) v)
 
-  module _ (r : Record) (widen : rulesWiden r ≡ true) (defined : areTypesDefined n r ≡ true) where
-    widened : (all valueWidens (defs r) ≡ true) × (all valueWidens (types r) ≡ true)
-    widened = (and-eq-true_iff (all valueWidens (defs r)) (all valueWidens (types r))).0 widen
+  module _ (r : Record) (widen : rules_widen r ≡ true) (defined : are_types_defined n r ≡ true) where
+    widened : (all value_widens (defs r) ≡ true) × (all value_widens (types r) ≡ true)
+    widened = (and-eq-true_iff (all value_widens (defs r)) (all value_widens (types r))).0 widen
 
-    parts : (all (λ (v : Bytes). isTypedefName (first_word v)) (defs r) ≡ true) × (all (ends r) (defs r) ≡ true) × (distinct (map first_word (defs r)) ≡ true) × (all (λ (v : Bytes). all isName (typedNames v)) (types r) ≡ true) × (all (ends r) (types r) ≡ true)
-    parts = five (all (λ (v : Bytes). isTypedefName (first_word v)) (defs r)) (all (ends r) (defs r)) (distinct (map first_word (defs r))) (all (λ (v : Bytes). all isName (typedNames v)) (types r)) (all (ends r) (types r)) defined
+    parts : (all (λ (v : Bytes). is_typedef_name (first_word v)) (defs r) ≡ true) × (all (ends r) (defs r) ≡ true) × (distinct (map first_word (defs r)) ≡ true) × (all (λ (v : Bytes). all is_name (typed_names v)) (types r) ≡ true) × (all (ends r) (types r) ≡ true)
+    parts = five (all (λ (v : Bytes). is_typedef_name (first_word v)) (defs r)) (all (ends r) (defs r)) (distinct (map first_word (defs r))) (all (λ (v : Bytes). all is_name (typed_names v)) (types r)) (all (ends r) (types r)) defined
 
-    defs-pair : Pairs CoversDef (typedefsOf n r) (typedefsOf w r)
+    defs-pair : Pairs CoversDef (typedefs_of n r) (typedefs_of w r)
     defs-pair =
-        pairs-kept CoversDef (typedefOf n) (typedefOf w) (defs r)
-        (each-imp (λ v. (ends r v ≡ true) × (valueWidens v ≡ true)) (λ v. (is_some (typedefOf n v) ≡ true) × Again CoversDef (typedefOf n v) (typedefOf w v))
-        (λ v k. (map-some (λ (t : Typed). record { name = first_word v; type = t }) (type_of n (afterWord v)) (onward-some (kind_of (typedefsOf n r)) (type_of n (afterWord v)) k.0), def-again v k.1))
-        (defs r) (each_both (λ v. ends r v ≡ true) (λ v. valueWidens v ≡ true) (defs r) (all-each (ends r) (defs r) parts.1) (all-each valueWidens (defs r) widened.0)))
+        pairs-kept CoversDef (typedef_of n) (typedef_of w) (defs r)
+        (each-imp (λ v. (ends r v ≡ true) × (value_widens v ≡ true)) (λ v. (is_some (typedef_of n v) ≡ true) × Again CoversDef (typedef_of n v) (typedef_of w v))
+        (λ v k. (map-some (λ (t : Typed). record { name = first_word v; type = t }) (type_of n (after_word v)) (onward-some (kind_of (typedefs_of n r)) (type_of n (after_word v)) k.0), def-again v k.1))
+        (defs r) (each_both (λ v. ends r v ≡ true) (λ v. value_widens v ≡ true) (defs r) (all-each (ends r) (defs r) parts.1) (all-each value_widens (defs r) widened.0)))
 
-    ends-again : (v : Bytes) → valueWidens v ≡ true → Again Covers (endKind n (typedefsOf n r) v) (endKind w (typedefsOf w r) v)
-    ends-again v h = end-again (typedefsOf n r) (typedefsOf w r) defs-pair v h
+    ends-again : (v : Bytes) → value_widens v ≡ true → Again Covers (end_kind n (typedefs_of n r) v) (end_kind w (typedefs_of w r) v)
+    ends-again v h = end-again (typedefs_of n r) (typedefs_of w r) defs-pair v h
 
-    ends_stay : (vs : List Bytes) → all (ends r) vs ≡ true → all valueWidens vs ≡ true → all (λ (v : Bytes). is_some (endKind w (typedefsOf w r) v)) vs ≡ true
+    ends_stay : (vs : List Bytes) → all (ends r) vs ≡ true → all value_widens vs ≡ true → all (λ (v : Bytes). is_some (end_kind w (typedefs_of w r) v)) vs ≡ true
     ends_stay vs e h =
-        all_from (ends r) valueWidens (λ (v : Bytes). is_some (endKind w (typedefsOf w r) v))
-        (λ v f k. again-some (endKind n (typedefsOf n r) v) (endKind w (typedefsOf w r) v) (ends-again v k) f) vs e h
+        all_from (ends r) value_widens (λ (v : Bytes). is_some (end_kind w (typedefs_of w r) v))
+        (λ v f k. again-some (end_kind n (typedefs_of n r) v) (end_kind w (typedefs_of w r) v) (ends-again v k) f) vs e h
 
-    types-defined : areTypesDefined w r ≡ true
+    types-defined : are_types_defined w r ≡ true
     types-defined = (λ i. parts.0 i && ends_stay (defs r) parts.1 widened.0 i && parts.2 i && parts.3 i && ends_stay (types r) parts.4 widened.1 i)
 
-    rule-again : (v : Bytes) → valueWidens v ≡ true → Again CoversRule (typeRuleOf n (typedefsOf n r) v) (typeRuleOf w (typedefsOf w r) v)
+    rule-again : (v : Bytes) → value_widens v ≡ true → Again CoversRule (type_rule_of n (typedefs_of n r) v) (type_rule_of w (typedefs_of w r) v)
     rule-again v h =
-        again-map (λ (k : Kind). record { names = typedNames v; kind = k }) (λ (k : Kind). record { names = typedNames v; kind = k }) (λ k l c. (refl, c))
-        (endKind n (typedefsOf n r) v) (endKind w (typedefsOf w r) v) (ends-again v h)
+        again-map (λ (k : Kind). record { names = typed_names v; kind = k }) (λ (k : Kind). record { names = typed_names v; kind = k }) (λ k l c. (refl, c))
+        (end_kind n (typedefs_of n r) v) (end_kind w (typedefs_of w r) v) (ends-again v h)
 
-    rules-pair : Pairs CoversRule (typeRules n r) (typeRules w r)
+    rules-pair : Pairs CoversRule (type_rules n r) (type_rules w r)
     rules-pair =
-        pairs-kept CoversRule (typeRuleOf n (typedefsOf n r)) (typeRuleOf w (typedefsOf w r)) (types r)
-        (each-imp (λ v. (ends r v ≡ true) × (valueWidens v ≡ true)) (λ v. (is_some (typeRuleOf n (typedefsOf n r) v) ≡ true) × Again CoversRule (typeRuleOf n (typedefsOf n r) v) (typeRuleOf w (typedefsOf w r) v))
-        (λ v k. (map-some (λ (l : Kind). record { names = typedNames v; kind = l }) (endKind n (typedefsOf n r) v) k.0, rule-again v k.1))
-        (types r) (each_both (λ v. ends r v ≡ true) (λ v. valueWidens v ≡ true) (types r) (all-each (ends r) (types r) parts.4) (all-each valueWidens (types r) widened.1)))
+        pairs-kept CoversRule (type_rule_of n (typedefs_of n r)) (type_rule_of w (typedefs_of w r)) (types r)
+        (each-imp (λ v. (ends r v ≡ true) × (value_widens v ≡ true)) (λ v. (is_some (type_rule_of n (typedefs_of n r) v) ≡ true) × Again CoversRule (type_rule_of n (typedefs_of n r) v) (type_rule_of w (typedefs_of w r) v))
+        (λ v k. (map-some (λ (l : Kind). record { names = typed_names v; kind = l }) (end_kind n (typedefs_of n r) v) k.0, rule-again v k.1))
+        (types r) (each_both (λ v. ends r v ≡ true) (λ v. value_widens v ≡ true) (types r) (all-each (ends r) (types r) parts.4) (all-each value_widens (types r) widened.1)))
 
-  typed-again : (ts us : List TypeRule) → Pairs CoversRule ts us → (f : Field) → isTyped n ts f ≡ true → isTyped w us f ≡ true
+  typed-again : (ts us : List TypeRule) → Pairs CoversRule ts us → (f : Field) → is_typed n ts f ≡ true → is_typed w us f ≡ true
   typed-again [] [] p f e = refl
   typed-again [] (u ∷ us) p f e = absurd p
   typed-again (t ∷ ts) [] p f e = absurd p
   typed-again (t ∷ ts) (u ∷ us) p f e =
-      let k = (and-eq-true_iff (not (among f.name t.names) || meets n t.kind f.value) (isTyped n ts f)).0 e in
+      let k = (and-eq-true_iff (not (among f.name t.names) || meets n t.kind f.value) (is_typed n ts f)).0 e in
       let a = or_later (not (among f.name t.names)) (meets n t.kind f.value) (meets w u.kind f.value) (p.0.1.0 f.value) k.0 in
       let b = subst (λ (ms : List Bytes). (not (among f.name ms) || meets w u.kind f.value) ≡ true) p.0.0 a in
-      (and-eq-true_iff (not (among f.name u.names) || meets w u.kind f.value) (isTyped w us f)).1 (b, typed-again ts us p.1 f k.1)
+      (and-eq-true_iff (not (among f.name u.names) || meets w u.kind f.value) (is_typed w us f)).1 (b, typed-again ts us p.1 f k.1)
 
   -- the kinds of a name are as before of ints
 
-  counted-again : (ts us : List TypeRule) → Pairs CoversRule ts us → (m : Bytes) → isCounted n ts m ≡ isCounted w us m
+  counted-again : (ts us : List TypeRule) → Pairs CoversRule ts us → (m : Bytes) → is_counted n ts m ≡ is_counted w us m
   counted-again [] [] p m = refl
   counted-again [] (u ∷ us) p m = absurd p
   counted-again (t ∷ ts) [] p m = absurd p
@@ -432,21 +432,21 @@ module _ (n w : Bounds) (wide : Wider n w) where
       ∙ (λ i. pick (among m (p.0.0 i)) (p.0.1.1 i) true && counted-again ts us p.1 m i)
       ∙ sym (counted-by w (among m u.names) u (filter (λ (x : TypeRule). among m x.names) us))
 
-  typed-well : (r : Record) → rulesWiden r ≡ true → isTypedWell n r ≡ true → isTypedWell w r ≡ true
+  typed-well : (r : Record) → rules_widen r ≡ true → is_typed_well n r ≡ true → is_typed_well w r ≡ true
   typed-well r widen well =
-      let k = (and-eq-true_iff (areTypesDefined n r) (autosCounted n r)).0 well in
-      let counted : autosCounted n r ≡ autosCounted w r = λ i. all (λ (m : Bytes). counted-again (typeRules n r) (typeRules w r) (rules-pair r widen k.0) m i) (auto r) in
-      (and-eq-true_iff (areTypesDefined w r) (autosCounted w r)).1 (types-defined r widen k.0, sym counted ∙ k.1)
+      let k = (and-eq-true_iff (are_types_defined n r) (autos_counted n r)).0 well in
+      let counted : autos_counted n r ≡ autos_counted w r = λ i. all (λ (m : Bytes). counted-again (type_rules n r) (type_rules w r) (rules-pair r widen k.0) m i) (auto r) in
+      (and-eq-true_iff (are_types_defined w r) (autos_counted w r)).1 (types-defined r widen k.0, sym counted ∙ k.1)
 
   -- sizes
 
-  size-by-again : (o : Option (ℕ → ℕ → Bool)) (x y : Option ℕ) → Again Equal x y → Again Equal (sizeBy o x) (sizeBy o y)
+  size-by-again : (o : Option (ℕ → ℕ → Bool)) (x y : Option ℕ) → Again Equal x y → Again Equal (size_by o x) (size_by o y)
   size-by-again none x y h = absent
   size-by-again (some o) x y h =
       let f : ℕ → ℕ → Bool = λ (k m : ℕ). o m k in
       again-map f f (λ a b e. ap f e) x y h
 
-  size-rule-again : (ws : List Bytes) → Again Equal (sizeRule n ws) (sizeRule w ws)
+  size-rule-again : (ws : List Bytes) → Again Equal (size_rule n ws) (size_rule w ws)
   size-rule-again [] = absent
   size-rule-again (v ∷ []) = size-by-again (some (λ m k. eqb m k)) (number_of n v) (number_of w v) (number-again v)
   size-rule-again (u ∷ v ∷ []) = size-by-again (order_of u) (number_of n v) (number_of w v) (number-again v)
@@ -466,90 +466,90 @@ module _ (n w : Bounds) (wide : Wider n w) where
 
   shapes-pair : (v : Bytes) → Pairs (CoversShape v) (shapes n) (shapes w)
   shapes-pair v =
-      let sized = again-some (sizeRule n (words v)) (sizeRule w (words v)) (size-rule-again (words v)) in
+      let sized = again-some (size_rule n (words v)) (size_rule w (words v)) (size-rule-again (words v)) in
       ((refl, λ e. e), ((refl, λ e. e), ((refl, λ e. e), ((refl, λ e. e), ((refl, λ e. e), ((refl, λ e. e), ((refl, λ e. e), ((refl, sized), ((refl, λ e. e), ((refl, λ e. e), ((refl, λ e. e), ((refl, λ e. e), tt))))))))))))
 
-  shaped-again : (f : Field) → isShaped n f ≡ true → isShaped w f ≡ true
+  shaped-again : (f : Field) → is_shaped n f ≡ true → is_shaped w f ≡ true
   shaped-again f e =
-      or_later (not (isSpecial f.name)) (any (λ (x : Shape). same f.name x.name && x.fits f.value) (shapes n)) (any (λ (x : Shape). same f.name x.name && x.fits f.value) (shapes w))
+      or_later (not (is_special f.name)) (any (λ (x : Shape). same f.name x.name && x.fits f.value) (shapes n)) (any (λ (x : Shape). same f.name x.name && x.fits f.value) (shapes w))
       (shape-again f.name f.value (shapes n) (shapes w) (shapes-pair f.value)) e
 
-  well-again : (r : Record) → isWellFormed n r ≡ true → isWellFormed w r ≡ true
+  well-again : (r : Record) → is_well_formed n r ≡ true → is_well_formed w r ≡ true
   well-again r e =
       let keyed : Bool = leb (length (values_of (text "%key") r)) 1 in
-      and-sooner (all (isShaped n) r && keyed) (all (isShaped w) r && keyed) (leb (length (values_of (text "%size") r)) 1)
-      (λ h. and-sooner (all (isShaped n) r) (all (isShaped w) r) keyed (λ k. all-imp (isShaped n) (isShaped w) shaped-again r k) h) e
+      and-sooner (all (is_shaped n) r && keyed) (all (is_shaped w) r && keyed) (leb (length (values_of (text "%size") r)) 1)
+      (λ h. and-sooner (all (is_shaped n) r) (all (is_shaped w) r) keyed (λ k. all-imp (is_shaped n) (is_shaped w) shaped-again r k) h) e
 
   -- a `%size` field that is well formed has a number
-  sized-by : (f : Field) → text "%size" ≡ f.name → isShaped n f ≡ true → is_some (sizeRule n (words f.value)) ≡ true
+  sized-by : (f : Field) → text "%size" ≡ f.name → is_shaped n f ≡ true → is_some (size_rule n (words f.value)) ≡ true
   sized-by f e h =
-      sym (or-false (is_some (sizeRule n (words f.value))))
-      ∙ subst (λ (m : Bytes). (not (isSpecial m) || any (λ (x : Shape). same m x.name && x.fits f.value) (shapes n)) ≡ true) (sym e) h
+      sym (or-false (is_some (size_rule n (words f.value))))
+      ∙ subst (λ (m : Bytes). (not (is_special m) || any (λ (x : Shape). same m x.name && x.fits f.value) (shapes n)) ≡ true) (sym e) h
 
-  abbrev isSized : Bytes → Bool
-  isSized v = is_some (sizeRule n (words v))
+  abbrev is_sized : Bytes → Bool
+  is_sized v = is_some (size_rule n (words v))
 
-  sized : (r : Record) → all (isShaped n) r ≡ true → all isSized (values_of (text "%size") r) ≡ true
+  sized : (r : Record) → all (is_shaped n) r ≡ true → all is_sized (values_of (text "%size") r) ≡ true
   sized [] e = refl
   sized (f ∷ fs) e =
-      let k = (and-eq-true_iff (isShaped n f) (all (isShaped n) fs)).0 e in
+      let k = (and-eq-true_iff (is_shaped n f) (all (is_shaped n) fs)).0 e in
       go (same (text "%size") f.name) refl k.0 (sized fs k.1)
     where
-      go : (b : Bool) → same (text "%size") f.name ≡ b → isShaped n f ≡ true → all isSized (values_of (text "%size") fs) ≡ true → all isSized (pick b (f.value ∷ values_of (text "%size") fs) (values_of (text "%size") fs)) ≡ true
-      go true h k l = (and-eq-true_iff (isSized f.value) (all isSized (values_of (text "%size") fs))).1 (sized-by f (same_true (text "%size") f.name h) k, l)
+      go : (b : Bool) → same (text "%size") f.name ≡ b → is_shaped n f ≡ true → all is_sized (values_of (text "%size") fs) ≡ true → all is_sized (pick b (f.value ∷ values_of (text "%size") fs) (values_of (text "%size") fs)) ≡ true
+      go true h k l = (and-eq-true_iff (is_sized f.value) (all is_sized (values_of (text "%size") fs))).1 (sized-by f (same_true (text "%size") f.name h) k, l)
       go false h k l = l
 
-  meets-alike : (m : ℕ) (x y : Option (ℕ → Bool)) → Again Equal x y → is_some x ≡ true → meetsSize x m ≡ meetsSize y m
+  meets-alike : (m : ℕ) (x y : Option (ℕ → Bool)) → Again Equal x y → is_some x ≡ true → meets_size x m ≡ meets_size y m
   meets-alike m none y h s = absurd (false≢true s)
   meets-alike m (some p) none h s = absurd h.holds
   meets-alike m (some p) (some q) h s = ap (λ (t : ℕ → Bool). t m) h.holds
 
-  size-alike : (s : RecSet) → isWellFormed n s.rules ≡ true → sizeMet n s ≡ sizeMet w s
+  size-alike : (s : RecSet) → is_well_formed n s.rules ≡ true → size_met n s ≡ size_met w s
   size-alike s h =
       let r : Record = s.rules in
-      let k = (and-eq-true_iff (all (isShaped n) r && leb (length (values_of (text "%key") r)) 1) (leb (length (values_of (text "%size") r)) 1)).0 h in
-      let l = (and-eq-true_iff (all (isShaped n) r) (leb (length (values_of (text "%key") r)) 1)).0 k.0 in
-      all_same isSized (λ (v : Bytes). meetsSize (sizeRule n (words v)) (length s.members)) (λ (v : Bytes). meetsSize (sizeRule w (words v)) (length s.members))
-      (λ v a. meets-alike (length s.members) (sizeRule n (words v)) (sizeRule w (words v)) (size-rule-again (words v)) a)
+      let k = (and-eq-true_iff (all (is_shaped n) r && leb (length (values_of (text "%key") r)) 1) (leb (length (values_of (text "%size") r)) 1)).0 h in
+      let l = (and-eq-true_iff (all (is_shaped n) r) (leb (length (values_of (text "%key") r)) 1)).0 k.0 in
+      all_same is_sized (λ (v : Bytes). meets_size (size_rule n (words v)) (length s.members)) (λ (v : Bytes). meets_size (size_rule w (words v)) (length s.members))
+      (λ v a. meets-alike (length s.members) (size_rule n (words v)) (size_rule w (words v)) (size-rule-again (words v)) a)
       (values_of (text "%size") r) (sized r l.0)
 
-  members-again : (s : RecSet) → (rulesWiden s.rules && isTypedWell n s.rules) ≡ true → all (allTyped n s.rules) s.members ≡ true → all (allTyped w s.rules) s.members ≡ true
+  members-again : (s : RecSet) → (rules_widen s.rules && is_typed_well n s.rules) ≡ true → all (all_typed n s.rules) s.members ≡ true → all (all_typed w s.rules) s.members ≡ true
   members-again s h e =
       let rules : Record = s.rules in
-      let k = (and-eq-true_iff (rulesWiden rules) (isTypedWell n rules)).0 h in
-      let defined = ((and-eq-true_iff (areTypesDefined n rules) (autosCounted n rules)).0 k.1).0 in
-      let field-again = typed-again (typeRules n rules) (typeRules w rules) (rules-pair rules k.0 defined) in
-      all-imp (allTyped n rules) (allTyped w rules) (λ r t. all-imp (isTyped n (typeRules n rules)) (isTyped w (typeRules w rules)) field-again r t) s.members e
+      let k = (and-eq-true_iff (rules_widen rules) (is_typed_well n rules)).0 h in
+      let defined = ((and-eq-true_iff (are_types_defined n rules) (autos_counted n rules)).0 k.1).0 in
+      let field-again = typed-again (type_rules n rules) (type_rules w rules) (rules-pair rules k.0 defined) in
+      all-imp (all_typed n rules) (all_typed w rules) (λ r t. all-imp (is_typed n (type_rules n rules)) (is_typed w (type_rules w rules)) field-again r t) s.members e
 
   -- the questions
 
-  module _ (ss : List RecSet) (widen : rangesWiden ss ≡ true) where
-    describes-again : describesWell n ss ≡ true → describesWell w ss ≡ true
+  module _ (ss : List RecSet) (widen : ranges_widen ss ≡ true) where
+    describes-again : describes_well n ss ≡ true → describes_well w ss ≡ true
     describes-again e =
-        let rules : Bounds → RecSet → Bool = λ (b : Bounds) (s : RecSet). isWellFormed b s.rules in
+        let rules : Bounds → RecSet → Bool = λ (b : Bounds) (s : RecSet). is_well_formed b s.rules in
         and-sooner (all (rules n) ss) (all (rules w) ss) (distinct (map name_of ss)) (λ h. all-imp (rules n) (rules w) (λ s k. well-again s.rules k) ss h) e
 
-    types-again : typesWell n ss ≡ true → typesWell w ss ≡ true
+    types-again : types_well n ss ≡ true → types_well w ss ≡ true
     types-again e =
-        all_from (λ (s : RecSet). rulesWiden s.rules) (λ (s : RecSet). isTypedWell n s.rules) (λ (s : RecSet). isTypedWell w s.rules)
+        all_from (λ (s : RecSet). rules_widen s.rules) (λ (s : RecSet). is_typed_well n s.rules) (λ (s : RecSet). is_typed_well w s.rules)
         (λ s a b. typed-well s.rules a b) ss widen e
 
-    records-again : typesWell n ss ≡ true → eachRecord (allTyped n) ss ≡ true → eachRecord (allTyped w) ss ≡ true
+    records-again : types_well n ss ≡ true → each_record (all_typed n) ss ≡ true → each_record (all_typed w) ss ≡ true
     records-again e f =
-        all_from (λ (s : RecSet). rulesWiden s.rules && isTypedWell n s.rules) (λ (s : RecSet). all (allTyped n s.rules) s.members) (λ (s : RecSet). all (allTyped w s.rules) s.members)
-        members-again ss (all_both (λ (s : RecSet). rulesWiden s.rules) (λ (s : RecSet). isTypedWell n s.rules) ss ∙ (and-eq-true_iff (rangesWiden ss) (typesWell n ss)).1 (widen, e)) f
+        all_from (λ (s : RecSet). rules_widen s.rules && is_typed_well n s.rules) (λ (s : RecSet). all (all_typed n s.rules) s.members) (λ (s : RecSet). all (all_typed w s.rules) s.members)
+        members-again ss (all_both (λ (s : RecSet). rules_widen s.rules) (λ (s : RecSet). is_typed_well n s.rules) ss ∙ (and-eq-true_iff (ranges_widen ss) (types_well n ss)).1 (widen, e)) f
 
-    sizes-alike : describesWell n ss ≡ true → all (sizeMet n) ss ≡ all (sizeMet w) ss
+    sizes-alike : describes_well n ss ≡ true → all (size_met n) ss ≡ all (size_met w) ss
     sizes-alike e =
-        let k = (and-eq-true_iff (all (λ (s : RecSet). isWellFormed n s.rules) ss) (distinct (map name_of ss))).0 e in
-        all_same (λ (s : RecSet). isWellFormed n s.rules) (sizeMet n) (sizeMet w) size-alike ss k.0
+        let k = (and-eq-true_iff (all (λ (s : RecSet). is_well_formed n s.rules) ss) (distinct (map name_of ss))).0 e in
+        all_same (λ (s : RecSet). is_well_formed n s.rules) (size_met n) (size_met w) size-alike ss k.0
 
 -- a question that answers alike, and one that says yes again where it said yes; each is asked where those before it say yes
 eased-alike : (a : Bool) (k i j : ℕ) → (a ≡ true → Eased i j) → Eased (pick a i k) (pick a j k)
 eased-alike true k i j h = h refl
 eased-alike false k i j h = inl refl
 
-eased-asked : (a b : Bool) (k i j : ℕ) → asksInts k ≡ true → Above k j → (a ≡ true → b ≡ true) → (a ≡ true → Eased i j) → Eased (pick a i k) (pick b j k)
+eased-asked : (a b : Bool) (k i j : ℕ) → asks_ints k ≡ true → Above k j → (a ≡ true → b ≡ true) → (a ≡ true → Eased i j) → Eased (pick a i k) (pick b j k)
 eased-asked true true k i j q l g h = h refl
 eased-asked true false k i j q l g h = absurd (false≢true (g refl))
 eased-asked false true k i j q l g h = inr (q, l)
@@ -557,56 +557,56 @@ eased-asked false false k i j q l g h = inl refl
 
 -- questions 5 to 14 and 30, and the number of the first no from the j-th of them on
 abbrev rows_from : ℕ → Bounds → List (Row (List RecSet))
-rows_from j b = drop j (descriptorRows b ++ ruleRows b)
+rows_from j b = drop j (descriptor_rows b ++ rule_rows b)
 
-abbrev numberFrom : ℕ → Bounds → List RecSet → ℕ
-numberFrom j b ss = firstNo (rows_from j b) ss
+abbrev number_from : ℕ → Bounds → List RecSet → ℕ
+number_from j b ss = first_no (rows_from j b) ss
 
 -- a file's number under wider ints, by that under narrower ones
-pub wider-number : (n w : Bounds) → Wider n w → (buffer : Bytes) (used : ℕ) → rangesWiden (fileOf buffer used).sets ≡ true → Eased (verdictIn n buffer used) (verdictIn w buffer used)
-unfolding verdictIn
+pub wider-number : (n w : Bounds) → Wider n w → (buffer : Bytes) (used : ℕ) → ranges_widen (file_of buffer used).sets ≡ true → Eased (verdict_in n buffer used) (verdict_in w buffer used)
+unfolding verdict_in
 wider-number n w wide buffer used widen =
-    let f : File = fileOf buffer used in
+    let f : File = file_of buffer used in
     let ss : List RecSet = f.sets in
     let rise : Rise 6 (rows_from 2 w) = (omega arith, (omega arith, (omega arith, (omega arith, (omega arith, (omega arith, (omega arith, (omega arith, (omega arith, tt))))))))) in
-    eased-alike (leb f.used f.room && leb f.used fileBytes) 1 _ _ (λ q1.
-    eased-alike (all isAllowed f.content && isEnded f.content) 2 _ _ (λ q2.
+    eased-alike (leb f.used f.room && leb f.used file_bytes) 1 _ _ (λ q1.
+    eased-alike (all is_allowed f.content && is_ended f.content) 2 _ _ (λ q2.
     eased-alike (is_some f.reads) 3 _ _ (λ q3.
-    eased-alike (fitsLimits ss) 4 (numberFrom 0 n ss) (numberFrom 0 w ss) (λ q4.
-    eased-alike (describesOnce ss) 5 (numberFrom 1 n ss) (numberFrom 1 w ss) (λ q5.
-    eased-asked (describesWell n ss) (describesWell w ss) 6 (numberFrom 2 n ss) (numberFrom 2 w ss) refl (first_above (rows_from 2 w) 6 rise ss) (describes-again n w wide ss widen) (λ q6.
-    eased-asked (typesWell n ss) (typesWell w ss) 7 (numberFrom 3 n ss) (numberFrom 3 w ss) refl (first_above (rows_from 3 w) 7 rise.1 ss) (types-again n w wide ss widen) (λ q7.
-    eased-alike (eachRecord noneProhibited ss) 8 (numberFrom 4 n ss) (numberFrom 4 w ss) (λ q8.
-    eased-alike (eachRecord allAllowed ss) 9 (numberFrom 5 n ss) (numberFrom 5 w ss) (λ q9.
-    eased-alike (eachRecord allPresent ss) 10 (numberFrom 6 n ss) (numberFrom 6 w ss) (λ q10.
-    eased-alike (eachRecord noneRepeated ss) 11 (numberFrom 7 n ss) (numberFrom 7 w ss) (λ q11.
-    eased-asked (eachRecord (allTyped n) ss) (eachRecord (allTyped w) ss) 12 (numberFrom 8 n ss) (numberFrom 8 w ss) refl (first_above (rows_from 8 w) 12 rise.1.1.1.1.1.1 ss) (records-again n w wide ss widen q7) (λ q12.
-    eased-alike (keysDistinct ss) 13 (numberFrom 9 n ss) (numberFrom 9 w ss) (λ q13.
-    inl (sym (ap (λ (b : Bool). pick b (pick (all singularMet ss) 0 30) 14) (sizes-alike n w wide ss widen q6))))))))))))))))
+    eased-alike (fits_limits ss) 4 (number_from 0 n ss) (number_from 0 w ss) (λ q4.
+    eased-alike (describes_once ss) 5 (number_from 1 n ss) (number_from 1 w ss) (λ q5.
+    eased-asked (describes_well n ss) (describes_well w ss) 6 (number_from 2 n ss) (number_from 2 w ss) refl (first_above (rows_from 2 w) 6 rise ss) (describes-again n w wide ss widen) (λ q6.
+    eased-asked (types_well n ss) (types_well w ss) 7 (number_from 3 n ss) (number_from 3 w ss) refl (first_above (rows_from 3 w) 7 rise.1 ss) (types-again n w wide ss widen) (λ q7.
+    eased-alike (each_record none_prohibited ss) 8 (number_from 4 n ss) (number_from 4 w ss) (λ q8.
+    eased-alike (each_record all_allowed ss) 9 (number_from 5 n ss) (number_from 5 w ss) (λ q9.
+    eased-alike (each_record all_present ss) 10 (number_from 6 n ss) (number_from 6 w ss) (λ q10.
+    eased-alike (each_record none_repeated ss) 11 (number_from 7 n ss) (number_from 7 w ss) (λ q11.
+    eased-asked (each_record (all_typed n) ss) (each_record (all_typed w) ss) 12 (number_from 8 n ss) (number_from 8 w ss) refl (first_above (rows_from 8 w) 12 rise.1.1.1.1.1.1 ss) (records-again n w wide ss widen q7) (λ q12.
+    eased-alike (keys_distinct ss) 13 (number_from 9 n ss) (number_from 9 w ss) (λ q13.
+    inl (sym (ap (λ (b : Bool). pick b (pick (all singular_met ss) 0 30) 14) (sizes-alike n w wide ss widen q6))))))))))))))))
 
 eased-pass : (k m : ℕ) → k ≡ 0 → Eased k m → m ≡ 0
 eased-pass k m e (inl h) = h ∙ e
-eased-pass k m e (inr h) = absurd (false≢true (sym (ap asksInts e) ∙ h.0))
+eased-pass k m e (inr h) = absurd (false≢true (sym (ap asks_ints e) ∙ h.0))
 
 -- "each file that passed under the narrower ints passes under these, if no range in it has `MAX` as its lower end or `MIN` as its upper"
-pub wider-passes : (n w : Bounds) → Wider n w → (buffer : Bytes) (used : ℕ) → rangesWiden (fileOf buffer used).sets ≡ true → verdictIn n buffer used ≡ 0 → verdictIn w buffer used ≡ 0
-wider-passes n w wide buffer used widen e = eased-pass (verdictIn n buffer used) (verdictIn w buffer used) e (wider-number n w wide buffer used widen)
+pub wider-passes : (n w : Bounds) → Wider n w → (buffer : Bytes) (used : ℕ) → ranges_widen (file_of buffer used).sets ≡ true → verdict_in n buffer used ≡ 0 → verdict_in w buffer used ≡ 0
+wider-passes n w wide buffer used widen e = eased-pass (verdict_in n buffer used) (verdict_in w buffer used) e (wider-number n w wide buffer used widen)
 
 -- ints of 32 bits, and the law of these
 
-abbrev pub narrowBounds : Bounds
-narrowBounds = record { least = 2147483648; greatest = 2147483647 }
+abbrev pub narrow_bounds : Bounds
+narrow_bounds = record { least = 2147483648; greatest = 2147483647 }
 
-pub ints-wider : Wider narrowBounds intBounds
+pub ints-wider : Wider narrow_bounds int_bounds
 ints-wider = record { least = omega arith; greatest = omega arith }
 
-pub narrow-number : (buffer : Bytes) (used : ℕ) → rangesWiden (fileOf buffer used).sets ≡ true → Eased (verdictIn narrowBounds buffer used) (verdict buffer used)
+pub narrow-number : (buffer : Bytes) (used : ℕ) → ranges_widen (file_of buffer used).sets ≡ true → Eased (verdict_in narrow_bounds buffer used) (verdict buffer used)
 unfolding verdict
-narrow-number buffer used widen = wider-number narrowBounds intBounds ints-wider buffer used widen
+narrow-number buffer used widen = wider-number narrow_bounds int_bounds ints-wider buffer used widen
 
-pub narrow-passes : (buffer : Bytes) (used : ℕ) → rangesWiden (fileOf buffer used).sets ≡ true → verdictIn narrowBounds buffer used ≡ 0 → verdict buffer used ≡ 0
+pub narrow-passes : (buffer : Bytes) (used : ℕ) → ranges_widen (file_of buffer used).sets ≡ true → verdict_in narrow_bounds buffer used ≡ 0 → verdict buffer used ≡ 0
 unfolding verdict
-narrow-passes buffer used widen e = wider-passes narrowBounds intBounds ints-wider buffer used widen e
+narrow-passes buffer used widen e = wider-passes narrow_bounds int_bounds ints-wider buffer used widen e
 
 -- Computed: a file, its number under ints of 32 bits, and its number.
 pub record Moved : Type 0 where
@@ -615,7 +615,7 @@ pub record Moved : Type 0 where
   pub wide : ℕ
 
 abbrev moves : Moved → Bool
-moves m = eqb (verdictIn narrowBounds m.file (length m.file)) m.narrow && eqb (verdict m.file (length m.file)) m.wide
+moves m = eqb (verdict_in narrow_bounds m.file (length m.file)) m.narrow && eqb (verdict m.file (length m.file)) m.wide
 
 -- a set T with a descriptor's line and a field A
 abbrev moved : ℕ → ℕ → String → String → Moved
@@ -628,7 +628,7 @@ conditions-needed : all moves (
     moved 0 12 "%type: A range -2147483648 MIN" "-2147483648" ∷
     moved 0 12 "%type: A range MIN MIN" "-2147483648" ∷
     moved 0 12 "%typedef: N range MIN MIN\n%type: A N" "-0x80000000" ∷ []) ≡ true
-unfolding pieces setsOf fileOf verdictIn verdict
+unfolding pieces sets_of file_of verdict_in verdict
 conditions-needed = refl
 
 -- the converse fails at each of the three questions, and a file that fails there may fail a later one
@@ -641,5 +641,5 @@ converse-fails : all moves (
     moved 12 0 "%type: A int" "123456789012" ∷
     moved 12 0 "%type: A range MIN MAX" "-2147483649" ∷
     moved 12 14 "%type: A range 1 MAX\n%size: 2" "2147483648" ∷ []) ≡ true
-unfolding pieces setsOf fileOf verdictIn verdict
+unfolding pieces sets_of file_of verdict_in verdict
 converse-fails = refl

@@ -9,12 +9,12 @@ use lib.Dec.{eqb}
 use lib.ListN.{length, set}
 use lib.Seq.{set_out}
 use Rattle.format.specs.Bytes.{Bytes, text, pick, same}
-use Rattle.format.specs.Lines.{isSpecial}
-use Rattle.limits.specs.Opens.{putRow}
+use Rattle.format.specs.Lines.{is_special}
+use Rattle.limits.specs.Opens.{put_row}
 use Rattle.limits.specs.declared.Open.{Open}
 
 -- a name that is not special is no `%rec`
-pub plain-name : (n : Bytes) → isSpecial n ≡ false → same (text "%rec") n ≡ false
+pub plain-name : (n : Bytes) → is_special n ≡ false → same (text "%rec") n ≡ false
 plain-name [] e = refl
 plain-name (c ∷ n) e = ap (λ (b : Bool). b && same (text "rec") n) (ne_eqb 37 c (λ q. eqb-false c 37 e (sym q)))
 
@@ -35,15 +35,15 @@ module _ (o : Open) where
     pub number-none : (count : ℕ) → count ≡ count + pick (eqb o.recs 0) 0 1
     number-none count = omega (arith, ap (λ (b : Bool). pick {A = ℕ} b 0 1) (eq-eqb o.recs 0 e))
 
-    pub put-none : (rows : List ℕ) (k v : ℕ) → rows ≡ putRow o rows k v
+    pub put-none : (rows : List ℕ) (k v : ℕ) → rows ≡ put_row o rows k v
     put-none rows k v = sym (ap (λ (b : Bool). pick b rows (set rows k v)) (eq-eqb o.recs 0 e))
 
   module _ (e : o.recs ≡ 0 → ⊥) where
     pub number-one : (count : ℕ) → count + 1 ≡ count + pick (eqb o.recs 0) 0 1
     number-one count = omega (arith, ap (λ (b : Bool). pick {A = ℕ} b 0 1) (ne_eqb o.recs 0 e))
 
-    pub put_in : (rows : List ℕ) (k v : ℕ) → set rows k v ≡ putRow o rows k v
+    pub put_in : (rows : List ℕ) (k v : ℕ) → set rows k v ≡ put_row o rows k v
     put_in rows k v = sym (ap (λ (b : Bool). pick b rows (set rows k v)) (ne_eqb o.recs 0 e))
 
-    pub put-out : (rows : List ℕ) (k v : ℕ) → length rows ≤ k → rows ≡ putRow o rows k v
+    pub put-out : (rows : List ℕ) (k v : ℕ) → length rows ≤ k → rows ≡ put_row o rows k v
     put-out rows k v h = sym (set_out rows k v h) ∙ put_in rows k v

@@ -11,27 +11,27 @@ use Rattle.format.specs.Pieces.{Piece, read_of}
 use Rattle.format.specs.Records.{Field, Record, count_of, fields_of}
 use Rattle.format.proofs.Grouping.{fields-append}
 use Rattle.format.proofs.Records.{close, records}
-use Rattle.format.proofs.Walking.{isHead, heads}
+use Rattle.format.proofs.Walking.{is_head, heads}
 use Rattle.words.specs.Spans.{span}
-use Rattle.records.specs.Places.{isReadable, sizeIn}
-use Rattle.records.specs.Walk.{recordIn, untilBlank, fromBlank}
+use Rattle.records.specs.Places.{is_readable, size_in}
+use Rattle.records.specs.Walk.{record_in, until_blank, from_blank}
 use Rattle.records.specs.Heads.{HeadHere}
 use Rattle.records.proofs.Walks.{size-append, size-piece, size_none}
 use Rattle.records.proofs.Readings.{Reads, reads-readable, reads_of, readable-reads, reads-take}
 use Rattle.records.proofs.Steps.{Passed}
-use Rattle.records.proofs.Cuts.{recordsFrom}
+use Rattle.records.proofs.Cuts.{records_from}
 use Rattle.records.proofs.Rows.{heads-plain}
-use Rattle.records.proofs.Going.{goOn, goingFrom, going-none, going_end, going-blank, records-blank}
+use Rattle.records.proofs.Going.{go_on, going_from, going-none, going_end, going-blank, records-blank}
 
 -- the pieces from p to i
 pub record Cut (s : Bytes) (p i : ℕ) (ps : List Piece) : Type 0 where
   pub reads : read_of (drop p s) ≡ ps ++ read_of (drop i s)
-  pub size : p + sizeIn ps ≡ i
+  pub size : p + size_in ps ≡ i
   pub inside : i ≤ length s
-  pub readable : isReadable (drop i s) ≡ true
+  pub readable : is_readable (drop i s) ≡ true
 
 module _ {s : Bytes} where
-  pub cut-none : (i : ℕ) → i ≤ length s → isReadable (drop i s) ≡ true → Cut s i i []
+  pub cut-none : (i : ℕ) → i ≤ length s → is_readable (drop i s) ≡ true → Cut s i i []
   cut-none i h e = record { reads = refl; size = omega (arith, size_none); inside = h; readable = e }
 
   pub cut-join : {p i j : ℕ} {ps qs : List Piece} → Cut s p i ps → Cut s i j qs → Cut s p j (ps ++ qs)
@@ -52,7 +52,7 @@ module _ {s : Bytes} where
         readable = q.readable;
       }
 
-  pub cut-reads : {p i : ℕ} {ps : List Piece} → isReadable (drop p s) ≡ true → Cut s p i ps → Reads (span p i s) ps
+  pub cut-reads : {p i : ℕ} {ps : List Piece} → is_readable (drop p s) ≡ true → Cut s p i ps → Reads (span p i s) ps
   cut-reads {p} {i} {ps} e c = reads-take ps (read_of (drop i s)) (subst (Reads (drop p s)) c.reads (readable-reads (drop p s) e)) (i - p) (omega (arith, c.size))
 
 -- no record goes on behind these pieces; one goes on through those
@@ -60,7 +60,7 @@ abbrev Quiet : List Piece → Type 0
 Quiet ps = (qs : List Piece) → records (ps ++ qs) ≡ records ps ++ records qs
 
 abbrev Solid : List Piece → Type 0
-Solid ps = (fs : Record) (qs : List Piece) → goOn fs (ps ++ qs) ≡ goOn (fs ++ fields_of ps) qs
+Solid ps = (fs : Record) (qs : List Piece) → go_on fs (ps ++ qs) ≡ go_on (fs ++ fields_of ps) qs
 
 records-none : records [] ≡ []
 unfolding records
@@ -70,42 +70,42 @@ quiet_none : Quiet []
 quiet_none qs = ap (λ (rs : List Record). rs ++ records qs) (sym records-none)
 
 solid-none : Solid []
-solid-none fs qs = ap (λ (r : Record). goOn r qs) (sym (append-nil fs))
+solid-none fs qs = ap (λ (r : Record). go_on r qs) (sym (append-nil fs))
 
 solid-comment : (l : Line) → Solid (Piece.comment l ∷ [])
-unfolding goOn
-solid-comment l fs qs = ap (λ (r : Record). goOn r qs) (sym (append-nil fs))
+unfolding go_on
+solid-comment l fs qs = ap (λ (r : Record). go_on r qs) (sym (append-nil fs))
 
 abbrev pub field_of : Bytes → Bytes → List Line → Field
 field_of n v ls = record { name = n; value = v; count = count_of ls }
 
-pub field-on : (n v : Bytes) (ls : List Line) → (fs : Record) (qs : List Piece) → goOn fs (Piece.field n v ls ∷ qs) ≡ goOn (fs ++ (field_of n v ls ∷ [])) qs
-unfolding goOn
+pub field-on : (n v : Bytes) (ls : List Line) → (fs : Record) (qs : List Piece) → go_on fs (Piece.field n v ls ∷ qs) ≡ go_on (fs ++ (field_of n v ls ∷ [])) qs
+unfolding go_on
 field-on n v ls fs qs =
-    ap (λ (r : Record). close r (records (fromBlank qs))) (sym (append_assoc fs (field_of n v ls ∷ []) (fields_of (untilBlank qs))))
+    ap (λ (r : Record). close r (records (from_blank qs))) (sym (append_assoc fs (field_of n v ls ∷ []) (fields_of (until_blank qs))))
 
 solid-field : (n v : Bytes) (ls : List Line) → Solid (Piece.field n v ls ∷ [])
 solid-field n v ls = field-on n v ls
 
 solid-join : (ps qs : List Piece) → Solid ps → Solid qs → Solid (ps ++ qs)
 solid-join ps qs a b fs xs =
-    ap (goOn fs) (append_assoc ps qs xs)
+    ap (go_on fs) (append_assoc ps qs xs)
     ∙ a fs (qs ++ xs)
     ∙ b (fs ++ fields_of ps) xs
-    ∙ ap (λ (r : Record). goOn r xs) (append_assoc fs (fields_of ps) (fields_of qs) ∙ ap (λ (r : Record). fs ++ r) (sym (fields-append ps qs)))
+    ∙ ap (λ (r : Record). go_on r xs) (append_assoc fs (fields_of ps) (fields_of qs) ∙ ap (λ (r : Record). fs ++ r) (sym (fields-append ps qs)))
 
 -- the records of pieces with no record that goes on, then of a run, then of the rest
-run-records : (ps run qs : List Piece) → Quiet ps → Solid run → records (ps ++ (run ++ qs)) ≡ records ps ++ goOn (fields_of run) qs
+run-records : (ps run qs : List Piece) → Quiet ps → Solid run → records (ps ++ (run ++ qs)) ≡ records ps ++ go_on (fields_of run) qs
 run-records ps run qs a b =
     a (run ++ qs) ∙ ap (λ (rs : List Record). records ps ++ rs) (sym (going-none (run ++ qs)) ∙ b [] qs)
 
-blank-on : (l : Line) (fs : Record) (qs : List Piece) → goOn fs (Piece.blank l ∷ qs) ≡ close fs (records qs)
-unfolding goOn
+blank-on : (l : Line) (fs : Record) (qs : List Piece) → go_on fs (Piece.blank l ∷ qs) ≡ close fs (records qs)
+unfolding go_on
 blank-on l fs qs = (λ j. close (append-nil fs j) (records-blank l qs j))
 
 -- what was met behind byte p: fs are the fields of the record that goes on, from a to e
 pub record Pending (s : Bytes) (p i a e : ℕ) (fs : Record) : Type 0 where
-  pub from : isReadable (drop p s) ≡ true
+  pub from : is_readable (drop p s) ≡ true
   pub front : List Piece
   pub own : List Piece
   pub run : List Piece
@@ -120,7 +120,7 @@ pub record Pending (s : Bytes) (p i a e : ℕ) (fs : Record) : Type 0 where
   pub own-fields : fields_of own ≡ fs
   pub run-fields : fields_of run ≡ fs
 
-pub pending-none : (s : Bytes) (i : ℕ) → i ≤ length s → isReadable (drop i s) ≡ true → Pending s i i i i []
+pub pending-none : (s : Bytes) (i : ℕ) → i ≤ length s → is_readable (drop i s) ≡ true → Pending s i i i i []
 pending-none s i h e =
     record {
       from = e;
@@ -142,7 +142,7 @@ pending-none s i h e =
 -- pieces without a field behind such as no record goes on behind
 module _ (ps run : List Piece) (quiet : Quiet ps) (solid : Solid run) (bare : fields_of run ≡ []) where
   bare-run : (qs : List Piece) → records (run ++ qs) ≡ records qs
-  bare-run qs = sym (going-none (run ++ qs)) ∙ solid [] qs ∙ ap (λ (r : Record). goOn r qs) bare ∙ going-none qs
+  bare-run qs = sym (going-none (run ++ qs)) ∙ solid [] qs ∙ ap (λ (r : Record). go_on r qs) bare ∙ going-none qs
 
   bare-records : records (ps ++ run) ≡ records ps
   bare-records =
@@ -180,15 +180,15 @@ module _ (ps run : List Piece) (l : Line) (quiet : Quiet ps) (solid : Solid run)
 quiet-blank : (l : Line) → Quiet (Piece.blank l ∷ [])
 quiet-blank l qs = records-blank l qs ∙ ap (λ (rs : List Record). rs ++ records qs) (sym (records-blank l [] ∙ records-none))
 
-heads-close : (fs : Record) → isHead fs ≡ false → heads (close fs []) ≡ []
+heads-close : (fs : Record) → is_head fs ≡ false → heads (close fs []) ≡ []
 heads-close [] e = refl
 heads-close (f ∷ fs) e = ap (λ (b : Bool). pick b ((f ∷ fs) ∷ []) []) e
 
-pub head-filled : (fs : Record) → isHead fs ≡ true → 0 < length fs
+pub head-filled : (fs : Record) → is_head fs ≡ true → 0 < length fs
 head-filled [] e = absurd (false≢true e)
 head-filled (f ∷ fs) e = omega arith
 
-close-head : (fs : Record) (rs : List Record) → isHead fs ≡ true → close fs rs ≡ fs ∷ rs
+close-head : (fs : Record) (rs : List Record) → is_head fs ≡ true → close fs rs ≡ fs ∷ rs
 close-head [] rs e = absurd (false≢true e)
 close-head (f ∷ fs) rs e = refl
 
@@ -257,7 +257,7 @@ module _ {s : Bytes} {p i a e : ℕ} where
   module _ {fs : Record} (g : Pending s p i a e fs) where
     -- a blank line ends it: no descriptor, which goes to the pieces in front, or one, behind which all begins anew
     module _ {l : Line} {k : ℕ} (q : Passed s i (Piece.blank l) k) where
-      pub pending-member : isHead fs ≡ false → Pending s p (i + k) (i + k) (i + k) []
+      pub pending-member : is_head fs ≡ false → Pending s p (i + k) (i + k) (i + k) []
       pending-member h =
           let none = cut-none (i + k) q.inside q.readable in
           record {
@@ -302,18 +302,18 @@ module _ {s : Bytes} {p i a e : ℕ} where
           }
 
     -- the records behind p: those in front, and the one that goes on
-    whole : recordsFrom s p ≡ records g.front ++ goingFrom fs s i
+    whole : records_from s p ≡ records g.front ++ going_from fs s i
     whole =
         ap (λ (x : List Piece). records x) (g.front_cut.reads ∙ ap (λ (x : List Piece). g.front ++ x) g.run-cut.reads)
         ∙ run-records g.front g.run (read_of (drop i s)) g.quiet g.solid
-        ∙ ap (λ (r : Record). records g.front ++ goOn r (read_of (drop i s))) g.run-fields
+        ∙ ap (λ (r : Record). records g.front ++ go_on r (read_of (drop i s))) g.run-fields
 
     -- where it ends, a descriptor has its place
-    pub head-here : goingFrom fs s i ≡ close fs (recordsFrom s i) → isHead fs ≡ true → HeadHere s p a e i
+    pub head-here : going_from fs s i ≡ close fs (records_from s i) → is_head fs ≡ true → HeadHere s p a e i
     head-here stop h =
         let own : Reads (span a e s) g.own = cut-reads g.front_cut.readable g.own-cut in
         let front : Reads (span p a s) g.front = cut-reads g.from g.front_cut in
-        let mine : recordIn (span a e s) ≡ fs = ap (λ (x : List Piece). fields_of x) (reads_of own) ∙ g.own-fields in
+        let mine : record_in (span a e s) ≡ fs = ap (λ (x : List Piece). fields_of x) (reads_of own) ∙ g.own-fields in
         let before : records (read_of (span p a s)) ≡ records g.front = ap (λ (x : List Piece). records x) (reads_of front) in
         record {
           begins = omega (arith, g.front_cut.size);
@@ -321,34 +321,34 @@ module _ {s : Bytes} {p i a e : ℕ} where
           within = g.within;
           inside = g.run-cut.inside;
           own = reads-readable own;
-          head = ap (λ (r : Record). isHead r) mine ∙ h;
+          head = ap (λ (r : Record). is_head r) mine ∙ h;
           before = reads-readable front;
           plain = ap (λ (rs : List Record). heads rs) before ∙ g.plain;
           behind = g.run-cut.readable;
           cut =
               whole
-              ∙ ap (λ (rs : List Record). records g.front ++ rs) (stop ∙ close-head fs (recordsFrom s i) h)
-              ∙ (λ j. sym before j ++ (sym mine j ∷ recordsFrom s i));
+              ∙ ap (λ (rs : List Record). records g.front ++ rs) (stop ∙ close-head fs (records_from s i) h)
+              ∙ (λ j. sym before j ++ (sym mine j ∷ records_from s i));
         }
 
     -- and where the file ends without one, no descriptor stands behind p
-    pub none_left : read_of (drop i s) ≡ [] → isHead fs ≡ false → heads (recordsFrom s p) ≡ []
+    pub none_left : read_of (drop i s) ≡ [] → is_head fs ≡ false → heads (records_from s p) ≡ []
     none_left z h =
         ap (λ (rs : List Record). heads rs) (whole ∙ ap (λ (rs : List Record). records g.front ++ rs) (going_end fs s i z))
         ∙ heads-plain (records g.front) (close fs []) g.plain
         ∙ heads-close fs h
 
-pub blank-passed : {s : Bytes} {i k : ℕ} {l : Line} → Passed s i (Piece.blank l) k → recordsFrom s i ≡ recordsFrom s (i + k)
+pub blank-passed : {s : Bytes} {i k : ℕ} {l : Line} → Passed s i (Piece.blank l) k → records_from s i ≡ records_from s (i + k)
 blank-passed {s} {i} {k} {l} q = ap (λ (x : List Piece). records x) q.reads ∙ records-blank l (read_of (drop (i + k) s))
 
 -- where a record ends
 module _ (s : Bytes) (i : ℕ) (fs : Record) where
-  pub stop-blank : {l : Line} {k : ℕ} → Passed s i (Piece.blank l) k → goingFrom fs s i ≡ close fs (recordsFrom s i)
+  pub stop-blank : {l : Line} {k : ℕ} → Passed s i (Piece.blank l) k → going_from fs s i ≡ close fs (records_from s i)
   stop-blank {l} {k} q =
       going-blank fs s i l k q ∙ ap (close fs) (sym (blank-passed q))
 
-  pub stop-end : read_of (drop i s) ≡ [] → goingFrom fs s i ≡ close fs (recordsFrom s i)
+  pub stop-end : read_of (drop i s) ≡ [] → going_from fs s i ≡ close fs (records_from s i)
   stop-end z = going_end fs s i z ∙ ap (close fs) (sym (ap (λ (x : List Piece). records x) z ∙ records-none))
 
-  pub left-none : read_of (drop i s) ≡ [] → recordsFrom s i ≡ []
+  pub left-none : read_of (drop i s) ≡ [] → records_from s i ≡ []
   left-none z = ap (λ (x : List Piece). records x) z ∙ records-none

@@ -12,11 +12,11 @@ use Rattle.format.specs.Words.{words}
 use Rattle.format.specs.Records.{Field, Record}
 use Rattle.format.specs.Sets.{values_of}
 use Rattle.format.specs.Rules.{listed}
-use Rattle.format.specs.Limits.{typedefs, typeFields, listWords}
-use Rattle.format.specs.Questions.{fitsRules}
+use Rattle.format.specs.Limits.{typedefs, type_fields, list_words}
+use Rattle.format.specs.Questions.{fits_rules}
 use Rattle.format.specs.declared.Descriptor.{Descriptor}
 use Rattle.format.proofs.Listing.{same_true}
-use Rattle.limits.specs.Counts.{more, countOn}
+use Rattle.limits.specs.Counts.{more, count_on}
 
 -- counts with the same numbers are the same
 pub counts-path : (d e : Descriptor) → d.typedefs ≡ e.typedefs → d.types ≡ e.types → d.mandatory ≡ e.mandatory → d.prohibited ≡ e.prohibited → d.allowed ≡ e.allowed → d.unique ≡ e.unique → d.singular ≡ e.singular → d.auto ≡ e.auto → d ≡ e
@@ -44,18 +44,18 @@ by-test false h g = g refl
 
 module _ (d : Descriptor) (n v : Bytes) where
   -- a name is counted as the text that it is the same as
-  pub count-named : (t : Bytes) → same t n ≡ true → countOn d n v ≡ countOn d t v
-  count-named t e = ap (λ (m : Bytes). countOn d m v) (sym (same_true t n e))
+  pub count-named : (t : Bytes) → same t n ≡ true → count_on d n v ≡ count_on d t v
+  count-named t e = ap (λ (m : Bytes). count_on d m v) (sym (same_true t n e))
 
-  pub count-other : same (text "%typedef") n ≡ false → same (text "%type") n ≡ false → same (text "%mandatory") n ≡ false → same (text "%prohibit") n ≡ false → same (text "%allowed") n ≡ false → same (text "%unique") n ≡ false → same (text "%singular") n ≡ false → same (text "%auto") n ≡ false → countOn d n v ≡ d
-  unfolding countOn
+  pub count-other : same (text "%typedef") n ≡ false → same (text "%type") n ≡ false → same (text "%mandatory") n ≡ false → same (text "%prohibit") n ≡ false → same (text "%allowed") n ≡ false → same (text "%unique") n ≡ false → same (text "%singular") n ≡ false → same (text "%auto") n ≡ false → count_on d n v ≡ d
+  unfolding count_on
   count-other a b m p l u s o = rw (a, b, m, p, l, u, s, o)
 
-  named : (t : Bytes) → same t n ≡ true → countOn d t v ≡ each d t v → countOn d n v ≡ each d n v
-  named t e h = subst (λ (m : Bytes). countOn d m v ≡ each d m v) (same_true t n e) h
+  named : (t : Bytes) → same t n ≡ true → count_on d t v ≡ each d t v → count_on d n v ≡ each d n v
+  named t e h = subst (λ (m : Bytes). count_on d m v ≡ each d m v) (same_true t n e) h
 
-  count-each : countOn d n v ≡ each d n v
-  unfolding countOn
+  count-each : count_on d n v ≡ each d n v
+  unfolding count_on
   count-each =
       by-test (same (text "%typedef") n) (λ e. named (text "%typedef") e refl) (λ a.
       by-test (same (text "%type") n) (λ e. named (text "%type") e refl) (λ b.
@@ -68,9 +68,9 @@ module _ (d : Descriptor) (n v : Bytes) where
       count-other a b m p l u s o ∙ rw (a, b, m, p, l, u, s, o) (counts-path d (more d 0 0 0 0 0 0 0 0) (omega arith) (omega arith) (omega arith) (omega arith) (omega arith) (omega arith) (omega arith) (omega arith))))))))))
 
 -- all fields, one after another
-unfoldable pub countFrom : Descriptor → Record → Descriptor
-countFrom d [] = d
-countFrom d (f ∷ fs) = countFrom (countOn d f.name f.value) fs
+unfoldable pub count_from : Descriptor → Record → Descriptor
+count_from d [] = d
+count_from d (f ∷ fs) = count_from (count_on d f.name f.value) fs
 
 -- the numbers of fields and of words, from counts on
 abbrev grown : Descriptor → Record → Descriptor
@@ -91,19 +91,19 @@ grown-on d f fs =
     (omega (arith, listed-one (same (text "%singular") n) v (values_of (text "%singular") fs)))
     (omega (arith, listed-one (same (text "%auto") n) v (values_of (text "%auto") fs)))
 
-count-grown : (d : Descriptor) (r : Record) → countFrom d r ≡ grown d r
-unfolding countFrom
+count-grown : (d : Descriptor) (r : Record) → count_from d r ≡ grown d r
+unfolding count_from
 count-grown d [] = counts-path d (grown d []) (omega arith) (omega arith) (omega arith) (omega arith) (omega arith) (omega arith) (omega arith) (omega arith)
-count-grown d (f ∷ fs) = count-grown (countOn d f.name f.value) fs ∙ ap (λ (c : Descriptor). grown c fs) (count-each d f.name f.value) ∙ grown-on d f fs
+count-grown d (f ∷ fs) = count-grown (count_on d f.name f.value) fs ∙ ap (λ (c : Descriptor). grown c fs) (count-each d f.name f.value) ∙ grown-on d f fs
 
 -- what `Descriptor::fits` asks of counts
-abbrev pub fitsCounts : Descriptor → Bool
-fitsCounts d = leb d.typedefs typedefs && leb d.types typeFields && leb d.mandatory listWords && leb d.prohibited listWords && leb d.allowed listWords && leb d.unique listWords && leb d.singular listWords && leb d.auto listWords
+abbrev pub fits_counts : Descriptor → Bool
+fits_counts d = leb d.typedefs typedefs && leb d.types type_fields && leb d.mandatory list_words && leb d.prohibited list_words && leb d.allowed list_words && leb d.unique list_words && leb d.singular list_words && leb d.auto list_words
 
-abbrev pub noCounts : Descriptor
-noCounts = record { typedefs = 0; types = 0; mandatory = 0; prohibited = 0; allowed = 0; unique = 0; singular = 0; auto = 0 }
+abbrev pub no_counts : Descriptor
+no_counts = record { typedefs = 0; types = 0; mandatory = 0; prohibited = 0; allowed = 0; unique = 0; singular = 0; auto = 0 }
 
-pub rules-counts : (r : Record) → fitsRules r ≡ fitsCounts (countFrom noCounts r)
+pub rules-counts : (r : Record) → fits_rules r ≡ fits_counts (count_from no_counts r)
 rules-counts r =
     let a : length (values_of (text "%typedef") r) ≡ 0 + length (values_of (text "%typedef") r) = omega arith in
     let b : length (values_of (text "%type") r) ≡ 0 + length (values_of (text "%type") r) = omega arith in
@@ -113,14 +113,14 @@ rules-counts r =
     let u : length (listed (text "%unique") r) ≡ 0 + length (listed (text "%unique") r) = omega arith in
     let s : length (listed (text "%singular") r) ≡ 0 + length (listed (text "%singular") r) = omega arith in
     let o : length (listed (text "%auto") r) ≡ 0 + length (listed (text "%auto") r) = omega arith in
-    (λ i. leb (a i) typedefs && leb (b i) typeFields && leb (m i) listWords && leb (p i) listWords && leb (l i) listWords && leb (u i) listWords && leb (s i) listWords && leb (o i) listWords)
-    ∙ sym (ap fitsCounts (count-grown noCounts r))
+    (λ i. leb (a i) typedefs && leb (b i) type_fields && leb (m i) list_words && leb (p i) list_words && leb (l i) list_words && leb (u i) list_words && leb (s i) list_words && leb (o i) list_words)
+    ∙ sym (ap fits_counts (count-grown no_counts r))
 
 -- the cut of a walk over a descriptor's fields
-pub count-end : (d : Descriptor) → countFrom d [] ≡ d
-unfolding countFrom
+pub count-end : (d : Descriptor) → count_from d [] ≡ d
+unfolding count_from
 count-end d = refl
 
-pub count-on : (d : Descriptor) (f : Field) (fs : Record) → countFrom d (f ∷ fs) ≡ countFrom (countOn d f.name f.value) fs
-unfolding countFrom
+pub count-on : (d : Descriptor) (f : Field) (fs : Record) → count_from d (f ∷ fs) ≡ count_from (count_on d f.name f.value) fs
+unfolding count_from
 count-on d f fs = refl

@@ -18,8 +18,8 @@ more d a b m p l u s o =
     }
 
 -- one more field, by its name; the names differ, so at most one number grows
-unfoldable pub countOn : Descriptor → Bytes → Bytes → Descriptor
-countOn d n v =
+unfoldable pub count_on : Descriptor → Bytes → Bytes → Descriptor
+count_on d n v =
     let k : ℕ = length (words v) in
     pick (same (text "%typedef") n) (more d 1 0 0 0 0 0 0 0)
     (pick (same (text "%type") n) (more d 0 1 0 0 0 0 0 0)

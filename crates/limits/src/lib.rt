@@ -3,17 +3,17 @@ ghost use Rattle.std.specs.Prelude.{◌≡◌, true, ◌&&◌, ◌+◌, ◌*◌,
 ghost use Rattle.format.specs.Pieces.{read_of};
 ghost use Rattle.format.proofs.Records.{records};
 ghost use Rattle.format.proofs.Walking.{heads};
-ghost use Rattle.format.specs.Bytes.{classTable, pick, all};
+ghost use Rattle.format.specs.Bytes.{class_table, pick, all};
 ghost use Rattle.format.specs.Words.{words};
-ghost use Rattle.format.specs.Limits.{fileBytes, recordFields, nameBytes, valueBytes, descriptors};
+ghost use Rattle.format.specs.Limits.{file_bytes, record_fields, name_bytes, value_bytes, descriptors};
 ghost use Rattle.format.specs.Records.{fields_of};
-ghost use Rattle.format.specs.Lines.{isEnded};
-ghost use Rattle.format.specs.Questions.{fitsRules};
-ghost use Rattle.values.specs.Value.{valueFrom};
-ghost use Rattle.records.specs.Places.{isReadable};
+ghost use Rattle.format.specs.Lines.{is_ended};
+ghost use Rattle.format.specs.Questions.{fits_rules};
+ghost use Rattle.values.specs.Value.{value_from};
+ghost use Rattle.records.specs.Places.{is_readable};
 ghost use Rattle.records.specs.Heads.{HeadParts};
-ghost use Rattle.limits.specs.Counts.{countOn, total};
-ghost use Rattle.limits.specs.Opens.{notOpen, openOn, putRow};
+ghost use Rattle.limits.specs.Counts.{count_on, total};
+ghost use Rattle.limits.specs.Opens.{not_open, open_on, put_row};
 ghost use Rattle.limits.specs.Bounds.{Scanned, BoundedAs};
 
 use format::{Descriptor, Record};
@@ -23,7 +23,7 @@ use words::Rule;
 
 // A length that is within a value's limit where that of the value is which begins where s does. No value is longer than its bytes in the file, so few are decoded.
 fn value_bound(s: &[u8]) -> usize
-    ensures { leb result valueBytes ≡ leb (length (valueFrom s.now)) valueBytes }
+    ensures { leb result value_bytes ≡ leb (length (value_from s.now)) value_bytes }
 {
     let len = s.len();
     if len <= Record::VALUE {
@@ -44,7 +44,7 @@ struct Open {
 
 // No field was met yet.
 fn unopened() -> Open
-    ensures { result ≡ notOpen }
+    ensures { result ≡ not_open }
 {
     Open {
         fields: 0,
@@ -67,8 +67,8 @@ fn first_place(fields: usize, here: usize, there: usize) -> usize
 
 // One more field of a record, by its name and its place.
 fn with_field(o: Open, name: &[u8], start: usize, end: usize) -> Open
-    requires { (o.fields ≤ recordFields) × (o.recs ≤ o.fields) }
-    ensures { result ≡ openOn o name.now start end }
+    requires { (o.fields ≤ record_fields) × (o.recs ≤ o.fields) }
+    ensures { result ≡ open_on o name.now start end }
 {
     let first = first_place(o.fields, start, o.start);
     if lines::is_special(name) {
@@ -92,8 +92,8 @@ fn with_field(o: Open, name: &[u8], start: usize, end: usize) -> Open
 
 // Are the limits of a field held, behind others of its record?
 fn field_fits(fields: usize, name: usize, value: &[u8]) -> bool
-    requires { fields ≤ recordFields }
-    ensures { result ≡ (leb (fields + 1) recordFields && leb name nameBytes && leb (length (valueFrom value.now)) valueBytes) }
+    requires { fields ≤ record_fields }
+    ensures { result ≡ (leb (fields + 1) record_fields && leb name name_bytes && leb (length (value_from value.now)) value_bytes) }
 {
     let len = value_bound(value);
     let c = Record::new(fields + 1, name, len);
@@ -109,9 +109,9 @@ fn is_once(o: Open) -> bool
 
 // One more field of a descriptor, counted: a `%typedef`, a `%type`, or the words of a list of names.
 fn counted(d: Descriptor, name: &[u8], value: &[u8]) -> Descriptor
-    requires d_bound { total d ≤ 2 * fileBytes }
-    requires value_len_bound { length value.now ≤ fileBytes }
-    ensures { (result ≡ countOn d name.now (valueFrom value.now)) × (total result ≤ total d + 1 + length value.now) }
+    requires d_bound { total d ≤ 2 * file_bytes }
+    requires value_len_bound { length value.now ≤ file_bytes }
+    ensures { (result ≡ count_on d name.now (value_from value.now)) × (total result ≤ total d + 1 + length value.now) }
 {
     let mut c = d;
     let k = words::rule_of(name);
@@ -156,9 +156,9 @@ fn counted(d: Descriptor, name: &[u8], value: &[u8]) -> Descriptor
 
 // Are the limits of a descriptor held by the fields of a part?
 fn rules_fit(d: &[u8]) -> bool
-    requires d_value { isReadable d.now ≡ true }
-    requires d_len_bound { length d.now ≤ fileBytes }
-    ensures { result ≡ fitsRules (fields_of (read_of d.now)) }
+    requires d_value { is_readable d.now ≡ true }
+    requires d_len_bound { length d.now ≤ file_bytes }
+    ensures { result ≡ fits_rules (fields_of (read_of d.now)) }
 {
     let mut i = 0;
     let mut c = Descriptor::new();
@@ -187,12 +187,12 @@ fn count_head(
     ends: &mut [usize],
     afters: &mut [usize],
 ) -> usize
-    requires count_le_file_bytes { count ≤ fileBytes }
+    requires count_le_file_bytes { count ≤ file_bytes }
     requires starts_len { (length starts.old ≡ descriptors) × (length ends.old ≡ descriptors) × (length afters.old ≡ descriptors) }
     ensures value { result ≡ count + pick (eqb o.recs 0) 0 1 }
-    ensures starts_after { starts.new ≡ putRow o starts.old count o.start }
-    ensures ends_after { ends.new ≡ putRow o ends.old count o.end }
-    ensures afters_after { afters.new ≡ putRow o afters.old count at }
+    ensures starts_after { starts.new ≡ put_row o starts.old count o.start }
+    ensures ends_after { ends.new ≡ put_row o ends.old count o.end }
+    ensures afters_after { afters.new ≡ put_row o afters.old count at }
 {
     if o.recs == 0 {
         return count;
@@ -217,7 +217,7 @@ enum Scan {
 
 // Some limit is not held; s is what is left of the file.
 fn past(s: &[u8]) -> Scan
-    ensures { result ≡ pick (isReadable s.now) Scan.Past Scan.Fault }
+    ensures { result ≡ pick (is_readable s.now) Scan.Past Scan.Fault }
 {
     if records::is_readable(s) {
         return Scan::Past;
@@ -233,8 +233,8 @@ fn walk_pieces(
     ends: &mut [usize],
     afters: &mut [usize],
 ) -> Scan
-    requires table_value { table.now ≡ classTable }
-    requires s_value { (isEnded s.now ≡ true) × (length s.now ≤ fileBytes) }
+    requires table_value { table.now ≡ class_table }
+    requires s_value { (is_ended s.now ≡ true) × (length s.now ≤ file_bytes) }
     requires starts_len { (length starts.old ≡ descriptors) × (length ends.old ≡ descriptors) × (length afters.old ≡ descriptors) }
     ensures { Scanned s.now starts.new ends.new afters.new result }
 {
@@ -282,9 +282,9 @@ fn walk_pieces(
 
 // Are the limits of all descriptors held? They stand from each start to the end beside it.
 fn rules_held(s: &[u8], starts: &[usize], ends: &[usize], count: usize) -> bool
-    requires s_len_bound { length s.now ≤ fileBytes }
+    requires s_len_bound { length s.now ≤ file_bytes }
     requires head_parts { HeadParts s.now starts.now ends.now count }
-    ensures { result ≡ all fitsRules (heads (records (read_of s.now))) }
+    ensures { result ≡ all fits_rules (heads (records (read_of s.now))) }
 {
     let mut k = 0;
     while k < count {
@@ -316,7 +316,7 @@ pub fn bounds_of(
     ends: &mut [usize],
     afters: &mut [usize],
 ) -> Bounded
-    requires s_value { (isEnded s.now ≡ true) × (length s.now ≤ fileBytes) }
+    requires s_value { (is_ended s.now ≡ true) × (length s.now ≤ file_bytes) }
     requires starts_len { (length starts.old ≡ descriptors) × (length ends.old ≡ descriptors) × (length afters.old ≡ descriptors) }
     ensures { BoundedAs s.now starts.new ends.new afters.new result }
 {

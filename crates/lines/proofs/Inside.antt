@@ -6,11 +6,11 @@ use mathlib.Core.Bool.{true}
 use mathlib.Core.List.{List, [], ◌∷◌}
 use lib.ListN.{length, drop, length-append}
 use Rattle.format.specs.Bytes.{Bytes}
-use Rattle.format.specs.Lines.{Line, lines, bytes, isEnded, Form, form, joins}
+use Rattle.format.specs.Lines.{Line, lines, bytes, is_ended, Form, form, joins}
 use Rattle.format.proofs.Elements.{Each}
 use Rattle.format.proofs.Lines.{Clean}
-use Rattle.lines.specs.Line.{lineLen, firstLine}
-use Rattle.lines.specs.Piece.{lineSize, extentOf, value_at, fieldNext, nextBy, next_of}
+use Rattle.lines.specs.Line.{line_len, first_line}
+use Rattle.lines.specs.Piece.{line_size, extent_of, value_at, field_next, next_by, next_of}
 use Rattle.lines.specs.declared.Extent.{Extent}
 use Rattle.lines.specs.declared.Next.{Next}
 use Rattle.lines.proofs.Nexts.{next-first}
@@ -26,10 +26,10 @@ Inside len (Next.Comment k) = (0 < k) × (k ≤ len)
 Inside len (Next.Field n v k) = (0 < n) × (n < v) × (v < k) × (k ≤ len)
 
 module _ (s : Bytes) (l : Line) (ls : List Line) (clean : Each Clean (l ∷ ls)) (are : bytes (l ∷ ls) ≡ s) where
-  line-fits : lineSize l ≤ length s
-  line-fits = part-le s (l ∷ []) ls (lineSize l) clean are (omega (arith, length-append l (10 ∷ [])))
+  line-fits : line_size l ≤ length s
+  line-fits = part-le s (l ∷ []) ls (line_size l) clean are (omega (arith, length-append l (10 ∷ [])))
 
-  field-inside : (n v : Bytes) → form l ≡ Form.field n v → (e : Extent) → Owns (joins l) (0 + lineSize l) ls e → Inside (length s) (fieldNext (length n) (value_at (length n) l) e)
+  field-inside : (n v : Bytes) → form l ≡ Form.field n v → (e : Extent) → Owns (joins l) (0 + line_size l) ls e → Inside (length s) (field_next (length n) (value_at (length n) l) e)
   field-inside n v is Extent.Open h = tt
   field-inside n v is (Extent.Size k) h =
       let shape = shaped l n v is in
@@ -39,16 +39,16 @@ module _ (s : Bytes) (l : Line) (ls : List Line) (clean : Each Clean (l ∷ ls))
       let value = value-inside (length n) l (omega (arith, ap length shape.1, length-append n (58 ∷ shape.0))) in
       (name-some l n v is, value.0, omega (arith, value.1, h.size), fits)
 
-  line-inside-by : (F : Form) → form l ≡ F → Inside (length s) (nextBy F l ls)
-  unfolding extentOf
+  line-inside-by : (F : Form) → form l ≡ F → Inside (length s) (next_by F l ls)
+  unfolding extent_of
   line-inside-by Form.blank is = (omega arith, line-fits)
   line-inside-by Form.comment is = (omega arith, line-fits)
-  line-inside-by (Form.field n v) is = field-inside n v is (extentOf (joins l) (0 + lineSize l) ls) (owns ls (joins l) (0 + lineSize l))
+  line-inside-by (Form.field n v) is = field-inside n v is (extent_of (joins l) (0 + line_size l) ls) (owns ls (joins l) (0 + line_size l))
   line-inside-by (Form.more v) is = tt
   line-inside-by Form.fault is = tt
 
-pub next-inside : (s : Bytes) → isEnded s ≡ true → 0 < length s → Inside (length s) (next_of s)
+pub next-inside : (s : Bytes) → is_ended s ≡ true → 0 < length s → Inside (length s) (next_of s)
 next-inside s e h =
-    let l = firstLine s in
-    let ls = lines (drop (suc (lineLen s)) s) in
+    let l = first_line s in
+    let ls = lines (drop (suc (line_len s)) s) in
     rw (next-first s h) (line-inside-by s l ls (first-clean s h) (first-bytes s e h) (form l) refl)

@@ -7,8 +7,8 @@ use mathlib.Core.List.{[], ◌∷◌, ◌++◌}
 use borrow.Author.Tests.{eqb-true, eqb-false}
 use lib.Dec.{eqb}
 use lib.ListN.{length}
-use Rattle.format.specs.Bytes.{Bytes, pick, isBlank}
-use Rattle.format.specs.Lines.{Line, Form, afterColon, form, joins, isName}
+use Rattle.format.specs.Bytes.{Bytes, pick, is_blank}
+use Rattle.format.specs.Lines.{Line, Form, after_colon, form, joins, is_name}
 use Rattle.format.proofs.Renaming.{Starts, starts}
 use Rattle.lines.specs.Piece.{value_at}
 
@@ -20,15 +20,15 @@ either : {P : Type 0} (a b : Bool) → (a ≡ true → P) → (b ≡ true → P)
 either true b f g e = f refl
 either false b f g e = g e
 
-blank-joins : (d : ℕ) (s : Bytes) → isBlank d ≡ true → joins s ≡ joins (d ∷ s)
+blank-joins : (d : ℕ) (s : Bytes) → is_blank d ≡ true → joins s ≡ joins (d ∷ s)
 blank-joins d [] e = sym (either (eqb d 32) (eqb d 9) (λ q. ap (λ (x : ℕ). eqb x 92) (eqb-true d 32 q)) (λ q. ap (λ (x : ℕ). eqb x 92) (eqb-true d 9 q)) e)
 blank-joins d (c ∷ s) e = refl
 
-colon-joins : (n y v : Bytes) → afterColon n y ≡ Form.field n v → joins v ≡ joins (58 ∷ y)
+colon-joins : (n y v : Bytes) → after_colon n y ≡ Form.field n v → joins v ≡ joins (58 ∷ y)
 colon-joins n [] v e = let z : v ≡ [] = cc in ap joins z
-colon-joins n (d ∷ y) v e = go (isBlank d) refl e
+colon-joins n (d ∷ y) v e = go (is_blank d) refl e
   where
-    go : (b : Bool) → isBlank d ≡ b → pick b (Form.field n y) Form.fault ≡ Form.field n v → joins v ≡ joins (58 ∷ d ∷ y)
+    go : (b : Bool) → is_blank d ≡ b → pick b (Form.field n y) Form.fault ≡ Form.field n v → joins v ≡ joins (58 ∷ d ∷ y)
     go true q f = let z : v ≡ y = cc in ap joins z ∙ blank-joins d y q
     go false q f = let z : ◌≡◌ {A = ℕ} 0 1 = cc in absurd (omega arith)
 
@@ -43,7 +43,7 @@ module _ (l : Line) (n v : Bytes) (is : form l ≡ Form.field n v) where
   pub name-some : 0 < length n
   name-some = go n begun.1
     where
-      go : (m : Bytes) → isName m ≡ true → 0 < length m
+      go : (m : Bytes) → is_name m ≡ true → 0 < length m
       go [] e = absurd (false≢true e)
       go (c ∷ m) e = omega arith
 

@@ -6,47 +6,47 @@ use Rattle.lines.specs.declared.Extent.{Extent}
 use Rattle.lines.specs.declared.Next.{Next}
 
 -- a line with its newline
-abbrev pub lineSize : Line → ℕ
-lineSize l = suc (length l)
+abbrev pub line_size : Line → ℕ
+line_size l = suc (length l)
 
-abbrev pub isPlus : Line → Bool
-isPlus l = eqb (get_or l 0 0) 43
+abbrev pub is_plus : Line → Bool
+is_plus l = eqb (get_or l 0 0) 43
 
 -- the bytes of a field, n of them before these lines; taken: the line before takes the next one on
-unfoldable pub extentOf : Bool → ℕ → List Line → Extent
-extentOf true n [] = Extent.Open
-extentOf false n [] = Extent.Size n
-extentOf taken n (l ∷ ls) = pick (taken || isPlus l) (extentOf (joins l) (n + lineSize l) ls) (Extent.Size n)
+unfoldable pub extent_of : Bool → ℕ → List Line → Extent
+extent_of true n [] = Extent.Open
+extent_of false n [] = Extent.Size n
+extent_of taken n (l ∷ ls) = pick (taken || is_plus l) (extent_of (joins l) (n + line_size l) ls) (Extent.Size n)
 
 -- where a field's value begins: behind its name, the colon and the dropped blank, or at the newline behind the colon
 abbrev pub value_at : ℕ → Line → ℕ
 value_at name l = pick (eqb (length l) (name + 1)) (name + 1) (name + 2)
 
-abbrev pub fieldNext : ℕ → ℕ → Extent → Next
-fieldNext name value (Extent.Size size) = Next.Field name value size
-fieldNext name value Extent.Open = Next.Fault
+abbrev pub field_next : ℕ → ℕ → Extent → Next
+field_next name value (Extent.Size size) = Next.Field name value size
+field_next name value Extent.Open = Next.Fault
 
-abbrev pub nextBy : Form → Line → List Line → Next
-nextBy Form.blank l ls = Next.Blank (lineSize l)
-nextBy Form.comment l ls = Next.Comment (lineSize l)
-nextBy (Form.field n v) l ls = fieldNext (length n) (value_at (length n) l) (extentOf true 0 (l ∷ ls))
-nextBy (Form.more v) l ls = Next.Fault
-nextBy Form.fault l ls = Next.Fault
+abbrev pub next_by : Form → Line → List Line → Next
+next_by Form.blank l ls = Next.Blank (line_size l)
+next_by Form.comment l ls = Next.Comment (line_size l)
+next_by (Form.field n v) l ls = field_next (length n) (value_at (length n) l) (extent_of true 0 (l ∷ ls))
+next_by (Form.more v) l ls = Next.Fault
+next_by Form.fault l ls = Next.Fault
 
-abbrev pub nextIn : List Line → Next
-nextIn [] = Next.End
-nextIn (l ∷ ls) = nextBy (form l) l ls
+abbrev pub next_in : List Line → Next
+next_in [] = Next.End
+next_in (l ∷ ls) = next_by (form l) l ls
 
 -- what a text goes on with
 unfoldable pub next_of : Bytes → Next
-next_of s = nextIn (lines s)
+next_of s = next_in (lines s)
 
-abbrev pub isFault : Next → Bool
-isFault Next.End = false
-isFault Next.Fault = true
-isFault (Next.Blank k) = false
-isFault (Next.Comment k) = false
-isFault (Next.Field n v k) = false
+abbrev pub is_fault : Next → Bool
+is_fault Next.End = false
+is_fault Next.Fault = true
+is_fault (Next.Blank k) = false
+is_fault (Next.Comment k) = false
+is_fault (Next.Field n v k) = false
 
 -- how many bytes it takes
 abbrev pub size_of : Next → ℕ

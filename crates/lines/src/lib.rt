@@ -1,9 +1,9 @@
 // Reading lines: each reader is given the part of the file that starts at the byte reached.
 ghost use Rattle.std.specs.Prelude.{◌≡◌, true, false, ◌+◌, ◌-◌, ◌<◌, ◌≤◌, length, drop, get_or};
-ghost use Rattle.format.specs.Bytes.{classTable, same, pick, isBlank, all};
-ghost use Rattle.format.specs.Lines.{lines, isEnded, isSpecial};
-ghost use Rattle.lines.specs.Line.{lineLen, firstLine, GoesOn, nameLen};
-ghost use Rattle.lines.specs.Piece.{extentOf, next_of, isFault};
+ghost use Rattle.format.specs.Bytes.{class_table, same, pick, is_blank, all};
+ghost use Rattle.format.specs.Lines.{lines, is_ended, is_special};
+ghost use Rattle.lines.specs.Line.{line_len, first_line, GoesOn, name_len};
+ghost use Rattle.lines.specs.Piece.{extent_of, next_of, is_fault};
 
 use format::Class;
 
@@ -23,7 +23,7 @@ pub fn one_if(b: bool) -> usize
 
 // Does a name begin with `%`?
 pub fn is_special(name: &[u8]) -> bool
-    ensures { result ≡ isSpecial name.now }
+    ensures { result ≡ is_special name.now }
 {
     byte(name, 0) == b'%'
 }
@@ -47,7 +47,7 @@ pub fn same_bytes(a: &[u8], b: &[u8]) -> bool
 
 // The number of bytes before the first newline.
 pub fn line_len(s: &[u8]) -> usize
-    ensures { result ≡ lineLen s.now }
+    ensures { result ≡ line_len s.now }
 {
     let mut i = 0;
     while i < s.len() {
@@ -61,9 +61,9 @@ pub fn line_len(s: &[u8]) -> usize
 
 // The place of the first newline from i on, in a text that ends with one.
 fn line_end(s: &[u8], i: usize) -> usize
-    requires s_value { isEnded s.now ≡ true }
+    requires s_value { is_ended s.now ≡ true }
     requires i_in_bounds { i < length s.now }
-    ensures { (result ≡ i + lineLen (drop i s.now)) × (get_or s.now result 0 ≡ 10) }
+    ensures { (result ≡ i + line_len (drop i s.now)) × (get_or s.now result 0 ≡ 10) }
 {
     let mut at = i;
     loop {
@@ -76,8 +76,8 @@ fn line_end(s: &[u8], i: usize) -> usize
 
 // Is the first physical line empty or all blanks?
 pub fn blank_line(table: &[u8; 256], s: &[u8]) -> bool
-    requires { table.now ≡ classTable }
-    ensures { result ≡ all isBlank (firstLine s.now) }
+    requires { table.now ≡ class_table }
+    ensures { result ≡ all is_blank (first_line s.now) }
 {
     let mut i = 0;
     while i < s.len() {
@@ -95,8 +95,8 @@ pub fn blank_line(table: &[u8; 256], s: &[u8]) -> bool
 
 // The number of bytes of the name that s begins with, 0 where it begins with none.
 pub fn name_len(table: &[u8; 256], s: &[u8]) -> usize
-    requires { table.now ≡ classTable }
-    ensures { result ≡ nameLen s.now }
+    requires { table.now ≡ class_table }
+    ensures { result ≡ name_len s.now }
 {
     if s.len() == 0 {
         return 0;
@@ -118,10 +118,10 @@ pub fn name_len(table: &[u8; 256], s: &[u8]) -> usize
 
 // The same where a text that ends with a newline begins with a name.
 fn name_end(table: &[u8; 256], s: &[u8]) -> usize
-    requires table_value { table.now ≡ classTable }
-    requires s_value { isEnded s.now ≡ true }
-    requires s_nonzero { 0 < nameLen s.now }
-    ensures { result ≡ nameLen s.now }
+    requires table_value { table.now ≡ class_table }
+    requires s_value { is_ended s.now ≡ true }
+    requires s_nonzero { 0 < name_len s.now }
+    ensures { result ≡ name_len s.now }
 {
     let mut i = 1;
     loop {
@@ -142,9 +142,9 @@ pub enum Extent {
 
 // A field's line, looked at from a place within it on, the lines that it takes on, and the plus lines that directly follow.
 fn field_extent(s: &[u8], at: usize) -> Extent
-    requires s_value { isEnded s.now ≡ true }
+    requires s_value { is_ended s.now ≡ true }
     requires goes_on { GoesOn s.now at }
-    ensures { result ≡ extentOf true 0 (lines s.now) }
+    ensures { result ≡ extent_of true 0 (lines s.now) }
 {
     let mut i = at;
     loop {
@@ -185,9 +185,9 @@ pub enum Next {
 
 // A line that begins as a name does.
 fn next_field(table: &[u8; 256], s: &[u8]) -> Next
-    requires table_value { table.now ≡ classTable }
-    requires s_value { isEnded s.now ≡ true }
-    requires s_nonzero { 0 < nameLen s.now }
+    requires table_value { table.now ≡ class_table }
+    requires s_value { is_ended s.now ≡ true }
+    requires s_nonzero { 0 < name_len s.now }
     ensures { result ≡ next_of s.now }
 {
     let name = name_end(table, s);
@@ -212,8 +212,8 @@ fn next_field(table: &[u8; 256], s: &[u8]) -> Next
 
 // The next piece of a part that begins where a piece may begin.
 pub fn next_piece(table: &[u8; 256], s: &[u8]) -> Next
-    requires table_value { table.now ≡ classTable }
-    requires s_value { isEnded s.now ≡ true }
+    requires table_value { table.now ≡ class_table }
+    requires s_value { is_ended s.now ≡ true }
     ensures { result ≡ next_of s.now }
 {
     if s.len() == 0 {
@@ -239,9 +239,9 @@ pub fn next_piece(table: &[u8; 256], s: &[u8]) -> Next
 
 // The name that s begins with ends at its first colon, where a colon is known to follow it.
 fn name_to_colon(s: &[u8]) -> usize
-    requires s_value { isEnded s.now ≡ true }
-    requires s_nonzero { (0 < nameLen s.now) × (get_or s.now (nameLen s.now) 0 ≡ 58) }
-    ensures { result ≡ nameLen s.now }
+    requires s_value { is_ended s.now ≡ true }
+    requires s_nonzero { (0 < name_len s.now) × (get_or s.now (name_len s.now) 0 ≡ 58) }
+    ensures { result ≡ name_len s.now }
 {
     let mut i = 1;
     while s[i] != b':' {
@@ -252,9 +252,9 @@ fn name_to_colon(s: &[u8]) -> usize
 
 // A line that begins as a name does, in a part that goes on with no fault.
 fn read_field(s: &[u8]) -> Next
-    requires s_value { isEnded s.now ≡ true }
-    requires s_nonzero { 0 < nameLen s.now }
-    requires s_value_2 { isFault (next_of s.now) ≡ false }
+    requires s_value { is_ended s.now ≡ true }
+    requires s_nonzero { 0 < name_len s.now }
+    requires s_value_2 { is_fault (next_of s.now) ≡ false }
     ensures { result ≡ next_of s.now }
 {
     let name = name_to_colon(s);
@@ -271,8 +271,8 @@ fn read_field(s: &[u8]) -> Next
 
 // The next piece of a part that goes on with no fault: its first byte tells the form.
 pub fn read_piece(s: &[u8]) -> Next
-    requires s_value { isEnded s.now ≡ true }
-    requires s_value_2 { isFault (next_of s.now) ≡ false }
+    requires s_value { is_ended s.now ≡ true }
+    requires s_value_2 { is_fault (next_of s.now) ≡ false }
     ensures { result ≡ next_of s.now }
 {
     if s.len() == 0 {

@@ -1,6 +1,6 @@
 // Checks the recfile on standard input and, where it passes, lists its sets in file order, each with its number of records.
 ghost use Rattle.std.specs.Prelude.{◌≡◌, true};
-ghost use Rattle.records.specs.Places.{isReadable};
+ghost use Rattle.records.specs.Places.{is_readable};
 
 use format::Answer;
 use lookup::inside;
@@ -27,7 +27,7 @@ fn list(file: &[u8], used: usize) {
 
 // The default set is one more than the descriptors.
 fn list_sets(s: &[u8])
-    requires { isReadable s.now ≡ true }
+    requires { is_readable s.now ≡ true }
 {
     let mut space = io::buffer();
     let name: &mut [u8] = &mut space;
@@ -43,7 +43,7 @@ fn list_sets(s: &[u8])
 }
 
 fn list_set(s: &[u8], name: &[u8])
-    requires { isReadable s.now ≡ true }
+    requires { is_readable s.now ≡ true }
 {
     let c = inside::count_in(s, name);
     let Answer::Value(n) = c else {

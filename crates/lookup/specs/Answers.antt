@@ -2,16 +2,16 @@
 use Rattle.std.specs.Prelude.{ℕ, ◌-◌, ◌≤◌, List, [], map, length, take, drop, get_or}
 use Rattle.format.specs.Bytes.{Bytes}
 use Rattle.format.specs.Pieces.{read_of}
-use Rattle.format.specs.Sets.{values_of, groups, RecSet, setsOf}
-use Rattle.format.specs.Questions.{firstNo, name_of}
-use Rattle.format.specs.Plain.{Sought, soughtMembers, soughtRecord, foundRows}
-use Rattle.format.specs.Calls.{Answer, answer, soughtSet, Filled, filled, soughtField, soughtOrder, Viewed, viewedAt, soughtRow}
+use Rattle.format.specs.Sets.{values_of, groups, RecSet, sets_of}
+use Rattle.format.specs.Questions.{first_no, name_of}
+use Rattle.format.specs.Plain.{Sought, sought_members, sought_record, found_rows}
+use Rattle.format.specs.Calls.{Answer, answer, sought_set, Filled, filled, sought_field, sought_order, Viewed, viewed_at, sought_row}
 use Rattle.lookup.specs.declared.inside.Seen.{Seen}
 
 -- a view as a place of the text
-abbrev pub seenAnswer : Bytes → Seen → Viewed
-seenAnswer s (Seen.At a e) = record { result = Answer.value a; part = take (e - a) (drop a s) }
-seenAnswer s (Seen.Refused k) = record { result = Answer.refusal k; part = [] }
+abbrev pub seen_answer : Bytes → Seen → Viewed
+seen_answer s (Seen.At a e) = record { result = Answer.value a; part = take (e - a) (drop a s) }
+seen_answer s (Seen.Refused k) = record { result = Answer.refusal k; part = [] }
 
 -- a view lies in the text
 abbrev pub SeenInside : Bytes → Seen → Type 0
@@ -19,17 +19,17 @@ SeenInside b (Seen.At a e) = (a ≤ e) × (e ≤ length b)
 SeenInside b (Seen.Refused k) = Unit {0}
 
 -- the sets of a text
-abbrev pub setsFrom : Bytes → List RecSet
-setsFrom s = setsOf (read_of s)
+abbrev pub sets_from : Bytes → List RecSet
+sets_from s = sets_of (read_of s)
 
-unfoldable pub countIn : Bytes → Bytes → Answer
-countIn s n = let q : Sought = soughtSet (setsFrom s) n in answer (firstNo foundRows q) (length (soughtMembers q))
+unfoldable pub count_in : Bytes → Bytes → Answer
+count_in s n = let q : Sought = sought_set (sets_from s) n in answer (first_no found_rows q) (length (sought_members q))
 
-unfoldable pub fetchIn : Bytes → Bytes → ℕ → Bytes → ℕ → Bytes → Filled
-fetchIn s n row m o out = let q : Sought = soughtField (setsFrom s) n row m o in filled (firstNo foundRows q) (get_or (values_of m (soughtRecord q)) o []) out
+unfoldable pub fetch_in : Bytes → Bytes → ℕ → Bytes → ℕ → Bytes → Filled
+fetch_in s n row m o out = let q : Sought = sought_field (sets_from s) n row m o in filled (first_no found_rows q) (get_or (values_of m (sought_record q)) o []) out
 
-unfoldable pub viewIn : Bytes → Bytes → ℕ → Viewed
-viewIn s n row = let q : Sought = soughtRow (setsFrom s) n row in viewedAt (firstNo foundRows q) (groups (read_of s)) q.set row
+unfoldable pub view_in : Bytes → Bytes → ℕ → Viewed
+view_in s n row = let q : Sought = sought_row (sets_from s) n row in viewed_at (first_no found_rows q) (groups (read_of s)) q.set row
 
-unfoldable pub nameIn : Bytes → ℕ → Bytes → Filled
-nameIn s k out = filled (firstNo foundRows (soughtOrder (setsFrom s) k)) (get_or (map name_of (setsFrom s)) k []) out
+unfoldable pub name_in : Bytes → ℕ → Bytes → Filled
+name_in s k out = filled (first_no found_rows (sought_order (sets_from s) k)) (get_or (map name_of (sets_from s)) k []) out

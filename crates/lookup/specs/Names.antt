@@ -3,7 +3,7 @@ use Rattle.std.specs.Prelude.{ℕ, zero, suc, Bool, true, false, List, [], ◌�
 use Rattle.format.specs.Bytes.{Bytes}
 use Rattle.format.specs.Words.{first_word}
 use Rattle.format.specs.Calls.{Filled, filled}
-use Rattle.records.specs.Places.{Placed, isDescriptor, place_of}
+use Rattle.records.specs.Places.{Placed, is_descriptor, place_of}
 use Rattle.records.specs.declared.FoundRecord.{FoundRecord}
 
 -- the name that a descriptor's `%rec` values give
@@ -12,11 +12,11 @@ titled [] out = filled 21 [] out
 titled (v ∷ vs) out = filled 0 (first_word v) out
 
 -- where descriptor k stands
-abbrev pub descriptorBy : Bool → ℕ → Placed → (ℕ → FoundRecord) → FoundRecord
-descriptorBy false k p later = later k
-descriptorBy true zero p later = FoundRecord.At (place_of p)
-descriptorBy true (suc k) p later = later k
+abbrev pub descriptor_by : Bool → ℕ → Placed → (ℕ → FoundRecord) → FoundRecord
+descriptor_by false k p later = later k
+descriptor_by true zero p later = FoundRecord.At (place_of p)
+descriptor_by true (suc k) p later = later k
 
-unfoldable pub descriptorAt : List Placed → ℕ → FoundRecord
-descriptorAt [] k = FoundRecord.Missing
-descriptorAt (p ∷ ps) k = descriptorBy (isDescriptor p) k p (λ (j : ℕ). descriptorAt ps j)
+unfoldable pub descriptor_at : List Placed → ℕ → FoundRecord
+descriptor_at [] k = FoundRecord.Missing
+descriptor_at (p ∷ ps) k = descriptor_by (is_descriptor p) k p (λ (j : ℕ). descriptor_at ps j)

@@ -4,18 +4,18 @@ ghost use Rattle.std.specs.Prelude.{◌≡◌, true};
 ghost use Rattle.format.specs.Bytes.{text};
 ghost use Rattle.format.specs.Sets.{values_of};
 ghost use Rattle.format.specs.Calls.{answered};
-ghost use Rattle.records.specs.Places.{isReadable, places_of};
-ghost use Rattle.records.specs.Walk.{recordIn};
-ghost use Rattle.lookup.specs.Answers.{seenAnswer, SeenInside, countIn, fetchIn, viewIn, nameIn};
-ghost use Rattle.lookup.specs.Names.{descriptorAt, titled};
+ghost use Rattle.records.specs.Places.{is_readable, places_of};
+ghost use Rattle.records.specs.Walk.{record_in};
+ghost use Rattle.lookup.specs.Answers.{seen_answer, SeenInside, count_in, fetch_in, view_in, name_in};
+ghost use Rattle.lookup.specs.Names.{descriptor_at, titled};
 
 use format::{Answer, Refusal};
 use records::{FoundField, FoundHead, FoundRecord, FoundSet, NextSet, Place};
 
 // The count of a set in a readable text.
 pub fn count_in(s: &[u8], set: &[u8]) -> Answer
-    requires { isReadable s.now ≡ true }
-    ensures { answered result ≡ countIn s.now set.now }
+    requires { is_readable s.now ≡ true }
+    ensures { answered result ≡ count_in s.now set.now }
 {
     let found = records::find_set(s, set);
     let FoundSet::At(p) = found else {
@@ -33,8 +33,8 @@ pub enum Seen {
 
 // A record of a set in a readable text.
 pub fn view_in(s: &[u8], set: &[u8], row: usize) -> Seen
-    requires { isReadable s.now ≡ true }
-    ensures { (seenAnswer s.now result ≡ viewIn s.now set.now row) × SeenInside s.now result }
+    requires { is_readable s.now ≡ true }
+    ensures { (seen_answer s.now result ≡ view_in s.now set.now row) × SeenInside s.now result }
 {
     let f = records::find_head(s, set);
     let FoundHead::At(head) = f else {
@@ -59,8 +59,8 @@ pub fn fetch_in(
     occurrence: usize,
     out: &mut [u8],
 ) -> Answer
-    requires { isReadable s.now ≡ true }
-    ensures* { λ r. ⌜ fetchIn s.now set.now row name.now occurrence out.old ≡ record { result = answered r; out = out.new } ⌝ }
+    requires { is_readable s.now ≡ true }
+    ensures* { λ r. ⌜ fetch_in s.now set.now row name.now occurrence out.old ≡ record { result = answered r; out = out.new } ⌝ }
 {
     let f = records::find_head(s, set);
     let FoundHead::At(head) = f else {
@@ -94,8 +94,8 @@ pub fn fetch_in(
 
 // Where descriptor k stands.
 fn find_descriptor(s: &[u8], k: usize) -> FoundRecord
-    requires { isReadable s.now ≡ true }
-    ensures { result ≡ descriptorAt (places_of s.now) k }
+    requires { is_readable s.now ≡ true }
+    ensures { result ≡ descriptor_at (places_of s.now) k }
 {
     let mut i = 0;
     let mut left = k;
@@ -119,8 +119,8 @@ fn find_descriptor(s: &[u8], k: usize) -> FoundRecord
 
 // The name of the set that a descriptor, which fills d, opens, put into out.
 fn descriptor_name(d: &[u8], out: &mut [u8]) -> Answer
-    requires { isReadable d.now ≡ true }
-    ensures* { λ r. ⌜ titled (values_of (text "%rec") (recordIn d.now)) out.old ≡ record { result = answered r; out = out.new } ⌝ }
+    requires { is_readable d.now ≡ true }
+    ensures* { λ r. ⌜ titled (values_of (text "%rec") (record_in d.now)) out.old ≡ record { result = answered r; out = out.new } ⌝ }
 {
     let f = records::find_field(d, b"%rec", 0);
     let FoundField::At {
@@ -142,8 +142,8 @@ fn descriptor_name(d: &[u8], out: &mut [u8]) -> Answer
 
 // The name of set k of a readable text, in file order, put into out.
 pub fn name_in(s: &[u8], k: usize, out: &mut [u8]) -> Answer
-    requires { isReadable s.now ≡ true }
-    ensures* { λ r. ⌜ nameIn s.now k out.old ≡ record { result = answered r; out = out.new } ⌝ }
+    requires { is_readable s.now ≡ true }
+    ensures* { λ r. ⌜ name_in s.now k out.old ≡ record { result = answered r; out = out.new } ⌝ }
 {
     if k == 0 {
         return Answer::Value(0);

@@ -1,7 +1,7 @@
 // The calls count, fetch, view and the sets' names, of any buffer: the file's own questions come first.
 ghost use Rattle.std.specs.Prelude.{◌≡◌, take};
-ghost use Rattle.format.specs.Calls.{number_in, countAnswer, fetchAnswer, nameAnswer, viewAnswer, answered};
-ghost use Rattle.lookup.specs.Answers.{seenAnswer, SeenInside};
+ghost use Rattle.format.specs.Calls.{number_in, count_answer, fetch_answer, name_answer, view_answer, answered};
+ghost use Rattle.lookup.specs.Answers.{seen_answer, SeenInside};
 
 use format::Answer;
 
@@ -11,7 +11,7 @@ pub use inside::Seen;
 
 // The number of records of a set of the file at the front of a buffer.
 pub fn count(buf: &[u8], used: usize, set: &[u8]) -> Answer
-    ensures { answered result ≡ countAnswer buf.now used set.now }
+    ensures { answered result ≡ count_answer buf.now used set.now }
 {
     let n = integrity::check(buf, used);
     if n != 0 {
@@ -30,7 +30,7 @@ pub fn fetch(
     occurrence: usize,
     out: &mut [u8],
 ) -> Answer
-    ensures* { λ r. ⌜ fetchAnswer buf.now used set.now row name.now occurrence out.old ≡ record { result = answered r; out = out.new } ⌝ }
+    ensures* { λ r. ⌜ fetch_answer buf.now used set.now row name.now occurrence out.old ≡ record { result = answered r; out = out.new } ⌝ }
 {
     let n = integrity::check(buf, used);
     if n != 0 {
@@ -41,7 +41,7 @@ pub fn fetch(
 
 // Where a record of a set stands in the file: from its first field's first byte to the byte behind its last field.
 pub fn view_place(buf: &[u8], used: usize, set: &[u8], row: usize) -> Seen
-    ensures { (seenAnswer (take used buf.now) result ≡ viewAnswer buf.now used set.now row) × SeenInside (take used buf.now) result }
+    ensures { (seen_answer (take used buf.now) result ≡ view_answer buf.now used set.now row) × SeenInside (take used buf.now) result }
 {
     let n = integrity::check(buf, used);
     if n != 0 {
@@ -52,7 +52,7 @@ pub fn view_place(buf: &[u8], used: usize, set: &[u8], row: usize) -> Seen
 
 // The part of the file that a record of a set stands in, the empty part where it is refused; the number, 0 if accepted, goes into `number`.
 pub fn view<'a>(buf: &'a [u8], used: usize, set: &[u8], row: usize, number: &mut u32) -> &'a [u8]
-    ensures { (number.new ≡ number_in (viewAnswer buf.now used set.now row).result) × (result.now ≡ (viewAnswer buf.now used set.now row).part) }
+    ensures { (number.new ≡ number_in (view_answer buf.now used set.now row).result) × (result.now ≡ (view_answer buf.now used set.now row).part) }
 {
     let v = view_place(buf, used, set, row);
     match v {
@@ -69,7 +69,7 @@ pub fn view<'a>(buf: &'a [u8], used: usize, set: &[u8], row: usize, number: &mut
 
 // The name of set k, in file order and the default set first, put into out; what stands behind it there stays. 21 says that there are not so many sets.
 pub fn set_name(buf: &[u8], used: usize, k: usize, out: &mut [u8]) -> Answer
-    ensures* { λ r. ⌜ nameAnswer buf.now used k out.old ≡ record { result = answered r; out = out.new } ⌝ }
+    ensures* { λ r. ⌜ name_answer buf.now used k out.old ≡ record { result = answered r; out = out.new } ⌝ }
 {
     let n = integrity::check(buf, used);
     if n != 0 {

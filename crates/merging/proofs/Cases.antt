@@ -10,16 +10,16 @@ use borrow.Author.Tests.{leb-true}
 use Rattle.format.specs.Bytes.{Bytes, text, class_of, all, same}
 use Rattle.format.specs.Lists.{flat}
 use Rattle.format.specs.Pieces.{bytes_of, pieces, read_of}
-use Rattle.format.specs.Sets.{setsOf}
+use Rattle.format.specs.Sets.{sets_of}
 use Rattle.format.specs.Written.{written}
-use Rattle.format.specs.Questions.{fileOf, verdictIn, verdict}
-use Rattle.format.specs.Requests.{tagged, requestOf, encoded}
+use Rattle.format.specs.Questions.{file_of, verdict_in, verdict}
+use Rattle.format.specs.Requests.{tagged, request_of, encoded}
 use Rattle.format.specs.Numbering.{completed, decimal}
-use Rattle.format.specs.Plain.{Plain, plain_of, length_of, apply, completedBy, step}
-use Rattle.format.specs.Calls.{Answer, number_in, valueOr, Filled, editAnswer}
-use Rattle.merging.specs.Merging.{SpareRecord, recordsOf, recordsAnswer, mergeAnswer}
-use Rattle.merging.specs.Appending.{isSkippedByKey, isLasting, withInserts, leftBy, setsNo, acceptedCount, halving}
-use Rattle.merging.proofs.Falling.{AllGranted, passesAfter}
+use Rattle.format.specs.Plain.{Plain, plain_of, length_of, apply, completed_by, step}
+use Rattle.format.specs.Calls.{Answer, number_in, value_or, Filled, edit_answer}
+use Rattle.merging.specs.Merging.{SpareRecord, records_of, records_answer, merge_answer}
+use Rattle.merging.specs.Appending.{is_skipped_by_key, is_lasting, with_inserts, left_by, sets_no, accepted_count, halving}
+use Rattle.merging.proofs.Falling.{AllGranted, passes_after}
 use Rattle.merging.proofs.Granting.{granted-by-parts}
 
 -- a main file and so many bytes behind it, a spare, the number told, and the file afterwards
@@ -39,9 +39,9 @@ behind n = replicate n 170
 abbrev holds : Case → Bool
 holds c =
     let used : ℕ = length (text c.main) in
-    let a : Filled = mergeAnswer (text c.main ++ behind c.room) used (text c.spare) (length (text c.spare)) in
+    let a : Filled = merge_answer (text c.main ++ behind c.room) used (text c.spare) (length (text c.spare)) in
     let n : ℕ = length (text c.after) in
-    eqb (number_in a.result) c.number && eqb (valueOr used a.result) n && same a.out (text c.after ++ behind ((used + c.room) - n))
+    eqb (number_in a.result) c.number && eqb (value_or used a.result) n && same a.out (text c.after ++ behind ((used + c.room) - n))
 
 abbrev into : ℕ → String → ℕ → String → Case
 into room spare number after = record { main = book; room = room; spare = spare; number = number; after = after }
@@ -77,15 +77,15 @@ merges : all holds (
     record { main = "A: b\n"; room = 20; spare = "A: b\n"; number = 0; after = "A: b\n\nA: b\n" } ∷
     -- a record that is to get a number is compared without it
     record { main = "%rec: A\n%key: K\n%type: K int\n%auto: K\n\nK: 0\nB: c\n"; room = 20; spare = "%rec: A\n\nB: c\n"; number = 0; after = "%rec: A\n%key: K\n%type: K int\n%auto: K\n\nK: 0\nB: c\n\nK: 1\nB: c\n" } ∷ []) ≡ true
-unfolding class_of bytes_of pieces read_of setsOf written fileOf verdictIn verdict tagged requestOf encoded plain_of length_of apply completed decimal completedBy step editAnswer mergeAnswer recordsAnswer
+unfolding class_of bytes_of pieces read_of sets_of written file_of verdict_in verdict tagged request_of encoded plain_of length_of apply completed decimal completed_by step edit_answer merge_answer records_answer
 merges = refl
 
 -- 256 fields of 255 bytes fit as text, and make a request over 65,536 bytes
 abbrev long : Bytes
 long = flat (replicate 256 (text "A: " ++ (replicate 251 97 ++ (10 ∷ []))))
 
-too_long : number_in (mergeAnswer (replicate 65536 170) 0 long (length long)).result ≡ 20
-unfolding class_of bytes_of pieces read_of setsOf written fileOf verdictIn verdict tagged requestOf encoded plain_of length_of apply completed decimal completedBy step editAnswer mergeAnswer recordsAnswer
+too_long : number_in (merge_answer (replicate 65536 170) 0 long (length long)).result ≡ 20
+unfolding class_of bytes_of pieces read_of sets_of written file_of verdict_in verdict tagged request_of encoded plain_of length_of apply completed decimal completed_by step edit_answer merge_answer records_answer
 too_long = refl
 
 -- halving finds every place
@@ -97,29 +97,29 @@ abbrev main : Plain
 main = plain_of (read_of (text book))
 
 abbrev spare : List SpareRecord
-spare = recordsOf (setsOf (read_of (text "%rec: Scan\n\nId: 2\n\nId: 1\nPage: a\n\nId: 1\n\nId: 3\nNo: x\n")))
+spare = records_of (sets_of (read_of (text "%rec: Scan\n\nId: 2\n\nId: 1\nPage: a\n\nId: 1\n\nId: 3\nNo: x\n")))
 
 abbrev left : List SpareRecord
-left = leftBy isSkippedByKey spare main
+left = left_by is_skipped_by_key spare main
 
-halved : (length left ≡ 3) × (halving 2 (passesAfter left main) 0 3 ≡ 1) × (acceptedCount 100 left main ≡ 1) × (setsNo (withInserts (take 2 left) main) ≡ 13) × (setsNo (withInserts left main) ≡ 8)
-unfolding class_of bytes_of pieces read_of setsOf written tagged requestOf encoded plain_of length_of apply completed decimal completedBy step acceptedCount
+halved : (length left ≡ 3) × (halving 2 (passes_after left main) 0 3 ≡ 1) × (accepted_count 100 left main ≡ 1) × (sets_no (with_inserts (take 2 left) main) ≡ 13) × (sets_no (with_inserts left main) ≡ 8)
+unfolding class_of bytes_of pieces read_of sets_of written tagged request_of encoded plain_of length_of apply completed decimal completed_by step accepted_count
 halved = (refl, refl, refl, refl, refl)
 
 let-in : AllGranted 100 left main
-unfolding class_of bytes_of pieces read_of setsOf written tagged requestOf encoded plain_of length_of apply completed decimal completedBy
+unfolding class_of bytes_of pieces read_of sets_of written tagged request_of encoded plain_of length_of apply completed decimal completed_by
 let-in =
     granted-by-parts 100 left main (record { reads = refl; legal = refl; there = refl }, (record { reads = refl; legal = refl; there = refl }, (record { reads = refl; legal = refl; there = refl }, tt)))
-    (refl, (refl, (refl, tt))) (leb-true (length_of (withInserts left main)) 100 refl) (leb-true (length_of (withInserts left main)) 65536 refl)
+    (refl, (refl, (refl, tt))) (leb-true (length_of (with_inserts left main)) 100 refl) (leb-true (length_of (with_inserts left main)) 65536 refl)
 
 -- lasting records, and one that is to get a number
-settled : (all (λ (x : SpareRecord). isLasting x main.sets) spare ≡ true) × (isLasting (record { set = text "A"; pairs = record { name = text "B"; value = text "c" } ∷ [] }) (plain_of (read_of (text "%rec: A\n%key: K\n%type: K int\n%auto: K\n"))).sets ≡ false)
-unfolding class_of pieces read_of setsOf plain_of
+settled : (all (λ (x : SpareRecord). is_lasting x main.sets) spare ≡ true) × (is_lasting (record { set = text "A"; pairs = record { name = text "B"; value = text "c" } ∷ [] }) (plain_of (read_of (text "%rec: A\n%key: K\n%type: K int\n%auto: K\n"))).sets ≡ false)
+unfolding class_of pieces read_of sets_of plain_of
 settled = (refl, refl)
 
 abbrev two : Bytes
 two = text "%rec: Scan\n\nId: 2\n\nId: 1\nPage: a\n"
 
-again : (let a : Filled = mergeAnswer (text book ++ behind 40) 49 two 33 in mergeAnswer a.out (valueOr 0 a.result) two 33) ≡ record { result = Answer.value 56; out = text book ++ (text "\nId: 2\n" ++ behind 33) }
-unfolding class_of bytes_of pieces read_of setsOf written fileOf verdictIn verdict tagged requestOf encoded plain_of length_of apply completed decimal completedBy step editAnswer mergeAnswer recordsAnswer
+again : (let a : Filled = merge_answer (text book ++ behind 40) 49 two 33 in merge_answer a.out (value_or 0 a.result) two 33) ≡ record { result = Answer.value 56; out = text book ++ (text "\nId: 2\n" ++ behind 33) }
+unfolding class_of bytes_of pieces read_of sets_of written file_of verdict_in verdict tagged request_of encoded plain_of length_of apply completed decimal completed_by step edit_answer merge_answer records_answer
 again = refl

@@ -4,7 +4,7 @@ use native.Mathlib.Omega.{arith}
 use mathlib.Core.Path.{◌≡◌, refl, sym, ap, ◌∙◌}
 use mathlib.Core.Bool.{Bool, true, false, false≢true}
 use Rattle.format.specs.Bytes.{pick}
-use Rattle.merging.specs.Appending.{twoTo, halving}
+use Rattle.merging.specs.Appending.{two_to, halving}
 
 -- a test that passes at every place below one where it passes
 abbrev pub FallsOnce : (ℕ → Bool) → Type 0
@@ -31,9 +31,9 @@ behind-turn test falls k h j l = go (test j) refl
 
 -- Between a place where it passes and one where it fails, which are at most 2 to the power of turns apart, halving ends where it turns.
 abbrev FindsTurn : ℕ → (ℕ → Bool) → Type 0
-FindsTurn turns test = (low high : ℕ) → test low ≡ true → test high ≡ false → low < high → high ≤ low + twoTo turns → Turns test (halving turns test low high)
+FindsTurn turns test = (low high : ℕ) → test low ≡ true → test high ≡ false → low < high → high ≤ low + two_to turns → Turns test (halving turns test low high)
 
-pub halving-turn : (turns : ℕ) (test : ℕ → Bool) (low high : ℕ) → test low ≡ true → test high ≡ false → low < high → high ≤ low + twoTo turns → Turns test (halving turns test low high)
+pub halving-turn : (turns : ℕ) (test : ℕ → Bool) (low high : ℕ) → test low ≡ true → test high ≡ false → low < high → high ≤ low + two_to turns → Turns test (halving turns test low high)
 halving-turn zero test low high p f l w = record { passes = p; fails = ap test (omega arith) ∙ f }
 halving-turn (suc turns) test low high p f l w = go (test ((low + high) / 2)) refl (halving-turn turns test)
   where
@@ -48,7 +48,7 @@ pub record LastPlace (test : ℕ → Bool) (k : ℕ) : Type 0 where
   pub up_to : (j : ℕ) → j ≤ k → test j ≡ true
   pub behind : (j : ℕ) → k < j → test j ≡ false
 
-pub halving-last : (turns : ℕ) (test : ℕ → Bool) (low high : ℕ) → FallsOnce test → test low ≡ true → test high ≡ false → high ≤ low + twoTo turns → LastPlace test (halving turns test low high)
+pub halving-last : (turns : ℕ) (test : ℕ → Bool) (low high : ℕ) → FallsOnce test → test low ≡ true → test high ≡ false → high ≤ low + two_to turns → LastPlace test (halving turns test low high)
 halving-last turns test low high falls p f w =
     let over : high ≤ low → ⊥ = λ l. false≢true (sym f ∙ falls high low l p) in
     let k : ℕ = halving turns test low high in

@@ -9,11 +9,11 @@ use Rattle.format.specs.Lists.{only_if, keep, kept}
 use Rattle.format.specs.Records.{Record}
 use Rattle.format.specs.Sets.{RecSet}
 use Rattle.format.specs.Words.{trim}
-use Rattle.format.specs.Numbers.{Int, plus, Bounds, int_of, isAtMost}
-use Rattle.format.specs.Rules.{typeRules, kindsOf, Span, all_ints, span_of}
-use Rattle.format.specs.Questions.{valuesIn}
-use Rattle.format.specs.Written.{Pair, newField}
-use Rattle.format.specs.Numbering.{intsOf, above, from, largest, nextNumber}
+use Rattle.format.specs.Numbers.{Int, plus, Bounds, int_of, is_at_most}
+use Rattle.format.specs.Rules.{type_rules, kinds_of, Span, all_ints, span_of}
+use Rattle.format.specs.Questions.{values_in}
+use Rattle.format.specs.Written.{Pair, new_field}
+use Rattle.format.specs.Numbering.{ints_of, above, from, largest, next_number}
 use Rattle.format.specs.Edits.{Edit, in_set}
 use Rattle.spoiling.proofs.Distinct.{record-values-joined}
 
@@ -30,25 +30,25 @@ largest-append f [] ys = omega arith
 largest-append f (x ∷ xs) ys = ap (max (f x)) (largest-append f xs ys) ∙ omega arith
 
 -- what a name's number must be above, in records
-abbrev pub aboveIn : Bounds → Bytes → List Record → ℕ
-aboveIn b n rs = largest above (intsOf b n rs)
+abbrev pub above_in : Bounds → Bytes → List Record → ℕ
+above_in b n rs = largest above (ints_of b n rs)
 
 -- the number, by that and the field's types
-abbrev pub leastAbove : List Span → ℕ → Option ℕ
-leastAbove ss k = let m : ℕ = max k (largest (λ (s : Span). from s.low) ss) in only_if (all (λ (s : Span). isAtMost (plus m) s.high) ss) m
+abbrev pub least_above : List Span → ℕ → Option ℕ
+least_above ss k = let m : ℕ = max k (largest (λ (s : Span). from s.low) ss) in only_if (all (λ (s : Span). is_at_most (plus m) s.high) ss) m
 
-abbrev pub spansOf : Bounds → Record → Bytes → List Span
-spansOf b rules n = all_ints b ∷ kept (span_of b) (kindsOf n (typeRules b rules))
+abbrev pub spans_of : Bounds → Record → Bytes → List Span
+spans_of b rules n = all_ints b ∷ kept (span_of b) (kinds_of n (type_rules b rules))
 
-pub number_by : (b : Bounds) (s : RecSet) (n : Bytes) → nextNumber b s n ≡ leastAbove (spansOf b s.rules n) (aboveIn b n s.members)
+pub number_by : (b : Bounds) (s : RecSet) (n : Bytes) → next_number b s n ≡ least_above (spans_of b s.rules n) (above_in b n s.members)
 number_by b s n = refl
 
-pub above-joined : (b : Bounds) (n : Bytes) (ms rs : List Record) → aboveIn b n (ms ++ rs) ≡ max (aboveIn b n ms) (aboveIn b n rs)
+pub above-joined : (b : Bounds) (n : Bytes) (ms rs : List Record) → above_in b n (ms ++ rs) ≡ max (above_in b n ms) (above_in b n rs)
 above-joined b n ms rs =
     let int : Bytes → Option Int = λ (v : Bytes). int_of b (trim v) in
     ap (λ (vs : List Bytes). largest above (kept int vs)) (record-values-joined n ms rs)
-    ∙ ap (largest above) (kept_append int (valuesIn n ms) (valuesIn n rs))
-    ∙ largest-append above (kept int (valuesIn n ms)) (kept int (valuesIn n rs))
+    ∙ ap (largest above) (kept_append int (values_in n ms) (values_in n rs))
+    ∙ largest-append above (kept int (values_in n ms)) (kept int (values_in n rs))
 
-pub number-after : (b : Bounds) (s : RecSet) (new : List Pair) (n : Bytes) → nextNumber b (in_set (Edit.insert new) s) n ≡ leastAbove (spansOf b s.rules n) (max (aboveIn b n s.members) (aboveIn b n (map newField new ∷ [])))
-number-after b s new n = ap (leastAbove (spansOf b s.rules n)) (above-joined b n s.members (map newField new ∷ []))
+pub number-after : (b : Bounds) (s : RecSet) (new : List Pair) (n : Bytes) → next_number b (in_set (Edit.insert new) s) n ≡ least_above (spans_of b s.rules n) (max (above_in b n s.members) (above_in b n (map new_field new ∷ [])))
+number-after b s new n = ap (least_above (spans_of b s.rules n)) (above-joined b n s.members (map new_field new ∷ []))

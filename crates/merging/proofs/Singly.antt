@@ -11,12 +11,12 @@ use Rattle.format.specs.Bytes.{Bytes, pick}
 use Rattle.format.specs.Pieces.{bytes_of, read_of}
 use Rattle.format.specs.Questions.{verdict}
 use Rattle.format.specs.Plain.{Plain, plain_of, Step, step}
-use Rattle.format.specs.Calls.{Answer, answer, number_in, valueOr, thenNo, setsIn, Filled, leaves, editAnswer}
-use Rattle.format.specs.Runs.{Single, Told, Ran, ranOn, singly, plainRun}
+use Rattle.format.specs.Calls.{Answer, answer, number_in, value_or, then_no, sets_in, Filled, leaves, edit_answer}
+use Rattle.format.specs.Runs.{Single, Told, Ran, ran_on, singly, plain_run}
 use Rattle.format.specs.Demand.{Demand}
 use Rattle.format.proofs.Elements.{Each}
 use Rattle.format.proofs.Demand.{edits-meet-demand}
-use Rattle.merging.specs.Merging.{SpareRecord, recordsOf, requestFor, isSkipped, answerUnless, thenAnswer, recordsAnswer, hasSets, spareNo, unlessNo, mergeAnswer, insertUnless, insertsFrom, mergeInserts, firstNumber}
+use Rattle.merging.specs.Merging.{SpareRecord, records_of, request_for, is_skipped, answer_unless, then_answer, records_answer, has_sets, spare_no, unless_no, merge_answer, insert_unless, inserts_from, merge_inserts, first_number}
 
 -- an edit is never refused with 0
 
@@ -32,11 +32,11 @@ number-raised : (k n : ℕ) → IsRaised (answer k n)
 number-raised zero n = tt
 number-raised (suc k) n = omega arith
 
-pub edit-raised : (buffer : Bytes) (used : ℕ) (q : Bytes) → IsRaised (editAnswer buffer used q).result
-unfolding editAnswer
+pub edit-raised : (buffer : Bytes) (used : ℕ) (q : Bytes) → IsRaised (edit_answer buffer used q).result
+unfolding edit_answer
 edit-raised buffer used q =
     let s : Step = step (length buffer) (plain_of (read_of (take used buffer))) q in
-    number-raised (thenNo (verdict buffer used) s.number) (length (bytes_of s.file.pieces))
+    number-raised (then_no (verdict buffer used) s.number) (length (bytes_of s.file.pieces))
 
 -- how edits sent singly end: all accepted, with a length and a buffer; or the first number that is not 0 is a refusal's
 pub record EndsWith (r : Ran) (n : ℕ) (out : Bytes) : Type 0 where
@@ -46,45 +46,45 @@ pub record EndsWith (r : Ran) (n : ℕ) (out : Bytes) : Type 0 where
 
 abbrev pub EndsAs : Ran → Answer → Bytes → Type 0
 EndsAs r (Answer.value n) out = EndsWith r n out
-EndsAs r (Answer.refusal k) out = firstNumber r.told ≡ k
+EndsAs r (Answer.refusal k) out = first_number r.told ≡ k
 
-ends-after : (r : Ran) (n : ℕ) (a : Answer) (out : Bytes) → EndsAs r a out → EndsAs (ranOn (record { number = 0; length = n }) r) a out
+ends-after : (r : Ran) (n : ℕ) (a : Answer) (out : Bytes) → EndsAs r a out → EndsAs (ran_on (record { number = 0; length = n }) r) a out
 ends-after r n (Answer.value m) out h = record { length = h.length; buffer = h.buffer; accepted = (refl, h.accepted) }
 ends-after r n (Answer.refusal k) out h = h
 
 module _ (q : Bytes) (es : List Single) (buffer : Bytes) (used : ℕ) where
-  singly-on : (m : ℕ) → (editAnswer buffer used q).result ≡ Answer.value m → singly (Single.edit q ∷ es) buffer used ≡ ranOn (record { number = 0; length = m }) (singly es (editAnswer buffer used q).out m)
+  singly-on : (m : ℕ) → (edit_answer buffer used q).result ≡ Answer.value m → singly (Single.edit q ∷ es) buffer used ≡ ran_on (record { number = 0; length = m }) (singly es (edit_answer buffer used q).out m)
   unfolding singly
-  singly-on m e = λ i. ranOn (record { number = number_in (e i); length = valueOr used (e i) }) (singly es (editAnswer buffer used q).out (valueOr used (e i)))
+  singly-on m e = λ i. ran_on (record { number = number_in (e i); length = value_or used (e i) }) (singly es (edit_answer buffer used q).out (value_or used (e i)))
 
-  singly-stops : (k : ℕ) → (editAnswer buffer used q).result ≡ Answer.refusal (suc k) → firstNumber (singly (Single.edit q ∷ es) buffer used).told ≡ suc k
+  singly-stops : (k : ℕ) → (edit_answer buffer used q).result ≡ Answer.refusal (suc k) → first_number (singly (Single.edit q ∷ es) buffer used).told ≡ suc k
   unfolding singly
-  singly-stops k e = λ i. thenNo (number_in (e i)) (firstNumber (singly es (editAnswer buffer used q).out (valueOr used (editAnswer buffer used q).result)).told)
+  singly-stops k e = λ i. then_no (number_in (e i)) (first_number (singly es (edit_answer buffer used q).out (value_or used (edit_answer buffer used q).result)).told)
 
 -- The inserts, sent singly, end as the records do.
-pub records-end : (xs : List SpareRecord) (buffer : Bytes) (used : ℕ) → EndsAs (singly (insertsFrom xs buffer used) buffer used) (recordsAnswer xs buffer used).result (recordsAnswer xs buffer used).out
-unfolding recordsAnswer insertsFrom singly
+pub records-end : (xs : List SpareRecord) (buffer : Bytes) (used : ℕ) → EndsAs (singly (inserts_from xs buffer used) buffer used) (records_answer xs buffer used).result (records_answer xs buffer used).out
+unfolding records_answer inserts_from singly
 records-end [] buffer used = record { length = refl; buffer = refl; accepted = tt }
-records-end (x ∷ xs) buffer used = go (isSkipped x (setsIn buffer used)) (records-end xs)
+records-end (x ∷ xs) buffer used = go (is_skipped x (sets_in buffer used)) (records-end xs)
   where
-    one : (r : Answer) → (editAnswer buffer used (requestFor x)).result ≡ r → ((b : Bytes) (u : ℕ) → EndsAs (singly (insertsFrom xs b u) b u) (recordsAnswer xs b u).result (recordsAnswer xs b u).out)
-        → let out : Bytes = (editAnswer buffer used (requestFor x)).out in EndsAs (singly (Single.edit (requestFor x) ∷ insertsFrom xs out (valueOr used r)) buffer used) (thenAnswer r out (recordsAnswer xs)).result (thenAnswer r out (recordsAnswer xs)).out
+    one : (r : Answer) → (edit_answer buffer used (request_for x)).result ≡ r → ((b : Bytes) (u : ℕ) → EndsAs (singly (inserts_from xs b u) b u) (records_answer xs b u).result (records_answer xs b u).out)
+        → let out : Bytes = (edit_answer buffer used (request_for x)).out in EndsAs (singly (Single.edit (request_for x) ∷ inserts_from xs out (value_or used r)) buffer used) (then_answer r out (records_answer xs)).result (then_answer r out (records_answer xs)).out
     one (Answer.value m) e ih =
-        let out : Bytes = (editAnswer buffer used (requestFor x)).out in
-        let es : List Single = insertsFrom xs out m in
-        let a : Filled = recordsAnswer xs out m in
-        subst (λ (r : Ran). EndsAs r a.result a.out) (sym (singly-on (requestFor x) es buffer used m e)) (ends-after (singly es out m) m a.result a.out (ih out m))
-    one (Answer.refusal zero) e ih = let h : 0 < 0 = subst IsRaised e (edit-raised buffer used (requestFor x)) in absurd (omega arith)
-    one (Answer.refusal (suc k)) e ih = singly-stops (requestFor x) (insertsFrom xs (editAnswer buffer used (requestFor x)).out used) buffer used k e
+        let out : Bytes = (edit_answer buffer used (request_for x)).out in
+        let es : List Single = inserts_from xs out m in
+        let a : Filled = records_answer xs out m in
+        subst (λ (r : Ran). EndsAs r a.result a.out) (sym (singly-on (request_for x) es buffer used m e)) (ends-after (singly es out m) m a.result a.out (ih out m))
+    one (Answer.refusal zero) e ih = let h : 0 < 0 = subst IsRaised e (edit-raised buffer used (request_for x)) in absurd (omega arith)
+    one (Answer.refusal (suc k)) e ih = singly-stops (request_for x) (inserts_from xs (edit_answer buffer used (request_for x)).out used) buffer used k e
 
-    go : (t : Bool) → ((b : Bytes) (u : ℕ) → EndsAs (singly (insertsFrom xs b u) b u) (recordsAnswer xs b u).result (recordsAnswer xs b u).out)
-        → let a : Filled = answerUnless t x buffer used in EndsAs (singly (insertUnless t x (insertsFrom xs a.out (valueOr used a.result))) buffer used) (thenAnswer a.result a.out (recordsAnswer xs)).result (thenAnswer a.result a.out (recordsAnswer xs)).out
+    go : (t : Bool) → ((b : Bytes) (u : ℕ) → EndsAs (singly (inserts_from xs b u) b u) (records_answer xs b u).result (records_answer xs b u).out)
+        → let a : Filled = answer_unless t x buffer used in EndsAs (singly (insert_unless t x (inserts_from xs a.out (value_or used a.result))) buffer used) (then_answer a.result a.out (records_answer xs)).result (then_answer a.result a.out (records_answer xs)).out
     go true ih = ih buffer used
-    go false ih = one (editAnswer buffer used (requestFor x)).result refl ih
+    go false ih = one (edit_answer buffer used (request_for x)).result refl ih
 
 -- the numbers that are asked before
 
-both-none : (a b : ℕ) → thenNo a b ≡ 0 → (a ≡ 0) × (b ≡ 0)
+both-none : (a b : ℕ) → then_no a b ≡ 0 → (a ≡ 0) × (b ≡ 0)
 both-none zero b e = (refl, e)
 both-none (suc k) b e = absurd (omega arith)
 
@@ -92,7 +92,7 @@ picked-zero : (t : Bool) (n k : ℕ) → pick t n (suc k) ≡ 0 → (t ≡ true)
 picked-zero true n k e = (refl, e)
 picked-zero false n k e = absurd (omega arith)
 
-pub unless-accepted : (k : ℕ) (a : Answer) (m : ℕ) → unlessNo k a ≡ Answer.value m → (k ≡ 0) × (a ≡ Answer.value m)
+pub unless-accepted : (k : ℕ) (a : Answer) (m : ℕ) → unless_no k a ≡ Answer.value m → (k ≡ 0) × (a ≡ Answer.value m)
 unless-accepted zero a m e = (refl, e)
 unless-accepted (suc k) a m e = absurd (false≢true (ap is_value e))
 
@@ -101,62 +101,62 @@ module _ (buffer : Bytes) (used : ℕ) (spare : Bytes) (n : ℕ) where
   first = plain_of (read_of (take used buffer))
 
   abbrev es : List Single
-  es = mergeInserts buffer used spare n
+  es = merge_inserts buffer used spare n
 
   -- What an accepted merge grants: both files pass, the main file has the spare's sets, and the inserts, sent singly, are all accepted and leave its length and its buffer.
   pub record Merged (m : ℕ) (out : Bytes) : Type 0 where
     pub passes : verdict buffer used ≡ 0
     pub spare-passes : verdict spare n ≡ 0
-    pub sets-there : hasSets (setsIn buffer used) (setsIn spare n) ≡ true
-    pub inserts : EndsWith (singly (mergeInserts buffer used spare n) buffer used) m out
+    pub sets-there : has_sets (sets_in buffer used) (sets_in spare n) ≡ true
+    pub inserts : EndsWith (singly (merge_inserts buffer used spare n) buffer used) m out
 
-  pub merge-accepted : (m : ℕ) → (mergeAnswer buffer used spare n).result ≡ Answer.value m → Merged m (mergeAnswer buffer used spare n).out
-  unfolding mergeAnswer
+  pub merge-accepted : (m : ℕ) → (merge_answer buffer used spare n).result ≡ Answer.value m → Merged m (merge_answer buffer used spare n).out
+  unfolding merge_answer
   merge-accepted m e =
-      let a : Filled = recordsAnswer (recordsOf (setsIn spare n)) buffer used in
-      let no : ℕ = spareNo (setsIn buffer used) spare n in
-      let k = unless-accepted (thenNo (verdict buffer used) no) a.result m e in
+      let a : Filled = records_answer (records_of (sets_in spare n)) buffer used in
+      let no : ℕ = spare_no (sets_in buffer used) spare n in
+      let k = unless-accepted (then_no (verdict buffer used) no) a.result m e in
       let v = both-none (verdict buffer used) no k.0 in
-      let s = picked-zero (eqb (verdict spare n) 0) (pick (hasSets (setsIn buffer used) (setsIn spare n)) 0 36) 34 v.1 in
-      let kept : a.out ≡ (mergeAnswer buffer used spare n).out = sym (ap (λ (r : Answer). leaves r a.out buffer) e) in
+      let s = picked-zero (eqb (verdict spare n) 0) (pick (has_sets (sets_in buffer used) (sets_in spare n)) 0 36) 34 v.1 in
+      let kept : a.out ≡ (merge_answer buffer used spare n).out = sym (ap (λ (r : Answer). leaves r a.out buffer) e) in
       record {
         passes = v.0;
         spare-passes = eqb-true (verdict spare n) 0 s.0;
-        sets-there = (picked-zero (hasSets (setsIn buffer used) (setsIn spare n)) 0 35 s.1).0;
-        inserts = subst (λ (o : Bytes). EndsWith (singly es buffer used) m o) kept (subst (λ (r : Answer). EndsAs (singly es buffer used) r a.out) k.1 (records-end (recordsOf (setsIn spare n)) buffer used));
+        sets-there = (picked-zero (has_sets (sets_in buffer used) (sets_in spare n)) 0 35 s.1).0;
+        inserts = subst (λ (o : Bytes). EndsWith (singly es buffer used) m o) kept (subst (λ (r : Answer). EndsAs (singly es buffer used) r a.out) k.1 (records-end (records_of (sets_in spare n)) buffer used));
       }
 
   -- So demand 3 holds of an accepted merge.
-  pub merge-meets-demand : (m : ℕ) → (mergeAnswer buffer used spare n).result ≡ Answer.value m
-      → let start : Plain = plain_of (read_of (take used buffer)) in let edits : List Single = mergeInserts buffer used spare n in
-      Demand buffer used start edits (record { told = (singly edits buffer used).told; length = m; buffer = (mergeAnswer buffer used spare n).out }) (plainRun (length buffer) edits start used)
+  pub merge-meets-demand : (m : ℕ) → (merge_answer buffer used spare n).result ≡ Answer.value m
+      → let start : Plain = plain_of (read_of (take used buffer)) in let edits : List Single = merge_inserts buffer used spare n in
+      Demand buffer used start edits (record { told = (singly edits buffer used).told; length = m; buffer = (merge_answer buffer used spare n).out }) (plain_run (length buffer) edits start used)
   merge-meets-demand m e =
       let g = merge-accepted m e in
       let r : Ran = singly es buffer used in
-      let same-run : r ≡ record { told = r.told; length = m; buffer = (mergeAnswer buffer used spare n).out } = λ i. record { told = r.told; length = g.inserts.length i; buffer = g.inserts.buffer i } in
-      subst (λ (x : Ran). Demand buffer used first es x (plainRun (length buffer) es first used)) same-run (edits-meet-demand buffer used es g.passes)
+      let same-run : r ≡ record { told = r.told; length = m; buffer = (merge_answer buffer used spare n).out } = λ i. record { told = r.told; length = g.inserts.length i; buffer = g.inserts.buffer i } in
+      subst (λ (x : Ran). Demand buffer used first es x (plain_run (length buffer) es first used)) same-run (edits-meet-demand buffer used es g.passes)
 
   -- "the main file keeps every byte"
-  pub merge-refused : (k : ℕ) → (mergeAnswer buffer used spare n).result ≡ Answer.refusal k → (mergeAnswer buffer used spare n).out ≡ buffer
-  unfolding mergeAnswer
-  merge-refused k e = ap (λ (r : Answer). leaves r (recordsAnswer (recordsOf (setsIn spare n)) buffer used).out buffer) e
+  pub merge-refused : (k : ℕ) → (merge_answer buffer used spare n).result ≡ Answer.refusal k → (merge_answer buffer used spare n).out ≡ buffer
+  unfolding merge_answer
+  merge-refused k e = ap (λ (r : Answer). leaves r (records_answer (records_of (sets_in spare n)) buffer used).out buffer) e
 
   -- "the answer is the first such insert's number", behind the main file's own, 35 and 36
-  none_told : (ts : List Told) → Each (λ (t : Told). t.number ≡ 0) ts → firstNumber ts ≡ 0
+  none_told : (ts : List Told) → Each (λ (t : Told). t.number ≡ 0) ts → first_number ts ≡ 0
   none_told [] h = refl
-  none_told (t ∷ ts) h = ap (λ (k : ℕ). thenNo k (firstNumber ts)) h.0 ∙ none_told ts h.1
+  none_told (t ∷ ts) h = ap (λ (k : ℕ). then_no k (first_number ts)) h.0 ∙ none_told ts h.1
 
-  ends-number : (r : Ran) (a : Answer) (out : Bytes) → EndsAs r a out → number_in a ≡ firstNumber r.told
+  ends-number : (r : Ran) (a : Answer) (out : Bytes) → EndsAs r a out → number_in a ≡ first_number r.told
   ends-number r (Answer.value m) out h = sym (none_told r.told h.accepted)
   ends-number r (Answer.refusal k) out h = sym h
 
-  unless-number : (k : ℕ) (a : Answer) → number_in (unlessNo k a) ≡ thenNo k (number_in a)
+  unless-number : (k : ℕ) (a : Answer) → number_in (unless_no k a) ≡ then_no k (number_in a)
   unless-number zero a = refl
   unless-number (suc k) a = refl
 
-  pub merge-number : number_in (mergeAnswer buffer used spare n).result ≡ thenNo (thenNo (verdict buffer used) (spareNo (setsIn buffer used) spare n)) (firstNumber (singly (mergeInserts buffer used spare n) buffer used).told)
-  unfolding mergeAnswer
+  pub merge-number : number_in (merge_answer buffer used spare n).result ≡ then_no (then_no (verdict buffer used) (spare_no (sets_in buffer used) spare n)) (first_number (singly (merge_inserts buffer used spare n) buffer used).told)
+  unfolding merge_answer
   merge-number =
-      let a : Filled = recordsAnswer (recordsOf (setsIn spare n)) buffer used in
-      let k : ℕ = thenNo (verdict buffer used) (spareNo (setsIn buffer used) spare n) in
-      unless-number k a.result ∙ ap (thenNo k) (ends-number (singly es buffer used) a.result a.out (records-end (recordsOf (setsIn spare n)) buffer used))
+      let a : Filled = records_answer (records_of (sets_in spare n)) buffer used in
+      let k : ℕ = then_no (verdict buffer used) (spare_no (sets_in buffer used) spare n) in
+      unless-number k a.result ∙ ap (then_no k) (ends-number (singly es buffer used) a.result a.out (records-end (records_of (sets_in spare n)) buffer used))

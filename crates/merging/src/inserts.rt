@@ -1,29 +1,29 @@
 // Records of a spare put into a text that is not judged yet.
 ghost use Rattle.std.specs.Prelude.{◌≡◌, map, ◌+◌, ◌≤◌, true, ◌&&◌, length, take};
 ghost use Rattle.format.specs.Bytes.{all, any, is_some};
-ghost use Rattle.format.specs.Lists.{flat, isFilled};
+ghost use Rattle.format.specs.Lists.{flat, is_filled};
 ghost use Rattle.format.specs.Pieces.{read_of};
-ghost use Rattle.format.specs.Sets.{setsOf};
-ghost use Rattle.format.specs.Numbers.{intBounds};
-ghost use Rattle.format.specs.Numbering.{added as addedBy};
+ghost use Rattle.format.specs.Sets.{sets_of};
+ghost use Rattle.format.specs.Numbers.{int_bounds};
+ghost use Rattle.format.specs.Numbering.{added as added_by};
 ghost use Rattle.format.specs.Rules.{key};
 ghost use Rattle.format.specs.Plain.{index_of};
 ghost use Rattle.format.proofs.Elements.{Filled};
 ghost use Rattle.format.proofs.Records.{records};
 ghost use Rattle.format.proofs.Walking.{ruled};
 ghost use Rattle.words.specs.Spans.{span};
-ghost use Rattle.numbering.specs.Adding.{addedRoom, AddedAs};
-ghost use Rattle.format.specs.Limits.{fileBytes, valueBytes};
-ghost use Rattle.format.specs.Written.{writtenAll};
-ghost use Rattle.format.specs.Requests.{pairFields};
+ghost use Rattle.numbering.specs.Adding.{added_room, AddedAs};
+ghost use Rattle.format.specs.Limits.{file_bytes, value_bytes};
+ghost use Rattle.format.specs.Written.{written_all};
+ghost use Rattle.format.specs.Requests.{pair_fields};
 ghost use Rattle.format.specs.Calls.{built};
-ghost use Rattle.records.specs.Places.{isReadable};
-ghost use Rattle.records.specs.Walk.{recordIn};
-ghost use Rattle.requests.specs.Pairs.{pairsFrom, pairsAt};
-ghost use Rattle.edits.specs.Splices.{madeLen};
-ghost use Rattle.merging.specs.Merging.{pair_of, isTwin};
-ghost use Rattle.merging.specs.Appending.{isRoomFor, spareRecord};
-ghost use Rattle.merging.specs.Texts.{fitsValue, Appendable, SetAt, OwnInside, PutBy, PlacedIn, InsertedAs};
+ghost use Rattle.records.specs.Places.{is_readable};
+ghost use Rattle.records.specs.Walk.{record_in};
+ghost use Rattle.requests.specs.Pairs.{pairs_from, pairs_at};
+ghost use Rattle.edits.specs.Splices.{made_len};
+ghost use Rattle.merging.specs.Merging.{pair_of, is_twin};
+ghost use Rattle.merging.specs.Appending.{is_room_for, spare_record};
+ghost use Rattle.merging.specs.Texts.{fits_value, Appendable, SetAt, OwnInside, PutBy, PlacedIn, InsertedAs};
 
 use format::{File, Refusal};
 use numbering::Added;
@@ -53,9 +53,9 @@ impl Tag {
 // The fields of a record as the pairs of a request, at the front of out: the place behind them, one
 // beyond out where there is no room.
 fn put_pairs(own: &[u8], scratch: &mut [u8], out: &mut [u8]) -> usize
-    requires own_value { (isReadable own.now ≡ true) × (all fitsValue (recordIn own.now) ≡ true) }
-    requires value_bytes_in_bounds { valueBytes ≤ length scratch.old }
-    ensures { record { next = result; out = out.new } ≡ built (flat (map pairFields (map pair_of (recordIn own.now)))) (record { next = 0; out = out.old }) }
+    requires own_value { (is_readable own.now ≡ true) × (all fits_value (record_in own.now) ≡ true) }
+    requires value_bytes_in_bounds { value_bytes ≤ length scratch.old }
+    ensures { record { next = result; out = out.new } ≡ built (flat (map pair_fields (map pair_of (record_in own.now)))) (record { next = 0; out = out.old }) }
 {
     let mut rest = own;
     let mut at = 0;
@@ -80,8 +80,8 @@ fn put_pairs(own: &[u8], scratch: &mut [u8], out: &mut [u8]) -> usize
 // Is there room for a text of `used` bytes with a record put in, whose first fields have own bytes
 // and the others len?
 fn has_room(used: usize, own: usize, len: usize, room: usize) -> bool
-    requires { used ≤ fileBytes }
-    ensures { result ≡ isRoomFor room (madeLen used (own + len)) }
+    requires { used ≤ file_bytes }
+    ensures { result ≡ is_room_for room (made_len used (own + len)) }
 {
     if own > File::BYTES {
         return false;
@@ -109,8 +109,8 @@ fn put(
     request: &[u8],
     added: &[u8],
 ) -> Inserted
-    requires at_le_used { (at ≤ used) × (used ≤ fileBytes) × (fileBytes ≤ length text.old) }
-    requires request_value { (is_some (pairsFrom request.now 0) ≡ true) × (len ≡ length (writtenAll (pairsAt request.now 0))) × OwnInside added.now a }
+    requires at_le_used { (at ≤ used) × (used ≤ file_bytes) × (file_bytes ≤ length text.old) }
+    requires request_value { (is_some (pairs_from request.now 0) ≡ true) × (len ≡ length (written_all (pairs_at request.now 0))) × OwnInside added.now a }
     ensures { PutBy text.old used room at len request.now added.now text.new a result }
 {
     match a {
@@ -141,8 +141,8 @@ fn put(
 // The fields that a record gets in the set at p of a text: its pairs are those of the request.
 fn number(s: &[u8], p: RecordSet, request: &[u8], added: &mut [u8]) -> Added
     requires appendable { Appendable s.now × SetAt s.now p }
-    requires request_len_bound { (length request.now ≤ fileBytes) × (is_some (pairsFrom request.now 0) ≡ true) × (addedRoom ≤ length added.old) }
-    ensures { AddedAs (addedBy intBounds (ruled (recordIn (span p.start p.end s.now)) (records (read_of (span p.begin p.after s.now)))) (pairsAt request.now 0)) added.new result }
+    requires request_len_bound { (length request.now ≤ file_bytes) × (is_some (pairs_from request.now 0) ≡ true) × (added_room ≤ length added.old) }
+    ensures { AddedAs (added_by int_bounds (ruled (record_in (span p.start p.end s.now)) (records (read_of (span p.begin p.after s.now)))) (pairs_at request.now 0)) added.new result }
 {
     let start = p.start;
     let end = p.end;
@@ -161,9 +161,9 @@ fn place(
     request: &[u8],
     added: &mut [u8],
 ) -> Inserted
-    requires appendable { Appendable (take used text.old) × (used ≤ fileBytes) × (fileBytes ≤ length text.old) × SetAt (take used text.old) p }
-    requires request_len_bound { (length request.now ≤ fileBytes) × (is_some (pairsFrom request.now 0) ≡ true) × Filled (pairsAt request.now 0) × (addedRoom ≤ length added.old) }
-    ensures { PlacedIn text.old used room p (pairsAt request.now 0) text.new result }
+    requires appendable { Appendable (take used text.old) × (used ≤ file_bytes) × (file_bytes ≤ length text.old) × SetAt (take used text.old) p }
+    requires request_len_bound { (length request.now ≤ file_bytes) × (is_some (pairs_from request.now 0) ≡ true) × Filled (pairs_at request.now 0) × (added_room ≤ length added.old) }
+    ensures { PlacedIn text.old used room p (pairs_at request.now 0) text.new result }
 {
     let w = requests::weigh(request, 0);
     let Weighed::Sums { len, count: _ } = w else {
@@ -175,8 +175,8 @@ fn place(
 
 // Has the set at p of a text a key and a twin of a record?
 fn is_skipped(s: &[u8], p: RecordSet, own: &[u8]) -> bool
-    requires { Appendable s.now × SetAt s.now p × (isReadable own.now ≡ true) }
-    ensures { result ≡ (isFilled (key (recordIn (span p.start p.end s.now))) && any (isTwin (map pair_of (recordIn own.now))) (records (read_of (span p.begin p.after s.now)))) }
+    requires { Appendable s.now × SetAt s.now p × (is_readable own.now ≡ true) }
+    ensures { result ≡ (is_filled (key (record_in (span p.start p.end s.now))) && any (is_twin (map pair_of (record_in own.now))) (records (read_of (span p.begin p.after s.now)))) }
 {
     let start = p.start;
     let end = p.end;
@@ -206,10 +206,10 @@ pub(crate) fn insert_record(
     request: &mut [u8],
     added: &mut [u8],
 ) -> Inserted
-    requires appendable { Appendable (take used text.old) × (used ≤ fileBytes) × (fileBytes ≤ length text.old) × (is_some (index_of set.now (setsOf (read_of (take used text.old)))) ≡ true) }
-    requires own_value { (isReadable own.now ≡ true) × (all fitsValue (recordIn own.now) ≡ true) × Filled (recordIn own.now) × (length set.now ≤ valueBytes) }
-    requires value_bytes_in_bounds { (valueBytes ≤ length scratch.old) × (length request.old ≡ fileBytes) × (addedRoom ≤ length added.old) }
-    ensures { InsertedAs text.old used room (spareRecord set.now (recordIn own.now)) text.new result }
+    requires appendable { Appendable (take used text.old) × (used ≤ file_bytes) × (file_bytes ≤ length text.old) × (is_some (index_of set.now (sets_of (read_of (take used text.old)))) ≡ true) }
+    requires own_value { (is_readable own.now ≡ true) × (all fits_value (record_in own.now) ≡ true) × Filled (record_in own.now) × (length set.now ≤ value_bytes) }
+    requires value_bytes_in_bounds { (value_bytes ≤ length scratch.old) × (length request.old ≡ file_bytes) × (added_room ≤ length added.old) }
+    ensures { InsertedAs text.old used room (spare_record set.now (record_in own.now)) text.new result }
 {
     let f = records::find_head(&text[..used], set);
     let FoundHead::At(head) = f else {

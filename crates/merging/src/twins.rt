@@ -3,17 +3,17 @@ ghost use Rattle.std.specs.Prelude.{◌≡◌, true, map};
 ghost use Rattle.format.specs.Bytes.{any};
 ghost use Rattle.format.specs.Pieces.{read_of};
 ghost use Rattle.format.proofs.Records.{records};
-ghost use Rattle.records.specs.Places.{isReadable};
-ghost use Rattle.records.specs.Walk.{recordIn};
-ghost use Rattle.merging.specs.Merging.{pair_of, isTwin};
-ghost use Rattle.merging.specs.Texts.{isNothing};
+ghost use Rattle.records.specs.Places.{is_readable};
+ghost use Rattle.records.specs.Walk.{record_in};
+ghost use Rattle.merging.specs.Merging.{pair_of, is_twin};
+ghost use Rattle.merging.specs.Texts.{is_nothing};
 
 use records::{NextField, NextRecord};
 
 // Have two parts the same fields, by name and value, in the same order?
 fn are_twins(a: &[u8], b: &[u8]) -> bool
-    requires { (isReadable a.now ≡ true) × (isReadable b.now ≡ true) }
-    ensures { result ≡ isTwin (map pair_of (recordIn a.now)) (recordIn b.now) }
+    requires { (is_readable a.now ≡ true) × (is_readable b.now ≡ true) }
+    ensures { result ≡ is_twin (map pair_of (record_in a.now)) (record_in b.now) }
 {
     let mut p = a;
     let mut q = b;
@@ -51,7 +51,7 @@ fn are_twins(a: &[u8], b: &[u8]) -> bool
 
 // Is there no next field?
 fn is_last(y: NextField) -> bool
-    ensures { result ≡ isNothing y }
+    ensures { result ≡ is_nothing y }
 {
     match y {
         NextField::At {
@@ -66,8 +66,8 @@ fn is_last(y: NextField) -> bool
 
 // Is a record among those of a part?
 pub(crate) fn is_among(own: &[u8], part: &[u8]) -> bool
-    requires { (isReadable own.now ≡ true) × (isReadable part.now ≡ true) }
-    ensures { result ≡ any (isTwin (map pair_of (recordIn own.now))) (records (read_of part.now)) }
+    requires { (is_readable own.now ≡ true) × (is_readable part.now ≡ true) }
+    ensures { result ≡ any (is_twin (map pair_of (record_in own.now))) (records (read_of part.now)) }
 {
     let mut rest = part;
     loop {

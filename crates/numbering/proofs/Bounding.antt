@@ -11,30 +11,30 @@ use lib.ListN.{length, get_or, drop, set}
 use lib.Seq.{get_or-set_same, get_or-set_other}
 use Rattle.format.specs.Lists.{only_if}
 use Rattle.format.specs.Bytes.{Bytes, pick, same, among}
-use Rattle.format.specs.Numbers.{Int, plus, minus, intBounds, unsigned, up_to, int_of}
+use Rattle.format.specs.Numbers.{Int, plus, minus, int_bounds, unsigned, up_to, int_of}
 use Rattle.format.specs.Words.{split}
 use Rattle.format.specs.Numbering.{above}
 use Rattle.format.proofs.Listing.{same_true}
 use Rattle.words.specs.RuleNames.{place_in}
 use Rattle.words.proofs.RuleNames.{place-among, placed-is}
 use Rattle.values.proofs.Tests.{same_self}
-use Rattle.numbers.specs.Meaning.{intIn}
+use Rattle.numbers.specs.Meaning.{int_in}
 use Rattle.numbers.specs.declared.Whole.{Whole}
-use Rattle.numbering.specs.Bounds.{numbers, joinedAt, Joins, AreLimits}
+use Rattle.numbering.specs.Bounds.{numbers, joined_at, Joins, AreLimits}
 
 -- the least number above an int that was read
 module _ (x : Whole) (n : ℕ) where
-  pub above-plus : x ≡ Whole.Plus n → above (intIn x) ≡ suc n
-  above-plus e = ap (λ (y : Whole). above (intIn y)) e
+  pub above-plus : x ≡ Whole.Plus n → above (int_in x) ≡ suc n
+  above-plus e = ap (λ (y : Whole). above (int_in y)) e
 
-  pub above_zero : x ≡ Whole.Minus n → n ≡ 0 → above (intIn x) ≡ 1
-  above_zero e z = ap (λ (y : Whole). above (intIn y)) e ∙ ap (λ (t : Bool). pick t 1 0) (eq-eqb n 0 z)
+  pub above_zero : x ≡ Whole.Minus n → n ≡ 0 → above (int_in x) ≡ 1
+  above_zero e z = ap (λ (y : Whole). above (int_in y)) e ∙ ap (λ (t : Bool). pick t 1 0) (eq-eqb n 0 z)
 
-  pub above-minus : x ≡ Whole.Minus n → (n ≡ 0 → ⊥) → above (intIn x) ≡ 0
-  above-minus e z = ap (λ (y : Whole). above (intIn y)) e ∙ ap (λ (t : Bool). pick t 1 0) (ne_eqb n 0 z)
+  pub above-minus : x ≡ Whole.Minus n → (n ≡ 0 → ⊥) → above (int_in x) ≡ 0
+  above-minus e z = ap (λ (y : Whole). above (int_in y)) e ∙ ap (λ (t : Bool). pick t 1 0) (ne_eqb n 0 z)
 
-  pub above_low : x ≡ Whole.Minus n → above (intIn x) ≤ 1
-  above_low e = subst (λ (y : Whole). above (intIn y) ≤ 1) (sym e) (go (eqb n 0))
+  pub above_low : x ≡ Whole.Minus n → above (int_in x) ≤ 1
+  above_low e = subst (λ (y : Whole). above (int_in y) ≤ 1) (sym e) (go (eqb n 0))
     where
       go : (t : Bool) → pick t 1 0 ≤ 1
       go true = omega arith
@@ -45,49 +45,49 @@ abbrev pub IsSmall : Option Int → Type 0
 IsSmall none = Unit {0}
 IsSmall (some x) = above x ≤ numbers
 
-small-plus : (y : Option ℕ) → IsSmall (up_to intBounds.greatest plus y)
+small-plus : (y : Option ℕ) → IsSmall (up_to int_bounds.greatest plus y)
 small-plus none = tt
-small-plus (some n) = go (leb n intBounds.greatest) refl
+small-plus (some n) = go (leb n int_bounds.greatest) refl
   where
-    go : (t : Bool) → leb n intBounds.greatest ≡ t → IsSmall (only_if t (plus n))
-    go true e = let h = leb-true n intBounds.greatest e in omega (arith, h)
+    go : (t : Bool) → leb n int_bounds.greatest ≡ t → IsSmall (only_if t (plus n))
+    go true e = let h = leb-true n int_bounds.greatest e in omega (arith, h)
     go false e = tt
 
-small-minus : (y : Option ℕ) → IsSmall (up_to intBounds.least minus y)
+small-minus : (y : Option ℕ) → IsSmall (up_to int_bounds.least minus y)
 small-minus none = tt
-small-minus (some n) = go (leb n intBounds.least) (eqb n 0) refl
+small-minus (some n) = go (leb n int_bounds.least) (eqb n 0) refl
   where
     go : (t z : Bool) → eqb n 0 ≡ z → IsSmall (only_if t (minus n))
     go true true e = subst (λ (b : Bool). pick b 1 0 ≤ numbers) (sym e) (omega arith)
     go true false e = subst (λ (b : Bool). pick b 1 0 ≤ numbers) (sym e) (omega arith)
     go false z e = tt
 
-pub small_int : (s : Bytes) → IsSmall (int_of intBounds s)
+pub small_int : (s : Bytes) → IsSmall (int_of int_bounds s)
 small_int s = go (eqb (get_or s 0 0) 45)
   where
-    go : (t : Bool) → IsSmall (pick t (up_to intBounds.least minus (unsigned (drop 1 s))) (up_to intBounds.greatest plus (unsigned s)))
+    go : (t : Bool) → IsSmall (pick t (up_to int_bounds.least minus (unsigned (drop 1 s))) (up_to int_bounds.greatest plus (unsigned s)))
     go true = small-minus (unsigned (drop 1 s))
     go false = small-plus (unsigned s)
 
 -- a number put together with another at a place, or at none
 module _ (op : ℕ → ℕ → ℕ) (count k y : ℕ) (l : List ℕ) where
-  joined_by : (t : Bool) → ltb k count ≡ t → pick t (set l k (op (get_or l k 0) y)) l ≡ joinedAt op count k y l
+  joined_by : (t : Bool) → ltb k count ≡ t → pick t (set l k (op (get_or l k 0) y)) l ≡ joined_at op count k y l
   joined_by t e = ap (λ (b : Bool). pick b (set l k (op (get_or l k 0) y)) l) (sym e)
 
-  pub joined-here : (x : ℕ) → k < count → x ≡ op (get_or l k 0) y → set l k x ≡ joinedAt op count k y l
+  pub joined-here : (x : ℕ) → k < count → x ≡ op (get_or l k 0) y → set l k x ≡ joined_at op count k y l
   joined-here x h e = ap (set l k) e ∙ joined_by true (lt-ltb k count h)
 
-  pub joined-none : count ≤ k → l ≡ joinedAt op count k y l
+  pub joined-none : count ≤ k → l ≡ joined_at op count k y l
   joined-none h = joined_by false (le-ltb k count h)
 
 module _ (op : ℕ → ℕ → ℕ) (e : ℕ) (Ok : ℕ → Type 0) (unit : (y : ℕ) → Ok y → op y e ≡ y) (keeps : (y x : ℕ) → Ok y → Ok (op y x)) (ws : List Bytes) where
   -- a number put to the place of a name is put to no other name
   pub joins_at : (l : List ℕ) (m : Bytes) (count k x : ℕ) → length ws ≤ length l → ((n : Bytes) → among n ws ≡ true → Ok (get_or l (place_in n ws) 0)) → count ≡ length ws → k ≡ place_in m ws
-      → Joins op ws (λ (n : Bytes). pick (same n m) x e) l (joinedAt op count k x l)
+      → Joins op ws (λ (n : Bytes). pick (same n m) x e) l (joined_at op count k x l)
   joins_at l m count k x room ok p q n h = subst (λ (c : ℕ). P c k) (sym p) (subst (P (length ws)) (sym q) (go (same n m) refl (ltb (place_in m ws) (length ws)) refl))
     where
       P : ℕ → ℕ → Type 0
-      P c j = get_or (joinedAt op c j x l) (place_in n ws) 0 ≡ op (get_or l (place_in n ws) 0) (pick (same n m) x e)
+      P c j = get_or (joined_at op c j x l) (place_in n ws) 0 ≡ op (get_or l (place_in n ws) 0) (pick (same n m) x e)
 
       place : place_in n ws < length ws
       place = ltb-true (place_in n ws) (length ws) (place-among n ws ∙ h)
@@ -187,7 +187,7 @@ module _ (ws : List Bytes) (x y : ℕ) (s : Bytes) (floors limits : List ℕ) wh
       }
 
   module _ (t : Bytes) (fs ls : List ℕ) (p : PartsLeft t fs ls) (m : Bytes) (count k : ℕ) (room : length ws ≤ length fs) (space : length ws ≤ length ls) (c : count ≡ length ws) (q : k ≡ place_in m ws)
-      (gs hs : List ℕ) (u : gs ≡ joinedAt max count k x fs) (v : hs ≡ joinedAt min count k y ls) where
+      (gs hs : List ℕ) (u : gs ≡ joined_at max count k x fs) (v : hs ≡ joined_at min count k y ls) where
     raised_at : Joins max ws (λ (n : Bytes). pick (same n m) x 0) fs gs
     raised_at = subst (Joins max ws (λ (n : Bytes). pick (same n m) x 0) fs) (sym u) (joins_at max 0 AnyFloor max-unit max-keeps ws fs m count k x room (λ n h. tt) c q)
 

@@ -12,7 +12,7 @@ use lib.Seq.{sets, sets-eq, take_at, length-take-le}
 use Rattle.format.specs.Bytes.{Bytes, same, among}
 use Rattle.format.specs.Calls.{over}
 use Rattle.format.specs.Written.{Pair}
-use Rattle.format.specs.Numbering.{pairNames}
+use Rattle.format.specs.Numbering.{pair_names}
 use Rattle.format.proofs.Listing.{same-swap}
 use Rattle.writing.proofs.Texts.{part-sets}
 use Rattle.words.specs.RuleNames.{place_in}
@@ -39,13 +39,13 @@ marked_by ws m x y p n h =
 
 -- the names of pairs from one on: those marked and those to come are all
 abbrev pub MarksLeft : List Bytes → List Pair → List Pair → ℕ → Type 0
-MarksLeft ws all rest x = (n : Bytes) → among n ws ≡ true → (in_set (place_in n ws) x || among n (pairNames rest)) ≡ among n (pairNames all)
+MarksLeft ws all rest x = (n : Bytes) → among n ws ≡ true → (in_set (place_in n ws) x || among n (pair_names rest)) ≡ among n (pair_names all)
 
 pub marks-start : (ws : List Bytes) (all : List Pair) → MarksLeft ws all all 0
-marks-start ws all n h = ap (λ (t : Bool). t || among n (pairNames all)) (in-none (place_in n ws))
+marks-start ws all n h = ap (λ (t : Bool). t || among n (pair_names all)) (in-none (place_in n ws))
 
-pub marks-end : (ws : List Bytes) (all rest : List Pair) (x : ℕ) → MarksLeft ws all rest x → rest ≡ [] → Seen ws (pairNames all) x
-marks-end ws all rest x f e n h = sym (or-none (in_set (place_in n ws) x)) ∙ ap (λ (ps : List Pair). in_set (place_in n ws) x || among n (pairNames ps)) (sym e) ∙ f n h
+pub marks-end : (ws : List Bytes) (all rest : List Pair) (x : ℕ) → MarksLeft ws all rest x → rest ≡ [] → Seen ws (pair_names all) x
+marks-end ws all rest x f e n h = sym (or-none (in_set (place_in n ws) x)) ∙ ap (λ (ps : List Pair). in_set (place_in n ws) x || among n (pair_names ps)) (sym e) ∙ f n h
   where
     or-none : (a : Bool) → (a || false) ≡ a
     or-none true = refl
@@ -53,8 +53,8 @@ marks-end ws all rest x f e n h = sym (or-none (in_set (place_in n ws) x)) ∙ a
 
 pub marks-on : (ws : List Bytes) (all rest later : List Pair) (p : Pair) (x y : ℕ) → MarksLeft ws all rest x → rest ≡ p ∷ later → Marked ws p.name x y → MarksLeft ws all later y
 marks-on ws all rest later p x y f e m n h =
-    ap (λ (t : Bool). t || among n (pairNames later)) (m n h) ∙ go (same n p.name) (in_set (place_in n ws) x) (among n (pairNames later))
-    ∙ ap (λ (ps : List Pair). in_set (place_in n ws) x || among n (pairNames ps)) (sym e) ∙ f n h
+    ap (λ (t : Bool). t || among n (pair_names later)) (m n h) ∙ go (same n p.name) (in_set (place_in n ws) x) (among n (pair_names later))
+    ∙ ap (λ (ps : List Pair). in_set (place_in n ws) x || among n (pair_names ps)) (sym e) ∙ f n h
   where
     go : (a b c : Bool) → ((a || b) || c) ≡ (b || (a || c))
     go true true c = refl

@@ -10,48 +10,48 @@ use borrow.Author.Tests.{ltb-true, ltb-false, leb-true, leb-false, lt-ltb, le-lt
 use lib.Dec.{leb, ltb, eqb}
 use Rattle.format.specs.Bytes.{Bytes, text, pick, all, same, among}
 use Rattle.format.specs.Lists.{only_if, onward, filter, flat, keep, kept}
-use Rattle.format.specs.Numbers.{Int, plus, minus, intBounds, int_of, isAtMost}
+use Rattle.format.specs.Numbers.{Int, plus, minus, int_bounds, int_of, is_at_most}
 use Rattle.format.specs.Pieces.{read_of}
 use Rattle.format.specs.Records.{Record}
-use Rattle.format.specs.Questions.{valuesIn}
+use Rattle.format.specs.Questions.{values_in}
 use Rattle.format.specs.Sets.{values_of}
 use Rattle.format.specs.Types.{Kind}
-use Rattle.format.specs.Rules.{TypeRule, typedNames, typeRuleOf, typedefsOf, Span, span_of, kindsOf}
+use Rattle.format.specs.Rules.{TypeRule, typed_names, type_rule_of, typedefs_of, Span, span_of, kinds_of}
 use Rattle.format.specs.Words.{trim}
-use Rattle.format.specs.Numbering.{above, from, largest, intsOf, nextNumber}
+use Rattle.format.specs.Numbering.{above, from, largest, ints_of, next_number}
 use Rattle.format.proofs.Records.{records}
 use Rattle.format.proofs.Walking.{ruled}
-use Rattle.records.specs.Walk.{recordIn}
-use Rattle.records.specs.Named.{valuesFrom}
+use Rattle.records.specs.Walk.{record_in}
+use Rattle.records.specs.Named.{values_from}
 use Rattle.records.proofs.Cuts.{fields-records}
 use Rattle.columns.specs.Meets.{kind_of}
-use Rattle.numbering.specs.Types.{typeSpan}
-use Rattle.numbering.specs.Bounds.{numbers, floorIn, limitIn, aboveIn, typeFloor, typeLimit, fieldFloor, lowest, floorOf, limitOf}
+use Rattle.numbering.specs.Types.{type_span}
+use Rattle.numbering.specs.Bounds.{numbers, floor_in, limit_in, above_in, type_floor, type_limit, field_floor, lowest, floor_of, limit_of}
 
 pub max-zero : (x : ℕ) → max 0 x ≡ x
 max-zero x = omega arith
 
-pub lowest-most : (d n : Bytes) (vs : List Bytes) → lowest (typeLimit d n) vs ≤ numbers
+pub lowest-most : (d n : Bytes) (vs : List Bytes) → lowest (type_limit d n) vs ≤ numbers
 lowest-most d n [] = omega arith
 lowest-most d n (v ∷ vs) = omega (arith, lowest-most d n vs)
 
-pub lowest-least : (d n : Bytes) (vs : List Bytes) → min numbers (lowest (typeLimit d n) vs) ≡ lowest (typeLimit d n) vs
+pub lowest-least : (d n : Bytes) (vs : List Bytes) → min numbers (lowest (type_limit d n) vs) ≡ lowest (type_limit d n) vs
 lowest-least d n vs = omega (arith, lowest-most d n vs)
 
 -- the floor by the fields: the largest number above an int there
 
-ints-floor : (n : Bytes) (r : Record) → largest above (kept (λ (v : Bytes). int_of intBounds (trim v)) (values_of n r)) ≡ largest (fieldFloor n) r
+ints-floor : (n : Bytes) (r : Record) → largest above (kept (λ (v : Bytes). int_of int_bounds (trim v)) (values_of n r)) ≡ largest (field_floor n) r
 ints-floor n [] = refl
 ints-floor n (f ∷ r) = go (same n f.name) (ints-floor n r)
   where
-    keep-above : (x : Option Int) (is : List Int) → largest above (keep x is) ≡ max (aboveIn x) (largest above is)
+    keep-above : (x : Option Int) (is : List Int) → largest above (keep x is) ≡ max (above_in x) (largest above is)
     keep-above none is = sym (max-zero (largest above is))
     keep-above (some x) is = refl
 
-    go : (t : Bool) → largest above (kept (λ (v : Bytes). int_of intBounds (trim v)) (values_of n r)) ≡ largest (fieldFloor n) r
-        → largest above (kept (λ (v : Bytes). int_of intBounds (trim v)) (pick t (f.value ∷ values_of n r) (values_of n r))) ≡ max (pick t (aboveIn (int_of intBounds (trim f.value))) 0) (largest (fieldFloor n) r)
-    go true e = keep-above (int_of intBounds (trim f.value)) (kept (λ (v : Bytes). int_of intBounds (trim v)) (values_of n r)) ∙ ap (max (aboveIn (int_of intBounds (trim f.value)))) e
-    go false e = e ∙ sym (max-zero (largest (fieldFloor n) r))
+    go : (t : Bool) → largest above (kept (λ (v : Bytes). int_of int_bounds (trim v)) (values_of n r)) ≡ largest (field_floor n) r
+        → largest above (kept (λ (v : Bytes). int_of int_bounds (trim v)) (pick t (f.value ∷ values_of n r) (values_of n r))) ≡ max (pick t (above_in (int_of int_bounds (trim f.value))) 0) (largest (field_floor n) r)
+    go true e = keep-above (int_of int_bounds (trim f.value)) (kept (λ (v : Bytes). int_of int_bounds (trim v)) (values_of n r)) ∙ ap (max (above_in (int_of int_bounds (trim f.value)))) e
+    go false e = e ∙ sym (max-zero (largest (field_floor n) r))
 
 -- the values of a name in a part's records are those in the part
 
@@ -63,27 +63,27 @@ values-append w (f ∷ a) b = go (same w f.name) (values-append w a b)
     go true e = ap (λ (vs : List Bytes). f.value ∷ vs) e
     go false e = e
 
-values-flat : (w : Bytes) (ms : List Record) → values_of w (flat ms) ≡ valuesIn w ms
+values-flat : (w : Bytes) (ms : List Record) → values_of w (flat ms) ≡ values_in w ms
 values-flat w [] = refl
 values-flat w (m ∷ ms) = values-append w m (flat ms) ∙ ap (λ (vs : List Bytes). values_of w m ++ vs) (values-flat w ms)
 
-values-part : (w s : Bytes) → valuesIn w (records (read_of s)) ≡ values_of w (recordIn s)
+values-part : (w s : Bytes) → values_in w (records (read_of s)) ≡ values_of w (record_in s)
 values-part w s = sym (ap (values_of w) (fields-records (read_of s)) ∙ values-flat w (records (read_of s)))
 
 -- the spans of a name, type by type
 module _ (d n : Bytes) where
   abbrev spans : List Bytes → List Span
-  spans vs = kept (span_of intBounds) (kindsOf n (kept (typeRuleOf intBounds (typedefsOf intBounds (recordIn d))) vs))
+  spans vs = kept (span_of int_bounds) (kinds_of n (kept (type_rule_of int_bounds (typedefs_of int_bounds (record_in d))) vs))
 
   -- of one type more
-  spans-more : (v : Bytes) (vs : List Bytes) → spans (v ∷ vs) ≡ pick (among n (typedNames v)) (keep (typeSpan d v) (spans vs)) (spans vs)
+  spans-more : (v : Bytes) (vs : List Bytes) → spans (v ∷ vs) ≡ pick (among n (typed_names v)) (keep (type_span d v) (spans vs)) (spans vs)
   spans-more v vs = go (kind_of d v)
     where
       rules : List TypeRule
-      rules = kept (typeRuleOf intBounds (typedefsOf intBounds (recordIn d))) vs
+      rules = kept (type_rule_of int_bounds (typedefs_of int_bounds (record_in d))) vs
 
-      named : (t : Bool) (k : Kind) → kept (span_of intBounds) (map (λ (r : TypeRule). r.kind) (pick t (record { names = typedNames v; kind = k } ∷ filter (λ (r : TypeRule). among n r.names) rules) (filter (λ (r : TypeRule). among n r.names) rules)))
-          ≡ pick t (keep (span_of intBounds k) (kept (span_of intBounds) (kindsOf n rules))) (kept (span_of intBounds) (kindsOf n rules))
+      named : (t : Bool) (k : Kind) → kept (span_of int_bounds) (map (λ (r : TypeRule). r.kind) (pick t (record { names = typed_names v; kind = k } ∷ filter (λ (r : TypeRule). among n r.names) rules) (filter (λ (r : TypeRule). among n r.names) rules)))
+          ≡ pick t (keep (span_of int_bounds k) (kept (span_of int_bounds) (kinds_of n rules))) (kept (span_of int_bounds) (kinds_of n rules))
       named true k = refl
       named false k = refl
 
@@ -91,22 +91,22 @@ module _ (d n : Bytes) where
       idle true ss = refl
       idle false ss = refl
 
-      go : (x : Option Kind) → kept (span_of intBounds) (kindsOf n (keep (Option.map (λ (k : Kind). record { names = typedNames v; kind = k }) x) rules)) ≡ pick (among n (typedNames v)) (keep (onward (span_of intBounds) x) (spans vs)) (spans vs)
-      go none = idle (among n (typedNames v)) (spans vs)
-      go (some k) = named (among n (typedNames v)) k
+      go : (x : Option Kind) → kept (span_of int_bounds) (kinds_of n (keep (Option.map (λ (k : Kind). record { names = typed_names v; kind = k }) x) rules)) ≡ pick (among n (typed_names v)) (keep (onward (span_of int_bounds) x) (spans vs)) (spans vs)
+      go none = idle (among n (typed_names v)) (spans vs)
+      go (some k) = named (among n (typed_names v)) k
 
-  low-floor : (vs : List Bytes) → largest (λ (s : Span). from s.low) (spans vs) ≡ largest (typeFloor d n) vs
+  low-floor : (vs : List Bytes) → largest (λ (s : Span). from s.low) (spans vs) ≡ largest (type_floor d n) vs
   low-floor [] = refl
-  low-floor (v ∷ vs) = ap (largest (λ (s : Span). from s.low)) (spans-more v vs) ∙ go (among n (typedNames v)) (typeSpan d v) ∙ ap (max (typeFloor d n v)) (low-floor vs)
+  low-floor (v ∷ vs) = ap (largest (λ (s : Span). from s.low)) (spans-more v vs) ∙ go (among n (typed_names v)) (type_span d v) ∙ ap (max (type_floor d n v)) (low-floor vs)
     where
-      go : (t : Bool) (x : Option Span) → largest (λ (s : Span). from s.low) (pick t (keep x (spans vs)) (spans vs)) ≡ max (pick t (floorIn x) 0) (largest (λ (s : Span). from s.low) (spans vs))
+      go : (t : Bool) (x : Option Span) → largest (λ (s : Span). from s.low) (pick t (keep x (spans vs)) (spans vs)) ≡ max (pick t (floor_in x) 0) (largest (λ (s : Span). from s.low) (spans vs))
       go true none = sym (max-zero (largest (λ (s : Span). from s.low) (spans vs)))
       go true (some s) = refl
       go false x = sym (max-zero (largest (λ (s : Span). from s.low) (spans vs)))
 
   -- a number is within all upper ends where it is below all limits
   module _ (m : ℕ) where
-    below-above : (x : Int) → isAtMost (plus m) x ≡ ltb m (above x)
+    below-above : (x : Int) → is_at_most (plus m) x ≡ ltb m (above x)
     below-above (plus k) = go (leb m k) refl
       where
         go : (t : Bool) → leb m k ≡ t → t ≡ ltb m (suc k)
@@ -132,17 +132,17 @@ module _ (d n : Bytes) where
         go false e y f = le-ltb m (min a b) (let h = ltb-false m a e in omega (arith, h))
 
     abbrev ends : List Span → Bool
-    ends ss = all (λ (s : Span). isAtMost (plus m) s.high) ss
+    ends ss = all (λ (s : Span). is_at_most (plus m) s.high) ss
 
-    high-limit : (vs : List Bytes) → (leb m intBounds.greatest && ends (spans vs)) ≡ ltb m (lowest (typeLimit d n) vs)
-    high-limit [] = last (leb m intBounds.greatest) ∙ below-above (plus intBounds.greatest)
+    high-limit : (vs : List Bytes) → (leb m int_bounds.greatest && ends (spans vs)) ≡ ltb m (lowest (type_limit d n) vs)
+    high-limit [] = last (leb m int_bounds.greatest) ∙ below-above (plus int_bounds.greatest)
       where
         last : (a : Bool) → (a && true) ≡ a
         last true = refl
         last false = refl
     high-limit (v ∷ vs) =
-        ap (λ (ss : List Span). leb m intBounds.greatest && ends ss) (spans-more v vs) ∙ go (among n (typedNames v)) (typeSpan d v)
-        ∙ ap (λ (t : Bool). ltb m (typeLimit d n v) && t) (high-limit vs) ∙ sym (below-min (typeLimit d n v) (lowest (typeLimit d n) vs))
+        ap (λ (ss : List Span). leb m int_bounds.greatest && ends ss) (spans-more v vs) ∙ go (among n (typed_names v)) (type_span d v)
+        ∙ ap (λ (t : Bool). ltb m (type_limit d n v) && t) (high-limit vs) ∙ sym (below-min (type_limit d n v) (lowest (type_limit d n) vs))
       where
         twice : (a b : Bool) → (a && b) ≡ (a && (a && b))
         twice true b = refl
@@ -154,20 +154,20 @@ module _ (d n : Bytes) where
         turn false b true = refl
         turn false b false = refl
 
-        whole : (leb m intBounds.greatest && ends (spans vs)) ≡ (ltb m numbers && (leb m intBounds.greatest && ends (spans vs)))
-        whole = twice (leb m intBounds.greatest) (ends (spans vs)) ∙ ap (λ (t : Bool). t && (leb m intBounds.greatest && ends (spans vs))) (below-above (plus intBounds.greatest))
+        whole : (leb m int_bounds.greatest && ends (spans vs)) ≡ (ltb m numbers && (leb m int_bounds.greatest && ends (spans vs)))
+        whole = twice (leb m int_bounds.greatest) (ends (spans vs)) ∙ ap (λ (t : Bool). t && (leb m int_bounds.greatest && ends (spans vs))) (below-above (plus int_bounds.greatest))
 
-        go : (t : Bool) (x : Option Span) → (leb m intBounds.greatest && ends (pick t (keep x (spans vs)) (spans vs))) ≡ (ltb m (pick t (limitIn x) numbers) && (leb m intBounds.greatest && ends (spans vs)))
+        go : (t : Bool) (x : Option Span) → (leb m int_bounds.greatest && ends (pick t (keep x (spans vs)) (spans vs))) ≡ (ltb m (pick t (limit_in x) numbers) && (leb m int_bounds.greatest && ends (spans vs)))
         go true none = whole
-        go true (some s) = turn (leb m intBounds.greatest) (ends (spans vs)) (isAtMost (plus m) s.high) ∙ ap (λ (t : Bool). t && (leb m intBounds.greatest && ends (spans vs))) (below-above s.high)
+        go true (some s) = turn (leb m int_bounds.greatest) (ends (spans vs)) (is_at_most (plus m) s.high) ∙ ap (λ (t : Bool). t && (leb m int_bounds.greatest && ends (spans vs))) (below-above s.high)
         go false x = whole
 
 -- the number of a name in a set
-pub number_is : (d part n : Bytes) → nextNumber intBounds (ruled (recordIn d) (records (read_of part))) n ≡ only_if (ltb (floorOf d (recordIn part) n) (limitOf d n)) (floorOf d (recordIn part) n)
+pub number_is : (d part n : Bytes) → next_number int_bounds (ruled (record_in d) (records (read_of part))) n ≡ only_if (ltb (floor_of d (record_in part) n) (limit_of d n)) (floor_of d (record_in part) n)
 number_is d part n =
-    let vs : List Bytes = valuesFrom d (text "%type") 0 in
-    let is : List Int = intsOf intBounds n (records (read_of part)) in
-    let a : largest above is ≡ largest (fieldFloor n) (recordIn part) = ap (λ (ws : List Bytes). largest above (kept (λ (v : Bytes). int_of intBounds (trim v)) ws)) (values-part n part) ∙ ints-floor n (recordIn part) in
-    let b : max 0 (largest (λ (s : Span). from s.low) (spans d n vs)) ≡ largest (typeFloor d n) vs = max-zero (largest (λ (s : Span). from s.low) (spans d n vs)) ∙ low-floor d n vs in
-    let f : max (largest above is) (max 0 (largest (λ (s : Span). from s.low) (spans d n vs))) ≡ floorOf d (recordIn part) n = ap₂ max a b in
-    ap (λ (m : ℕ). only_if (leb m intBounds.greatest && ends d n m (spans d n vs)) m) f ∙ ap (λ (t : Bool). only_if t (floorOf d (recordIn part) n)) (high-limit d n (floorOf d (recordIn part) n) vs)
+    let vs : List Bytes = values_from d (text "%type") 0 in
+    let is : List Int = ints_of int_bounds n (records (read_of part)) in
+    let a : largest above is ≡ largest (field_floor n) (record_in part) = ap (λ (ws : List Bytes). largest above (kept (λ (v : Bytes). int_of int_bounds (trim v)) ws)) (values-part n part) ∙ ints-floor n (record_in part) in
+    let b : max 0 (largest (λ (s : Span). from s.low) (spans d n vs)) ≡ largest (type_floor d n) vs = max-zero (largest (λ (s : Span). from s.low) (spans d n vs)) ∙ low-floor d n vs in
+    let f : max (largest above is) (max 0 (largest (λ (s : Span). from s.low) (spans d n vs))) ≡ floor_of d (record_in part) n = ap₂ max a b in
+    ap (λ (m : ℕ). only_if (leb m int_bounds.greatest && ends d n m (spans d n vs)) m) f ∙ ap (λ (t : Bool). only_if t (floor_of d (record_in part) n)) (high-limit d n (floor_of d (record_in part) n) vs)

@@ -9,7 +9,7 @@ use lib.ListN.{length, length-take, length-drop, length-append}
 use Rattle.format.specs.Bytes.{Bytes, pick, all, among}
 use Rattle.format.specs.Written.{Pair}
 use Rattle.words.specs.Spans.{span}
-use Rattle.numbering.specs.Adding.{State, unadded, behindAll, stepped, stepAll, Seen, Sums, SummedAs, AddedAs}
+use Rattle.numbering.specs.Adding.{State, unadded, behind_all, stepped, step_all, Seen, Sums, SummedAs, AddedAs}
 use Rattle.numbering.specs.declared.Added.{Added}
 use Rattle.numbering.specs.declared.adding.Sum.{Sum}
 use Rattle.numbering.specs.declared.adding.Summed.{Summed}
@@ -17,21 +17,21 @@ use Rattle.numbering.specs.declared.adding.Summed.{Summed}
 module _ (f : Bytes → Option Pair) where
   -- where one has no number, none is told
   none-step : (s : State) (n : Bytes) → s.pairs ≡ none → (stepped f s n).pairs ≡ none
-  none-step s n e = ap (λ (x : Option (List Pair)). pick (among n s.seen) x (behindAll x (f n))) e ∙ go (among n s.seen)
+  none-step s n e = ap (λ (x : Option (List Pair)). pick (among n s.seen) x (behind_all x (f n))) e ∙ go (among n s.seen)
     where
       go : (t : Bool) → pick {A = Option (List Pair)} t none none ≡ none
       go true = refl
       go false = refl
 
-  pub none_stays : (s : State) (ns : List Bytes) → s.pairs ≡ none → (stepAll f s ns).pairs ≡ none
+  pub none_stays : (s : State) (ns : List Bytes) → s.pairs ≡ none → (step_all f s ns).pairs ≡ none
   none_stays s [] e = e
   none_stays s (n ∷ ns) e = none_stays (stepped f s n) ns (none-step s n e)
 
-  pub step-append : (s : State) (ms ns : List Bytes) → stepAll f s (ms ++ ns) ≡ stepAll f (stepAll f s ms) ns
+  pub step-append : (s : State) (ms ns : List Bytes) → step_all f s (ms ++ ns) ≡ step_all f (step_all f s ms) ns
   step-append s [] ns = refl
   step-append s (m ∷ ms) ns = step-append (stepped f s m) ms ns
 
-  pub step-passed : (s : State) (ns : List Bytes) → (stepAll f s ns).passed ≡ s.passed + length ns
+  pub step-passed : (s : State) (ns : List Bytes) → (step_all f s ns).passed ≡ s.passed + length ns
   step-passed s [] = omega arith
   step-passed s (n ∷ ns) = step-passed (stepped f s n) ns ∙ (let e : suc s.passed + length ns ≡ s.passed + suc (length ns) = omega arith in e)
 
@@ -39,28 +39,28 @@ module _ (f : Bytes → Option Pair) where
     pub reached : State
     pub sums : Sums ws reached out r
     pub few : reached.passed + length rest ≤ 64
-    pub left : stepAll f reached rest ≡ goal
+    pub left : step_all f reached rest ≡ goal
 
-  pub going_start : (ws : List Bytes) (out : Bytes) (r : Sum) (rest : List Bytes) (s : State) → Sums ws s out r → s.passed + length rest ≤ 64 → Going ws out r rest (stepAll f s rest)
+  pub going_start : (ws : List Bytes) (out : Bytes) (r : Sum) (rest : List Bytes) (s : State) → Sums ws s out r → s.passed + length rest ≤ 64 → Going ws out r rest (step_all f s rest)
   going_start ws out r rest s h l = record { reached = s; sums = h; few = l; left = refl }
 
   module _ (ws : List Bytes) (out : Bytes) (r : Sum) (rest : List Bytes) (goal : State) (g : Going ws out r rest goal) where
     pub going_end : rest ≡ [] → Sums ws goal out r
-    going_end e = subst (λ (t : State). Sums ws t out r) (sym (ap (stepAll f g.reached) e) ∙ g.left) g.sums
+    going_end e = subst (λ (t : State). Sums ws t out r) (sym (ap (step_all f g.reached) e) ∙ g.left) g.sums
 
     -- words of which the sums are told, and those behind them
-    module _ (ms later : List Bytes) (e : rest ≡ ms ++ later) (now : Bytes) (y : Summed) (h : SummedAs ws (stepAll f g.reached ms) now y) where
-      goal-is : stepAll f (stepAll f g.reached ms) later ≡ goal
-      goal-is = sym (step-append g.reached ms later) ∙ ap (stepAll f g.reached) (sym e) ∙ g.left
+    module _ (ms later : List Bytes) (e : rest ≡ ms ++ later) (now : Bytes) (y : Summed) (h : SummedAs ws (step_all f g.reached ms) now y) where
+      goal-is : step_all f (step_all f g.reached ms) later ≡ goal
+      goal-is = sym (step-append g.reached ms later) ∙ ap (step_all f g.reached) (sym e) ∙ g.left
 
       pub going-none : y ≡ Summed.Numberless → goal.pairs ≡ none
-      going-none q = sym (ap (λ (t : State). t.pairs) goal-is) ∙ none_stays (stepAll f g.reached ms) later (subst (SummedAs ws (stepAll f g.reached ms) now) q h)
+      going-none q = sym (ap (λ (t : State). t.pairs) goal-is) ∙ none_stays (step_all f g.reached ms) later (subst (SummedAs ws (step_all f g.reached ms) now) q h)
 
       pub going_on : (next : Sum) → y ≡ Summed.Is next → Going ws now next later goal
       going_on next q =
           record {
-            reached = stepAll f g.reached ms;
-            sums = subst (SummedAs ws (stepAll f g.reached ms) now) q h;
+            reached = step_all f g.reached ms;
+            sums = subst (SummedAs ws (step_all f g.reached ms) now) q h;
             few = omega (arith, g.few, step-passed g.reached ms, ap length e, length-append ms later);
             left = goal-is;
           }

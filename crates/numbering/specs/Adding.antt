@@ -3,9 +3,9 @@ use Rattle.std.specs.Prelude.{ℕ, suc, ◌+◌, ◌*◌, ◌≤◌, ◌≡◌, 
 use Rattle.std.proofs.Math.Option.{Option, none, some, map}
 use Rattle.format.specs.Bytes.{Bytes, pick, all, same, among}
 use Rattle.format.specs.Lists.{only_if}
-use Rattle.format.specs.Written.{Pair, writtenAll}
+use Rattle.format.specs.Written.{Pair, written_all}
 use Rattle.format.specs.Numbering.{decimal}
-use Rattle.format.proofs.Overlong.{isShort}
+use Rattle.format.proofs.Overlong.{is_short}
 use Rattle.words.specs.RuleNames.{place_in}
 use Rattle.terms.specs.Sets.{in_set}
 use Rattle.numbering.specs.declared.Added.{Added}
@@ -13,16 +13,16 @@ use Rattle.numbering.specs.declared.adding.Sum.{Sum}
 use Rattle.numbering.specs.declared.adding.Summed.{Summed}
 
 -- room for 64 names of 64 bytes, each with a colon, a space, 19 digits and a newline
-abbrev pub addedRoom : ℕ
-addedRoom = 5504
+abbrev pub added_room : ℕ
+added_room = 5504
 
 -- and with names of 4,096 bytes
-abbrev pub addedMost : ℕ
-addedMost = 263552
+abbrev pub added_most : ℕ
+added_most = 263552
 
 -- the field of a name by the bounds at its place, where there is a number
-abbrev pub pairBy : List Bytes → List ℕ → List ℕ → Bytes → Option Pair
-pairBy ws floors limits n =
+abbrev pub pair_by : List Bytes → List ℕ → List ℕ → Bytes → Option Pair
+pair_by ws floors limits n =
     let k : ℕ = get_or floors (place_in n ws) 0 in
     map (λ (x : ℕ). record { name = n; value = decimal x }) (only_if (ltb k (get_or limits (place_in n ws) 0)) k)
 
@@ -36,10 +36,10 @@ pub record State : Type 0 where
 abbrev pub unadded : List Bytes → State
 unadded ns = record { passed = 0; seen = ns; pairs = some [] }
 
-abbrev pub behindAll : Option (List Pair) → Option Pair → Option (List Pair)
-behindAll none x = none
-behindAll (some ps) none = none
-behindAll (some ps) (some p) = some (ps ++ (p ∷ []))
+abbrev pub behind_all : Option (List Pair) → Option Pair → Option (List Pair)
+behind_all none x = none
+behind_all (some ps) none = none
+behind_all (some ps) (some p) = some (ps ++ (p ∷ []))
 
 -- one word more, and words
 abbrev pub stepped : (Bytes → Option Pair) → State → Bytes → State
@@ -47,12 +47,12 @@ stepped f s n =
     record {
       passed = suc s.passed;
       seen = pick (among n s.seen) s.seen (n ∷ s.seen);
-      pairs = pick (among n s.seen) s.pairs (behindAll s.pairs (f n));
+      pairs = pick (among n s.seen) s.pairs (behind_all s.pairs (f n));
     }
 
-abbrev pub stepAll : (Bytes → Option Pair) → State → List Bytes → State
-stepAll f s [] = s
-stepAll f s (n ∷ ns) = stepAll f (stepped f s n) ns
+abbrev pub step_all : (Bytes → Option Pair) → State → List Bytes → State
+step_all f s [] = s
+step_all f s (n ∷ ns) = step_all f (stepped f s n) ns
 
 -- x tells of each name of a list, at its place, whether it is one of some names
 abbrev pub Seen : List Bytes → List Bytes → ℕ → Type 0
@@ -68,10 +68,10 @@ pub record Sums (ws : List Bytes) (s : State) (out : Bytes) (r : Sum) : Type 0 w
   pub are : s.pairs ≡ some added
   pub few : length added ≤ s.passed
   pub marks : Seen ws s.seen r.seen
-  pub len_is : r.len ≡ length (writtenAll added)
+  pub len_is : r.len ≡ length (written_all added)
   pub len-most : r.len ≤ 4118 * length added
-  pub short-is : r.short ≡ all isShort added
-  pub text : r.short ≡ true → (take r.len out ≡ writtenAll added) × (r.len ≤ 86 * length added)
+  pub short-is : r.short ≡ all is_short added
+  pub text : r.short ≡ true → (take r.len out ≡ written_all added) × (r.len ≤ 86 * length added)
 
 abbrev pub SummedAs : List Bytes → State → Bytes → Summed → Type 0
 SummedAs ws s out (Summed.Is r) = Sums ws s out r
@@ -79,14 +79,14 @@ SummedAs ws s out Summed.Numberless = s.pairs ≡ none
 
 -- what is told of the added fields
 pub record Written (ps : List Pair) (out : Bytes) (len : ℕ) : Type 0 where
-  pub len_is : len ≡ length (writtenAll ps)
+  pub len_is : len ≡ length (written_all ps)
   pub inside : len ≤ length out
-  pub text : take len out ≡ writtenAll ps
-  pub short : all isShort ps ≡ true
+  pub text : take len out ≡ written_all ps
+  pub short : all is_short ps ≡ true
 
 pub record Unwritten (ps : List Pair) (len : ℕ) : Type 0 where
-  pub len_is : len ≡ length (writtenAll ps)
-  pub long : all isShort ps ≡ false
+  pub len_is : len ≡ length (written_all ps)
+  pub long : all is_short ps ≡ false
 
 abbrev pub AddedAs : Option (List Pair) → Bytes → Added → Type 0
 AddedAs x out (Added.Text len) = (ps : List Pair) × ((x ≡ some ps) × Written ps out len)

@@ -1,17 +1,17 @@
 // The fields that are added, one for each omitted name, and their text.
 ghost use Rattle.std.specs.Prelude.{◌≡◌, true, ◌&&◌, List, ◌++◌, ◌+◌, ◌<◌, ◌≤◌, leb, length, take, drop};
 ghost use Rattle.format.specs.Bytes.{Bytes, all, among, is_some};
-ghost use Rattle.format.specs.Limits.{fileBytes, nameBytes, valueBytes, listWords};
+ghost use Rattle.format.specs.Limits.{file_bytes, name_bytes, value_bytes, list_words};
 ghost use Rattle.format.specs.Words.{words as words_of};
 ghost use Rattle.format.specs.Written.{written};
-ghost use Rattle.format.specs.Numbering.{pairNames, decimal};
+ghost use Rattle.format.specs.Numbering.{pair_names, decimal};
 ghost use Rattle.format.specs.Rules.{auto};
-ghost use Rattle.records.specs.Walk.{recordIn};
-ghost use Rattle.requests.specs.Pairs.{pairsFrom, pairsAt};
+ghost use Rattle.records.specs.Walk.{record_in};
+ghost use Rattle.requests.specs.Pairs.{pairs_from, pairs_at};
 ghost use Rattle.dictionary.specs.Known.{Described};
 ghost use Rattle.dictionary.specs.Numbered.{IsWords, IsListed};
 ghost use Rattle.numbering.specs.Bounds.{numbers, Limited};
-ghost use Rattle.numbering.specs.Adding.{addedRoom, addedMost, State, pairBy, stepped, stepAll, unadded, Seen, Marked, Sums, SummedAs, AddedAs};
+ghost use Rattle.numbering.specs.Adding.{added_room, added_most, State, pair_by, stepped, step_all, unadded, Seen, Marked, Sums, SummedAs, AddedAs};
 
 use super::Added;
 use super::bounds::Bounds;
@@ -41,7 +41,7 @@ fn put_decimal(number: u64, text: &mut [u8]) -> usize
 
 // A field at a place of out, where it is to be written; where it ends.
 fn put_text(name: &[u8], value: &[u8], short: bool, len: usize, out: &mut [u8]) -> usize
-    requires name_len_bound { (length name.now ≤ fileBytes) × (length value.now ≤ fileBytes) × (len ≤ addedMost) }
+    requires name_len_bound { (length name.now ≤ file_bytes) × (length value.now ≤ file_bytes) × (len ≤ added_most) }
     requires value_in_bounds { short ≡ true → len + length (written name.now value.now) ≤ length out.old }
     ensures { (result ≡ len + length (written name.now value.now)) × (short ≡ true → take result out.new ≡ take len out.old ++ written name.now value.now) }
 {
@@ -53,7 +53,7 @@ fn put_text(name: &[u8], value: &[u8], short: bool, len: usize, out: &mut [u8]) 
 
 // The field of a name with a number, at a place of out, where it is to be written; where it ends.
 fn put_number(name: &[u8], number: u64, short: bool, len: usize, out: &mut [u8]) -> usize
-    requires name_len_bound { (length name.now ≤ valueBytes) × (number < numbers) × (len ≤ addedMost) }
+    requires name_len_bound { (length name.now ≤ value_bytes) × (number < numbers) × (len ≤ added_most) }
     requires number_in_bounds { short ≡ true → len + length (written name.now (decimal number)) ≤ length out.old }
     ensures { (result ≡ len + length (written name.now (decimal number))) × (short ≡ true → take result out.new ≡ take len out.old ++ written name.now (decimal number)) }
 {
@@ -79,17 +79,17 @@ pub(crate) enum Summed {
 
 // The places of the lists that have a field, with those of one name more.
 fn mark(d: &[u8], entries: &[u32], sets: &[u64], w: Words, seen: u64, name: &[u8]) -> u64
-    requires { IsWords d.now (auto (recordIn d.now)) entries.now sets.now w }
-    ensures { Marked (auto (recordIn d.now)) name.now seen result }
+    requires { IsWords d.now (auto (record_in d.now)) entries.now sets.now w }
+    ensures { Marked (auto (record_in d.now)) name.now seen result }
 {
     seen | wordsets::places_in(d, entries, sets, w, name)
 }
 
 // The places of the lists that the pairs of a request have.
 pub(crate) fn mark_pairs(d: &[u8], l: Listed, req: &[u8], from: usize) -> u64
-    requires listed { IsListed d.now (auto (recordIn d.now)) l }
-    requires req_len_bound { (length req.now ≤ fileBytes) × (from ≤ length req.now) × (is_some (pairsFrom req.now from) ≡ true) }
-    ensures { Seen (auto (recordIn d.now)) (pairNames (pairsAt req.now from)) result }
+    requires listed { IsListed d.now (auto (record_in d.now)) l }
+    requires req_len_bound { (length req.now ≤ file_bytes) × (from ≤ length req.now) × (is_some (pairs_from req.now from) ≡ true) }
+    ensures { Seen (auto (record_in d.now)) (pair_names (pairs_at req.now from)) result }
 {
     let entries = l.entries;
     let sets = l.sets;
@@ -115,7 +115,7 @@ pub(crate) fn mark_pairs(d: &[u8], l: Listed, req: &[u8], from: usize) -> u64
 
 // Are names short, with one more?
 fn stays_short(short: bool, name: &[u8]) -> bool
-    ensures { result ≡ (short && leb (length name.now) nameBytes) }
+    ensures { result ≡ (short && leb (length name.now) name_bytes) }
 {
     if short {
         return name.len() <= Record::NAME;
@@ -125,11 +125,11 @@ fn stays_short(short: bool, name: &[u8]) -> bool
 
 // One word of the lists more: it has a field, or gets one with its floor as number, if that is below its limit.
 fn add_word(d: &[u8], l: Listed, name: &[u8], bounds: Bounds, sum: Sum, out: &mut [u8]) -> Summed
-    requires listed { IsListed d.now (auto (recordIn d.now)) l }
-    requires limited { Limited (auto (recordIn d.now)) bounds }
-    requires d_value { (among name.now (auto (recordIn d.now)) ≡ true) × (length name.now ≤ valueBytes) × (addedRoom ≤ length out.old) }
-    requires sums { (s : State) × Sums (auto (recordIn d.now)) s out.old sum × (s.passed < listWords) }
-    ensures { (s : State) → Sums (auto (recordIn d.now)) s out.old sum → SummedAs (auto (recordIn d.now)) (stepped (pairBy (auto (recordIn d.now)) bounds.floors bounds.limits) s name.now) out.new result }
+    requires listed { IsListed d.now (auto (record_in d.now)) l }
+    requires limited { Limited (auto (record_in d.now)) bounds }
+    requires d_value { (among name.now (auto (record_in d.now)) ≡ true) × (length name.now ≤ value_bytes) × (added_room ≤ length out.old) }
+    requires sums { (s : State) × Sums (auto (record_in d.now)) s out.old sum × (s.passed < list_words) }
+    ensures { (s : State) → Sums (auto (record_in d.now)) s out.old sum → SummedAs (auto (record_in d.now)) (stepped (pair_by (auto (record_in d.now)) bounds.floors bounds.limits) s name.now) out.new result }
 {
     let entries = l.entries;
     let sets = l.sets;
@@ -152,11 +152,11 @@ fn add_word(d: &[u8], l: Listed, name: &[u8], bounds: Bounds, sum: Sum, out: &mu
 
 // The words of a text more.
 fn add_words(d: &[u8], l: Listed, s: &[u8], bounds: Bounds, sum: Sum, out: &mut [u8]) -> Summed
-    requires listed { IsListed d.now (auto (recordIn d.now)) l }
-    requires limited { Limited (auto (recordIn d.now)) bounds }
-    requires s_value { (all (λ n. among n (auto (recordIn d.now))) (words_of s.now) ≡ true) × (length s.now ≤ valueBytes) × (addedRoom ≤ length out.old) }
-    requires sums { (t : State) × Sums (auto (recordIn d.now)) t out.old sum × (t.passed + length (words_of s.now) ≤ listWords) }
-    ensures { (t : State) → Sums (auto (recordIn d.now)) t out.old sum → t.passed + length (words_of s.now) ≤ listWords → SummedAs (auto (recordIn d.now)) (stepAll (pairBy (auto (recordIn d.now)) bounds.floors bounds.limits) t (words_of s.now)) out.new result }
+    requires listed { IsListed d.now (auto (record_in d.now)) l }
+    requires limited { Limited (auto (record_in d.now)) bounds }
+    requires s_value { (all (λ n. among n (auto (record_in d.now))) (words_of s.now) ≡ true) × (length s.now ≤ value_bytes) × (added_room ≤ length out.old) }
+    requires sums { (t : State) × Sums (auto (record_in d.now)) t out.old sum × (t.passed + length (words_of s.now) ≤ list_words) }
+    ensures { (t : State) → Sums (auto (record_in d.now)) t out.old sum → t.passed + length (words_of s.now) ≤ list_words → SummedAs (auto (record_in d.now)) (step_all (pair_by (auto (record_in d.now)) bounds.floors bounds.limits) t (words_of s.now)) out.new result }
 {
     let mut sums = sum;
     let mut rest = s;
@@ -183,11 +183,11 @@ pub(crate) fn add_lists(
     scratch: &mut [u8],
     out: &mut [u8],
 ) -> Summed
-    requires listed { IsListed d.now (auto (recordIn d.now)) l }
-    requires described { Described d.now × (valueBytes ≤ length scratch.old) × (addedRoom ≤ length out.old) }
-    requires limited { Limited (auto (recordIn d.now)) bounds }
-    requires seen { (ns : List Bytes) × Seen (auto (recordIn d.now)) ns seen }
-    ensures { (ns : List Bytes) → Seen (auto (recordIn d.now)) ns seen → SummedAs (auto (recordIn d.now)) (stepAll (pairBy (auto (recordIn d.now)) bounds.floors bounds.limits) (unadded ns) (auto (recordIn d.now))) out.new result }
+    requires listed { IsListed d.now (auto (record_in d.now)) l }
+    requires described { Described d.now × (value_bytes ≤ length scratch.old) × (added_room ≤ length out.old) }
+    requires limited { Limited (auto (record_in d.now)) bounds }
+    requires seen { (ns : List Bytes) × Seen (auto (record_in d.now)) ns seen }
+    ensures { (ns : List Bytes) → Seen (auto (record_in d.now)) ns seen → SummedAs (auto (record_in d.now)) (step_all (pair_by (auto (record_in d.now)) bounds.floors bounds.limits) (unadded ns) (auto (record_in d.now))) out.new result }
 {
     let mut sums = Sum {
         len: 0,
@@ -217,7 +217,7 @@ pub(crate) fn add_lists(
 
 // What the sums tell of all words.
 pub(crate) fn told(r: Summed) -> Added
-    ensures { (ws : List Bytes) (s : State) (out : Bytes) → SummedAs ws s out r → s.passed ≤ listWords → addedRoom ≤ length out → AddedAs s.pairs out result }
+    ensures { (ws : List Bytes) (s : State) (out : Bytes) → SummedAs ws s out r → s.passed ≤ list_words → added_room ≤ length out → AddedAs s.pairs out result }
 {
     let Summed::Is(sum) = r else {
         return Added::Numberless;

@@ -1,20 +1,20 @@
 // The floor and the limit of each name of `%auto` lists, at the name's place: its number is not below the one, and below the other.
 ghost use Rattle.std.specs.Prelude.{◌≡◌, true, ◌<◌, ◌≤◌, min, max, length, drop};
 ghost use Rattle.format.specs.Bytes.{text, pick, all, among};
-ghost use Rattle.format.specs.Limits.{fileBytes, valueBytes, listWords};
-ghost use Rattle.format.specs.Numbers.{intBounds, int_of};
+ghost use Rattle.format.specs.Limits.{file_bytes, value_bytes, list_words};
+ghost use Rattle.format.specs.Numbers.{int_bounds, int_of};
 ghost use Rattle.format.specs.Words.{trim, split};
-ghost use Rattle.format.specs.Rules.{typedNames, auto};
+ghost use Rattle.format.specs.Rules.{typed_names, auto};
 ghost use Rattle.format.specs.Numbering.{above, from, largest};
-ghost use Rattle.values.specs.Value.{valueFrom};
-ghost use Rattle.records.specs.Places.{isReadable};
-ghost use Rattle.records.specs.Walk.{recordIn};
-ghost use Rattle.records.specs.Named.{valuesFrom};
-ghost use Rattle.numbers.specs.Meaning.{intIn};
+ghost use Rattle.values.specs.Value.{value_from};
+ghost use Rattle.records.specs.Places.{is_readable};
+ghost use Rattle.records.specs.Walk.{record_in};
+ghost use Rattle.records.specs.Named.{values_from};
+ghost use Rattle.numbers.specs.Meaning.{int_in};
 ghost use Rattle.dictionary.specs.Known.{Described};
 ghost use Rattle.dictionary.specs.Numbered.{IsListed};
-ghost use Rattle.numbering.specs.Types.{spanIn, fitsIn};
-ghost use Rattle.numbering.specs.Bounds.{numbers, floorIn, limitIn, aboveIn, typeFloor, typeLimit, fieldFloor, lowest, joinedAt, Joins, AreLimits, AreBounds};
+ghost use Rattle.numbering.specs.Types.{span_in, fits_in};
+ghost use Rattle.numbering.specs.Bounds.{numbers, floor_in, limit_in, above_in, type_floor, type_limit, field_floor, lowest, joined_at, Joins, AreLimits, AreBounds};
 
 use super::types::kind_at;
 use dictionary::wordsets;
@@ -41,7 +41,7 @@ struct Range {
 
 // A floor that is not below the lower end of a range.
 fn raise(floor: u64, low: Whole) -> u64
-    ensures { result ≡ max floor (from (intIn low)) }
+    ensures { result ≡ max floor (from (int_in low)) }
 {
     let Whole::Plus(n) = low else {
         return floor;
@@ -51,7 +51,7 @@ fn raise(floor: u64, low: Whole) -> u64
 
 // A limit that is not beyond the upper end of a range.
 fn lower(limit: u64, high: Whole) -> u64
-    ensures { result ≡ min limit (above (intIn high)) }
+    ensures { result ≡ min limit (above (int_in high)) }
 {
     match high {
         Whole::Plus(end) => {
@@ -74,8 +74,8 @@ fn lower(limit: u64, high: Whole) -> u64
 
 // A floor above an int; -0 is 0.
 fn exceed(floor: u64, x: Whole) -> u64
-    requires { above (intIn x) ≤ numbers }
-    ensures { result ≡ max floor (above (intIn x)) }
+    requires { above (int_in x) ≤ numbers }
+    ensures { result ≡ max floor (above (int_in x)) }
 {
     match x {
         Whole::Plus(n) => {
@@ -98,7 +98,7 @@ fn exceed(floor: u64, x: Whole) -> u64
 
 // A floor above the int that a value is, blanks and newlines around it aside, where it is one.
 fn exceed_value(floor: u64, v: &[u8]) -> u64
-    ensures { result ≡ max floor (aboveIn (int_of intBounds (trim v.now))) }
+    ensures { result ≡ max floor (above_in (int_of int_bounds (trim v.now))) }
 {
     let i = values::int_in(v);
     let IntOf::Value(x) = i else {
@@ -110,7 +110,7 @@ fn exceed_value(floor: u64, v: &[u8]) -> u64
 // The bounds at place k by the ends of a range, if the place is one of so many.
 fn narrow_place(k: usize, count: usize, range: Range, floors: &mut [u64], limits: &mut [u64])
     requires { (count ≤ length floors.old) × (count ≤ length limits.old) }
-    ensures { (floors.new ≡ joinedAt max count k (from (intIn range.low)) floors.old) × (limits.new ≡ joinedAt min count k (above (intIn range.high)) limits.old) }
+    ensures { (floors.new ≡ joined_at max count k (from (int_in range.low)) floors.old) × (limits.new ≡ joined_at min count k (above (int_in range.high)) limits.old) }
 {
     if k < count {
         let low = range.low;
@@ -122,9 +122,9 @@ fn narrow_place(k: usize, count: usize, range: Range, floors: &mut [u64], limits
 
 // The same of the names that are the parts, between commas, of a word.
 fn narrow_parts(d: &[u8], l: Listed, s: &[u8], range: Range, floors: &mut [u64], limits: &mut [u64])
-    requires listed { IsListed d.now (auto (recordIn d.now)) l }
-    requires list_words_in_bounds { (listWords ≤ length floors.old) × (listWords ≤ length limits.old) × AreLimits (auto (recordIn d.now)) limits.old }
-    ensures { Joins max (auto (recordIn d.now)) (λ n. pick (among n (split 44 s.now)) (from (intIn range.low)) 0) floors.old floors.new × Joins min (auto (recordIn d.now)) (λ n. pick (among n (split 44 s.now)) (above (intIn range.high)) numbers) limits.old limits.new }
+    requires listed { IsListed d.now (auto (record_in d.now)) l }
+    requires list_words_in_bounds { (list_words ≤ length floors.old) × (list_words ≤ length limits.old) × AreLimits (auto (record_in d.now)) limits.old }
+    ensures { Joins max (auto (record_in d.now)) (λ n. pick (among n (split 44 s.now)) (from (int_in range.low)) 0) floors.old floors.new × Joins min (auto (record_in d.now)) (λ n. pick (among n (split 44 s.now)) (above (int_in range.high)) numbers) limits.old limits.new }
 {
     let entries = l.entries;
     let sets = l.sets;
@@ -144,9 +144,9 @@ fn narrow_parts(d: &[u8], l: Listed, s: &[u8], range: Range, floors: &mut [u64],
 
 // The same of the names that a `%type` field's text is about.
 fn narrow_names(d: &[u8], l: Listed, s: &[u8], range: Range, floors: &mut [u64], limits: &mut [u64])
-    requires listed { IsListed d.now (auto (recordIn d.now)) l }
-    requires list_words_in_bounds { (listWords ≤ length floors.old) × (listWords ≤ length limits.old) × AreLimits (auto (recordIn d.now)) limits.old }
-    ensures { Joins max (auto (recordIn d.now)) (λ n. pick (among n (typedNames s.now)) (from (intIn range.low)) 0) floors.old floors.new × Joins min (auto (recordIn d.now)) (λ n. pick (among n (typedNames s.now)) (above (intIn range.high)) numbers) limits.old limits.new }
+    requires listed { IsListed d.now (auto (record_in d.now)) l }
+    requires list_words_in_bounds { (list_words ≤ length floors.old) × (list_words ≤ length limits.old) × AreLimits (auto (record_in d.now)) limits.old }
+    ensures { Joins max (auto (record_in d.now)) (λ n. pick (among n (typed_names s.now)) (from (int_in range.low)) 0) floors.old floors.new × Joins min (auto (record_in d.now)) (λ n. pick (among n (typed_names s.now)) (above (int_in range.high)) numbers) limits.old limits.new }
 {
     let t = &s[words::gap_end(s)..];
     let e = words::word_end(t);
@@ -155,9 +155,9 @@ fn narrow_names(d: &[u8], l: Listed, s: &[u8], range: Range, floors: &mut [u64],
 
 // The bounds by a `%type` field of a text and a kind.
 fn narrow(d: &[u8], l: Listed, s: &[u8], kind: Shape, floors: &mut [u64], limits: &mut [u64])
-    requires listed { IsListed d.now (auto (recordIn d.now)) l }
-    requires list_words_in_bounds { (listWords ≤ length floors.old) × (listWords ≤ length limits.old) × AreLimits (auto (recordIn d.now)) limits.old }
-    ensures { Joins max (auto (recordIn d.now)) (λ n. pick (among n (typedNames s.now)) (floorIn (spanIn kind)) 0) floors.old floors.new × Joins min (auto (recordIn d.now)) (λ n. pick (among n (typedNames s.now)) (limitIn (spanIn kind)) numbers) limits.old limits.new }
+    requires listed { IsListed d.now (auto (record_in d.now)) l }
+    requires list_words_in_bounds { (list_words ≤ length floors.old) × (list_words ≤ length limits.old) × AreLimits (auto (record_in d.now)) limits.old }
+    ensures { Joins max (auto (record_in d.now)) (λ n. pick (among n (typed_names s.now)) (floor_in (span_in kind)) 0) floors.old floors.new × Joins min (auto (record_in d.now)) (λ n. pick (among n (typed_names s.now)) (limit_in (span_in kind)) numbers) limits.old limits.new }
 {
     let Shape::Range(low, high) = kind else {
         return;
@@ -167,9 +167,9 @@ fn narrow(d: &[u8], l: Listed, s: &[u8], kind: Shape, floors: &mut [u64], limits
 
 // The bounds by all types of a descriptor.
 fn narrow_all(d: &[u8], l: Listed, scratch: &mut [u8], floors: &mut [u64], limits: &mut [u64])
-    requires described { Described d.now × IsListed d.now (auto (recordIn d.now)) l × (valueBytes ≤ length scratch.old) }
-    requires list_words_in_bounds { (listWords ≤ length floors.old) × (listWords ≤ length limits.old) × AreLimits (auto (recordIn d.now)) limits.old }
-    ensures { Joins max (auto (recordIn d.now)) (λ n. largest (typeFloor d.now n) (valuesFrom d.now (text "%type") 0)) floors.old floors.new × Joins min (auto (recordIn d.now)) (λ n. lowest (typeLimit d.now n) (valuesFrom d.now (text "%type") 0)) limits.old limits.new }
+    requires described { Described d.now × IsListed d.now (auto (record_in d.now)) l × (value_bytes ≤ length scratch.old) }
+    requires list_words_in_bounds { (list_words ≤ length floors.old) × (list_words ≤ length limits.old) × AreLimits (auto (record_in d.now)) limits.old }
+    ensures { Joins max (auto (record_in d.now)) (λ n. largest (type_floor d.now n) (values_from d.now (text "%type") 0)) floors.old floors.new × Joins min (auto (record_in d.now)) (λ n. lowest (type_limit d.now n) (values_from d.now (text "%type") 0)) limits.old limits.new }
 {
     let names = typedefs::read_names(d);
     let defs = typedefs::read_typedefs(d, names, &mut *scratch);
@@ -200,8 +200,8 @@ fn raise_place(
     scratch: &mut [u8],
     floors: &mut [u64],
 )
-    requires { (value ≤ length s.now) × (length (valueFrom (drop value s.now)) ≤ length scratch.old) × (count ≤ length floors.old) }
-    ensures { floors.new ≡ joinedAt max count k (aboveIn (int_of intBounds (trim (valueFrom (drop value s.now))))) floors.old }
+    requires { (value ≤ length s.now) × (length (value_from (drop value s.now)) ≤ length scratch.old) × (count ≤ length floors.old) }
+    ensures { floors.new ≡ joined_at max count k (above_in (int_of int_bounds (trim (value_from (drop value s.now))))) floors.old }
 {
     if k < count {
         let n = values::copy_value(&s[value..], &mut *scratch);
@@ -211,10 +211,10 @@ fn raise_place(
 
 // The floors by all fields of a part.
 fn raise_all(d: &[u8], l: Listed, s: &[u8], scratch: &mut [u8], floors: &mut [u64])
-    requires listed { IsListed d.now (auto (recordIn d.now)) l }
-    requires s_value { (isReadable s.now ≡ true) × (length s.now ≤ fileBytes) × (all (fitsIn (length scratch.old)) (recordIn s.now) ≡ true) }
-    requires list_words_in_bounds { listWords ≤ length floors.old }
-    ensures { Joins max (auto (recordIn d.now)) (λ n. largest (fieldFloor n) (recordIn s.now)) floors.old floors.new }
+    requires listed { IsListed d.now (auto (record_in d.now)) l }
+    requires s_value { (is_readable s.now ≡ true) × (length s.now ≤ file_bytes) × (all (fits_in (length scratch.old)) (record_in s.now) ≡ true) }
+    requires list_words_in_bounds { list_words ≤ length floors.old }
+    ensures { Joins max (auto (record_in d.now)) (λ n. largest (field_floor n) (record_in s.now)) floors.old floors.new }
 {
     let entries = l.entries;
     let sets = l.sets;
@@ -247,9 +247,9 @@ pub(crate) struct Bounds {
 
 // Those by the fields of a part and the types of a descriptor.
 pub(crate) fn bounds_of(d: &[u8], l: Listed, s: &[u8], scratch: &mut [u8]) -> Bounds
-    requires described { Described d.now × IsListed d.now (auto (recordIn d.now)) l × (valueBytes ≤ length scratch.old) }
-    requires s_value { (isReadable s.now ≡ true) × (length s.now ≤ fileBytes) × (all (fitsIn (length scratch.old)) (recordIn s.now) ≡ true) }
-    ensures { AreBounds d.now (recordIn s.now) result }
+    requires described { Described d.now × IsListed d.now (auto (record_in d.now)) l × (value_bytes ≤ length scratch.old) }
+    requires s_value { (is_readable s.now ≡ true) × (length s.now ≤ file_bytes) × (all (fits_in (length scratch.old)) (record_in s.now) ≡ true) }
+    ensures { AreBounds d.now (record_in s.now) result }
 {
     let mut floors = [0u64; Descriptor::WORDS];
     let mut limits = [Limit::ALL; Descriptor::WORDS];

@@ -1,17 +1,17 @@
 // The `%type` fields of a descriptor: the kind at the end of each, and the names that it is about.
 ghost use Rattle.std.specs.Prelude.{◌≡◌, ◌||◌, not, ◌≤◌, length, drop};
 ghost use Rattle.format.specs.Bytes.{text, all, any, among, is_some};
-ghost use Rattle.format.specs.Limits.{valueBytes};
+ghost use Rattle.format.specs.Limits.{value_bytes};
 ghost use Rattle.format.specs.Words.{split};
-ghost use Rattle.format.specs.Rules.{typedNames, auto};
-ghost use Rattle.values.specs.Value.{valueFrom};
-ghost use Rattle.records.specs.Walk.{recordIn};
-ghost use Rattle.records.specs.Named.{valuesFrom};
+ghost use Rattle.format.specs.Rules.{typed_names, auto};
+ghost use Rattle.values.specs.Value.{value_from};
+ghost use Rattle.records.specs.Walk.{record_in};
+ghost use Rattle.records.specs.Named.{values_from};
 ghost use Rattle.typedefs.specs.Names.{AreNames};
 ghost use Rattle.typedefs.specs.Typedefs.{AreTypedefs};
 ghost use Rattle.dictionary.specs.Known.{Described};
 ghost use Rattle.dictionary.specs.Numbered.{IsListed};
-ghost use Rattle.numbering.specs.Types.{spanIn, typeSpan, HasType, isTypeCounted};
+ghost use Rattle.numbering.specs.Types.{span_in, type_span, HasType, is_type_counted};
 
 use dictionary::wordsets;
 use dictionary::wordsets::Listed;
@@ -28,8 +28,8 @@ pub(crate) fn kind_at(
     scratch: &mut [u8],
 ) -> Shape
     requires described { Described d.now × AreNames d.now names × AreTypedefs d.now names.places defs }
-    requires has_type { HasType d.now value × (valueBytes ≤ length scratch.old) }
-    ensures { spanIn result ≡ typeSpan d.now (valueFrom (drop value d.now)) }
+    requires has_type { HasType d.now value × (value_bytes ≤ length scratch.old) }
+    ensures { span_in result ≡ type_span d.now (value_from (drop value d.now)) }
 {
     let own = typedefs::read_typedef(d, names, value, &mut *scratch);
     let t = typedefs::end_of(defs, own);
@@ -42,7 +42,7 @@ pub(crate) fn kind_at(
 
 // Is a kind int or range?
 fn is_counted(kind: Shape) -> bool
-    ensures { result ≡ is_some (spanIn kind) }
+    ensures { result ≡ is_some (span_in kind) }
 {
     match kind {
         Shape::Int => true,
@@ -53,8 +53,8 @@ fn is_counted(kind: Shape) -> bool
 
 // Is a part, between commas, of a word among the names of `%auto` lists?
 fn part_listed(d: &[u8], l: Listed, s: &[u8]) -> bool
-    requires { IsListed d.now (auto (recordIn d.now)) l }
-    ensures { result ≡ any (λ n. among n (auto (recordIn d.now))) (split 44 s.now) }
+    requires { IsListed d.now (auto (record_in d.now)) l }
+    ensures { result ≡ any (λ n. among n (auto (record_in d.now))) (split 44 s.now) }
 {
     let entries = l.entries;
     let sets = l.sets;
@@ -74,8 +74,8 @@ fn part_listed(d: &[u8], l: Listed, s: &[u8]) -> bool
 
 // Is one of the names that a `%type` field's text is about?
 fn name_listed(d: &[u8], l: Listed, s: &[u8]) -> bool
-    requires { IsListed d.now (auto (recordIn d.now)) l }
-    ensures { result ≡ any (λ n. among n (auto (recordIn d.now))) (typedNames s.now) }
+    requires { IsListed d.now (auto (record_in d.now)) l }
+    ensures { result ≡ any (λ n. among n (auto (record_in d.now))) (typed_names s.now) }
 {
     let t = &s[words::gap_end(s)..];
     let e = words::word_end(t);
@@ -84,9 +84,9 @@ fn name_listed(d: &[u8], l: Listed, s: &[u8]) -> bool
 
 // Is the type of the value at a place int or range, or about no name of an `%auto` list?
 fn type_counted(d: &[u8], l: Listed, kind: Shape, value: usize, scratch: &mut [u8]) -> bool
-    requires listed { IsListed d.now (auto (recordIn d.now)) l }
-    requires value_in_bounds { (value ≤ length d.now) × (length (valueFrom (drop value d.now)) ≤ length scratch.old) }
-    ensures { result ≡ (is_some (spanIn kind) || not (any (λ n. among n (auto (recordIn d.now))) (typedNames (valueFrom (drop value d.now))))) }
+    requires listed { IsListed d.now (auto (record_in d.now)) l }
+    requires value_in_bounds { (value ≤ length d.now) × (length (value_from (drop value d.now)) ≤ length scratch.old) }
+    ensures { result ≡ (is_some (span_in kind) || not (any (λ n. among n (auto (record_in d.now))) (typed_names (value_from (drop value d.now))))) }
 {
     if is_counted(kind) {
         return true;
@@ -97,10 +97,10 @@ fn type_counted(d: &[u8], l: Listed, kind: Shape, value: usize, scratch: &mut [u
 
 // Is every type?
 fn all_counted(d: &[u8], l: Listed, names: Names, defs: Typedefs, scratch: &mut [u8]) -> bool
-    requires listed { IsListed d.now (auto (recordIn d.now)) l }
+    requires listed { IsListed d.now (auto (record_in d.now)) l }
     requires described { Described d.now × AreNames d.now names × AreTypedefs d.now names.places defs }
-    requires value_bytes_in_bounds { valueBytes ≤ length scratch.old }
-    ensures { result ≡ all (isTypeCounted d.now) (valuesFrom d.now (text "%type") 0) }
+    requires value_bytes_in_bounds { value_bytes ≤ length scratch.old }
+    ensures { result ≡ all (is_type_counted d.now) (values_from d.now (text "%type") 0) }
 {
     let mut i = 0;
     loop {
@@ -123,9 +123,9 @@ fn all_counted(d: &[u8], l: Listed, names: Names, defs: Typedefs, scratch: &mut 
 
 // The same of a descriptor.
 pub(crate) fn types_counted(d: &[u8], l: Listed, scratch: &mut [u8]) -> bool
-    requires listed { IsListed d.now (auto (recordIn d.now)) l }
-    requires described { Described d.now × (valueBytes ≤ length scratch.old) }
-    ensures { result ≡ all (isTypeCounted d.now) (valuesFrom d.now (text "%type") 0) }
+    requires listed { IsListed d.now (auto (record_in d.now)) l }
+    requires described { Described d.now × (value_bytes ≤ length scratch.old) }
+    ensures { result ≡ all (is_type_counted d.now) (values_from d.now (text "%type") 0) }
 {
     let names = typedefs::read_names(d);
     let defs = typedefs::read_typedefs(d, names, &mut *scratch);

@@ -8,22 +8,22 @@ use Rattle.numbers.specs.declared.Ends.{Ends}
 use Rattle.numbers.specs.declared.IntOf.{IntOf}
 use Rattle.numbers.specs.declared.Natural.{Natural}
 
-abbrev pub intIn : Whole → Int
-intIn (Whole.Minus n) = minus n
-intIn (Whole.Plus n) = plus n
+abbrev pub int_in : Whole → Int
+int_in (Whole.Minus n) = minus n
+int_in (Whole.Plus n) = plus n
 
-abbrev pub boundsIn : Ends → Bounds
-boundsIn e = record { least = e.least; greatest = e.greatest }
+abbrev pub bounds_in : Ends → Bounds
+bounds_in e = record { least = e.least; greatest = e.greatest }
 
-abbrev pub intAnswer : IntOf → Option Int
-intAnswer (IntOf.Value x) = some (intIn x)
-intAnswer IntOf.NotInt = none
+abbrev pub int_answer : IntOf → Option Int
+int_answer (IntOf.Value x) = some (int_in x)
+int_answer IntOf.NotInt = none
 
-abbrev pub naturalAnswer : Natural → Option ℕ
-naturalAnswer (Natural.Of n) = some n
-naturalAnswer Natural.Not = none
+abbrev pub natural_answer : Natural → Option ℕ
+natural_answer (Natural.Of n) = some n
+natural_answer Natural.Not = none
 
 -- a number where it is at most a limit
-abbrev pub upToLimit : ℕ → Option ℕ → Option ℕ
-upToLimit limit none = none
-upToLimit limit (some n) = only_if (leb n limit) n
+abbrev pub up_to_limit : ℕ → Option ℕ → Option ℕ
+up_to_limit limit none = none
+up_to_limit limit (some n) = only_if (leb n limit) n

@@ -1,8 +1,8 @@
 // Ints and reals, over decoded text.
 ghost use Rattle.std.specs.Prelude.{◌≡◌, true, false, ◌<◌, ◌≤◌, drop};
 ghost use Rattle.format.specs.Bytes.{within, is_some};
-ghost use Rattle.format.specs.Numbers.{intBounds, digit, areDigits, natural, unsigned, int_of, isAtMost, number_of, decimalIn, isReal};
-ghost use Rattle.numbers.specs.Meaning.{intIn, intAnswer, naturalAnswer, boundsIn, upToLimit};
+ghost use Rattle.format.specs.Numbers.{int_bounds, digit, are_digits, natural, unsigned, int_of, is_at_most, number_of, decimal_in, is_real};
+ghost use Rattle.numbers.specs.Meaning.{int_in, int_answer, natural_answer, bounds_in, up_to_limit};
 
 // An int: below zero, or not.
 #[derive(Drop)]
@@ -62,7 +62,7 @@ pub fn digit_of(b: u8) -> u64
 
 // Is this text one or more digits of a base?
 pub fn are_digits(s: &[u8], base: u64) -> bool
-    ensures { result ≡ areDigits base s.now }
+    ensures { result ≡ are_digits base s.now }
 {
     if s.len() == 0 {
         return false;
@@ -80,7 +80,7 @@ pub fn are_digits(s: &[u8], base: u64) -> bool
 // The number that the digits from `from` on stand for, where it is at most limit: no product passes the limit.
 fn natural_of(s: &[u8], from: usize, base: u64, limit: u64) -> Natural
     requires { 0 < base }
-    ensures { naturalAnswer result ≡ upToLimit limit (natural base (drop from s.now)) }
+    ensures { natural_answer result ≡ up_to_limit limit (natural base (drop from s.now)) }
 {
     if s.len() <= from {
         return Natural::Not;
@@ -108,7 +108,7 @@ fn natural_of(s: &[u8], from: usize, base: u64, limit: u64) -> Natural
 // A number with no sign from `from` on: hexadecimal behind `0x`, octal from 0 on, else decimal.
 fn unsigned_of(s: &[u8], from: usize, limit: u64) -> Natural
     requires { from ≤ 1 }
-    ensures { naturalAnswer result ≡ upToLimit limit (unsigned (drop from s.now)) }
+    ensures { natural_answer result ≡ up_to_limit limit (unsigned (drop from s.now)) }
 {
     if lines::byte(s, from) == b'0' {
         if lines::byte(s, from + 1) == b'x' {
@@ -121,7 +121,7 @@ fn unsigned_of(s: &[u8], from: usize, limit: u64) -> Natural
 
 // An int within any ends.
 fn int_within(s: &[u8], ends: Ends) -> IntOf
-    ensures { intAnswer result ≡ int_of (boundsIn ends) s.now }
+    ensures { int_answer result ≡ int_of (bounds_in ends) s.now }
 {
     if lines::byte(s, 0) == b'-' {
         let m = unsigned_of(s, 1, ends.least);
@@ -140,7 +140,7 @@ fn int_within(s: &[u8], ends: Ends) -> IntOf
 
 // The int that a text stands for.
 pub fn int_of(s: &[u8]) -> IntOf
-    ensures { intAnswer result ≡ int_of intBounds s.now }
+    ensures { int_answer result ≡ int_of int_bounds s.now }
 {
     int_within(
         s,
@@ -153,7 +153,7 @@ pub fn int_of(s: &[u8]) -> IntOf
 
 // The int of at least 0 that a text stands for.
 pub fn number_of(s: &[u8]) -> Natural
-    ensures { naturalAnswer result ≡ number_of intBounds s.now }
+    ensures { natural_answer result ≡ number_of int_bounds s.now }
 {
     let x = int_of(s);
     let IntOf::Value(w) = x else {
@@ -167,7 +167,7 @@ pub fn number_of(s: &[u8]) -> Natural
 
 // Is the first int at most the second?
 pub fn at_most(a: Whole, b: Whole) -> bool
-    ensures { result ≡ isAtMost (intIn a) (intIn b) }
+    ensures { result ≡ is_at_most (int_in a) (int_in b) }
 {
     match a {
         Whole::Minus(m) => match b {
@@ -183,7 +183,7 @@ pub fn at_most(a: Whole, b: Whole) -> bool
 
 // Digits, or digits, a dot and digits.
 fn is_decimal(s: &[u8]) -> bool
-    ensures { result ≡ is_some (decimalIn false s.now) }
+    ensures { result ≡ is_some (decimal_in false s.now) }
 {
     let e = words::part_end(s, b'.');
     if are_digits(&s[..e], 10) {
@@ -199,7 +199,7 @@ fn is_decimal(s: &[u8]) -> bool
 
 // Is this text a real?
 pub fn is_real(s: &[u8]) -> bool
-    ensures { result ≡ isReal s.now }
+    ensures { result ≡ is_real s.now }
 {
     if lines::byte(s, 0) == b'-' {
         is_decimal(&s[1..])

@@ -2,11 +2,11 @@
 use Rattle.std.specs.Prelude.{ℕ, ◌≡◌, ◌≢◌, List, map, length, take, drop}
 use Rattle.std.proofs.Math.Option.{some}
 use Rattle.format.specs.Bytes.{Bytes}
-use Rattle.format.specs.Calls.{Answer, number_in, valueOr, countAnswer, Filled, fetchAnswer, Viewed, viewAnswer}
-use Rattle.format.specs.Runs.{requestIn, singles}
+use Rattle.format.specs.Calls.{Answer, number_in, value_or, count_answer, Filled, fetch_answer, Viewed, view_answer}
+use Rattle.format.specs.Runs.{request_in, singles}
 use Rattle.format.proofs.Elements.{Each}
-use Rattle.apart.specs.Naming.{setNamed}
-use Rattle.recfile.specs.Chains.{EditFromC, call_of, Left, Edited, numbersIn}
+use Rattle.apart.specs.Naming.{set_named}
+use Rattle.recfile.specs.Chains.{EditFromC, call_of, Left, Edited, numbers_in}
 
 -- a call of `recfile_count`; of `recfile_fetch` with a record, a name, an occurrence and a second buffer; of `recfile_view` with a record
 pub data LookFromC : Type 0 where
@@ -23,29 +23,29 @@ pub record Gave : Type 0 where
 
 -- what its contract says of them, for a buffer, a used length and the name of a set
 abbrev pub Looked : Bytes → ℕ → Bytes → LookFromC → Gave → Type 0
-Looked buffer used set count g = let a : Answer = countAnswer buffer used set in (g.returned ≡ valueOr 0 a) × (g.number ≡ number_in a)
-Looked buffer used set (fetch row name occurrence out) g = let f : Filled = fetchAnswer buffer used set row name occurrence out in (g.returned ≡ valueOr 0 f.result) × (g.number ≡ number_in f.result) × (g.out ≡ f.out)
-Looked buffer used set (view row) g = let v : Viewed = viewAnswer buffer used set row in (g.returned ≡ length v.part) × (g.start ≡ valueOr 0 v.result) × (g.number ≡ number_in v.result)
+Looked buffer used set count g = let a : Answer = count_answer buffer used set in (g.returned ≡ value_or 0 a) × (g.number ≡ number_in a)
+Looked buffer used set (fetch row name occurrence out) g = let f : Filled = fetch_answer buffer used set row name occurrence out in (g.returned ≡ value_or 0 f.result) × (g.number ≡ number_in f.result) × (g.out ≡ f.out)
+Looked buffer used set (view row) g = let v : Viewed = view_answer buffer used set row in (g.returned ≡ length v.part) × (g.start ≡ value_or 0 v.result) × (g.number ≡ number_in v.result)
 
 -- Two such calls on two buffers gave the same: what they returned, `*number`, and a second buffer; "of a view, its bytes are meant and not its place".
-abbrev pub partIn : Bytes → Gave → Bytes
-partIn buffer g = take g.returned (drop g.start buffer)
+abbrev pub part_in : Bytes → Gave → Bytes
+part_in buffer g = take g.returned (drop g.start buffer)
 
 abbrev pub SameAnswer : LookFromC → Bytes → Gave → Bytes → Gave → Type 0
 SameAnswer count b g c h = (g.returned ≡ h.returned) × (g.number ≡ h.number)
 SameAnswer (fetch row name occurrence out) b g c h = (g.returned ≡ h.returned) × (g.number ≡ h.number) × (g.out ≡ h.out)
-SameAnswer (view row) b g c h = (g.returned ≡ h.returned) × (g.number ≡ h.number) × (partIn b g ≡ partIn c h)
+SameAnswer (view row) b g c h = (g.returned ≡ h.returned) × (g.number ≡ h.number) × (part_in b g ≡ part_in c h)
 
 -- the requests of calls that edit, a run's among them, in their order; and that none of them names a set
-abbrev pub requestsOf : List EditFromC → List Bytes
-requestsOf cs = map requestIn (singles (map call_of cs))
+abbrev pub requests_of : List EditFromC → List Bytes
+requests_of cs = map request_in (singles (map call_of cs))
 
 abbrev pub NoneNames : Bytes → List EditFromC → Type 0
-NoneNames set cs = Each (λ (q : Bytes). setNamed q ≢ some set) (requestsOf cs)
+NoneNames set cs = Each (λ (q : Bytes). set_named q ≢ some set) (requests_of cs)
 
 -- every one of them was accepted
 abbrev pub Accepted : List EditFromC → List Left → Type 0
-Accepted cs ls = Each (λ (k : ℕ). k ≡ 0) (numbersIn cs ls)
+Accepted cs ls = Each (λ (k : ℕ). k ≡ 0) (numbers_in cs ls)
 
 -- Two requests given to `recfile_edit` on one buffer and length, q and then r, and r and then q: what each of the four calls left.
 pub record EitherOrder (buffer : Bytes) (used : ℕ) (q r : Bytes) (q-first r-then r-first q-then : Left) : Type 0 where

@@ -4,9 +4,9 @@ use Rattle.format.specs.Bytes.{Bytes}
 use Rattle.format.specs.Pieces.{read_of}
 use Rattle.format.specs.Questions.{verdict}
 use Rattle.format.specs.Plain.{Plain, plain_of}
-use Rattle.format.specs.Calls.{Answer, number_in, valueOr, editAnswer}
-use Rattle.format.specs.Directory.{keptAnswer}
-use Rattle.format.specs.Runs.{Single, Told, plainRun, numbersTold, runAnswer, Call, stands_for, singles, run}
+use Rattle.format.specs.Calls.{Answer, number_in, value_or, edit_answer}
+use Rattle.format.specs.Directory.{kept_answer}
+use Rattle.format.specs.Runs.{Single, Told, plain_run, numbers_told, run_answer, Call, stands_for, singles, run}
 use Rattle.format.specs.Demand.{Demand}
 use Rattle.format.specs.declared.Entry.{Entry}
 
@@ -31,13 +31,13 @@ pub record Left : Type 0 where
 
 -- what a contract says of the first three
 abbrev pub Answers : Answer → Bytes → ℕ → Left → Type 0
-Answers a out used l = (l.length ≡ valueOr used a) × (l.number ≡ number_in a) × (l.buffer ≡ out)
+Answers a out used l = (l.length ≡ value_or used a) × (l.number ≡ number_in a) × (l.buffer ≡ out)
 
 -- and of the list, where a call is given one
 abbrev pub Edited : Bytes → ℕ → EditFromC → Left → Type 0
-Edited buffer used (edit q) l = Answers (editAnswer buffer used q).result (editAnswer buffer used q).out used l
-Edited buffer used (listed es q) l = Answers (keptAnswer buffer used q es).result (keptAnswer buffer used q es).out used l × (l.entries ≡ (keptAnswer buffer used q es).entries)
-Edited buffer used (many old s) l = Answers (runAnswer buffer used s old).result (runAnswer buffer used s old).out used l × (l.answers ≡ (runAnswer buffer used s old).answers)
+Edited buffer used (edit q) l = Answers (edit_answer buffer used q).result (edit_answer buffer used q).out used l
+Edited buffer used (listed es q) l = Answers (kept_answer buffer used q es).result (kept_answer buffer used q es).out used l × (l.entries ≡ (kept_answer buffer used q es).entries)
+Edited buffer used (many old s) l = Answers (run_answer buffer used s old).result (run_answer buffer used s old).out used l × (l.answers ≡ (run_answer buffer used s old).answers)
 
 -- what each call left, and the buffer and the length that the last one left
 abbrev pub Chain : List EditFromC → Bytes → ℕ → List Left → Bytes → ℕ → Type 0
@@ -54,42 +54,42 @@ Along es (edit q ∷ cs) (l ∷ ls) last = Along es cs ls last
 Along es (listed given q ∷ cs) (l ∷ ls) last = (given ≡ es) × Along l.entries cs ls last
 Along es (many old s ∷ cs) (l ∷ ls) last = Along es cs ls last
 
-abbrev pub isListed : EditFromC → Bool
-isListed (edit q) = false
-isListed (listed es q) = true
-isListed (many old s) = false
+abbrev pub is_listed : EditFromC → Bool
+is_listed (edit q) = false
+is_listed (listed es q) = true
+is_listed (many old s) = false
 
 -- the numbers that the calls told, one for each edit: a run's stand in front of its list of answers
-abbrev pub numbersBy : EditFromC → Left → List ℕ
-numbersBy (edit q) l = l.number ∷ []
-numbersBy (listed es q) l = l.number ∷ []
-numbersBy (many old s) l = take (length (stands_for (Call.many (length old) s))) l.answers
+abbrev pub numbers_by : EditFromC → Left → List ℕ
+numbers_by (edit q) l = l.number ∷ []
+numbers_by (listed es q) l = l.number ∷ []
+numbers_by (many old s) l = take (length (stands_for (Call.many (length old) s))) l.answers
 
-abbrev pub numbersIn : List EditFromC → List Left → List ℕ
-numbersIn [] ls = []
-numbersIn (c ∷ cs) [] = []
-numbersIn (c ∷ cs) (l ∷ ls) = numbersBy c l ++ numbersIn cs ls
+abbrev pub numbers_in : List EditFromC → List Left → List ℕ
+numbers_in [] ls = []
+numbers_in (c ∷ cs) [] = []
+numbers_in (c ∷ cs) (l ∷ ls) = numbers_by c l ++ numbers_in cs ls
 
 -- the lengths that they returned, one for each call
-abbrev pub lengthsIn : List Left → List ℕ
-lengthsIn ls = map (λ (l : Left). l.length) ls
+abbrev pub lengths_in : List Left → List ℕ
+lengths_in ls = map (λ (l : Left). l.length) ls
 
 -- those that are told of a list's edits: of each call the length after its last edit, or the given one if it stands for none
-abbrev pub lastLength : ℕ → List Told → ℕ
-lastLength used [] = used
-lastLength used (t ∷ ts) = lastLength t.length ts
+abbrev pub last_length : ℕ → List Told → ℕ
+last_length used [] = used
+last_length used (t ∷ ts) = last_length t.length ts
 
-abbrev pub lengthsTold : ℕ → List Call → List Told → List ℕ
-lengthsTold used [] ts = []
-lengthsTold used (c ∷ cs) ts =
+abbrev pub lengths_told : ℕ → List Call → List Told → List ℕ
+lengths_told used [] ts = []
+lengths_told used (c ∷ cs) ts =
     let k : ℕ = length (stands_for c) in
-    let n : ℕ = lastLength used (take k ts) in
-    n ∷ lengthsTold n cs (drop k ts)
+    let n : ℕ = last_length used (take k ts) in
+    n ∷ lengths_told n cs (drop k ts)
 
 -- They left what the definition's run leaves, and told each edit's number and each call's length as that does; and if the file passes, demand 3 holds of it.
 pub record Leaves (buffer : Bytes) (used : ℕ) (calls : List Call) (numbers returned : List ℕ) (last : Bytes) (n : ℕ) : Type 0 where
   pub buffers : last ≡ (run calls buffer used).buffer
   pub lengths : n ≡ (run calls buffer used).length
-  pub tells : numbers ≡ numbersTold (run calls buffer used).told
-  pub returns : returned ≡ lengthsTold used calls (run calls buffer used).told
-  pub demand : verdict buffer used ≡ 0 → let first : Plain = plain_of (read_of (take used buffer)) in Demand buffer used first (singles calls) (run calls buffer used) (plainRun (length buffer) (singles calls) first used)
+  pub tells : numbers ≡ numbers_told (run calls buffer used).told
+  pub returns : returned ≡ lengths_told used calls (run calls buffer used).told
+  pub demand : verdict buffer used ≡ 0 → let first : Plain = plain_of (read_of (take used buffer)) in Demand buffer used first (singles calls) (run calls buffer used) (plain_run (length buffer) (singles calls) first used)

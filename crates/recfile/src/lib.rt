@@ -1,11 +1,11 @@
 // The calls for C: slices are a pointer and a length, a refusal's number goes through a pointer (0: accepted). include/recfile.h says the same in C.
 ghost use Rattle.std.specs.Prelude.{◌≡◌, length};
 ghost use Rattle.format.specs.Requests.{tag as tag_of};
-ghost use Rattle.format.specs.Calls.{answered, number_in, valueOr, checkAnswer, countAnswer, fetchAnswer, viewAnswer, writeAnswer, editAnswer, nameAnswer, fieldAnswer};
-ghost use Rattle.format.specs.Directory.{fillAnswer, keptAnswer, countAtAnswer};
-ghost use Rattle.format.specs.Runs.{runAnswer};
-ghost use Rattle.drafts.specs.Drafts.{toFillAnswer};
-ghost use Rattle.selection.specs.Found.{findAnswer};
+ghost use Rattle.format.specs.Calls.{answered, number_in, value_or, check_answer, count_answer, fetch_answer, view_answer, write_answer, edit_answer, name_answer, field_answer};
+ghost use Rattle.format.specs.Directory.{fill_answer, kept_answer, count_at_answer};
+ghost use Rattle.format.specs.Runs.{run_answer};
+ghost use Rattle.drafts.specs.Drafts.{to_fill_answer};
+ghost use Rattle.selection.specs.Found.{find_answer};
 
 use format::{Answer, Entry};
 use lookup::Seen;
@@ -14,7 +14,7 @@ mod sums;
 
 // What C is told of an answer: its number, or another where it is refused, and the refusal's through a pointer.
 fn tell(a: Answer, other: usize, number: &mut u32) -> usize
-    ensures { (result ≡ valueOr other (answered a)) × (number.new ≡ number_in (answered a)) }
+    ensures { (result ≡ value_or other (answered a)) × (number.new ≡ number_in (answered a)) }
 {
     *number = a.number();
     a.value_or(other)
@@ -23,7 +23,7 @@ fn tell(a: Answer, other: usize, number: &mut u32) -> usize
 // The number of the first question that says no of the file in the first `used` bytes of a buffer, else 0.
 #[unsafe(no_mangle)]
 pub extern "C" fn recfile_check(buf: &[u8], used: usize) -> u32
-    ensures { result ≡ checkAnswer buf.now used }
+    ensures { result ≡ check_answer buf.now used }
 {
     integrity::check(buf, used)
 }
@@ -31,7 +31,7 @@ pub extern "C" fn recfile_check(buf: &[u8], used: usize) -> u32
 // The number of records of a set, 0 where it is refused.
 #[unsafe(no_mangle)]
 pub extern "C" fn recfile_count(buf: &[u8], used: usize, set: &[u8], number: &mut u32) -> usize
-    ensures { (result ≡ valueOr 0 (countAnswer buf.now used set.now)) × (number.new ≡ number_in (countAnswer buf.now used set.now)) }
+    ensures { (result ≡ value_or 0 (count_answer buf.now used set.now)) × (number.new ≡ number_in (count_answer buf.now used set.now)) }
 {
     let count = lookup::count(buf, used, set);
     tell(count, 0, number)
@@ -49,9 +49,9 @@ pub extern "C" fn recfile_fetch(
     out: &mut [u8],
     number: &mut u32,
 ) -> usize
-    ensures { (result ≡ valueOr 0 (fetchAnswer buf.now used set.now row name.now occurrence out.old).result)
-        × (number.new ≡ number_in (fetchAnswer buf.now used set.now row name.now occurrence out.old).result)
-        × (out.new ≡ (fetchAnswer buf.now used set.now row name.now occurrence out.old).out) }
+    ensures { (result ≡ value_or 0 (fetch_answer buf.now used set.now row name.now occurrence out.old).result)
+        × (number.new ≡ number_in (fetch_answer buf.now used set.now row name.now occurrence out.old).result)
+        × (out.new ≡ (fetch_answer buf.now used set.now row name.now occurrence out.old).out) }
 {
     let fetched = lookup::fetch(buf, used, set, row, name, occurrence, &mut *out);
     tell(fetched, 0, number)
@@ -66,9 +66,9 @@ pub extern "C" fn recfile_set_name(
     out: &mut [u8],
     number: &mut u32,
 ) -> usize
-    ensures { (result ≡ valueOr 0 (nameAnswer buf.now used set out.old).result)
-        × (number.new ≡ number_in (nameAnswer buf.now used set out.old).result)
-        × (out.new ≡ (nameAnswer buf.now used set out.old).out) }
+    ensures { (result ≡ value_or 0 (name_answer buf.now used set out.old).result)
+        × (number.new ≡ number_in (name_answer buf.now used set out.old).result)
+        × (out.new ≡ (name_answer buf.now used set out.old).out) }
 {
     let named = lookup::set_name(buf, used, set, &mut *out);
     tell(named, 0, number)
@@ -84,9 +84,9 @@ pub extern "C" fn recfile_view(
     start: &mut usize,
     number: &mut u32,
 ) -> usize
-    ensures { (result ≡ length (viewAnswer buf.now used set.now row).part)
-        × (start.new ≡ valueOr 0 (viewAnswer buf.now used set.now row).result)
-        × (number.new ≡ number_in (viewAnswer buf.now used set.now row).result) }
+    ensures { (result ≡ length (view_answer buf.now used set.now row).part)
+        × (start.new ≡ value_or 0 (view_answer buf.now used set.now row).result)
+        × (number.new ≡ number_in (view_answer buf.now used set.now row).result) }
 {
     let v = lookup::view_place(buf, used, set, row);
     match v {
@@ -111,9 +111,9 @@ pub extern "C" fn recfile_find(
     records: &mut [usize],
     number: &mut u32,
 ) -> usize
-    ensures { (result ≡ valueOr 0 (findAnswer buf.now used set.now expression.now records.old).result)
-        × (number.new ≡ number_in (findAnswer buf.now used set.now expression.now records.old).result)
-        × (records.new ≡ (findAnswer buf.now used set.now expression.now records.old).list) }
+    ensures { (result ≡ value_or 0 (find_answer buf.now used set.now expression.now records.old).result)
+        × (number.new ≡ number_in (find_answer buf.now used set.now expression.now records.old).result)
+        × (records.new ≡ (find_answer buf.now used set.now expression.now records.old).list) }
 {
     let found = selection::find(buf, used, set, expression, &mut *records);
     tell(found, 0, number)
@@ -122,9 +122,9 @@ pub extern "C" fn recfile_find(
 // The length of the text of an insert's record that was put into out, 0 where it is refused.
 #[unsafe(no_mangle)]
 pub extern "C" fn recfile_write(request: &[u8], out: &mut [u8], number: &mut u32) -> usize
-    ensures { (result ≡ valueOr 0 (writeAnswer request.now out.old).result)
-        × (number.new ≡ number_in (writeAnswer request.now out.old).result)
-        × (out.new ≡ (writeAnswer request.now out.old).out) }
+    ensures { (result ≡ value_or 0 (write_answer request.now out.old).result)
+        × (number.new ≡ number_in (write_answer request.now out.old).result)
+        × (out.new ≡ (write_answer request.now out.old).out) }
 {
     let written = requests::write_record(request, &mut *out);
     tell(written, 0, number)
@@ -138,8 +138,8 @@ pub extern "C" fn recfile_to_fill(
     request: &[u8],
     number: &mut u32,
 ) -> usize
-    ensures { (result ≡ valueOr 0 (toFillAnswer buf.now used request.now))
-        × (number.new ≡ number_in (toFillAnswer buf.now used request.now)) }
+    ensures { (result ≡ value_or 0 (to_fill_answer buf.now used request.now))
+        × (number.new ≡ number_in (to_fill_answer buf.now used request.now)) }
 {
     let missing = drafts::to_fill(buf, used, request);
     tell(missing, 0, number)
@@ -153,9 +153,9 @@ pub extern "C" fn recfile_edit(
     request: &[u8],
     number: &mut u32,
 ) -> usize
-    ensures { (result ≡ valueOr used (editAnswer buf.old used request.now).result)
-        × (number.new ≡ number_in (editAnswer buf.old used request.now).result)
-        × (buf.new ≡ (editAnswer buf.old used request.now).out) }
+    ensures { (result ≡ value_or used (edit_answer buf.old used request.now).result)
+        × (number.new ≡ number_in (edit_answer buf.old used request.now).result)
+        × (buf.new ≡ (edit_answer buf.old used request.now).out) }
 {
     let edited = editor::edit(&mut *buf, used, request);
     tell(edited, used, number)
@@ -170,10 +170,10 @@ pub extern "C" fn recfile_edit_run(
     answers: &mut [u32],
     number: &mut u32,
 ) -> usize
-    ensures { (result ≡ valueOr used (runAnswer buf.old used run.now answers.old).result)
-        × (number.new ≡ number_in (runAnswer buf.old used run.now answers.old).result)
-        × (buf.new ≡ (runAnswer buf.old used run.now answers.old).out)
-        × (answers.new ≡ (runAnswer buf.old used run.now answers.old).answers) }
+    ensures { (result ≡ value_or used (run_answer buf.old used run.now answers.old).result)
+        × (number.new ≡ number_in (run_answer buf.old used run.now answers.old).result)
+        × (buf.new ≡ (run_answer buf.old used run.now answers.old).out)
+        × (answers.new ≡ (run_answer buf.old used run.now answers.old).answers) }
 {
     let sent = editor::edit_run(buf, used, run, answers);
     tell(sent, used, number)
@@ -187,9 +187,9 @@ pub extern "C" fn recfile_fill(
     entries: &mut [Entry],
     number: &mut u32,
 ) -> usize
-    ensures { (result ≡ valueOr 0 (fillAnswer buf.now used entries.old).result)
-        × (number.new ≡ number_in (fillAnswer buf.now used entries.old).result)
-        × (entries.new ≡ (fillAnswer buf.now used entries.old).entries) }
+    ensures { (result ≡ value_or 0 (fill_answer buf.now used entries.old).result)
+        × (number.new ≡ number_in (fill_answer buf.now used entries.old).result)
+        × (entries.new ≡ (fill_answer buf.now used entries.old).entries) }
 {
     let filled = directory::fill(buf, used, entries);
     tell(filled, 0, number)
@@ -204,10 +204,10 @@ pub extern "C" fn recfile_edit_listed(
     entries: &mut [Entry],
     number: &mut u32,
 ) -> usize
-    ensures { (result ≡ valueOr used (keptAnswer buf.old used request.now entries.old).result)
-        × (number.new ≡ number_in (keptAnswer buf.old used request.now entries.old).result)
-        × (buf.new ≡ (keptAnswer buf.old used request.now entries.old).out)
-        × (entries.new ≡ (keptAnswer buf.old used request.now entries.old).entries) }
+    ensures { (result ≡ value_or used (kept_answer buf.old used request.now entries.old).result)
+        × (number.new ≡ number_in (kept_answer buf.old used request.now entries.old).result)
+        × (buf.new ≡ (kept_answer buf.old used request.now entries.old).out)
+        × (entries.new ≡ (kept_answer buf.old used request.now entries.old).entries) }
 {
     let edited = directory::edit(buf, used, request, entries);
     tell(edited, used, number)
@@ -216,8 +216,8 @@ pub extern "C" fn recfile_edit_listed(
 // The number of records of the set at a position of a directory, 0 past its end.
 #[unsafe(no_mangle)]
 pub extern "C" fn recfile_count_at(entries: &[Entry], position: usize, number: &mut u32) -> usize
-    ensures { (result ≡ valueOr 0 (countAtAnswer entries.now position))
-        × (number.new ≡ number_in (countAtAnswer entries.now position)) }
+    ensures { (result ≡ value_or 0 (count_at_answer entries.now position))
+        × (number.new ≡ number_in (count_at_answer entries.now position)) }
 {
     let count = directory::count_at(entries, position);
     tell(count, 0, number)
@@ -231,7 +231,7 @@ pub extern "C" fn recfile_request_field(
     tag: u8,
     contents: &[u8],
 ) -> usize
-    ensures { record { next = result; out = request.new } ≡ fieldAnswer request.old at (tag_of tag contents.now) }
+    ensures { record { next = result; out = request.new } ≡ field_answer request.old at (tag_of tag contents.now) }
 {
     requests::put_field(request, at, tag, contents)
 }

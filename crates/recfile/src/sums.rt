@@ -1,6 +1,6 @@
 // The call for C that adds the values of a name.
 ghost use Rattle.std.specs.Prelude.{◌≡◌};
-ghost use Rattle.totals.specs.Totals.{totalAnswer, addedIn, hundredthsOr, millionthsOr, refusalIn};
+ghost use Rattle.totals.specs.Totals.{total_answer, added_in, hundredths_or, millionths_or, refusal_in};
 
 use totals::Totalled;
 
@@ -17,10 +17,10 @@ pub extern "C" fn recfile_total(
     millionths: &mut i64,
     number: &mut u32,
 ) -> usize
-    ensures { (result ≡ addedIn (totalAnswer buf.now used set.now name.now))
-        × (hundredths.new ≡ hundredthsOr hundredths.old (totalAnswer buf.now used set.now name.now))
-        × (millionths.new ≡ millionthsOr millionths.old (totalAnswer buf.now used set.now name.now))
-        × (number.new ≡ refusalIn (totalAnswer buf.now used set.now name.now)) }
+    ensures { (result ≡ added_in (total_answer buf.now used set.now name.now))
+        × (hundredths.new ≡ hundredths_or hundredths.old (total_answer buf.now used set.now name.now))
+        × (millionths.new ≡ millionths_or millionths.old (total_answer buf.now used set.now name.now))
+        × (number.new ≡ refusal_in (total_answer buf.now used set.now name.now)) }
 {
     let t = totals::total(buf, used, set, name);
     match t {

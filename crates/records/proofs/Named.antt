@@ -12,95 +12,95 @@ use Rattle.format.specs.Pieces.{Piece, read_of}
 use Rattle.format.specs.Records.{count_of}
 use Rattle.format.specs.Sets.{values_of}
 use Rattle.lines.specs.Piece.{value_at}
-use Rattle.values.specs.Value.{valueFrom}
+use Rattle.values.specs.Value.{value_from}
 use Rattle.lines.proofs.Cuts.{rest}
 use Rattle.words.specs.Spans.{span}
-use Rattle.records.specs.Places.{isReadable, headLine, fieldBy, fieldIn}
-use Rattle.records.specs.Walk.{recordIn}
-use Rattle.records.specs.Fields.{fieldsFrom, FieldHere}
-use Rattle.records.specs.Named.{valuesFrom, ValueNext, ValueBehind, occurrence, first_or, OccurrenceNext, NamedNext}
+use Rattle.records.specs.Places.{is_readable, head_line, field_by, field_in}
+use Rattle.records.specs.Walk.{record_in}
+use Rattle.records.specs.Fields.{fields_from, FieldHere}
+use Rattle.records.specs.Named.{values_from, ValueNext, ValueBehind, occurrence, first_or, OccurrenceNext, NamedNext}
 use Rattle.records.specs.declared.FoundField.{FoundField}
 use Rattle.records.proofs.Fields.{occurrence-none, occurrence-other, occurrence-here}
 use Rattle.records.proofs.NextFields.{span-moved}
 
 -- The same of the part from byte i on and of the whole text: each place is i bytes further.
-abbrev pub movedOn : ℕ → FoundField → FoundField
-movedOn i FoundField.Missing = FoundField.Missing
-movedOn i (FoundField.At a v e) = FoundField.At (i + a) (i + v) (i + e)
+abbrev pub moved_on : ℕ → FoundField → FoundField
+moved_on i FoundField.Missing = FoundField.Missing
+moved_on i (FoundField.At a v e) = FoundField.At (i + a) (i + v) (i + e)
 
 module _ (name : Bytes) (i : ℕ) where
-  by-moved : (t : Bool) (n : Bytes) (ls : List Line) (at o : ℕ) (f g : ℕ → FoundField) → ((k : ℕ) → f k ≡ movedOn i (g k)) → fieldBy t o (i + at) n ls f ≡ movedOn i (fieldBy t o at n ls g)
+  by-moved : (t : Bool) (n : Bytes) (ls : List Line) (at o : ℕ) (f g : ℕ → FoundField) → ((k : ℕ) → f k ≡ moved_on i (g k)) → field_by t o (i + at) n ls f ≡ moved_on i (field_by t o at n ls g)
   by-moved false n ls at o f g h = h o
   by-moved true n ls at zero f g h =
-      let v : i + at + value_at (length n) (headLine ls) ≡ i + (at + value_at (length n) (headLine ls)) = omega arith in
+      let v : i + at + value_at (length n) (head_line ls) ≡ i + (at + value_at (length n) (head_line ls)) = omega arith in
       let e : i + at + count_of ls ≡ i + (at + count_of ls) = omega arith in
       λ d. FoundField.At (i + at) (v d) (e d)
   by-moved true n ls at (suc o) f g h = h o
 
-  in_moved : (ps : List Piece) (at o : ℕ) → fieldIn name ps (i + at) o ≡ movedOn i (fieldIn name ps at o)
+  in_moved : (ps : List Piece) (at o : ℕ) → field_in name ps (i + at) o ≡ moved_on i (field_in name ps at o)
   in_moved [] at o = refl
-  in_moved (Piece.blank l ∷ ps) at o = ap (λ (j : ℕ). fieldIn name ps j o) (let e : i + at + count_of (l ∷ []) ≡ i + (at + count_of (l ∷ [])) = omega arith in e) ∙ in_moved ps (at + count_of (l ∷ [])) o
-  in_moved (Piece.comment l ∷ ps) at o = ap (λ (j : ℕ). fieldIn name ps j o) (let e : i + at + count_of (l ∷ []) ≡ i + (at + count_of (l ∷ [])) = omega arith in e) ∙ in_moved ps (at + count_of (l ∷ [])) o
+  in_moved (Piece.blank l ∷ ps) at o = ap (λ (j : ℕ). field_in name ps j o) (let e : i + at + count_of (l ∷ []) ≡ i + (at + count_of (l ∷ [])) = omega arith in e) ∙ in_moved ps (at + count_of (l ∷ [])) o
+  in_moved (Piece.comment l ∷ ps) at o = ap (λ (j : ℕ). field_in name ps j o) (let e : i + at + count_of (l ∷ []) ≡ i + (at + count_of (l ∷ [])) = omega arith in e) ∙ in_moved ps (at + count_of (l ∷ [])) o
   in_moved (Piece.field n v ls ∷ ps) at o =
-      by-moved (same name n) n ls at o (λ (k : ℕ). fieldIn name ps (i + at + count_of ls) k) (λ (k : ℕ). fieldIn name ps (at + count_of ls) k) (λ k. ap (λ (j : ℕ). fieldIn name ps j k) (let e : i + at + count_of ls ≡ i + (at + count_of ls) = omega arith in e) ∙ in_moved ps (at + count_of ls) k)
+      by-moved (same name n) n ls at o (λ (k : ℕ). field_in name ps (i + at + count_of ls) k) (λ (k : ℕ). field_in name ps (at + count_of ls) k) (λ k. ap (λ (j : ℕ). field_in name ps j k) (let e : i + at + count_of ls ≡ i + (at + count_of ls) = omega arith in e) ∙ in_moved ps (at + count_of ls) k)
 
 module _ (s name : Bytes) (i : ℕ) where
-  behind_moved : (x : FoundField) → ValueBehind x → ValueBehind (movedOn i x)
+  behind_moved : (x : FoundField) → ValueBehind x → ValueBehind (moved_on i x)
   behind_moved FoundField.Missing h = tt
   behind_moved (FoundField.At a v e) h = omega arith
 
-  value-moved : (x : FoundField) → ValueNext (drop i s) name 0 x → ValueNext s name i (movedOn i x)
+  value-moved : (x : FoundField) → ValueNext (drop i s) name 0 x → ValueNext s name i (moved_on i x)
   value-moved FoundField.Missing h = h
   value-moved (FoundField.At a v e) h =
       record {
         moves = omega (arith, h.moves);
         within = omega (arith, h.within);
         inside = omega (arith, h.moves, h.inside, length-drop i s);
-        readable = ap (λ (x : Bytes). isReadable x) (sym (drop-drop e i s)) ∙ h.readable;
+        readable = ap (λ (x : Bytes). is_readable x) (sym (drop-drop e i s)) ∙ h.readable;
         value_there = omega (arith, h.value_there, length-drop i s);
-        ends-itself = ap valueFrom (sym (drop-drop v i s)) ∙ h.ends-itself ∙ ap valueFrom (span-moved s i v e);
-        values = h.values ∙ (λ d. valueFrom (span-moved s i v e d) ∷ values_of name (recordIn (drop-drop e i s d)));
+        ends-itself = ap value_from (sym (drop-drop v i s)) ∙ h.ends-itself ∙ ap value_from (span-moved s i v e);
+        values = h.values ∙ (λ d. value_from (span-moved s i v e d) ∷ values_of name (record_in (drop-drop e i s d)));
       }
 
-  occurrence-moved : (j o : ℕ) → occurrence s name (i + j) o ≡ movedOn i (occurrence (drop i s) name j o)
-  occurrence-moved j o = ap (λ (x : Bytes). fieldIn name (read_of x) (i + j) o) (sym (drop-drop j i s)) ∙ in_moved name i (read_of (drop j (drop i s))) j o
+  occurrence-moved : (j o : ℕ) → occurrence s name (i + j) o ≡ moved_on i (occurrence (drop i s) name j o)
+  occurrence-moved j o = ap (λ (x : Bytes). field_in name (read_of x) (i + j) o) (sym (drop-drop j i s)) ∙ in_moved name i (read_of (drop j (drop i s))) j o
 
-  from-part : (o : ℕ) → occurrence s name i o ≡ movedOn i (occurrence (drop i s) name 0 o)
+  from-part : (o : ℕ) → occurrence s name i o ≡ moved_on i (occurrence (drop i s) name 0 o)
   from-part o = ap (λ (j : ℕ). occurrence s name j o) (let z : i ≡ i + 0 = omega arith in z) ∙ occurrence-moved 0 o
 
-  first-moved : (a v e o : ℕ) → movedOn i (first_or (FoundField.At a v e) (occurrence (drop i s) name e) o) ≡ first_or (movedOn i (FoundField.At a v e)) (occurrence s name (i + e)) o
+  first-moved : (a v e o : ℕ) → moved_on i (first_or (FoundField.At a v e) (occurrence (drop i s) name e) o) ≡ first_or (moved_on i (FoundField.At a v e)) (occurrence s name (i + e)) o
   first-moved a v e zero = refl
   first-moved a v e (suc o) = sym (occurrence-moved e o)
 
-  found-moved : (x : FoundField) → OccurrenceNext (drop i s) name 0 x → OccurrenceNext s name i (movedOn i x)
-  found-moved FoundField.Missing h = λ o. from-part o ∙ ap (movedOn i) (h o)
-  found-moved (FoundField.At a v e) h = λ o. from-part o ∙ ap (movedOn i) (h o) ∙ first-moved a v e o
+  found-moved : (x : FoundField) → OccurrenceNext (drop i s) name 0 x → OccurrenceNext s name i (moved_on i x)
+  found-moved FoundField.Missing h = λ o. from-part o ∙ ap (moved_on i) (h o)
+  found-moved (FoundField.At a v e) h = λ o. from-part o ∙ ap (moved_on i) (h o) ∙ first-moved a v e o
 
-  named-moved : (x : FoundField) → NamedNext (drop i s) name 0 x → NamedNext s name i (movedOn i x)
+  named-moved : (x : FoundField) → NamedNext (drop i s) name 0 x → NamedNext s name i (moved_on i x)
   named-moved x h = record { behind = behind_moved x h.behind; value = value-moved x h.value; found = found-moved x h.found }
 
   -- what an answer about the part `&s[i..]` tells, once its form is known
-  pub named-told : (x : FoundField) {y : FoundField} → NamedNext (take (length s - i) (drop i s)) name 0 x → x ≡ y → NamedNext s name i (movedOn i y)
+  pub named-told : (x : FoundField) {y : FoundField} → NamedNext (take (length s - i) (drop i s)) name 0 x → x ≡ y → NamedNext s name i (moved_on i y)
   named-told x {y} h e = named-moved y (subst (λ (t : Bytes). NamedNext t name 0 y) (rest s i) (subst (NamedNext (take (length s - i) (drop i s)) name 0) e h))
 
-  pub value-told : (x : FoundField) {y : FoundField} → NamedNext (take (length s - i) (drop i s)) name 0 x → x ≡ y → ValueNext s name i (movedOn i y)
+  pub value-told : (x : FoundField) {y : FoundField} → NamedNext (take (length s - i) (drop i s)) name 0 x → x ≡ y → ValueNext s name i (moved_on i y)
   value-told x h e = (named-told x h e).value
 
 -- what is the same from byte i on as of the whole part, where no field of the name stands before
 pub record Unnamed (s name : Bytes) (i : ℕ) : Type 0 where
-  pub values : valuesFrom s name 0 ≡ valuesFrom s name i
+  pub values : values_from s name 0 ≡ values_from s name i
   pub found : (o : ℕ) → occurrence s name 0 o ≡ occurrence s name i o
 
 pub unnamed-none : (s name : Bytes) → Unnamed s name 0
 unnamed-none s name = record { values = refl; found = λ o. refl }
 
 module _ (s name : Bytes) (i : ℕ) (u : Unnamed s name i) where
-  pub named-missing : fieldsFrom s i ≡ [] → NamedNext s name 0 FoundField.Missing
+  pub named-missing : fields_from s i ≡ [] → NamedNext s name 0 FoundField.Missing
   named-missing e = record { behind = tt; value = u.values ∙ ap (values_of name) e; found = λ o. u.found o ∙ occurrence-none s name i e o }
 
   module _ (a n v e : ℕ) (f : FieldHere s i a n v e) where
-    values-by : (t : Bool) → same name (span a n s) ≡ t → valuesFrom s name i ≡ pick t (valueFrom (span v e s) ∷ valuesFrom s name e) (valuesFrom s name e)
-    values-by t q = ap (values_of name) f.fields ∙ ap (λ (b : Bool). pick b (valueFrom (span v e s) ∷ valuesFrom s name e) (valuesFrom s name e)) q
+    values-by : (t : Bool) → same name (span a n s) ≡ t → values_from s name i ≡ pick t (value_from (span v e s) ∷ values_from s name e) (values_from s name e)
+    values-by t q = ap (values_of name) f.fields ∙ ap (λ (b : Bool). pick b (value_from (span v e s) ∷ values_from s name e) (values_from s name e)) q
 
     pub unnamed-on : same name (span a n s) ≡ false → Unnamed s name e
     unnamed-on q = record { values = u.values ∙ values-by false q; found = λ o. u.found o ∙ occurrence-other s name i a n v e f q o }

@@ -16,13 +16,13 @@ use Rattle.format.proofs.Grouping.{fields-append}
 use Rattle.format.proofs.Whole.{Sound}
 use Rattle.format.proofs.Renaming.{sound-starts}
 use Rattle.lines.specs.Piece.{value_at}
-use Rattle.values.specs.Value.{valueFrom}
+use Rattle.values.specs.Value.{value_from}
 use Rattle.lines.proofs.Cuts.{rest}
 use Rattle.values.proofs.Values.{field-value-among}
 use Rattle.words.specs.Spans.{span}
-use Rattle.records.specs.Places.{isReadable, headLine}
-use Rattle.records.specs.Walk.{recordIn}
-use Rattle.records.specs.Fields.{fieldsFrom, Fieldless, PieceHere, FieldHere, FieldNext}
+use Rattle.records.specs.Places.{is_readable, head_line}
+use Rattle.records.specs.Walk.{record_in}
+use Rattle.records.specs.Fields.{fields_from, Fieldless, PieceHere, FieldHere, FieldNext}
 use Rattle.records.specs.declared.NextField.{NextField}
 use Rattle.records.proofs.Walks.{size-append, size-piece, size_none, Loose}
 use Rattle.records.proofs.Readings.{Reads, readable-reads}
@@ -43,22 +43,22 @@ begins-inside n v l own h =
     omega (arith, length-append l (10 ∷ bytes own))
 
 -- it is read from there on, whatever stands behind the field
-value-reads : (t n v : Bytes) (own : List Line) (ps : List Piece) → Reads t (Piece.field n v own ∷ ps) → (v ≡ valueFrom (drop (value_at (length n) (headLine own)) t)) × (value_at (length n) (headLine own) < count_of own)
+value-reads : (t n v : Bytes) (own : List Line) (ps : List Piece) → Reads t (Piece.field n v own ∷ ps) → (v ≡ value_from (drop (value_at (length n) (head_line own)) t)) × (value_at (length n) (head_line own) < count_of own)
 value-reads t n v [] ps r = let f = sound-starts n v [] r.sound.0 in let e = f.3 in absurd (let z : ◌≡◌ {A = ℕ} 0 1 = cc in omega arith)
 value-reads t n v (l ∷ own) ps r =
-    (field-value-among n v l own ps r.sound ∙ ap (λ (x : Bytes). valueFrom (drop (value_at (length n) l) x)) r.all, begins-inside n v l own r.sound.0)
+    (field-value-among n v l own ps r.sound ∙ ap (λ (x : Bytes). value_from (drop (value_at (length n) l) x)) r.all, begins-inside n v l own r.sound.0)
 
-module _ (s : Bytes) (i n v k : ℕ) (f : FieldAt s i n v k) (r : isReadable (drop i s) ≡ true) where
-  reading : (f.value ≡ valueFrom (drop (value_at (length f.name) (headLine f.own)) (drop i s))) × (value_at (length f.name) (headLine f.own) < count_of f.own)
+module _ (s : Bytes) (i n v k : ℕ) (f : FieldAt s i n v k) (r : is_readable (drop i s) ≡ true) where
+  reading : (f.value ≡ value_from (drop (value_at (length f.name) (head_line f.own)) (drop i s))) × (value_at (length f.name) (head_line f.own) < count_of f.own)
   reading = value-reads (drop i s) f.name f.value f.own (read_of (drop (i + k) s)) (subst (Reads (drop i s)) f.passed.reads (readable-reads (drop i s) r))
 
   value_there : i + v < length s
   value_there = omega (arith, reading.1, f.begins, f.passed.size, f.passed.inside)
 
-  ends-itself : valueFrom (drop (i + v) s) ≡ valueFrom (take ((i + k) - (i + v)) (drop (i + v) s))
+  ends-itself : value_from (drop (i + v) s) ≡ value_from (take ((i + k) - (i + v)) (drop (i + v) s))
   ends-itself =
-      ap valueFrom (sym (drop-drop v i s))
-      ∙ ap (λ (j : ℕ). valueFrom (drop j (drop i s))) f.begins
+      ap value_from (sym (drop-drop v i s))
+      ∙ ap (λ (j : ℕ). value_from (drop j (drop i s))) f.begins
       ∙ sym reading.0
       ∙ sym f.decodes
 
@@ -78,20 +78,20 @@ module _ (s : Bytes) (i : ℕ) where
           reads = f.reads ∙ ap (λ (ps : List Piece). b ++ ps) q.reads ∙ sym (append_assoc b (p ∷ []) (read_of (drop (a + k) s)));
         }
 
-    pub fieldless-fields : fieldsFrom s i ≡ fieldsFrom s a
-    fieldless-fields = ap fields_of f.reads ∙ fields-append f.before (read_of (drop a s)) ∙ ap (λ (r : Record). r ++ fieldsFrom s a) f.none
+    pub fieldless-fields : fields_from s i ≡ fields_from s a
+    fieldless-fields = ap fields_of f.reads ∙ fields-append f.before (read_of (drop a s)) ∙ ap (λ (r : Record). r ++ fields_from s a) f.none
 
 piece-here : (s : Bytes) (i n v k : ℕ) → FieldAt s i n v k → PieceHere s i (i + n) (i + v) (i + k)
 piece-here s i n v k f =
     record {
       own = f.own;
       reads = f.passed.reads ∙ (λ d. Piece.field (sym f.named d) (sym f.decodes d) f.own ∷ read_of (drop (i + k) s));
-      begins = ap (λ (x : Bytes). i + value_at (length x) (headLine f.own)) f.named ∙ ap (λ (j : ℕ). i + j) (sym f.begins);
+      begins = ap (λ (x : Bytes). i + value_at (length x) (head_line f.own)) f.named ∙ ap (λ (j : ℕ). i + j) (sym f.begins);
       ends = ap (λ (j : ℕ). i + j) f.passed.size;
     }
 
 -- a field at byte i is the first one, where none stands before
-pub field-here : (s : Bytes) (i n v k : ℕ) → FieldAt s i n v k → isReadable (drop i s) ≡ true → Fieldless s 0 i → FieldHere s 0 i (i + n) (i + v) (i + k)
+pub field-here : (s : Bytes) (i n v k : ℕ) → FieldAt s i n v k → is_readable (drop i s) ≡ true → Fieldless s 0 i → FieldHere s 0 i (i + n) (i + v) (i + k)
 field-here s i n v k f r l =
     let p = f.passed in
     let size : k ≡ (i + k) - i = omega arith in
@@ -108,7 +108,7 @@ field-here s i n v k f r l =
       ends-itself = ends-itself s i n v k f r;
       fields =
           fieldless-fields s 0 i l ∙ record-field s i n v k f
-          ∙ ap {B = Record} (λ (m : ℕ). record { name = take ((i + n) - i) (drop i s); value = valueFrom (take ((i + k) - (i + v)) (drop (i + v) s)); count = m } ∷ fieldsFrom s (i + k)) size;
+          ∙ ap {B = Record} (λ (m : ℕ). record { name = take ((i + n) - i) (drop i s); value = value_from (take ((i + k) - (i + v)) (drop (i + v) s)); count = m } ∷ fields_from s (i + k)) size;
       loose = l;
       piece = piece-here s i n v k f;
     }
@@ -134,8 +134,8 @@ module _ (s : Bytes) (i : ℕ) where
         own = p.own;
         reads =
             ap (λ (x : Bytes). read_of x) (sym (drop-drop a i s)) ∙ p.reads
-            ∙ (λ d. Piece.field (span-moved s i a n d) (valueFrom (span-moved s i v e d)) p.own ∷ read_of (drop-drop e i s d));
-        begins = omega (arith, p.begins, ap (λ (x : Bytes). value_at (length x) (headLine p.own)) (span-moved s i a n));
+            ∙ (λ d. Piece.field (span-moved s i a n d) (value_from (span-moved s i v e d)) p.own ∷ read_of (drop-drop e i s d));
+        begins = omega (arith, p.begins, ap (λ (x : Bytes). value_at (length x) (head_line p.own)) (span-moved s i a n));
         ends = omega (arith, p.ends);
       }
 
@@ -150,10 +150,10 @@ module _ (s : Bytes) (i : ℕ) where
         value-inside = omega (arith, f.value-inside);
         moves = omega (arith, f.moves);
         inside = omega (arith, f.moves, f.inside, length-drop i s);
-        readable = ap (λ (x : Bytes). isReadable x) (sym (drop-drop e i s)) ∙ f.readable;
+        readable = ap (λ (x : Bytes). is_readable x) (sym (drop-drop e i s)) ∙ f.readable;
         value_there = omega (arith, f.value_there, length-drop i s);
-        ends-itself = ap valueFrom (sym (drop-drop v i s)) ∙ f.ends-itself ∙ ap valueFrom (span-moved s i v e);
-        fields = f.fields ∙ (λ d. record { name = span-moved s i a n d; value = valueFrom (span-moved s i v e d); count = size d } ∷ recordIn (drop-drop e i s d));
+        ends-itself = ap value_from (sym (drop-drop v i s)) ∙ f.ends-itself ∙ ap value_from (span-moved s i v e);
+        fields = f.fields ∙ (λ d. record { name = span-moved s i a n d; value = value_from (span-moved s i v e d); count = size d } ∷ record_in (drop-drop e i s d));
         loose = fieldless-moved a f.loose;
         piece = piece-moved a n v e f.piece;
       }

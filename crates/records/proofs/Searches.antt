@@ -6,14 +6,14 @@ use mathlib.Core.Bool.{Bool, true, false, false≢true}
 use mathlib.Core.List.{List, [], ◌∷◌, map}
 use lib.ListN.{length, take, drop, length-drop}
 use lib.Seq.{drop-drop}
-use Rattle.format.specs.Lists.{isFilled}
+use Rattle.format.specs.Lists.{is_filled}
 use Rattle.format.specs.Bytes.{Bytes, text, pick}
 use Rattle.format.specs.Pieces.{Piece}
 use Rattle.format.specs.Records.{Record, fields_of}
 use Rattle.format.specs.Sets.{values_of}
 use Rattle.lines.proofs.Cuts.{rest}
-use Rattle.records.specs.Places.{isReadable, Placed, places_of, isDescriptor, place_of, firstPlace, namesSet, descriptorHead, headPlace, recordBy, recordPlace, countBefore}
-use Rattle.records.specs.Walk.{opensSet}
+use Rattle.records.specs.Places.{is_readable, Placed, places_of, is_descriptor, place_of, first_place, names_set, descriptor_head, head_place, record_by, record_place, count_before}
+use Rattle.records.specs.Walk.{opens_set}
 use Rattle.records.specs.declared.Place.{Place}
 use Rattle.records.specs.declared.NextRecord.{NextRecord}
 use Rattle.records.specs.declared.Head.{Head}
@@ -24,19 +24,19 @@ use Rattle.records.proofs.Readings.{Reads, reads_of}
 use Rattle.records.proofs.FirstPlaces.{First, first-place}
 
 -- the set of no name is the default set, and stands first
-pub head-default : (n : Bytes) (ps : List Placed) → length n ≡ 0 → headPlace n ps ≡ FoundHead.At (record { start = 0; end = 0; begin = 0 })
-unfolding headPlace
+pub head-default : (n : Bytes) (ps : List Placed) → length n ≡ 0 → head_place n ps ≡ FoundHead.At (record { start = 0; end = 0; begin = 0 })
+unfolding head_place
 head-default [] ps e = refl
 head-default (c ∷ n) ps e = absurd (omega arith)
 
-pub head-named : (n : Bytes) (ps : List Placed) → (length n ≡ 0 → ⊥) → headPlace n ps ≡ descriptorHead n ps
-unfolding headPlace
+pub head-named : (n : Bytes) (ps : List Placed) → (length n ≡ 0 → ⊥) → head_place n ps ≡ descriptor_head n ps
+unfolding head_place
 head-named [] ps h = absurd (h refl)
 head-named (c ∷ n) ps h = refl
 
 -- a descriptor at q in the part from byte i on
-abbrev pub headAt : ℕ → Place → Head
-headAt i q = record { start = i + q.start; end = i + q.end; begin = i + q.after }
+abbrev pub head_at : ℕ → Place → Head
+head_at i q = record { start = i + q.start; end = i + q.end; begin = i + q.after }
 
 -- the places of the part from byte i on, as places of the whole
 abbrev pub places_at : Bytes → ℕ → List Placed
@@ -53,7 +53,7 @@ pub record Stand (s : Bytes) (start end after : ℕ) (fields : Record) : Type 0 
   pub own : List Piece
   pub own-reads : Reads (take (end - start) (drop start s)) own
   pub own-fields : fields_of own ≡ fields
-  pub readable : isReadable (drop after s) ≡ true
+  pub readable : is_readable (drop after s) ≡ true
 
 -- a place q, found from byte i on
 pub record Met (s : Bytes) (i : ℕ) (q : Place) : Type 0 where
@@ -66,7 +66,7 @@ abbrev pub Meets : Bytes → ℕ → NextRecord → Type 0
 Meets s i NextRecord.Nothing = places_at s i ≡ []
 Meets s i (NextRecord.At q) = Met s i q
 
-meets-by : (s : Bytes) (i : ℕ) → i ≤ length s → (xs : List Placed) → places_of (drop i s) ≡ xs → First (drop i s) xs → Meets s i (firstPlace xs)
+meets-by : (s : Bytes) (i : ℕ) → i ≤ length s → (xs : List Placed) → places_of (drop i s) ≡ xs → First (drop i s) xs → Meets s i (first_place xs)
 meets-by s i h [] e f = ap (map (raise i)) e
 meets-by s i h (p ∷ ps) e f =
     let a : ℕ = p.after in
@@ -83,90 +83,90 @@ meets-by s i h (p ∷ ps) e f =
         own = f.own;
         own-reads = subst (λ (x : Bytes). Reads x f.own) (ap (λ (m : ℕ). take m (drop p.start (drop i s))) n ∙ ap (take ((i + p.end) - (i + p.start))) (drop-drop p.start i s)) f.own-reads;
         own-fields = f.own-fields;
-        readable = subst (λ (x : Bytes). isReadable x ≡ true) d f.readable;
+        readable = subst (λ (x : Bytes). is_readable x ≡ true) d f.readable;
       };
     }
 
-pub meets-first : (s : Bytes) (i : ℕ) → i ≤ length s → isReadable (drop i s) ≡ true → Meets s i (firstPlace (places_of (drop i s)))
+pub meets-first : (s : Bytes) (i : ℕ) → i ≤ length s → is_readable (drop i s) ≡ true → Meets s i (first_place (places_of (drop i s)))
 meets-first s i h e = meets-by s i h (places_of (drop i s)) refl (first-place (drop i s) e)
 
 -- what an answer about the part from byte i on says, once its form is known
-pub meets : (s : Bytes) (i : ℕ) (x : NextRecord) {y : NextRecord} → i ≤ length s → isReadable (drop i s) ≡ true → x ≡ firstPlace (places_of (take (length s - i) (drop i s))) → x ≡ y → Meets s i y
+pub meets : (s : Bytes) (i : ℕ) (x : NextRecord) {y : NextRecord} → i ≤ length s → is_readable (drop i s) ≡ true → x ≡ first_place (places_of (take (length s - i) (drop i s))) → x ≡ y → Meets s i y
 meets s i x {y} h e f g =
-    subst (Meets s i) (ap (λ (t : Bytes). firstPlace (places_of t)) (sym (rest s i)) ∙ sym f ∙ g) (meets-first s i h e)
+    subst (Meets s i) (ap (λ (t : Bytes). first_place (places_of t)) (sym (rest s i)) ∙ sym f ∙ g) (meets-first s i h e)
 
 module _ (s : Bytes) (i : ℕ) where
-  pub count-end : places_at s i ≡ [] → countBefore (places_at s i) ≡ 0
-  unfolding countBefore
-  count-end e = ap countBefore e
+  pub count-end : places_at s i ≡ [] → count_before (places_at s i) ≡ 0
+  unfolding count_before
+  count-end e = ap count_before e
 
-  pub record-end : (k : ℕ) → places_at s i ≡ [] → recordPlace (places_at s i) k ≡ FoundRecord.Missing
-  unfolding recordPlace
-  record-end k e = ap (λ (ps : List Placed). recordPlace ps k) e
+  pub record-end : (k : ℕ) → places_at s i ≡ [] → record_place (places_at s i) k ≡ FoundRecord.Missing
+  unfolding record_place
+  record-end k e = ap (λ (ps : List Placed). record_place ps k) e
 
-  pub head-end : (n : Bytes) → places_at s i ≡ [] → descriptorHead n (places_at s i) ≡ FoundHead.Missing
-  head-end n e = ap (descriptorHead n) e
+  pub head-end : (n : Bytes) → places_at s i ≡ [] → descriptor_head n (places_at s i) ≡ FoundHead.Missing
+  head-end n e = ap (descriptor_head n) e
 
   module _ (q : Place) (m : Met s i q) where
     later : List Placed
     later = places_at s (i + q.after)
 
-    described : isDescriptor m.here ≡ q.descriptor
+    described : is_descriptor m.here ≡ q.descriptor
     described = ap (λ (x : Place). x.descriptor) m.is
 
-    count-on : countBefore (places_at s i) ≡ pick q.descriptor 0 (suc (countBefore later))
-    unfolding countBefore later
-    count-on = ap countBefore m.places ∙ ap (λ (b : Bool). pick b 0 (suc (countBefore (places_at s (i + q.after))))) described
+    count-on : count_before (places_at s i) ≡ pick q.descriptor 0 (suc (count_before later))
+    unfolding count_before later
+    count-on = ap count_before m.places ∙ ap (λ (b : Bool). pick b 0 (suc (count_before (places_at s (i + q.after))))) described
 
-    pub count-stops : q.descriptor ≡ true → countBefore (places_at s i) ≡ 0
-    count-stops d = count-on ∙ ap (λ (b : Bool). pick b 0 (suc (countBefore later))) d
+    pub count-stops : q.descriptor ≡ true → count_before (places_at s i) ≡ 0
+    count-stops d = count-on ∙ ap (λ (b : Bool). pick b 0 (suc (count_before later))) d
 
-    pub count-more : q.descriptor ≡ false → countBefore (places_at s i) ≡ suc (countBefore (places_at s (i + q.after)))
+    pub count-more : q.descriptor ≡ false → count_before (places_at s i) ≡ suc (count_before (places_at s (i + q.after)))
     unfolding later
-    count-more d = count-on ∙ ap (λ (b : Bool). pick b 0 (suc (countBefore later))) d
+    count-more d = count-on ∙ ap (λ (b : Bool). pick b 0 (suc (count_before later))) d
 
-    record-on : (k : ℕ) → recordPlace (places_at s i) k ≡ recordBy q.descriptor k (raise i m.here) (λ (j : ℕ). recordPlace later j)
-    unfolding recordPlace later
-    record-on k = ap (λ (ps : List Placed). recordPlace ps k) m.places ∙ ap (λ (b : Bool). recordBy b k (raise i m.here) (λ (j : ℕ). recordPlace (places_at s (i + q.after)) j)) described
+    record-on : (k : ℕ) → record_place (places_at s i) k ≡ record_by q.descriptor k (raise i m.here) (λ (j : ℕ). record_place later j)
+    unfolding record_place later
+    record-on k = ap (λ (ps : List Placed). record_place ps k) m.places ∙ ap (λ (b : Bool). record_by b k (raise i m.here) (λ (j : ℕ). record_place (places_at s (i + q.after)) j)) described
 
-    pub record-stops : (k : ℕ) → q.descriptor ≡ true → recordPlace (places_at s i) k ≡ FoundRecord.Missing
-    record-stops k d = record-on k ∙ ap (λ (b : Bool). recordBy b k (raise i m.here) (λ (j : ℕ). recordPlace later j)) d
+    pub record-stops : (k : ℕ) → q.descriptor ≡ true → record_place (places_at s i) k ≡ FoundRecord.Missing
+    record-stops k d = record-on k ∙ ap (λ (b : Bool). record_by b k (raise i m.here) (λ (j : ℕ). record_place later j)) d
 
-    pub record-here : (k : ℕ) → q.descriptor ≡ false → k ≡ 0 → recordPlace (places_at s i) k ≡ FoundRecord.At (record { start = i + q.start; end = i + q.end; after = i + q.after; descriptor = false })
+    pub record-here : (k : ℕ) → q.descriptor ≡ false → k ≡ 0 → record_place (places_at s i) k ≡ FoundRecord.At (record { start = i + q.start; end = i + q.end; after = i + q.after; descriptor = false })
     record-here k d z =
-        record-on k ∙ ap (λ (b : Bool). recordBy b k (raise i m.here) (λ (j : ℕ). recordPlace later j)) d
-        ∙ ap (λ (n : ℕ). recordBy false n (raise i m.here) (λ (j : ℕ). recordPlace later j)) z
+        record-on k ∙ ap (λ (b : Bool). record_by b k (raise i m.here) (λ (j : ℕ). record_place later j)) d
+        ∙ ap (λ (n : ℕ). record_by false n (raise i m.here) (λ (j : ℕ). record_place later j)) z
         ∙ (λ t. FoundRecord.At (record { start = i + (m.is t).start; end = i + (m.is t).end; after = i + (m.is t).after; descriptor = (described ∙ d) t }))
 
-    pub record-later : (k j : ℕ) → q.descriptor ≡ false → k ≡ suc j → recordPlace (places_at s i) k ≡ recordPlace (places_at s (i + q.after)) j
+    pub record-later : (k j : ℕ) → q.descriptor ≡ false → k ≡ suc j → record_place (places_at s i) k ≡ record_place (places_at s (i + q.after)) j
     unfolding later
     record-later k j d z =
-        record-on k ∙ ap (λ (b : Bool). recordBy b k (raise i m.here) (λ (n : ℕ). recordPlace later n)) d
-        ∙ ap (λ (n : ℕ). recordBy false n (raise i m.here) (λ (x : ℕ). recordPlace later x)) z
+        record-on k ∙ ap (λ (b : Bool). record_by b k (raise i m.here) (λ (n : ℕ). record_place later n)) d
+        ∙ ap (λ (n : ℕ). record_by false n (raise i m.here) (λ (x : ℕ). record_place later x)) z
 
-    head-on : (n : Bytes) → descriptorHead n (places_at s i) ≡ pick (namesSet n (values_of (text "%rec") m.here.fields)) (FoundHead.At (headAt i q)) (descriptorHead n later)
+    head-on : (n : Bytes) → descriptor_head n (places_at s i) ≡ pick (names_set n (values_of (text "%rec") m.here.fields)) (FoundHead.At (head_at i q)) (descriptor_head n later)
     unfolding later
     head-on n =
-        ap (descriptorHead n) m.places
-        ∙ ap (λ (x : Place). pick (namesSet n (values_of (text "%rec") m.here.fields)) (FoundHead.At (headAt i x)) (descriptorHead n (places_at s (i + q.after)))) m.is
+        ap (descriptor_head n) m.places
+        ∙ ap (λ (x : Place). pick (names_set n (values_of (text "%rec") m.here.fields)) (FoundHead.At (head_at i x)) (descriptor_head n (places_at s (i + q.after)))) m.is
 
     -- a record that is no descriptor names no set
-    no_name : (n : Bytes) (vs : List Bytes) → isFilled vs ≡ false → namesSet n vs ≡ false
+    no_name : (n : Bytes) (vs : List Bytes) → is_filled vs ≡ false → names_set n vs ≡ false
     no_name n [] e = refl
     no_name n (v ∷ vs) e = absurd (false≢true (sym e))
 
-    pub head-member : (n : Bytes) → q.descriptor ≡ false → descriptorHead n (places_at s i) ≡ descriptorHead n (places_at s (i + q.after))
+    pub head-member : (n : Bytes) → q.descriptor ≡ false → descriptor_head n (places_at s i) ≡ descriptor_head n (places_at s (i + q.after))
     unfolding later
-    head-member n d = head-on n ∙ ap (λ (b : Bool). pick b (FoundHead.At (headAt i q)) (descriptorHead n later)) (no_name n (values_of (text "%rec") m.here.fields) (described ∙ d))
+    head-member n d = head-on n ∙ ap (λ (b : Bool). pick b (FoundHead.At (head_at i q)) (descriptor_head n later)) (no_name n (values_of (text "%rec") m.here.fields) (described ∙ d))
 
     -- the descriptor's own part tells which set it opens
-    opened : (n : Bytes) → opensSet n (take ((i + q.end) - (i + q.start)) (drop (i + q.start) s)) ≡ namesSet n (values_of (text "%rec") m.here.fields)
-    unfolding opensSet
-    opened n = ap (λ (ps : List Piece). namesSet n (values_of (text "%rec") (fields_of ps))) (reads_of m.stand.own-reads) ∙ ap (λ r. namesSet n (values_of (text "%rec") r)) m.stand.own-fields
+    opened : (n : Bytes) → opens_set n (take ((i + q.end) - (i + q.start)) (drop (i + q.start) s)) ≡ names_set n (values_of (text "%rec") m.here.fields)
+    unfolding opens_set
+    opened n = ap (λ (ps : List Piece). names_set n (values_of (text "%rec") (fields_of ps))) (reads_of m.stand.own-reads) ∙ ap (λ r. names_set n (values_of (text "%rec") r)) m.stand.own-fields
 
-    pub head-here : (n : Bytes) (t : Bool) → t ≡ opensSet n (take ((i + q.end) - (i + q.start)) (drop (i + q.start) s)) → t ≡ true → descriptorHead n (places_at s i) ≡ FoundHead.At (headAt i q)
-    head-here n t e d = head-on n ∙ ap (λ (b : Bool). pick b (FoundHead.At (headAt i q)) (descriptorHead n later)) (sym (opened n) ∙ sym e ∙ d)
+    pub head-here : (n : Bytes) (t : Bool) → t ≡ opens_set n (take ((i + q.end) - (i + q.start)) (drop (i + q.start) s)) → t ≡ true → descriptor_head n (places_at s i) ≡ FoundHead.At (head_at i q)
+    head-here n t e d = head-on n ∙ ap (λ (b : Bool). pick b (FoundHead.At (head_at i q)) (descriptor_head n later)) (sym (opened n) ∙ sym e ∙ d)
 
-    pub head-other : (n : Bytes) (t : Bool) → t ≡ opensSet n (take ((i + q.end) - (i + q.start)) (drop (i + q.start) s)) → t ≡ false → descriptorHead n (places_at s i) ≡ descriptorHead n (places_at s (i + q.after))
+    pub head-other : (n : Bytes) (t : Bool) → t ≡ opens_set n (take ((i + q.end) - (i + q.start)) (drop (i + q.start) s)) → t ≡ false → descriptor_head n (places_at s i) ≡ descriptor_head n (places_at s (i + q.after))
     unfolding later
-    head-other n t e d = head-on n ∙ ap (λ (b : Bool). pick b (FoundHead.At (headAt i q)) (descriptorHead n later)) (sym (opened n) ∙ sym e ∙ d)
+    head-other n t e d = head-on n ∙ ap (λ (b : Bool). pick b (FoundHead.At (head_at i q)) (descriptor_head n later)) (sym (opened n) ∙ sym e ∙ d)

@@ -10,10 +10,10 @@ use Rattle.format.specs.Pieces.{Piece, bytes_of, read_of}
 use Rattle.format.specs.Records.{fields_of}
 use Rattle.format.specs.Edits.{unfielded}
 use Rattle.format.proofs.Whole.{bytesOf-append}
-use Rattle.values.specs.Value.{valueFrom}
+use Rattle.values.specs.Value.{value_from}
 use Rattle.words.specs.Spans.{span}
-use Rattle.records.specs.Places.{isReadable, sizeIn}
-use Rattle.records.specs.Fields.{fieldsFrom, FieldHere}
+use Rattle.records.specs.Places.{is_readable, size_in}
+use Rattle.records.specs.Fields.{fields_from, FieldHere}
 use Rattle.records.proofs.Walks.{size-piece}
 use Rattle.records.proofs.Readings.{Reads, readable-reads, reads-length, reads-take}
 
@@ -21,13 +21,13 @@ abbrev pub left_of : Bytes → Bytes
 left_of s = bytes_of (unfielded (read_of s))
 
 -- it is no longer than the part
-size-left : (ps : List Piece) → sizeIn (unfielded ps) ≤ sizeIn ps
+size-left : (ps : List Piece) → size_in (unfielded ps) ≤ size_in ps
 size-left [] = omega arith
 size-left (Piece.blank l ∷ ps) = omega (arith, size-left ps, size-piece (Piece.blank l) ps, size-piece (Piece.blank l) (unfielded ps))
 size-left (Piece.comment l ∷ ps) = omega (arith, size-left ps, size-piece (Piece.comment l) ps, size-piece (Piece.comment l) (unfielded ps))
 size-left (Piece.field n v ls ∷ ps) = omega (arith, size-left ps, size-piece (Piece.field n v ls) ps)
 
-pub left_le : (s : Bytes) → isReadable s ≡ true → length (left_of s) ≤ length s
+pub left_le : (s : Bytes) → is_readable s ≡ true → length (left_of s) ≤ length s
 left_le s e = omega (arith, size-left (read_of s), reads-length (readable-reads s e))
 
 -- pieces without a field stay as they are
@@ -37,8 +37,8 @@ unfielded-before (Piece.blank l ∷ b) ps e = ap {B = List Piece} (λ x. Piece.b
 unfielded-before (Piece.comment l ∷ b) ps e = ap {B = List Piece} (λ x. Piece.comment l ∷ x) (unfielded-before b ps e)
 unfielded-before (Piece.field n v ls ∷ b) ps e = absurd (omega (arith, ap length e))
 
-module _ (s : Bytes) (i : ℕ) (r : isReadable (drop i s) ≡ true) where
-  pub left-all : fieldsFrom s i ≡ [] → left_of (drop i s) ≡ drop i s
+module _ (s : Bytes) (i : ℕ) (r : is_readable (drop i s) ≡ true) where
+  pub left-all : fields_from s i ≡ [] → left_of (drop i s) ≡ drop i s
   unfolding bytes_of
   left-all e =
       let ps : List Piece = read_of (drop i s) in
@@ -52,6 +52,6 @@ module _ (s : Bytes) (i : ℕ) (r : isReadable (drop i s) ≡ true) where
       let whole : read_of (drop i s) ≡ l.before ++ read_of (drop a s) = l.reads in
       let front : bytes_of l.before ≡ span i a s = (reads-take l.before (read_of (drop a s)) (subst (Reads (drop i s)) whole (readable-reads (drop i s) r)) (a - i) (omega (arith, l.size))).all in
       ap (λ (x : List Piece). bytes_of (unfielded x)) (whole ∙ ap (λ (x : List Piece). l.before ++ x) f.piece.reads)
-      ∙ ap bytes_of (unfielded-before l.before (Piece.field (span a n s) (valueFrom (span v e s)) f.piece.own ∷ ps) l.none)
+      ∙ ap bytes_of (unfielded-before l.before (Piece.field (span a n s) (value_from (span v e s)) f.piece.own ∷ ps) l.none)
       ∙ bytesOf-append l.before (unfielded ps)
       ∙ ap (λ (x : Bytes). x ++ left_of (drop e s)) front

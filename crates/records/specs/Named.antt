@@ -3,33 +3,33 @@ use Rattle.std.specs.Prelude.{ℕ, zero, suc, ◌≤◌, ◌<◌, ◌≡◌, tru
 use Rattle.format.specs.Bytes.{Bytes}
 use Rattle.format.specs.Pieces.{read_of}
 use Rattle.format.specs.Sets.{values_of}
-use Rattle.values.specs.Value.{valueFrom}
+use Rattle.values.specs.Value.{value_from}
 use Rattle.words.specs.Spans.{span}
-use Rattle.records.specs.Places.{isReadable, fieldIn}
-use Rattle.records.specs.Fields.{fieldsFrom}
+use Rattle.records.specs.Places.{is_readable, field_in}
+use Rattle.records.specs.Fields.{fields_from}
 use Rattle.records.specs.declared.FoundField.{FoundField}
 
 -- the values of a name from byte i on
-abbrev pub valuesFrom : Bytes → Bytes → ℕ → List Bytes
-valuesFrom s name i = values_of name (fieldsFrom s i)
+abbrev pub values_from : Bytes → Bytes → ℕ → List Bytes
+values_from s name i = values_of name (fields_from s i)
 
 -- the next of them, from v to e, and those behind it; it ends by itself, whatever stands behind
 pub record ValueHere (s name : Bytes) (i v e : ℕ) : Type 0 where
   pub moves : i < e
   pub within : v ≤ e
   pub inside : e ≤ length s
-  pub readable : isReadable (drop e s) ≡ true
+  pub readable : is_readable (drop e s) ≡ true
   pub value_there : v < length s
-  pub ends-itself : valueFrom (drop v s) ≡ valueFrom (span v e s)
-  pub values : valuesFrom s name i ≡ valueFrom (span v e s) ∷ valuesFrom s name e
+  pub ends-itself : value_from (drop v s) ≡ value_from (span v e s)
+  pub values : values_from s name i ≡ value_from (span v e s) ∷ values_from s name e
 
 abbrev pub ValueNext : Bytes → Bytes → ℕ → FoundField → Type 0
-ValueNext s name i FoundField.Missing = valuesFrom s name i ≡ []
+ValueNext s name i FoundField.Missing = values_from s name i ≡ []
 ValueNext s name i (FoundField.At a v e) = ValueHere s name i v e
 
 -- the occurrence o of a name from byte i on
 abbrev pub occurrence : Bytes → Bytes → ℕ → ℕ → FoundField
-occurrence s name i o = fieldIn name (read_of (drop i s)) i o
+occurrence s name i o = field_in name (read_of (drop i s)) i o
 
 -- is the one found the first, and do the others stand behind it
 abbrev pub first_or : FoundField → (ℕ → FoundField) → ℕ → FoundField

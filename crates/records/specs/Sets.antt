@@ -1,7 +1,7 @@
 -- Where the sets of a part stand: a descriptor, and the records behind it and before the next one.
 use Rattle.std.specs.Prelude.{ℕ, ◌+◌, List, [], ◌∷◌, drop}
 use Rattle.format.specs.Bytes.{Bytes, pick}
-use Rattle.records.specs.Places.{Placed, places_of, isDescriptor, headPlace, countBefore}
+use Rattle.records.specs.Places.{Placed, places_of, is_descriptor, head_place, count_before}
 use Rattle.records.specs.declared.Head.{Head}
 use Rattle.records.specs.declared.FoundHead.{FoundHead}
 use Rattle.records.specs.declared.FoundSet.{FoundSet}
@@ -10,32 +10,32 @@ use Rattle.records.specs.declared.RecordSet.{RecordSet}
 use Rattle.records.specs.declared.NextSet.{NextSet}
 
 -- The byte behind the block of the last record before any descriptor; where there is none, the place where the records begin.
-unfoldable pub setEnd : ℕ → List Placed → ℕ
-setEnd at [] = at
-setEnd at (p ∷ ps) = pick (isDescriptor p) at (setEnd p.after ps)
+unfoldable pub set_end : ℕ → List Placed → ℕ
+set_end at [] = at
+set_end at (p ∷ ps) = pick (is_descriptor p) at (set_end p.after ps)
 
 -- the records before any descriptor: how many, and where they end
 abbrev pub leading : List Placed → MemberRun
-leading ps = record { count = countBefore ps; end = setEnd 0 ps }
+leading ps = record { count = count_before ps; end = set_end 0 ps }
 
 -- the first descriptor, and the records behind it
 abbrev pub set_at : Placed → List Placed → RecordSet
-set_at p ps = record { start = p.start; end = p.end; begin = p.after; after = setEnd p.after ps; count = countBefore ps }
+set_at p ps = record { start = p.start; end = p.end; begin = p.after; after = set_end p.after ps; count = count_before ps }
 
-unfoldable pub firstSet : List Placed → NextSet
-firstSet [] = NextSet.Nothing
-firstSet (p ∷ ps) = pick (isDescriptor p) (NextSet.At (set_at p ps)) (firstSet ps)
+unfoldable pub first_set : List Placed → NextSet
+first_set [] = NextSet.Nothing
+first_set (p ∷ ps) = pick (is_descriptor p) (NextSet.At (set_at p ps)) (first_set ps)
 
 -- the set behind a head: the records from where they begin on, before any other descriptor
-abbrev pub setBehind : Bytes → Head → RecordSet
-setBehind s h =
+abbrev pub set_behind : Bytes → Head → RecordSet
+set_behind s h =
     let m : MemberRun = leading (places_of (drop h.begin s)) in
     record { start = h.start; end = h.end; begin = h.begin; after = h.begin + m.end; count = m.count }
 
-abbrev pub setFound : Bytes → FoundHead → FoundSet
-setFound s FoundHead.Missing = FoundSet.Missing
-setFound s (FoundHead.At h) = FoundSet.At (setBehind s h)
+abbrev pub set_found : Bytes → FoundHead → FoundSet
+set_found s FoundHead.Missing = FoundSet.Missing
+set_found s (FoundHead.At h) = FoundSet.At (set_behind s h)
 
 -- the set of a name
-unfoldable pub setPlace : Bytes → Bytes → FoundSet
-setPlace n s = setFound s (headPlace n (places_of s))
+unfoldable pub set_place : Bytes → Bytes → FoundSet
+set_place n s = set_found s (head_place n (places_of s))

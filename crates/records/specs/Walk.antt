@@ -5,29 +5,29 @@ use Rattle.format.specs.Pieces.{Piece, read_of}
 use Rattle.format.specs.Records.{Record, Block, count_of, fields_of}
 use Rattle.format.specs.Sets.{values_of}
 use Rattle.format.specs.Calls.{lead}
-use Rattle.records.specs.Places.{sizeIn, namesSet}
+use Rattle.records.specs.Places.{size_in, names_set}
 use Rattle.records.specs.declared.Run.{Run}
 
 -- the fields of a part, in order
-abbrev pub recordIn : Bytes → Record
-recordIn s = fields_of (read_of s)
+abbrev pub record_in : Bytes → Record
+record_in s = fields_of (read_of s)
 
 -- the number of bytes before the first field
-unfoldable pub leadSize : Bytes → ℕ
-leadSize s = sizeIn (lead (read_of s))
+unfoldable pub lead_size : Bytes → ℕ
+lead_size s = size_in (lead (read_of s))
 
 -- the pieces up to the first blank line, and those from there on
-abbrev pub untilBlank : List Piece → Block
-untilBlank [] = []
-untilBlank (Piece.blank l ∷ ps) = []
-untilBlank (Piece.comment l ∷ ps) = Piece.comment l ∷ untilBlank ps
-untilBlank (Piece.field n v ls ∷ ps) = Piece.field n v ls ∷ untilBlank ps
+abbrev pub until_blank : List Piece → Block
+until_blank [] = []
+until_blank (Piece.blank l ∷ ps) = []
+until_blank (Piece.comment l ∷ ps) = Piece.comment l ∷ until_blank ps
+until_blank (Piece.field n v ls ∷ ps) = Piece.field n v ls ∷ until_blank ps
 
-abbrev pub fromBlank : List Piece → List Piece
-fromBlank [] = []
-fromBlank (Piece.blank l ∷ ps) = Piece.blank l ∷ ps
-fromBlank (Piece.comment l ∷ ps) = fromBlank ps
-fromBlank (Piece.field n v ls ∷ ps) = fromBlank ps
+abbrev pub from_blank : List Piece → List Piece
+from_blank [] = []
+from_blank (Piece.blank l ∷ ps) = Piece.blank l ∷ ps
+from_blank (Piece.comment l ∷ ps) = from_blank ps
+from_blank (Piece.field n v ls ∷ ps) = from_blank ps
 
 -- A record's run over pieces that begin at a place: so far its last field ends at end, and descriptor says whether a `%rec` was met.
 unfoldable pub run_from : ℕ → ℕ → Bool → List Piece → Run
@@ -37,5 +37,5 @@ run_from at end descriptor (Piece.comment l ∷ ps) = run_from (at + count_of (l
 run_from at end descriptor (Piece.field n v ls ∷ ps) = run_from (at + count_of ls) (at + count_of ls) (descriptor || same (text "%rec") n) ps
 
 -- do the fields of a part open the set of a name
-unfoldable pub opensSet : Bytes → Bytes → Bool
-opensSet n s = namesSet n (values_of (text "%rec") (recordIn s))
+unfoldable pub opens_set : Bytes → Bytes → Bool
+opens_set n s = names_set n (values_of (text "%rec") (record_in s))

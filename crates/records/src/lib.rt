@@ -2,9 +2,9 @@
 ghost use Rattle.std.specs.Prelude.{◌≡◌, true, ◌≤◌, length, drop};
 ghost use Rattle.format.specs.Pieces.{read_of};
 ghost use Rattle.format.specs.Bytes.{text, same};
-ghost use Rattle.records.specs.Places.{isReadable, places_of, firstPlace, headPlace, recordPlace, fieldPlace};
-ghost use Rattle.records.specs.Sets.{leading, firstSet, setBehind, setPlace};
-ghost use Rattle.records.specs.Walk.{run_from, opensSet};
+ghost use Rattle.records.specs.Places.{is_readable, places_of, first_place, head_place, record_place, field_place};
+ghost use Rattle.records.specs.Sets.{leading, first_set, set_behind, set_place};
+ghost use Rattle.records.specs.Walk.{run_from, opens_set};
 ghost use Rattle.records.specs.Fields.{FieldNext};
 ghost use Rattle.records.specs.Named.{NamedNext};
 
@@ -12,7 +12,7 @@ use lines::Next;
 
 // Is a part empty or ended by a newline, and has every line of it a form?
 pub fn is_readable(s: &[u8]) -> bool
-    ensures { result ≡ isReadable s.now }
+    ensures { result ≡ is_readable s.now }
 {
     let table = format::classes();
     let len = s.len();
@@ -63,7 +63,7 @@ pub enum NextField {
 
 // The first field of a part.
 pub fn next_field(s: &[u8]) -> NextField
-    requires { isReadable s.now ≡ true }
+    requires { is_readable s.now ≡ true }
     ensures { FieldNext s.now 0 result }
 {
     let mut i = 0;
@@ -126,7 +126,7 @@ pub fn is_rec(name: &[u8]) -> bool
 
 // A record that goes on where a part begins, behind one of its fields; described: whether a `%rec` was met before.
 fn record_run(s: &[u8], described: bool) -> Run
-    requires { isReadable s.now ≡ true }
+    requires { is_readable s.now ≡ true }
     ensures { result ≡ run_from 0 0 described (read_of s.now) }
 {
     let mut end = 0;
@@ -176,8 +176,8 @@ fn record_run(s: &[u8], described: bool) -> Run
 
 // The next record of a part: its first field, and its run behind that.
 pub fn next_record(s: &[u8]) -> NextRecord
-    requires { isReadable s.now ≡ true }
-    ensures { result ≡ firstPlace (places_of s.now) }
+    requires { is_readable s.now ≡ true }
+    ensures { result ≡ first_place (places_of s.now) }
 {
     let f = next_field(s);
     let NextField::At {
@@ -207,7 +207,7 @@ pub struct MemberRun {
 }
 
 pub fn next_members(s: &[u8]) -> MemberRun
-    requires { isReadable s.now ≡ true }
+    requires { is_readable s.now ≡ true }
     ensures { result ≡ leading (places_of s.now) }
 {
     let mut end = 0;
@@ -244,8 +244,8 @@ pub enum NextSet {
 
 // The next set of a part that has a descriptor there.
 pub fn next_set(s: &[u8]) -> NextSet
-    requires { isReadable s.now ≡ true }
-    ensures { result ≡ firstSet (places_of s.now) }
+    requires { is_readable s.now ≡ true }
+    ensures { result ≡ first_set (places_of s.now) }
 {
     let mut i = 0;
     loop {
@@ -276,8 +276,8 @@ pub enum FoundRecord {
 }
 
 pub fn find_record(s: &[u8], k: usize) -> FoundRecord
-    requires { isReadable s.now ≡ true }
-    ensures { result ≡ recordPlace (places_of s.now) k }
+    requires { is_readable s.now ≡ true }
+    ensures { result ≡ record_place (places_of s.now) k }
 {
     let mut i = 0;
     let mut left = k;
@@ -315,7 +315,7 @@ pub enum FoundField {
 
 // The first field of a name in a part.
 pub fn next_named(s: &[u8], name: &[u8]) -> FoundField
-    requires { isReadable s.now ≡ true }
+    requires { is_readable s.now ≡ true }
     ensures { NamedNext s.now name.now 0 result }
 {
     let mut i = 0;
@@ -343,8 +343,8 @@ pub fn next_named(s: &[u8], name: &[u8]) -> FoundField
 
 // The occurrence o of a name among the fields of a part.
 pub fn find_field(s: &[u8], name: &[u8], o: usize) -> FoundField
-    requires { isReadable s.now ≡ true }
-    ensures { result ≡ fieldPlace name.now s.now o }
+    requires { is_readable s.now ≡ true }
+    ensures { result ≡ field_place name.now s.now o }
 {
     let mut i = 0;
     let mut left = o;
@@ -367,8 +367,8 @@ pub fn find_field(s: &[u8], name: &[u8], o: usize) -> FoundField
 
 // Does a descriptor, which fills s, open the set of a name?
 fn opens_set(s: &[u8], name: &[u8]) -> bool
-    requires { isReadable s.now ≡ true }
-    ensures { result ≡ opensSet name.now s.now }
+    requires { is_readable s.now ≡ true }
+    ensures { result ≡ opens_set name.now s.now }
 {
     let f = find_field(s, b"%rec", 0);
     let FoundField::At {
@@ -397,8 +397,8 @@ pub enum FoundHead {
 }
 
 pub fn find_head(s: &[u8], name: &[u8]) -> FoundHead
-    requires { isReadable s.now ≡ true }
-    ensures { result ≡ headPlace name.now (places_of s.now) }
+    requires { is_readable s.now ≡ true }
+    ensures { result ≡ head_place name.now (places_of s.now) }
 {
     if name.len() == 0 {
         return FoundHead::At(Head {
@@ -431,8 +431,8 @@ pub fn find_head(s: &[u8], name: &[u8]) -> FoundHead
 // The set behind a head: its records go from where they begin to the byte behind the last block.
 pub fn set_behind(s: &[u8], head: Head) -> RecordSet
     requires { (head.begin ≤ length s.now)
-        × (isReadable (drop head.begin s.now) ≡ true) }
-    ensures { result ≡ setBehind s.now head }
+        × (is_readable (drop head.begin s.now) ≡ true) }
+    ensures { result ≡ set_behind s.now head }
 {
     let begin = head.begin;
     let m = next_members(&s[begin..]);
@@ -454,8 +454,8 @@ pub enum FoundSet {
 }
 
 pub fn find_set(s: &[u8], name: &[u8]) -> FoundSet
-    requires { isReadable s.now ≡ true }
-    ensures { result ≡ setPlace name.now s.now }
+    requires { is_readable s.now ≡ true }
+    ensures { result ≡ set_place name.now s.now }
 {
     let h = find_head(s, name);
     match h {

@@ -10,8 +10,8 @@ use lib.ListN.{length, get_or}
 use borrow.Author.Tests.{eqb-true, eqb-false, ne_eqb, lt-leb, le-leb}
 use Rattle.format.specs.Lists.{onward}
 use Rattle.format.specs.Bytes.{Bytes, pick, same, is_some}
-use Rattle.format.specs.Limits.{fileBytes}
-use Rattle.format.specs.Requests.{Tagged, tagged, Request as Asked, withText, ends, pairsOf, inserts, changes, by_kind, asksFor, requestOf}
+use Rattle.format.specs.Limits.{file_bytes}
+use Rattle.format.specs.Requests.{Tagged, tagged, Request as Asked, with_text, ends, pairs_of, inserts, changes, by_kind, asks_for, request_of}
 use Rattle.format.specs.Written.{Pair as Written}
 use Rattle.format.specs.Edits.{Change, Act, Edit}
 use Rattle.words.specs.declared.Span.{Span}
@@ -25,9 +25,9 @@ use Rattle.requests.specs.declared.kinds.Edit.{Edit as ReadEdit}
 use Rattle.requests.specs.declared.kinds.ChangeOf.{ChangeOf}
 use Rattle.requests.specs.declared.kinds.EditOf.{EditOf}
 use Rattle.requests.specs.declared.kinds.RequestOf.{RequestOf}
-use Rattle.requests.specs.Fields.{bytes_of, InSpan, fieldsFrom, NoText, TextAt, NumberAt, inField, PlaceAt}
-use Rattle.requests.specs.Pairs.{pairsFrom, list_of, onto, withPair, PairAt}
-use Rattle.requests.specs.Kinds.{Kind, insertKind, deletes, deleteKind, adds, addKind, sets, renames, changeKind, changeOf, editOf, requestAnswer, InEdit, Inside, ChangeAt, ofSet, Reads, Ends}
+use Rattle.requests.specs.Fields.{bytes_of, InSpan, fields_from, NoText, TextAt, NumberAt, in_field, PlaceAt}
+use Rattle.requests.specs.Pairs.{pairs_from, list_of, onto, with_pair, PairAt}
+use Rattle.requests.specs.Kinds.{Kind, insert_kind, deletes, delete_kind, adds, add_kind, sets, renames, change_kind, change_of, edit_of, request_answer, InEdit, Inside, ChangeAt, of_set, Reads, Ends}
 use Rattle.requests.proofs.Tagging.{Ample, fields-ample, fields-end}
 use Rattle.requests.proofs.Reading.{span-length, span-first, onward-none, onward-onward, text-then, text-none, ends-here, ends_more}
 
@@ -37,15 +37,15 @@ some_pairs false p x e = absurd (false≢true e)
 some_pairs true p none e = absurd (false≢true e)
 some_pairs true p (some ps) e = refl
 
-some-fields : (x : Option (List Tagged)) → Ample x → is_some (onward pairsOf x) ≡ true → onward insertKind x ≡ some (Edit.insert (list_of (onward pairsOf x)))
+some-fields : (x : Option (List Tagged)) → Ample x → is_some (onward pairs_of x) ≡ true → onward insert_kind x ≡ some (Edit.insert (list_of (onward pairs_of x)))
 some-fields none a e = absurd (false≢true e)
 some-fields (some []) a e = absurd a
 some-fields (some (f ∷ [])) a e = absurd (false≢true e)
-some-fields (some (f ∷ g ∷ fs)) a e = some_pairs (eqb 4 f.tag && eqb 6 g.tag) (record { name = f.contents; value = g.contents }) (pairsOf fs) e
+some-fields (some (f ∷ g ∷ fs)) a e = some_pairs (eqb 4 f.tag && eqb 6 g.tag) (record { name = f.contents; value = g.contents }) (pairs_of fs) e
 
-no_fields : (x : Option (List Tagged)) → is_some (onward pairsOf x) ≡ false → onward insertKind x ≡ none
+no_fields : (x : Option (List Tagged)) → is_some (onward pairs_of x) ≡ false → onward insert_kind x ≡ none
 no_fields none e = refl
-no_fields (some fs) e = go (pairsOf fs) e
+no_fields (some fs) e = go (pairs_of fs) e
   where
     go : (y : Option (List Written)) → is_some y ≡ false → onward inserts y ≡ none
     go none q = refl
@@ -59,39 +59,39 @@ onward-same f g (some fs) e = e fs
 -- an edit that ends where its last field does, or goes on
 module _ (s : Bytes) (a : ReadEdit) (k : ℕ) where
   pub goes_on : k < length s → Ends s a k EditOf.Fault
-  goes_on l = (sym (ends_more (editOf s a) s k l), tt)
+  goes_on l = (sym (ends_more (edit_of s a) s k l), tt)
 
   pub ends_there : InEdit s a → length s ≤ k → Ends s a k (EditOf.Is a)
-  ends_there q l = (sym (ends-here (editOf s a) s k l), q)
+  ends_there q l = (sym (ends-here (edit_of s a) s k l), q)
 
 -- the change of a kind: nothing more, or one last text
 module _ (s : Bytes) (kind i : ℕ) where
   abbrev at : (List Tagged → Option Change) → Option Change
-  at f = onward f (fieldsFrom s i)
+  at f = onward f (fields_from s i)
 
   pub change-drops : kind ≡ 5 → ChangeAt kind s i (ChangeOf.Is ReadChange.Dropped i)
-  change-drops e = (ap (λ (k : ℕ). at (changeKind k)) e, tt)
+  change-drops e = (ap (λ (k : ℕ). at (change_kind k)) e, tt)
 
-  as-sets : kind ≡ 4 → at (changeKind kind) ≡ at sets
-  as-sets e = ap (λ (k : ℕ). at (changeKind k)) e
+  as-sets : kind ≡ 4 → at (change_kind kind) ≡ at sets
+  as-sets e = ap (λ (k : ℕ). at (change_kind k)) e
 
-  as-renames : (kind ≡ 5 → ⊥) → (kind ≡ 4 → ⊥) → at (changeKind kind) ≡ at renames
-  as-renames d e = onward-same (changeKind kind) renames (fieldsFrom s i) (λ fs. rw (ne_eqb kind 5 d, ne_eqb kind 4 e))
+  as-renames : (kind ≡ 5 → ⊥) → (kind ≡ 4 → ⊥) → at (change_kind kind) ≡ at renames
+  as-renames d e = onward-same (change_kind kind) renames (fields_from s i) (λ fs. rw (ne_eqb kind 5 d, ne_eqb kind 4 e))
 
-  module _ (t : ℕ) (f : Bytes → Change) (e : at (changeKind kind) ≡ at (withText t (λ (v : Bytes). ends (f v)))) where
-    no_last : NoText t (fieldsFrom s i) → ChangeAt kind s i ChangeOf.Fault
-    no_last h = e ∙ text-none t (λ (v : Bytes). ends (f v)) (fieldsFrom s i) h
+  module _ (t : ℕ) (f : Bytes → Change) (e : at (change_kind kind) ≡ at (with_text t (λ (v : Bytes). ends (f v)))) where
+    no_last : NoText t (fields_from s i) → ChangeAt kind s i ChangeOf.Fault
+    no_last h = e ∙ text-none t (λ (v : Bytes). ends (f v)) (fields_from s i) h
 
-    last-text : (p : Span) → TextAt s i t (Text.At p) → at (changeKind kind) ≡ onward (ends (f (bytes_of s p))) (fieldsFrom s p.end)
-    last-text p h = e ∙ ap (onward (withText t (λ (v : Bytes). ends (f v)))) h.0 ∙ text-then t (λ (v : Bytes). ends (f v)) (bytes_of s p) (fieldsFrom s p.end)
+    last-text : (p : Span) → TextAt s i t (Text.At p) → at (change_kind kind) ≡ onward (ends (f (bytes_of s p))) (fields_from s p.end)
+    last-text p h = e ∙ ap (onward (with_text t (λ (v : Bytes). ends (f v)))) h.0 ∙ text-then t (λ (v : Bytes). ends (f v)) (bytes_of s p) (fields_from s p.end)
 
-  pub change-no-value : kind ≡ 4 → NoText 6 (fieldsFrom s i) → ChangeAt kind s i ChangeOf.Fault
+  pub change-no-value : kind ≡ 4 → NoText 6 (fields_from s i) → ChangeAt kind s i ChangeOf.Fault
   change-no-value e h = no_last 6 Change.value (as-sets e) h
 
   pub change-sets : kind ≡ 4 → (v : Span) → TextAt s i 6 (Text.At v) → ChangeAt kind s i (ChangeOf.Is (ReadChange.Value v) v.end)
   change-sets e v h = (last-text 6 Change.value (as-sets e) v h, h.2)
 
-  pub change-no-name : (kind ≡ 5 → ⊥) → (kind ≡ 4 → ⊥) → NoText 7 (fieldsFrom s i) → ChangeAt kind s i ChangeOf.Fault
+  pub change-no-name : (kind ≡ 5 → ⊥) → (kind ≡ 4 → ⊥) → NoText 7 (fields_from s i) → ChangeAt kind s i ChangeOf.Fault
   change-no-name d e h = no_last 7 Change.name (as-renames d e) h
 
   pub change-renames : (kind ≡ 5 → ⊥) → (kind ≡ 4 → ⊥) → (m : Span) → TextAt s i 7 (Text.At m) → ChangeAt kind s i (ChangeOf.Is (ReadChange.Name m) m.end)
@@ -101,78 +101,78 @@ module _ (s : Bytes) (kind i : ℕ) where
 pub change-told : (kind : ℕ) (s : Bytes) (i : ℕ) (x : ChangeOf) {y : ChangeOf} → ChangeAt kind s i x → x ≡ y → ChangeAt kind s i y
 change-told kind s i x h e = subst (ChangeAt kind s i) e h
 
-field-ends : (r : ℕ) (n : Bytes) (o : ℕ) (c : Change) (x : Option (List Tagged)) → onward (ends (Edit.on r (Act.change n o c))) x ≡ inField r n o (onward (ends c) x)
+field-ends : (r : ℕ) (n : Bytes) (o : ℕ) (c : Change) (x : Option (List Tagged)) → onward (ends (Edit.on r (Act.change n o c))) x ≡ in_field r n o (onward (ends c) x)
 field-ends r n o c none = refl
 field-ends r n o c (some []) = refl
 field-ends r n o c (some (f ∷ fs)) = refl
 
 module _ (s : Bytes) (i : ℕ) where
   -- a kind's fields that are none, and those that come to what the last of them ends with
-  faulty : (K : Kind) → onward K (fieldsFrom s i) ≡ none → Reads K s i EditOf.Fault
+  faulty : (K : Kind) → onward K (fields_from s i) ≡ none → Reads K s i EditOf.Fault
   faulty K e = (sym e, tt)
 
-  ending : (K : Kind) (a : ReadEdit) (k : ℕ) (x : EditOf) → onward K (fieldsFrom s i) ≡ onward (ends (editOf s a)) (fieldsFrom s k) → Ends s a k x → Reads K s i x
+  ending : (K : Kind) (a : ReadEdit) (k : ℕ) (x : EditOf) → onward K (fields_from s i) ≡ onward (ends (edit_of s a)) (fields_from s k) → Ends s a k x → Reads K s i x
   ending K a k x e h = (h.0 ∙ sym e, h.1)
 
-  pub insert-nothing : length s ≤ i → Reads insertKind s i EditOf.Fault
-  insert-nothing h = faulty insertKind (ap (onward insertKind) (fields-end s i h))
+  pub insert-nothing : length s ≤ i → Reads insert_kind s i EditOf.Fault
+  insert-nothing h = faulty insert_kind (ap (onward insert_kind) (fields-end s i h))
 
-  pub insert-fault : is_some (pairsFrom s i) ≡ false → Reads insertKind s i EditOf.Fault
-  insert-fault e = faulty insertKind (no_fields (fieldsFrom s i) e)
+  pub insert-fault : is_some (pairs_from s i) ≡ false → Reads insert_kind s i EditOf.Fault
+  insert-fault e = faulty insert_kind (no_fields (fields_from s i) e)
 
-  pub insert-reads : i < length s → is_some (pairsFrom s i) ≡ true → Reads insertKind s i (EditOf.Is (ReadEdit.Insert i))
-  insert-reads l e = (sym (some-fields (fieldsFrom s i) (fields-ample s i l) e), (l, e))
+  pub insert-reads : i < length s → is_some (pairs_from s i) ≡ true → Reads insert_kind s i (EditOf.Is (ReadEdit.Insert i))
+  insert-reads l e = (sym (some-fields (fields_from s i) (fields-ample s i l) e), (l, e))
 
-  pub delete-fault : NumberAt s i 3 Number.Fault → Reads deleteKind s i EditOf.Fault
-  delete-fault h = faulty deleteKind (h deletes)
+  pub delete-fault : NumberAt s i 3 Number.Fault → Reads delete_kind s i EditOf.Fault
+  delete-fault h = faulty delete_kind (h deletes)
 
-  abbrev addsTo : ℕ → List Tagged → Option Edit
-  addsTo r = withPair (adds r)
+  abbrev adds_to : ℕ → List Tagged → Option Edit
+  adds_to r = with_pair (adds r)
 
-  pub add-fault : NumberAt s i 3 Number.Fault → Reads addKind s i EditOf.Fault
-  add-fault h = faulty addKind (h addsTo)
+  pub add-fault : NumberAt s i 3 Number.Fault → Reads add_kind s i EditOf.Fault
+  add-fault h = faulty add_kind (h adds_to)
 
   module _ (r k : ℕ) (h : NumberAt s i 3 (Number.Is r k)) where
-    pub delete-reads : (x : EditOf) → Ends s (ReadEdit.On r ReadAct.Delete) k x → Reads deleteKind s i x
-    delete-reads x e = ending deleteKind (ReadEdit.On r ReadAct.Delete) k x (h.0 deletes) e
+    pub delete-reads : (x : EditOf) → Ends s (ReadEdit.On r ReadAct.Delete) k x → Reads delete_kind s i x
+    delete-reads x e = ending delete_kind (ReadEdit.On r ReadAct.Delete) k x (h.0 deletes) e
 
-    pub add-no-pair : PairAt s k Pair.End → Reads addKind s i EditOf.Fault
-    add-no-pair p = faulty addKind (h.0 addsTo ∙ p.1 (adds r))
+    pub add-no-pair : PairAt s k Pair.End → Reads add_kind s i EditOf.Fault
+    add-no-pair p = faulty add_kind (h.0 adds_to ∙ p.1 (adds r))
 
-    pub add_reads : (n v : Span) (j : ℕ) → PairAt s k (Pair.At n v j) → (x : EditOf) → Ends s (ReadEdit.On r (ReadAct.Add n v)) j x → Reads addKind s i x
-    add_reads n v j p x e = ending addKind (ReadEdit.On r (ReadAct.Add n v)) j x (h.0 addsTo ∙ p.1 (adds r)) e
+    pub add_reads : (n v : Span) (j : ℕ) → PairAt s k (Pair.At n v j) → (x : EditOf) → Ends s (ReadEdit.On r (ReadAct.Add n v)) j x → Reads add_kind s i x
+    add_reads n v j p x e = ending add_kind (ReadEdit.On r (ReadAct.Add n v)) j x (h.0 adds_to ∙ p.1 (adds r)) e
 
   -- a field's place and its change
   module _ (kind : ℕ) where
-    pub change-no-place : PlaceAt s i Place.Fault → Reads (changes (changeKind kind)) s i EditOf.Fault
-    change-no-place h = faulty (changes (changeKind kind)) (h (changeKind kind))
+    pub change-no-place : PlaceAt s i Place.Fault → Reads (changes (change_kind kind)) s i EditOf.Fault
+    change-no-place h = faulty (changes (change_kind kind)) (h (change_kind kind))
 
     module _ (r : ℕ) (n : Span) (o k : ℕ) (h : PlaceAt s i (Place.At r n o k)) where
-      pub change-fault : ChangeAt kind s k ChangeOf.Fault → Reads (changes (changeKind kind)) s i EditOf.Fault
-      change-fault x = faulty (changes (changeKind kind)) (h.0 (changeKind kind) ∙ ap (inField r (bytes_of s n) o) x)
+      pub change-fault : ChangeAt kind s k ChangeOf.Fault → Reads (changes (change_kind kind)) s i EditOf.Fault
+      change-fault x = faulty (changes (change_kind kind)) (h.0 (change_kind kind) ∙ ap (in_field r (bytes_of s n) o) x)
 
-      pub change-reads : (c : ReadChange) (e : ℕ) → ChangeAt kind s k (ChangeOf.Is c e) → (x : EditOf) → Ends s (ReadEdit.On r (ReadAct.Change n o c)) e x → Reads (changes (changeKind kind)) s i x
+      pub change-reads : (c : ReadChange) (e : ℕ) → ChangeAt kind s k (ChangeOf.Is c e) → (x : EditOf) → Ends s (ReadEdit.On r (ReadAct.Change n o c)) e x → Reads (changes (change_kind kind)) s i x
       change-reads c e d x q =
-          ending (changes (changeKind kind)) (ReadEdit.On r (ReadAct.Change n o c)) e x
-          (h.0 (changeKind kind) ∙ ap (inField r (bytes_of s n) o) d.0 ∙ sym (field-ends r (bytes_of s n) o (changeOf s c) (fieldsFrom s e))) q
+          ending (changes (change_kind kind)) (ReadEdit.On r (ReadAct.Change n o c)) e x
+          (h.0 (change_kind kind) ∙ ap (in_field r (bytes_of s n) o) d.0 ∙ sym (field-ends r (bytes_of s n) o (change_of s c) (fields_from s e))) q
 
 -- one kind by its number
 module _ (s : Bytes) (kind i : ℕ) where
   pub kind-reads : (K : Kind) (r : EditOf) → ((fs : List Tagged) → by_kind (kind ∷ []) fs ≡ K fs) → Reads K s i r → Reads (by_kind (kind ∷ [])) s i r
-  kind-reads K r same h = (h.0 ∙ sym (onward-same (by_kind (kind ∷ [])) K (fieldsFrom s i) same), h.1)
+  kind-reads K r same h = (h.0 ∙ sym (onward-same (by_kind (kind ∷ [])) K (fields_from s i) same), h.1)
 
   pub kind-unknown : (kind ≡ 1 → ⊥) → (kind ≡ 2 → ⊥) → (kind ≡ 3 → ⊥) → (kind ≡ 4 → ⊥) → (kind ≡ 5 → ⊥) → (kind ≡ 6 → ⊥) → Reads (by_kind (kind ∷ [])) s i EditOf.Fault
   kind-unknown a b c d e f =
-      kind-reads (λ (fs : List Tagged). none) EditOf.Fault (λ fs. rw (ne_eqb kind 1 a, ne_eqb kind 2 b, ne_eqb kind 3 c, ne_eqb kind 4 d, ne_eqb kind 5 e, ne_eqb kind 6 f)) (sym (onward-none (fieldsFrom s i)), tt)
+      kind-reads (λ (fs : List Tagged). none) EditOf.Fault (λ fs. rw (ne_eqb kind 1 a, ne_eqb kind 2 b, ne_eqb kind 3 c, ne_eqb kind 4 d, ne_eqb kind 5 e, ne_eqb kind 6 f)) (sym (onward-none (fields_from s i)), tt)
 
 -- the kinds of changes
-pub kind-changes : (kind : ℕ) → 4 ≤ kind → kind ≤ 6 → (fs : List Tagged) → by_kind (kind ∷ []) fs ≡ changes (changeKind kind) fs
+pub kind-changes : (kind : ℕ) → 4 ≤ kind → kind ≤ 6 → (fs : List Tagged) → by_kind (kind ∷ []) fs ≡ changes (change_kind kind) fs
 kind-changes kind low high fs = go (eqb kind 4) (eqb kind 5) refl refl
   where
-    is : (n : ℕ) → kind ≡ n → by_kind (n ∷ []) fs ≡ changes (changeKind n) fs → by_kind (kind ∷ []) fs ≡ changes (changeKind kind) fs
-    is n e h = subst (λ (k : ℕ). by_kind (k ∷ []) fs ≡ changes (changeKind k) fs) (sym e) h
+    is : (n : ℕ) → kind ≡ n → by_kind (n ∷ []) fs ≡ changes (change_kind n) fs → by_kind (kind ∷ []) fs ≡ changes (change_kind kind) fs
+    is n e h = subst (λ (k : ℕ). by_kind (k ∷ []) fs ≡ changes (change_kind k) fs) (sym e) h
 
-    go : (x y : Bool) → eqb kind 4 ≡ x → eqb kind 5 ≡ y → by_kind (kind ∷ []) fs ≡ changes (changeKind kind) fs
+    go : (x y : Bool) → eqb kind 4 ≡ x → eqb kind 5 ≡ y → by_kind (kind ∷ []) fs ≡ changes (change_kind kind) fs
     go true y p q = is 4 (eqb-true kind 4 p) refl
     go false true p q = is 5 (eqb-true kind 5 q) refl
     go false false p q = is 6 (omega (arith, eqb-false kind 4 p, eqb-false kind 5 q)) refl
@@ -197,56 +197,56 @@ one_byte s p h e =
 
 -- The whole request.
 abbrev Answers : Bytes → RequestOf → Type 0
-Answers s r = (requestAnswer s r ≡ requestOf s) × Inside s r
+Answers s r = (request_answer s r ≡ request_of s) × Inside s r
 
 -- what follows from the kind, and from the set
-abbrev ofKind : Bytes → Bytes → List Tagged → Option Asked
-ofKind k b gs = ofSet b (by_kind k gs)
+abbrev of_kind : Bytes → Bytes → List Tagged → Option Asked
+of_kind k b gs = of_set b (by_kind k gs)
 
-abbrev afterKind : Bytes → List Tagged → Option Asked
-afterKind k = withText 2 (ofKind k)
+abbrev after_kind : Bytes → List Tagged → Option Asked
+after_kind k = with_text 2 (of_kind k)
 
 module _ (s : Bytes) where
-  pub request-long : fileBytes < length s → Answers s RequestOf.Fault
-  unfolding requestOf
-  request-long h = (sym (ap (λ (t : Bool). pick t (onward asksFor (tagged s)) none) (lt-leb (length s) fileBytes h)), tt)
+  pub request-long : file_bytes < length s → Answers s RequestOf.Fault
+  unfolding request_of
+  request-long h = (sym (ap (λ (t : Bool). pick t (onward asks_for (tagged s)) none) (lt-leb (length s) file_bytes h)), tt)
 
-  module _ (h : length s ≤ fileBytes) where
-    request-short : requestOf s ≡ onward (withText 1 afterKind) (fieldsFrom s 0)
-    unfolding requestOf
-    request-short = ap (λ (t : Bool). pick t (onward asksFor (tagged s)) none) (le-leb (length s) fileBytes h)
+  module _ (h : length s ≤ file_bytes) where
+    request-short : request_of s ≡ onward (with_text 1 after_kind) (fields_from s 0)
+    unfolding request_of
+    request-short = ap (λ (t : Bool). pick t (onward asks_for (tagged s)) none) (le-leb (length s) file_bytes h)
 
-    pub no_kind : NoText 1 (fieldsFrom s 0) → Answers s RequestOf.Fault
-    no_kind n = (sym (request-short ∙ text-none 1 afterKind (fieldsFrom s 0) n), tt)
+    pub no_kind : NoText 1 (fields_from s 0) → Answers s RequestOf.Fault
+    no_kind n = (sym (request-short ∙ text-none 1 after_kind (fields_from s 0) n), tt)
 
     module _ (p : Span) (k : TextAt s 0 1 (Text.At p)) where
-      to_set : requestOf s ≡ onward (afterKind (bytes_of s p)) (fieldsFrom s p.end)
-      to_set = request-short ∙ ap (onward (withText 1 afterKind)) k.0 ∙ text-then 1 afterKind (bytes_of s p) (fieldsFrom s p.end)
+      to_set : request_of s ≡ onward (after_kind (bytes_of s p)) (fields_from s p.end)
+      to_set = request-short ∙ ap (onward (with_text 1 after_kind)) k.0 ∙ text-then 1 after_kind (bytes_of s p) (fields_from s p.end)
 
-      pub no-set : NoText 2 (fieldsFrom s p.end) → Answers s RequestOf.Fault
-      no-set n = (sym (to_set ∙ text-none 2 (ofKind (bytes_of s p)) (fieldsFrom s p.end) n), tt)
+      pub no-set : NoText 2 (fields_from s p.end) → Answers s RequestOf.Fault
+      no-set n = (sym (to_set ∙ text-none 2 (of_kind (bytes_of s p)) (fields_from s p.end) n), tt)
 
       module _ (q : Span) (m : TextAt s p.end 2 (Text.At q)) where
-        to-kind : requestOf s ≡ ofSet (bytes_of s q) (onward (by_kind (bytes_of s p)) (fieldsFrom s q.end))
+        to-kind : request_of s ≡ of_set (bytes_of s q) (onward (by_kind (bytes_of s p)) (fields_from s q.end))
         to-kind =
             to_set
-            ∙ ap (onward (afterKind (bytes_of s p))) m.0
-            ∙ text-then 2 (ofKind (bytes_of s p)) (bytes_of s q) (fieldsFrom s q.end)
-            ∙ onward-onward (λ (e : Edit). some (record { set = bytes_of s q; edit = e })) (by_kind (bytes_of s p)) (fieldsFrom s q.end)
+            ∙ ap (onward (after_kind (bytes_of s p))) m.0
+            ∙ text-then 2 (of_kind (bytes_of s p)) (bytes_of s q) (fields_from s q.end)
+            ∙ onward-onward (λ (e : Edit). some (record { set = bytes_of s q; edit = e })) (by_kind (bytes_of s p)) (fields_from s q.end)
 
         pub wrong-kind : (p.end - p.start ≡ 1 → ⊥) → Answers s RequestOf.Fault
         wrong-kind e =
-            let long : onward (by_kind (bytes_of s p)) (fieldsFrom s q.end) ≡ none = onward-same (by_kind (bytes_of s p)) (λ (fs : List Tagged). none) (fieldsFrom s q.end) (λ fs. kind-long (bytes_of s p) fs (λ x. e (sym (span-length s p k.2) ∙ x))) ∙ onward-none (fieldsFrom s q.end) in
-            (sym (to-kind ∙ ap (ofSet (bytes_of s q)) long), tt)
+            let long : onward (by_kind (bytes_of s p)) (fields_from s q.end) ≡ none = onward-same (by_kind (bytes_of s p)) (λ (fs : List Tagged). none) (fields_from s q.end) (λ fs. kind-long (bytes_of s p) fs (λ x. e (sym (span-length s p k.2) ∙ x))) ∙ onward-none (fields_from s q.end) in
+            (sym (to-kind ∙ ap (of_set (bytes_of s q)) long), tt)
 
         module _ (c : ℕ) (e : c ≡ get_or s p.start 0) (l : p.end - p.start ≡ 1) where
-          right-kind : (x : Option Edit) → x ≡ onward (by_kind (c ∷ [])) (fieldsFrom s q.end) → ofSet (bytes_of s q) x ≡ requestOf s
+          right-kind : (x : Option Edit) → x ≡ onward (by_kind (c ∷ [])) (fields_from s q.end) → of_set (bytes_of s q) x ≡ request_of s
           right-kind x h =
               let b : c ∷ [] ≡ bytes_of s p = ap {B = Bytes} (λ y. y ∷ []) e ∙ sym (one_byte s p k.2 l) in
-              ap (ofSet (bytes_of s q)) (h ∙ ap (λ (y : Bytes). onward (by_kind y) (fieldsFrom s q.end)) b) ∙ sym to-kind
+              ap (of_set (bytes_of s q)) (h ∙ ap (λ (y : Bytes). onward (by_kind y) (fields_from s q.end)) b) ∙ sym to-kind
 
           pub no-edit : (x : EditOf) → Reads (by_kind (c ∷ [])) s q.end x → x ≡ EditOf.Fault → Answers s RequestOf.Fault
           no-edit x h f = (right-kind none (subst (Reads (by_kind (c ∷ [])) s q.end) f h).0, tt)
 
           pub an-edit : (x : EditOf) (a : ReadEdit) → Reads (by_kind (c ∷ [])) s q.end x → x ≡ EditOf.Is a → Answers s (RequestOf.Is (record { set = q; edit = a }))
-          an-edit x a h f = let r = subst (Reads (by_kind (c ∷ [])) s q.end) f h in (right-kind (some (editOf s a)) r.0, (m.2, r.1))
+          an-edit x a h f = let r = subst (Reads (by_kind (c ∷ [])) s q.end) f h in (right-kind (some (edit_of s a)) r.0, (m.2, r.1))

@@ -14,7 +14,7 @@ use types.Run.{OneOf, miss}
 use denote.Enum.Declared.{tag_of}
 use Rattle.format.specs.Lists.{onward}
 use Rattle.format.specs.Bytes.{Bytes, pick}
-use Rattle.format.specs.Requests.{Tagged, short_at, withText, with_number, ends}
+use Rattle.format.specs.Requests.{Tagged, short_at, with_text, with_number, ends}
 use Rattle.format.specs.Edits.{Change, Act, Edit}
 use Rattle.words.specs.declared.Span.{Span}
 use Rattle.requests.specs.contracts.fields.Tagged.{the_type}
@@ -23,7 +23,7 @@ use Rattle.requests.specs.declared.fields.Tagged.{Tagged as Read}
 use Rattle.requests.specs.declared.fields.Text.{Text}
 use Rattle.requests.specs.declared.fields.Number.{Number}
 use Rattle.requests.specs.declared.fields.Place.{Place}
-use Rattle.requests.specs.Fields.{bytes_of, InSpan, fieldsFrom, inFront, FieldAt, NoText, TextAt, NumberAt, inField, PlaceAt}
+use Rattle.requests.specs.Fields.{bytes_of, InSpan, fields_from, in_front, FieldAt, NoText, TextAt, NumberAt, in_field, PlaceAt}
 use Rattle.requests.proofs.Tagging.{Ample, fields-ample, fields-end}
 
 -- the bytes of a part
@@ -42,11 +42,11 @@ onward-none none = refl
 onward-none (some a) = refl
 
 module _ {A : Type 0} (t : ℕ) (f : Bytes → List Tagged → Option A) where
-  pub text-then : (c : Bytes) (x : Option (List Tagged)) → onward (withText t f) (inFront t c x) ≡ onward (f c) x
+  pub text-then : (c : Bytes) (x : Option (List Tagged)) → onward (with_text t f) (in_front t c x) ≡ onward (f c) x
   text-then c none = refl
   text-then c (some fs) = ap (λ (b : Bool). pick b (f c fs) none) (eq-eqb t t refl)
 
-  pub text-none : (x : Option (List Tagged)) → NoText t x → onward (withText t f) x ≡ none
+  pub text-none : (x : Option (List Tagged)) → NoText t x → onward (with_text t f) x ≡ none
   text-none none h = refl
   text-none (some []) h = refl
   text-none (some (g ∷ fs)) h = ap (λ (b : Bool). pick b (f g.contents fs) none) h
@@ -60,18 +60,18 @@ module _ (t : ℕ) (f : ℕ → List Tagged → Option Edit) where
   numbered c x b = onward (λ (gs : List Tagged). pick b (f (short_at c) gs) none) x
 
   module _ (c : Bytes) (x : Option (List Tagged)) where
-    number-then : length c ≡ 2 → onward (with_number t f) (inFront t c x) ≡ onward (f (short_at c)) x
+    number-then : length c ≡ 2 → onward (with_number t f) (in_front t c x) ≡ onward (f (short_at c)) x
     number-then e = text-then t read c x ∙ ap (numbered c x) (eq-eqb (length c) 2 e)
 
-    number-none : (length c ≡ 2 → ⊥) → onward (with_number t f) (inFront t c x) ≡ none
+    number-none : (length c ≡ 2 → ⊥) → onward (with_number t f) (in_front t c x) ≡ none
     number-none e = text-then t read c x ∙ ap (numbered c x) (ne_eqb (length c) 2 e) ∙ onward-none x
 
 -- nothing stands behind the last field
-pub ends-here : {A : Type 0} (q : A) (s : Bytes) (i : ℕ) → length s ≤ i → onward (ends q) (fieldsFrom s i) ≡ some q
+pub ends-here : {A : Type 0} (q : A) (s : Bytes) (i : ℕ) → length s ≤ i → onward (ends q) (fields_from s i) ≡ some q
 ends-here q s i h = ap (onward (ends q)) (fields-end s i h)
 
-pub ends_more : {A : Type 0} (q : A) (s : Bytes) (i : ℕ) → i < length s → onward (ends q) (fieldsFrom s i) ≡ none
-ends_more q s i h = go (fieldsFrom s i) (fields-ample s i h)
+pub ends_more : {A : Type 0} (q : A) (s : Bytes) (i : ℕ) → i < length s → onward (ends q) (fields_from s i) ≡ none
+ends_more q s i h = go (fields_from s i) (fields-ample s i h)
   where
     go : (x : Option (List Tagged)) → Ample x → onward (ends q) x ≡ none
     go none a = refl
@@ -80,35 +80,35 @@ ends_more q s i h = go (fieldsFrom s i) (fields-ample s i h)
 
 -- A field that was read is a text of its tag, and of no other.
 module _ (s : Bytes) (i tag : ℕ) where
-  pub no_field : (r : Read) → OneOf (1 ∷ 2 ∷ []) (tag_of the_type r) → FieldAt s i r → NoText tag (fieldsFrom s i)
+  pub no_field : (r : Read) → OneOf (1 ∷ 2 ∷ []) (tag_of the_type r) → FieldAt s i r → NoText tag (fields_from s i)
   no_field (Read.At t a b) k h = absurd (miss (1 ∷ 2 ∷ []) 0 tt k)
   no_field Read.End k h = subst (NoText tag) (sym h.0) tt
   no_field Read.Fault k h = subst (NoText tag) (sym h.0) tt
 
-  pub other_tag : (t a b : ℕ) → FieldAt s i (Read.At t a b) → (t ≡ tag → ⊥) → NoText tag (fieldsFrom s i)
-  other_tag t a b h e = subst (NoText tag) (sym h.0) (go (fieldsFrom s b))
+  pub other_tag : (t a b : ℕ) → FieldAt s i (Read.At t a b) → (t ≡ tag → ⊥) → NoText tag (fields_from s i)
+  other_tag t a b h e = subst (NoText tag) (sym h.0) (go (fields_from s b))
     where
-      go : (x : Option (List Tagged)) → NoText tag (inFront t (span a b s) x)
+      go : (x : Option (List Tagged)) → NoText tag (in_front t (span a b s) x)
       go none = tt
       go (some fs) = ne_eqb tag t (λ q. e (sym q))
 
   pub same_tag : (t a b : ℕ) → FieldAt s i (Read.At t a b) → t ≡ tag → TextAt s i tag (Text.At (record { start = a; end = b }))
-  same_tag t a b h e = (h.0 ∙ ap (λ (x : ℕ). inFront x (span a b s) (fieldsFrom s b)) e, h.1, (h.2, h.3))
+  same_tag t a b h e = (h.0 ∙ ap (λ (x : ℕ). in_front x (span a b s) (fields_from s b)) e, h.1, (h.2, h.3))
 
   -- a text that was read, or that there is none
   pub text-found : (r : Text) (p : Span) → TextAt s i tag r → r ≡ Text.At p → TextAt s i tag (Text.At p)
   text-found r p h e = subst (TextAt s i tag) e h
 
-  pub text-missed : (r : Text) → TextAt s i tag r → r ≡ Text.Fault → NoText tag (fieldsFrom s i)
+  pub text-missed : (r : Text) → TextAt s i tag r → r ≡ Text.Fault → NoText tag (fields_from s i)
   text-missed r h e = subst (TextAt s i tag) e h
 
   -- and the number that it is
-  pub no_number : NoText tag (fieldsFrom s i) → NumberAt s i tag Number.Fault
-  no_number h f = text-none tag (read tag f) (fieldsFrom s i) h
+  pub no_number : NoText tag (fields_from s i) → NumberAt s i tag Number.Fault
+  no_number h f = text-none tag (read tag f) (fields_from s i) h
 
   module _ (p : Span) (h : TextAt s i tag (Text.At p)) where
     pub wrong-number : (p.end - p.start ≡ 2 → ⊥) → NumberAt s i tag Number.Fault
-    wrong-number e f = ap (onward (with_number tag f)) h.0 ∙ number-none tag f (bytes_of s p) (fieldsFrom s p.end) (λ q. e (sym (span-length s p h.2) ∙ q))
+    wrong-number e f = ap (onward (with_number tag f)) h.0 ∙ number-none tag f (bytes_of s p) (fields_from s p.end) (λ q. e (sym (span-length s p h.2) ∙ q))
 
     pub right-number : p.end - p.start ≡ 2 → NumberAt s i tag (Number.Is (get_or s p.start 0 * 256 + get_or s (p.start + 1) 0) p.end)
     right-number e =
@@ -116,7 +116,7 @@ module _ (s : Bytes) (i tag : ℕ) where
         let high : get_or c 0 0 ≡ get_or s p.start 0 = span-first s p (omega arith) in
         let low : get_or c 1 0 ≡ get_or s (p.start + 1) 0 = span-byte s p 1 (omega arith) in
         let q : short_at c ≡ get_or s p.start 0 * 256 + get_or s (p.start + 1) 0 = cc in
-        (λ f. ap (onward (with_number tag f)) h.0 ∙ number-then tag f c (fieldsFrom s p.end) (span-length s p h.2 ∙ e) ∙ ap (λ (n : ℕ). onward (f n) (fieldsFrom s p.end)) q, h.2.1)
+        (λ f. ap (onward (with_number tag f)) h.0 ∙ number-then tag f c (fields_from s p.end) (span-length s p h.2 ∙ e) ∙ ap (λ (n : ℕ). onward (f n) (fields_from s p.end)) q, h.2.1)
 
   pub number-found : (r : Number) (n k : ℕ) → NumberAt s i tag r → r ≡ Number.Is n k → NumberAt s i tag (Number.Is n k)
   number-found r n k h e = subst (NumberAt s i tag) e h
@@ -137,32 +137,32 @@ module _ (s : Bytes) (i : ℕ) where
   abbrev made : ℕ → Bytes → ℕ → Change → Option Edit
   made r n o c = some (Edit.on r (Act.change n o c))
 
-  abbrev afterPlace : Then → ℕ → Bytes → ℕ → List Tagged → Option Edit
-  afterPlace f r n o gs = inField r n o (f gs)
+  abbrev after_place : Then → ℕ → Bytes → ℕ → List Tagged → Option Edit
+  after_place f r n o gs = in_field r n o (f gs)
 
-  abbrev afterName : Then → ℕ → Bytes → List Tagged → Option Edit
-  afterName f r n = with_number 5 (afterPlace f r n)
+  abbrev after_name : Then → ℕ → Bytes → List Tagged → Option Edit
+  after_name f r n = with_number 5 (after_place f r n)
 
-  abbrev afterRow : Then → ℕ → List Tagged → Option Edit
-  afterRow f r = withText 4 (afterName f r)
+  abbrev after_row : Then → ℕ → List Tagged → Option Edit
+  after_row f r = with_text 4 (after_name f r)
 
   pub no_row : NumberAt s i 3 Number.Fault → PlaceAt s i Place.Fault
-  no_row h f = h (afterRow f)
+  no_row h f = h (after_row f)
 
   module _ (r j : ℕ) (h : NumberAt s i 3 (Number.Is r j)) where
-    pub no-place-name : NoText 4 (fieldsFrom s j) → PlaceAt s i Place.Fault
-    no-place-name k f = h.0 (afterRow f) ∙ text-none 4 (afterName f r) (fieldsFrom s j) k
+    pub no-place-name : NoText 4 (fields_from s j) → PlaceAt s i Place.Fault
+    no-place-name k f = h.0 (after_row f) ∙ text-none 4 (after_name f r) (fields_from s j) k
 
     module _ (p : Span) (k : TextAt s j 4 (Text.At p)) where
-      to-name : (f : Then) → onward (afterRow f r) (fieldsFrom s j) ≡ onward (afterName f r (bytes_of s p)) (fieldsFrom s p.end)
-      to-name f = ap (onward (afterRow f r)) k.0 ∙ text-then 4 (afterName f r) (bytes_of s p) (fieldsFrom s p.end)
+      to-name : (f : Then) → onward (after_row f r) (fields_from s j) ≡ onward (after_name f r (bytes_of s p)) (fields_from s p.end)
+      to-name f = ap (onward (after_row f r)) k.0 ∙ text-then 4 (after_name f r) (bytes_of s p) (fields_from s p.end)
 
       pub no-occurrence : NumberAt s p.end 5 Number.Fault → PlaceAt s i Place.Fault
-      no-occurrence m f = h.0 (afterRow f) ∙ to-name f ∙ m (afterPlace f r (bytes_of s p))
+      no-occurrence m f = h.0 (after_row f) ∙ to-name f ∙ m (after_place f r (bytes_of s p))
 
       pub whole-place : (o e : ℕ) → NumberAt s p.end 5 (Number.Is o e) → PlaceAt s i (Place.At r p o e)
       whole-place o e m = (
-        λ f. h.0 (afterRow f) ∙ to-name f ∙ m.0 (afterPlace f r (bytes_of s p)) ∙ onward-onward (made r (bytes_of s p) o) f (fieldsFrom s e),
+        λ f. h.0 (after_row f) ∙ to-name f ∙ m.0 (after_place f r (bytes_of s p)) ∙ onward-onward (made r (bytes_of s p) o) f (fields_from s e),
         k.2,
         m.1,
       )

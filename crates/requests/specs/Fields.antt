@@ -19,17 +19,17 @@ abbrev pub InSpan : Bytes → Span → Type 0
 InSpan s p = (p.start ≤ p.end) × (p.end ≤ length s)
 
 -- the fields from a place on, and a field in front of fields where they are
-abbrev pub fieldsFrom : Bytes → ℕ → Option (List Field)
-fieldsFrom s i = tagged (drop i s)
+abbrev pub fields_from : Bytes → ℕ → Option (List Field)
+fields_from s i = tagged (drop i s)
 
-abbrev pub inFront : ℕ → Bytes → Option (List Field) → Option (List Field)
-inFront t c x = onward (λ (fs : List Field). some (record { tag = t; contents = c } ∷ fs)) x
+abbrev pub in_front : ℕ → Bytes → Option (List Field) → Option (List Field)
+in_front t c x = onward (λ (fs : List Field). some (record { tag = t; contents = c } ∷ fs)) x
 
 -- what the field at i says of the fields from i on
 abbrev pub FieldAt : Bytes → ℕ → Tagged → Type 0
-FieldAt s i (Tagged.At t a b) = (fieldsFrom s i ≡ inFront t (span a b s) (fieldsFrom s b)) × (i < a) × (a ≤ b) × (b ≤ length s)
-FieldAt s i Tagged.End = (fieldsFrom s i ≡ some []) × (length s ≤ i)
-FieldAt s i Tagged.Fault = (fieldsFrom s i ≡ none) × (i < length s)
+FieldAt s i (Tagged.At t a b) = (fields_from s i ≡ in_front t (span a b s) (fields_from s b)) × (i < a) × (a ≤ b) × (b ≤ length s)
+FieldAt s i Tagged.End = (fields_from s i ≡ some []) × (length s ≤ i)
+FieldAt s i Tagged.Fault = (fields_from s i ≡ none) × (i < length s)
 
 -- fields that do not begin with one of a tag
 abbrev pub NoText : ℕ → Option (List Field) → Type 0
@@ -38,17 +38,17 @@ NoText t (some []) = Unit {0}
 NoText t (some (f ∷ fs)) = eqb t f.tag ≡ false
 
 abbrev pub TextAt : Bytes → ℕ → ℕ → Text → Type 0
-TextAt s i t (Text.At p) = (fieldsFrom s i ≡ inFront t (bytes_of s p) (fieldsFrom s p.end)) × (i < p.start) × InSpan s p
-TextAt s i t Text.Fault = NoText t (fieldsFrom s i)
+TextAt s i t (Text.At p) = (fields_from s i ≡ in_front t (bytes_of s p) (fields_from s p.end)) × (i < p.start) × InSpan s p
+TextAt s i t Text.Fault = NoText t (fields_from s i)
 
 -- whatever follows from a number, and from the place of a field, follows from what is read
 abbrev pub NumberAt : Bytes → ℕ → ℕ → Number → Type 0
-NumberAt s i t (Number.Is n k) = ((f : ℕ → List Field → Option Edit) → onward (with_number t f) (fieldsFrom s i) ≡ onward (f n) (fieldsFrom s k)) × (k ≤ length s)
-NumberAt s i t Number.Fault = (f : ℕ → List Field → Option Edit) → onward (with_number t f) (fieldsFrom s i) ≡ none
+NumberAt s i t (Number.Is n k) = ((f : ℕ → List Field → Option Edit) → onward (with_number t f) (fields_from s i) ≡ onward (f n) (fields_from s k)) × (k ≤ length s)
+NumberAt s i t Number.Fault = (f : ℕ → List Field → Option Edit) → onward (with_number t f) (fields_from s i) ≡ none
 
-abbrev pub inField : ℕ → Bytes → ℕ → Option Change → Option Edit
-inField r n o x = onward (λ (c : Change). some (Edit.on r (Act.change n o c))) x
+abbrev pub in_field : ℕ → Bytes → ℕ → Option Change → Option Edit
+in_field r n o x = onward (λ (c : Change). some (Edit.on r (Act.change n o c))) x
 
 abbrev pub PlaceAt : Bytes → ℕ → Place → Type 0
-PlaceAt s i (Place.At r n o k) = ((f : List Field → Option Change) → onward (changes f) (fieldsFrom s i) ≡ inField r (bytes_of s n) o (onward f (fieldsFrom s k))) × InSpan s n × (k ≤ length s)
-PlaceAt s i Place.Fault = (f : List Field → Option Change) → onward (changes f) (fieldsFrom s i) ≡ none
+PlaceAt s i (Place.At r n o k) = ((f : List Field → Option Change) → onward (changes f) (fields_from s i) ≡ in_field r (bytes_of s n) o (onward f (fields_from s k))) × InSpan s n × (k ≤ length s)
+PlaceAt s i Place.Fault = (f : List Field → Option Change) → onward (changes f) (fields_from s i) ≡ none

@@ -3,24 +3,24 @@ use Rattle.std.specs.Prelude.{ℕ, ◌<◌, ◌≡◌, true, false, List, [], �
 use Rattle.std.proofs.Math.Option.{Option, none, some}
 use Rattle.format.specs.Lists.{only_if, onward}
 use Rattle.format.specs.Bytes.{Bytes, all}
-use Rattle.format.specs.Requests.{Tagged, withText, pairsOf}
+use Rattle.format.specs.Requests.{Tagged, with_text, pairs_of}
 use Rattle.format.specs.Edits.{Edit}
-use Rattle.format.specs.Written.{Pair as Written, writtenAll, isLegalPair}
+use Rattle.format.specs.Written.{Pair as Written, written_all, is_legal_pair}
 use Rattle.words.specs.declared.Span.{Span}
 use Rattle.requests.specs.declared.pairs.Pair.{Pair}
 use Rattle.requests.specs.declared.pairs.Weighed.{Weighed}
-use Rattle.requests.specs.Fields.{bytes_of, InSpan, fieldsFrom}
+use Rattle.requests.specs.Fields.{bytes_of, InSpan, fields_from}
 
-abbrev pub pairsFrom : Bytes → ℕ → Option (List Written)
-pairsFrom s i = onward pairsOf (fieldsFrom s i)
+abbrev pub pairs_from : Bytes → ℕ → Option (List Written)
+pairs_from s i = onward pairs_of (fields_from s i)
 
 -- none where the fields are no pairs
 abbrev pub list_of : Option (List Written) → List Written
 list_of none = []
 list_of (some ps) = ps
 
-abbrev pub pairsAt : Bytes → ℕ → List Written
-pairsAt s i = list_of (pairsFrom s i)
+abbrev pub pairs_at : Bytes → ℕ → List Written
+pairs_at s i = list_of (pairs_from s i)
 
 -- a pair of a request, and one in front of pairs where they are
 abbrev pub pair_of : Bytes → Span → Span → Written
@@ -30,24 +30,24 @@ abbrev pub onto : Written → Option (List Written) → Option (List Written)
 onto p x = onward (λ (ps : List Written). some (p ∷ ps)) x
 
 -- what follows from the fields of one pair
-abbrev pub withPair : (Bytes → Bytes → List Tagged → Option Edit) → List Tagged → Option Edit
-withPair f fs = withText 4 (λ (n : Bytes). withText 6 (λ (v : Bytes). f n v)) fs
+abbrev pub with_pair : (Bytes → Bytes → List Tagged → Option Edit) → List Tagged → Option Edit
+with_pair f fs = with_text 4 (λ (n : Bytes). with_text 6 (λ (v : Bytes). f n v)) fs
 
 -- what the pair at i says of the pairs from i on, and of one pair there
 abbrev pub PairAt : Bytes → ℕ → Pair → Type 0
 PairAt s i (Pair.At n v k) =
-    (pairsFrom s i ≡ onto (pair_of s n v) (pairsFrom s k))
-    × ((f : Bytes → Bytes → List Tagged → Option Edit) → onward (withPair f) (fieldsFrom s i) ≡ onward (f (bytes_of s n) (bytes_of s v)) (fieldsFrom s k))
+    (pairs_from s i ≡ onto (pair_of s n v) (pairs_from s k))
+    × ((f : Bytes → Bytes → List Tagged → Option Edit) → onward (with_pair f) (fields_from s i) ≡ onward (f (bytes_of s n) (bytes_of s v)) (fields_from s k))
     × (i < n.start)
     × InSpan s n
     × (n.end < v.start)
     × InSpan s v
     × (k ≡ v.end)
 PairAt s i Pair.End =
-    (pairsFrom s i ≡ only_if (leb (length s) i) [])
-    × ((f : Bytes → Bytes → List Tagged → Option Edit) → onward (withPair f) (fieldsFrom s i) ≡ none)
+    (pairs_from s i ≡ only_if (leb (length s) i) [])
+    × ((f : Bytes → Bytes → List Tagged → Option Edit) → onward (with_pair f) (fields_from s i) ≡ none)
 
 -- the sums over pairs
 abbrev pub Weighs : List Written → Weighed → Type 0
-Weighs ps Weighed.Illegal = all isLegalPair ps ≡ false
-Weighs ps (Weighed.Sums len count) = (all isLegalPair ps ≡ true) × (len ≡ length (writtenAll ps)) × (count ≡ length ps)
+Weighs ps Weighed.Illegal = all is_legal_pair ps ≡ false
+Weighs ps (Weighed.Sums len count) = (all is_legal_pair ps ≡ true) × (len ≡ length (written_all ps)) × (count ≡ length ps)

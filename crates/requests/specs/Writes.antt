@@ -1,10 +1,10 @@
 -- The answer of writing a record.
 use Rattle.std.specs.Prelude.{ℕ, List, leb, length}
 use Rattle.format.specs.Bytes.{pick}
-use Rattle.format.specs.Questions.{firstNo}
-use Rattle.format.specs.Written.{Pair, writtenAll}
-use Rattle.format.specs.Calls.{thenNo, writeRows}
+use Rattle.format.specs.Questions.{first_no}
+use Rattle.format.specs.Written.{Pair, written_all}
+use Rattle.format.specs.Calls.{then_no, write_rows}
 
 -- what is asked before it: of the pairs, and then whether their text fits
-abbrev pub writeNo : List Pair → ℕ → ℕ
-writeNo ps room = thenNo (firstNo writeRows ps) (pick (leb (length (writtenAll ps)) room) 0 27)
+abbrev pub write_no : List Pair → ℕ → ℕ
+write_no ps room = then_no (first_no write_rows ps) (pick (leb (length (written_all ps)) room) 0 27)

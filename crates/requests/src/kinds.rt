@@ -1,7 +1,7 @@
 // The six kinds of an edit: which fields each has, and what it asks for.
 ghost use Rattle.std.specs.Prelude.{◌≡◌, [], ◌∷◌};
-ghost use Rattle.format.specs.Requests.{by_kind, changes, requestOf};
-ghost use Rattle.requests.specs.Kinds.{insertKind, deleteKind, addKind, changeKind, requestAnswer, InEdit, Inside, ChangeAt, Reads, Ends};
+ghost use Rattle.format.specs.Requests.{by_kind, changes, request_of};
+ghost use Rattle.requests.specs.Kinds.{insert_kind, delete_kind, add_kind, change_kind, request_answer, InEdit, Inside, ChangeAt, Reads, Ends};
 
 use super::fields::{Number, Place, Tag, Text, number_at, place_at, text_at};
 use super::pairs::{Pair, are_pairs, pair_at};
@@ -69,7 +69,7 @@ enum EditOf {
 }
 
 fn insert_at(req: &[u8], i: usize) -> EditOf
-    ensures { Reads insertKind req.now i result }
+    ensures { Reads insert_kind req.now i result }
 {
     if req.len() <= i {
         return EditOf::Fault;
@@ -92,7 +92,7 @@ fn ending(req: &[u8], edit: Edit, end: usize) -> EditOf
 }
 
 fn delete_at(req: &[u8], i: usize) -> EditOf
-    ensures { Reads deleteKind req.now i result }
+    ensures { Reads delete_kind req.now i result }
 {
     let a = number_at(req, i, Tag::RECORD);
     let Number::Is { value: row, next } = a else {
@@ -104,7 +104,7 @@ fn delete_at(req: &[u8], i: usize) -> EditOf
 }
 
 fn add_at(req: &[u8], i: usize) -> EditOf
-    ensures { Reads addKind req.now i result }
+    ensures { Reads add_kind req.now i result }
 {
     let a = number_at(req, i, Tag::RECORD);
     let Number::Is { value: row, next } = a else {
@@ -159,7 +159,7 @@ fn change_of(req: &[u8], kind: u8, i: usize) -> ChangeOf
 
 // Set, drop and rename: the place of a field, and its change.
 fn change_at(req: &[u8], kind: u8, i: usize) -> EditOf
-    ensures { Reads (changes (changeKind kind)) req.now i result }
+    ensures { Reads (changes (change_kind kind)) req.now i result }
 {
     let p = place_at(req, i);
     let Place::At {
@@ -214,7 +214,7 @@ pub enum RequestOf {
 
 // What a request asks for. Whatever is malformed is Fault.
 pub fn request_of(req: &[u8]) -> RequestOf
-    ensures { (requestAnswer req.now result ≡ requestOf req.now) × Inside req.now result }
+    ensures { (request_answer req.now result ≡ request_of req.now) × Inside req.now result }
 {
     if req.len() > format::File::BYTES {
         return RequestOf::Fault;

@@ -2,11 +2,11 @@
 ghost use Rattle.std.specs.Prelude.{◌≡◌, true, ◌+◌, ◌≤◌, length};
 ghost use Rattle.std.proofs.lemmas.List.Edits.{sets};
 ghost use Rattle.format.specs.Bytes.{is_some};
-ghost use Rattle.format.specs.Limits.{fileBytes};
-ghost use Rattle.format.specs.Written.{written, isLegalPair, writtenAll};
+ghost use Rattle.format.specs.Limits.{file_bytes};
+ghost use Rattle.format.specs.Written.{written, is_legal_pair, written_all};
 ghost use Rattle.format.specs.Calls.{over};
 ghost use Rattle.requests.specs.Fields.{bytes_of, InSpan};
-ghost use Rattle.requests.specs.Pairs.{pairsFrom, pairsAt, pair_of, PairAt, Weighs};
+ghost use Rattle.requests.specs.Pairs.{pairs_from, pairs_at, pair_of, PairAt, Weighs};
 
 use super::fields::{Tag, Text, text_at};
 use words::Span;
@@ -42,7 +42,7 @@ pub fn pair_at(req: &[u8], i: usize) -> Pair
 
 // Are the fields from a place on pairs?
 pub(crate) fn are_pairs(req: &[u8], from: usize) -> bool
-    ensures { result ≡ is_some (pairsFrom req.now from) }
+    ensures { result ≡ is_some (pairs_from req.now from) }
 {
     let mut i = from;
     loop {
@@ -62,7 +62,7 @@ pub(crate) fn are_pairs(req: &[u8], from: usize) -> bool
 // Are a pair's name and value legal?
 pub fn is_legal_pair(req: &[u8], name: Span, value: Span) -> bool
     requires { InSpan req.now name × InSpan req.now value }
-    ensures { result ≡ isLegalPair (pair_of req.now name value) }
+    ensures { result ≡ is_legal_pair (pair_of req.now name value) }
 {
     let a = name.start;
     let b = name.end;
@@ -76,7 +76,7 @@ pub fn is_legal_pair(req: &[u8], name: Span, value: Span) -> bool
 
 // The length of a pair's text.
 fn pair_len(req: &[u8], name: Span, value: Span) -> usize
-    requires req_len_bound { length req.now ≤ fileBytes }
+    requires req_len_bound { length req.now ≤ file_bytes }
     requires in_span { InSpan req.now name × InSpan req.now value }
     ensures { result ≡ length (written (bytes_of req.now name) (bytes_of req.now value)) }
 {
@@ -109,9 +109,9 @@ pub enum Weighed {
 }
 
 pub fn weigh(req: &[u8], from: usize) -> Weighed
-    requires req_len_bound { (length req.now ≤ fileBytes) × (from ≤ length req.now) }
-    requires from_value { is_some (pairsFrom req.now from) ≡ true }
-    ensures { Weighs (pairsAt req.now from) result }
+    requires req_len_bound { (length req.now ≤ file_bytes) × (from ≤ length req.now) }
+    requires from_value { is_some (pairs_from req.now from) ≡ true }
+    ensures { Weighs (pairs_at req.now from) result }
 {
     let mut i = from;
     let mut len: usize = 0;
@@ -132,9 +132,9 @@ pub fn weigh(req: &[u8], from: usize) -> Weighed
 
 // The text of pairs at the front of out, which holds it.
 pub fn put_pairs(req: &[u8], from: usize, out: &mut [u8]) -> usize
-    requires from_value { is_some (pairsFrom req.now from) ≡ true }
-    requires from_in_bounds { length (writtenAll (pairsAt req.now from)) ≤ length out.old }
-    ensures { (result ≡ length (writtenAll (pairsAt req.now from))) × (out.new ≡ over (writtenAll (pairsAt req.now from)) out.old) }
+    requires from_value { is_some (pairs_from req.now from) ≡ true }
+    requires from_in_bounds { length (written_all (pairs_at req.now from)) ≤ length out.old }
+    ensures { (result ≡ length (written_all (pairs_at req.now from))) × (out.new ≡ over (written_all (pairs_at req.now from)) out.old) }
 {
     let mut i = from;
     let mut at = 0;

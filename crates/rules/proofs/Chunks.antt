@@ -9,17 +9,17 @@ use lib.ListN.{length, take}
 use borrow.Author.Tests.{ne_eqb}
 use Rattle.format.specs.Bytes.{Bytes, text, pick, all}
 use Rattle.format.specs.Records.{Field, Record}
-use Rattle.format.specs.Numbers.{intBounds}
-use Rattle.format.specs.Rules.{typeRules, isTyped}
-use Rattle.format.specs.Questions.{Row, firstNo, noneProhibited, allAllowed, allPresent, noneRepeated, allTyped}
+use Rattle.format.specs.Numbers.{int_bounds}
+use Rattle.format.specs.Rules.{type_rules, is_typed}
+use Rattle.format.specs.Questions.{Row, first_no, none_prohibited, all_allowed, all_present, none_repeated, all_typed}
 use Rattle.format.proofs.Elements.{all_both, all_alike}
-use Rattle.format.proofs.Least.{least, leasts, eachOf, first-leasts, first-append}
-use Rattle.format.proofs.Judging.{recordRows, recordNo}
-use Rattle.records.specs.Walk.{recordIn}
-use Rattle.records.specs.Named.{valuesFrom}
+use Rattle.format.proofs.Least.{least, leasts, each_of, first-leasts, first-append}
+use Rattle.format.proofs.Judging.{record_rows, record_no}
+use Rattle.records.specs.Walk.{record_in}
+use Rattle.records.specs.Named.{values_from}
 use Rattle.columns.proofs.Named.{between_split, typed-rows}
 use Rattle.rules.proofs.Leasts.{least-assoc}
-use Rattle.rules.specs.Members.{namesNo, isMet, partNo}
+use Rattle.rules.specs.Members.{names_no, is_met, part_no}
 use Rattle.rules.specs.Chunks.{Chunked}
 use Rattle.rules.specs.declared.Chunk.{Chunk}
 
@@ -47,48 +47,48 @@ both-types false false = refl
 
 module _ (d : Bytes) (rs : List Record) where
   abbrev names : ℕ
-  names = leasts (map (namesNo (recordIn d)) rs)
+  names = leasts (map (names_no (record_in d)) rs)
 
   abbrev met : ℕ → ℕ → Bool
-  met from m = all (all (isMet d from m)) rs
+  met from m = all (all (is_met d from m)) rs
 
-  field-split : (from m n : ℕ) (f : Field) → isMet d from (m + n) f ≡ (isMet d from m f && isMet d (from + m) n f)
-  unfolding isMet
+  field-split : (from m n : ℕ) (f : Field) → is_met d from (m + n) f ≡ (is_met d from m f && is_met d (from + m) n f)
+  unfolding is_met
   field-split from m n f = between_split d f.name f.value from m n
 
   met-split : (from m n : ℕ) → met from (m + n) ≡ (met from m && met (from + m) n)
   met-split from m n =
-      let a : Field → Bool = isMet d from m in
-      let b : Field → Bool = isMet d (from + m) n in
-      all_alike (all (isMet d from (m + n))) (λ (r : Record). all a r && all b r) (λ r. all_alike (isMet d from (m + n)) (λ (f : Field). a f && b f) (field-split from m n) r ∙ all_both a b r) rs
+      let a : Field → Bool = is_met d from m in
+      let b : Field → Bool = is_met d (from + m) n in
+      all_alike (all (is_met d from (m + n))) (λ (r : Record). all a r && all b r) (λ r. all_alike (is_met d from (m + n)) (λ (f : Field). a f && b f) (field-split from m n) r ∙ all_both a b r) rs
       ∙ all_both (all a) (all b) rs
 
-  part-split : (from m n : ℕ) → partNo d from (m + n) rs ≡ least (partNo d from m rs) (partNo d (from + m) n rs)
-  unfolding partNo
+  part-split : (from m n : ℕ) → part_no d from (m + n) rs ≡ least (part_no d from m rs) (part_no d (from + m) n rs)
+  unfolding part_no
   part-split from m n =
       ap (λ (b : Bool). least names (pick b 0 12)) (met-split from m n)
       ∙ ap (least names) (sym (both-types (met from m) (met (from + m) n)))
       ∙ sym (least-both names (pick (met from m) 0 12) (pick (met (from + m) n) 0 12))
 
   -- worst is the least by the `%type` fields before one; a chunk of those from there on
-  module _ (count worst from : ℕ) (h : least worst (partNo d from (count - from) rs) ≡ partNo d 0 count rs) (c : Chunk) (k : Chunked d from count rs c) (best : ℕ) (b : best ≡ least worst c.number) where
-    pub chunk-more : least best (partNo d c.next (count - c.next) rs) ≡ partNo d 0 count rs
+  module _ (count worst from : ℕ) (h : least worst (part_no d from (count - from) rs) ≡ part_no d 0 count rs) (c : Chunk) (k : Chunked d from count rs c) (best : ℕ) (b : best ≡ least worst c.number) where
+    pub chunk-more : least best (part_no d c.next (count - c.next) rs) ≡ part_no d 0 count rs
     chunk-more =
         let m : ℕ = c.next - from in
         let n : ℕ = count - c.next in
         let whole : count - from ≡ m + n = omega (arith, k.begins, k.within) in
         let there : from + m ≡ c.next = omega (arith, k.begins) in
-        ap (λ (x : ℕ). least x (partNo d c.next n rs)) (b ∙ ap (least worst) k.number_is)
-        ∙ sym (least-assoc worst (partNo d from m rs) (partNo d c.next n rs))
-        ∙ ap (λ (j : ℕ). least worst (least (partNo d from m rs) (partNo d j n rs))) (sym there)
+        ap (λ (x : ℕ). least x (part_no d c.next n rs)) (b ∙ ap (least worst) k.number_is)
+        ∙ sym (least-assoc worst (part_no d from m rs) (part_no d c.next n rs))
+        ∙ ap (λ (j : ℕ). least worst (least (part_no d from m rs) (part_no d j n rs))) (sym there)
         ∙ ap (least worst) (sym (part-split from m n))
-        ∙ ap (λ (j : ℕ). least worst (partNo d from j rs)) (sym whole)
+        ∙ ap (λ (j : ℕ). least worst (part_no d from j rs)) (sym whole)
         ∙ h
 
-    pub chunk-last : count ≤ c.next → best ≡ partNo d 0 count rs
+    pub chunk-last : count ≤ c.next → best ≡ part_no d 0 count rs
     chunk-last l =
         let all_of : c.next - from ≡ count - from = omega (arith, k.within) in
-        b ∙ ap (least worst) (k.number_is ∙ ap (λ (j : ℕ). partNo d from j rs) all_of) ∙ h
+        b ∙ ap (least worst) (k.number_is ∙ ap (λ (j : ℕ). part_no d from j rs) all_of) ∙ h
 
   -- by all `%type` fields: the number of the records
   low : (p a c e : Bool) → pick p (pick a (pick c (pick e 0 11) 10) 9) 8 ≤ 11
@@ -107,30 +107,30 @@ module _ (d : Bytes) (rs : List Record) where
   by-least (suc n) b h = least-low n b h ∙ ap (λ (t : Bool). pick t (pick b 0 12) (suc n)) (sym (ne_eqb (suc n) 0 (λ z. omega arith)))
 
   abbrev rules : Record
-  rules = recordIn d
+  rules = record_in d
 
   abbrev rows : List (Row Record)
-  rows = recordRows intBounds rules
+  rows = record_rows int_bounds rules
 
-  names-first : names ≡ firstNo (eachOf (take 4 rows)) rs
-  unfolding namesNo
+  names-first : names ≡ first_no (each_of (take 4 rows)) rs
+  unfolding names_no
   names-first = sym (first-leasts (take 4 rows) (omega arith) rs)
 
   names-low : names ≤ 11
-  names-low = omega (arith, names-first, low (all (noneProhibited rules) rs) (all (allAllowed rules) rs) (all (allPresent rules) rs) (all (noneRepeated rules) rs))
+  names-low = omega (arith, names-first, low (all (none_prohibited rules) rs) (all (all_allowed rules) rs) (all (all_present rules) rs) (all (none_repeated rules) rs))
 
-  types-all : met 0 (length (valuesFrom d (text "%type") 0)) ≡ all (allTyped intBounds rules) rs
-  unfolding isMet
+  types-all : met 0 (length (values_from d (text "%type") 0)) ≡ all (all_typed int_bounds rules) rs
+  unfolding is_met
   types-all =
-      all_alike (all (isMet d 0 (length (valuesFrom d (text "%type") 0)))) (allTyped intBounds rules)
-      (λ r. all_alike (isMet d 0 (length (valuesFrom d (text "%type") 0))) (isTyped intBounds (typeRules intBounds rules)) (λ f. sym (typed-rows d f)) r) rs
+      all_alike (all (is_met d 0 (length (values_from d (text "%type") 0)))) (all_typed int_bounds rules)
+      (λ r. all_alike (is_met d 0 (length (values_from d (text "%type") 0))) (is_typed int_bounds (type_rules int_bounds rules)) (λ f. sym (typed-rows d f)) r) rs
 
-  pub part-all : (count : ℕ) → count ≡ length (valuesFrom d (text "%type") 0) → partNo d 0 count rs ≡ leasts (map (recordNo intBounds rules) rs)
-  unfolding partNo recordNo
+  pub part-all : (count : ℕ) → count ≡ length (values_from d (text "%type") 0) → part_no d 0 count rs ≡ leasts (map (record_no int_bounds rules) rs)
+  unfolding part_no record_no
   part-all count e =
       ap (λ (n : ℕ). least names (pick (met 0 n) 0 12)) e
       ∙ ap (λ (b : Bool). least names (pick b 0 12)) types-all
-      ∙ by-least names (all (allTyped intBounds rules) rs) names-low
-      ∙ ap (λ (k : ℕ). pick (eqb k 0) (pick (all (allTyped intBounds rules) rs) 0 12) k) names-first
-      ∙ sym (first-append (eachOf (take 4 rows)) (record { number = 12; asks = all (allTyped intBounds rules) } ∷ []) rs (omega arith))
+      ∙ by-least names (all (all_typed int_bounds rules) rs) names-low
+      ∙ ap (λ (k : ℕ). pick (eqb k 0) (pick (all (all_typed int_bounds rules) rs) 0 12) k) names-first
+      ∙ sym (first-append (each_of (take 4 rows)) (record { number = 12; asks = all (all_typed int_bounds rules) } ∷ []) rs (omega arith))
       ∙ first-leasts rows (omega arith) rs

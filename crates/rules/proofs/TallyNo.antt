@@ -8,29 +8,29 @@ use borrow.Author.Tests.{eqb-true, eqb-false, eq-eqb, ne_eqb, le-leb, lt-leb, lt
 use lib.Dec.{leb, ltb, eqb}
 use lib.ListN.{length, get_or, take}
 use lib.Seq.{take_all}
-use Rattle.format.specs.Lists.{isFilled}
+use Rattle.format.specs.Lists.{is_filled}
 use Rattle.format.specs.Bytes.{Bytes, text, pick, all, among}
 use Rattle.format.specs.Records.{Record}
 use Rattle.format.specs.Sets.{values_of}
 use Rattle.format.specs.Numbers.{Bounds}
 use Rattle.format.specs.Rules.{mandatory, allowed, unique, key}
-use Rattle.format.specs.Questions.{firstNo, eachName, noneProhibited, allAllowed, occurrences}
+use Rattle.format.specs.Questions.{first_no, each_name, none_prohibited, all_allowed, occurrences}
 use Rattle.format.proofs.Lines.{all_append}
-use Rattle.format.proofs.Judging.{recordRows}
+use Rattle.format.proofs.Judging.{record_rows}
 use Rattle.values.proofs.Tests.{by_bool, dec-lt}
 use Rattle.terms.specs.Sets.{in_set}
 use Rattle.terms.proofs.Sets.{in-none}
 use Rattle.dictionary.proofs.Sets.{no_place}
-use Rattle.rules.specs.Tallies.{hasAll, tallyNo, Tallied}
+use Rattle.rules.specs.Tallies.{has_all, tally_no, Tallied}
 use Rattle.rules.specs.declared.tallies.Tally.{Tally}
 use Rattle.rules.proofs.Sets.{all_tested}
 
 -- the number, test by test
 pub number_by : (t : Tally) (limited keyed : Bool) (n : ℕ) {prohibited other present keyless single repeated : Bool}
-    → t.prohibited ≡ prohibited → (limited && t.other) ≡ other → hasAll n t.present ≡ present → (keyed && eqb t.keys 0) ≡ keyless → eqb t.twice 0 ≡ single
+    → t.prohibited ≡ prohibited → (limited && t.other) ≡ other → has_all n t.present ≡ present → (keyed && eqb t.keys 0) ≡ keyless → eqb t.twice 0 ≡ single
     → (keyed && ltb 1 t.keys) ≡ repeated
-    → tallyNo t limited keyed n ≡ pick prohibited 8 (pick other 9 (pick present (pick keyless 10 (pick single (pick repeated 11 0) 11)) 10))
-unfolding tallyNo
+    → tally_no t limited keyed n ≡ pick prohibited 8 (pick other 9 (pick present (pick keyless 10 (pick single (pick repeated 11 0) 11)) 10))
+unfolding tally_no
 number_by t limited keyed n p o h z w r = (λ i. pick (p i) 8 (pick (o i) 9 (pick (h i) (pick (z i) 10 (pick (w i) (pick (r i) 11 0) 11)) 10)))
 
 -- a test of words, place by place
@@ -54,7 +54,7 @@ module _ (rules r : Record) (t : Tally) (h : Tallied rules r t) where
   single n = leb (occurrences n r) 1
 
   -- the mandatory words
-  all-mandatory : hasAll (length (mandatory rules)) t.present ≡ all present (mandatory rules)
+  all-mandatory : has_all (length (mandatory rules)) t.present ≡ all present (mandatory rules)
   all-mandatory =
       let ws : List Bytes = mandatory rules in
       all_tested present ws t.present (length ws) (omega arith) (λ k g. h.present-is k ∙ ap (λ (b : Bool). b && present (get_or ws k [])) (lt-ltb k (length ws) g))
@@ -93,10 +93,10 @@ module _ (rules r : Record) (t : Tally) (h : Tallied rules r t) where
       off false q = refl
 
   -- the key
-  keys-absent : (keyed : Bool) → keyed ≡ isFilled (key rules) → length (key rules) ≤ 1 → (keyed && eqb t.keys 0) ≡ not (all present (key rules))
+  keys-absent : (keyed : Bool) → keyed ≡ is_filled (key rules) → length (key rules) ≤ 1 → (keyed && eqb t.keys 0) ≡ not (all present (key rules))
   keys-absent keyed e l = ap (λ (b : Bool). b && eqb t.keys 0) e ∙ go (key rules) refl l
     where
-      go : (ks : List Bytes) → key rules ≡ ks → length ks ≤ 1 → (isFilled ks && eqb t.keys 0) ≡ not (all present ks)
+      go : (ks : List Bytes) → key rules ≡ ks → length ks ≤ 1 → (is_filled ks && eqb t.keys 0) ≡ not (all present ks)
       go [] q g = refl
       go (w ∷ []) q g =
           let n : ℕ = occurrences w r in
@@ -105,10 +105,10 @@ module _ (rules r : Record) (t : Tally) (h : Tallied rules r t) where
           (λ p. eq-eqb t.keys 0 (omega arith) ∙ sym (ap (λ (b : Bool). not (b && true)) (lt-leb 1 n (omega arith))))
       go (w ∷ v ∷ ks) q g = absurd (omega arith)
 
-  keys-twice : (keyed : Bool) → keyed ≡ isFilled (key rules) → length (key rules) ≤ 1 → (keyed && ltb 1 t.keys) ≡ not (all single (key rules))
+  keys-twice : (keyed : Bool) → keyed ≡ is_filled (key rules) → length (key rules) ≤ 1 → (keyed && ltb 1 t.keys) ≡ not (all single (key rules))
   keys-twice keyed e l = ap (λ (b : Bool). b && ltb 1 t.keys) e ∙ go (key rules) refl l
     where
-      go : (ks : List Bytes) → key rules ≡ ks → length ks ≤ 1 → (isFilled ks && ltb 1 t.keys) ≡ not (all single ks)
+      go : (ks : List Bytes) → key rules ≡ ks → length ks ≤ 1 → (is_filled ks && ltb 1 t.keys) ≡ not (all single ks)
       go [] q g = refl
       go (w ∷ []) q g =
           let n : ℕ = occurrences w r in
@@ -131,12 +131,12 @@ module _ (rules r : Record) (t : Tally) (h : Tallied rules r t) where
   limited-by true o = refl
   limited-by false o = refl
 
-  pub tally-no : (b : Bounds) (limited keyed : Bool) (n : ℕ) → limited ≡ not (eqb (length (values_of (text "%allowed") rules)) 0) → keyed ≡ isFilled (key rules) → n ≡ length (mandatory rules) → length (key rules) ≤ 1
-      → tallyNo t limited keyed n ≡ firstNo (take 4 (recordRows b rules)) r
+  pub tally-no : (b : Bounds) (limited keyed : Bool) (n : ℕ) → limited ≡ not (eqb (length (values_of (text "%allowed") rules)) 0) → keyed ≡ is_filled (key rules) → n ≡ length (mandatory rules) → length (key rules) ≤ 1
+      → tally_no t limited keyed n ≡ first_no (take 4 (record_rows b rules)) r
   tally-no b limited keyed n lim ky m few =
       let none : Bool = eqb (length (values_of (text "%allowed") rules)) 0 in
-      let only : Bool = eachName (λ (x : Bytes). among x (allowed rules)) r in
-      number_by t limited keyed n h.prohibited-is ((λ i. lim i && h.other-is i) ∙ limited-by none only) (ap (λ (j : ℕ). hasAll j t.present) m ∙ all-mandatory) (keys-absent keyed ky few) all-unique
+      let only : Bool = each_name (λ (x : Bytes). among x (allowed rules)) r in
+      number_by t limited keyed n h.prohibited-is ((λ i. lim i && h.other-is i) ∙ limited-by none only) (ap (λ (j : ℕ). has_all j t.present) m ∙ all-mandatory) (keys-absent keyed ky few) all-unique
       (keys-twice keyed ky few)
-      ∙ rows-by (noneProhibited rules r) (allAllowed rules r) (all present (mandatory rules)) (all present (key rules)) (all single (unique rules)) (all single (key rules))
-      ∙ (λ i. pick (noneProhibited rules r) (pick (allAllowed rules r) (pick (sym (all_append present (mandatory rules) (key rules)) i) (pick (sym (all_append single (unique rules) (key rules)) i) 0 11) 10) 9) 8)
+      ∙ rows-by (none_prohibited rules r) (all_allowed rules r) (all present (mandatory rules)) (all present (key rules)) (all single (unique rules)) (all single (key rules))
+      ∙ (λ i. pick (none_prohibited rules r) (pick (all_allowed rules r) (pick (sym (all_append present (mandatory rules) (key rules)) i) (pick (sym (all_append single (unique rules) (key rules)) i) 0 11) 10) 9) 8)

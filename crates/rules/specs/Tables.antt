@@ -1,11 +1,11 @@
 -- The tables of a descriptor in lent arrays, and what they say of a name that stands in a text.
 use Rattle.std.specs.Prelude.{ℕ, ◌≤◌, List, length}
 use Rattle.format.specs.Bytes.{Bytes}
-use Rattle.format.specs.Limits.{listWords}
+use Rattle.format.specs.Limits.{list_words}
 use Rattle.format.specs.Records.{Record}
 use Rattle.format.specs.Rules.{mandatory, unique}
 use Rattle.words.specs.Spans.{span}
-use Rattle.records.specs.Walk.{recordIn}
+use Rattle.records.specs.Walk.{record_in}
 use Rattle.dictionary.specs.Known.{Described, IsDictionary, Known}
 use Rattle.dictionary.specs.Numbered.{IsWords, Places}
 use Rattle.rules.specs.declared.tables.Tables.{Tables}
@@ -13,26 +13,26 @@ use Rattle.rules.specs.declared.tables.Seen.{Seen}
 use Rattle.rules.specs.declared.tables.SeenName.{SeenName}
 
 -- where the unique words, the names and the symbols begin among the entries, behind the mandatory words, and where the symbols end
-abbrev pub uniqueAt : ℕ
-uniqueAt = listWords
+abbrev pub unique_at : ℕ
+unique_at = list_words
 
 abbrev pub names_at : ℕ
 names_at = 128
 
-abbrev pub symbolsAt : ℕ
-symbolsAt = 8320
+abbrev pub symbols_at : ℕ
+symbols_at = 8320
 
-abbrev pub entriesEnd : ℕ
-entriesEnd = 16384
+abbrev pub entries_end : ℕ
+entries_end = 16384
 
 -- the tables of a descriptor, their words in some entries and the words' sets in others
 pub record IsTables (d : Bytes) (l sets : List ℕ) (t : Tables) : Type 0 where
   pub described : Described d
-  pub entries-long : entriesEnd ≤ length l
+  pub entries-long : entries_end ≤ length l
   pub sets-long : names_at ≤ length sets
-  pub mandatory-are : IsWords d (mandatory (recordIn d)) (span 0 uniqueAt l) (span 0 uniqueAt sets) t.mandatory
-  pub unique-are : IsWords d (unique (recordIn d)) (span uniqueAt names_at l) (span uniqueAt names_at sets) t.unique
-  pub names-are : IsDictionary d (span names_at symbolsAt l) t.names
+  pub mandatory-are : IsWords d (mandatory (record_in d)) (span 0 unique_at l) (span 0 unique_at sets) t.mandatory
+  pub unique-are : IsWords d (unique (record_in d)) (span unique_at names_at l) (span unique_at names_at sets) t.unique
+  pub names-are : IsDictionary d (span names_at symbols_at l) t.names
 
 -- what is known of a name, by the rules
 pub record Stands (rules : Record) (from next : ℕ) (name : Bytes) (x : Seen) : Type 0 where

@@ -4,7 +4,7 @@ use Rattle.std.specs.Int.Bits.{bit_and, bit_or}
 use Rattle.format.specs.Bytes.{Bytes, pick, among}
 use Rattle.format.specs.Records.{Record}
 use Rattle.format.specs.Rules.{mandatory, allowed, unique, key}
-use Rattle.format.specs.Questions.{eachName, noneProhibited, occurrences}
+use Rattle.format.specs.Questions.{each_name, none_prohibited, occurrences}
 use Rattle.terms.specs.Sets.{in_set}
 use Rattle.rules.specs.declared.tallies.Tally.{Tally}
 
@@ -24,22 +24,22 @@ counted t p a k m u =
     }
 
 -- are the first n places in a set
-unfoldable pub hasAll : ℕ → ℕ → Bool
-hasAll zero x = true
-hasAll (suc n) x = in_set n x && hasAll n x
+unfoldable pub has_all : ℕ → ℕ → Bool
+has_all zero x = true
+has_all (suc n) x = in_set n x && has_all n x
 
 -- the first question that says no
-unfoldable pub tallyNo : Tally → Bool → Bool → ℕ → ℕ
-tallyNo t limited keyed n =
+unfoldable pub tally_no : Tally → Bool → Bool → ℕ → ℕ
+tally_no t limited keyed n =
     pick t.prohibited 8
     (pick (limited && t.other) 9
-    (pick (hasAll n t.present) (pick (keyed && eqb t.keys 0) 10
+    (pick (has_all n t.present) (pick (keyed && eqb t.keys 0) 10
     (pick (eqb t.twice 0) (pick (keyed && ltb 1 t.keys) 11 0) 11)) 10))
 
 -- t is the tally of some fields under rules
 pub record Tallied (rules fs : Record) (t : Tally) : Type 0 where
-  pub prohibited-is : t.prohibited ≡ not (noneProhibited rules fs)
-  pub other-is : t.other ≡ not (eachName (λ (n : Bytes). among n (allowed rules)) fs)
+  pub prohibited-is : t.prohibited ≡ not (none_prohibited rules fs)
+  pub other-is : t.other ≡ not (each_name (λ (n : Bytes). among n (allowed rules)) fs)
   pub present-is : (k : ℕ) → in_set k t.present ≡ (ltb k (length (mandatory rules)) && leb 1 (occurrences (get_or (mandatory rules) k []) fs))
   pub once_is : (k : ℕ) → in_set k t.once ≡ (ltb k (length (unique rules)) && leb 1 (occurrences (get_or (unique rules) k []) fs))
   pub twice-is : (k : ℕ) → in_set k t.twice ≡ (ltb k (length (unique rules)) && leb 2 (occurrences (get_or (unique rules) k []) fs))

@@ -1,20 +1,20 @@
 // Questions 8 to 14 and 30 of one set. Its descriptor is read into tables; then its records are walked.
 ghost use Rattle.std.specs.Prelude.{◌≡◌, true, not, ◌≤◌, eqb, length};
 ghost use Rattle.format.specs.Bytes.{all};
-ghost use Rattle.format.specs.Limits.{fileBytes, valueBytes};
+ghost use Rattle.format.specs.Limits.{file_bytes, value_bytes};
 ghost use Rattle.format.specs.Pieces.{read_of};
-ghost use Rattle.format.specs.Numbers.{intBounds};
+ghost use Rattle.format.specs.Numbers.{int_bounds};
 ghost use Rattle.format.specs.Rules.{distinct};
 ghost use Rattle.format.specs.Sets.{values_of};
-ghost use Rattle.format.specs.Questions.{firstNo, keys_of};
-ghost use Rattle.format.proofs.Judging.{wholeRows, setNo};
+ghost use Rattle.format.specs.Questions.{first_no, keys_of};
+ghost use Rattle.format.proofs.Judging.{whole_rows, set_no};
 ghost use Rattle.format.proofs.Records.{records};
 ghost use Rattle.format.proofs.Walking.{ruled};
-ghost use Rattle.records.specs.Places.{isReadable};
-ghost use Rattle.records.specs.Walk.{recordIn};
+ghost use Rattle.records.specs.Places.{is_readable};
+ghost use Rattle.records.specs.Walk.{record_in};
 ghost use Rattle.dictionary.specs.Known.{Described};
-ghost use Rattle.rules.specs.Tables.{entriesEnd};
-ghost use Rattle.rules.specs.Members.{fitsIn};
+ghost use Rattle.rules.specs.Tables.{entries_end};
+ghost use Rattle.rules.specs.Members.{fits_in};
 ghost use Rattle.rules.specs.Described.{IsRules, AllFit};
 ghost use Rattle.rules.specs.Chunks.{IsBook, HaveKeys, Chunked, SetAsked};
 
@@ -40,8 +40,8 @@ struct Book {
 
 // Has a descriptor a field of a name?
 fn has_field(d: &[u8], name: &[u8]) -> bool
-    requires { isReadable d.now ≡ true }
-    ensures { result ≡ not (eqb (length (values_of name.now (recordIn d.now))) 0) }
+    requires { is_readable d.now ≡ true }
+    ensures { result ≡ not (eqb (length (values_of name.now (record_in d.now))) 0) }
 {
     let v = records::next_named(d, name);
     match v {
@@ -72,8 +72,8 @@ fn judge_rows(
     entries: &mut [u32],
 ) -> Chunk
     requires book { IsBook d.now b × (from ≤ b.kinds.count) }
-    requires part_value { (isReadable part.now ≡ true) × (length part.now ≤ fileBytes) × (all (fitsIn (length scratch.old)) (recordIn part.now) ≡ true) }
-    requires entries_end_in_bounds { entriesEnd ≤ length entries.old }
+    requires part_value { (is_readable part.now ≡ true) × (length part.now ≤ file_bytes) × (all (fits_in (length scratch.old)) (record_in part.now) ≡ true) }
+    requires entries_end_in_bounds { entries_end ≤ length entries.old }
     ensures { Chunked d.now from b.kinds.count (records (read_of part.now)) result }
 {
     let mut sets = [0u64; Tables::NAMES];
@@ -106,9 +106,9 @@ fn judge_rows(
 // Questions 8 to 12 by all `%type` fields.
 fn judge_records(d: &[u8], b: Book, part: &[u8], scratch: &mut [u8], entries: &mut [u32]) -> Asked
     requires book { IsBook d.now b }
-    requires part_value { (isReadable part.now ≡ true) × (length part.now ≤ fileBytes) × (all (fitsIn (length scratch.old)) (recordIn part.now) ≡ true) }
-    requires entries_end_in_bounds { entriesEnd ≤ length entries.old }
-    ensures { SetAsked (recordIn d.now) (records (read_of part.now)) result }
+    requires part_value { (is_readable part.now ≡ true) × (length part.now ≤ file_bytes) × (all (fits_in (length scratch.old)) (record_in part.now) ≡ true) }
+    requires entries_end_in_bounds { entries_end ≤ length entries.old }
+    ensures { SetAsked (record_in d.now) (records (read_of part.now)) result }
 {
     let kinds = b.kinds;
     let count = kinds.count;
@@ -130,9 +130,9 @@ fn judge_records(d: &[u8], b: Book, part: &[u8], scratch: &mut [u8], entries: &m
 // Questions 8 to 12 of a set's records, and how many there are.
 fn judge_members(d: &[u8], part: &[u8], scratch: &mut [u8], entries: &mut [u32]) -> Asked
     requires described { Described d.now }
-    requires part_value { (isReadable part.now ≡ true) × (length part.now ≤ fileBytes) × (all (fitsIn (length scratch.old)) (recordIn part.now) ≡ true) }
-    requires value_bytes_in_bounds { (valueBytes ≤ length scratch.old) × (entriesEnd ≤ length entries.old) }
-    ensures { SetAsked (recordIn d.now) (records (read_of part.now)) result }
+    requires part_value { (is_readable part.now ≡ true) × (length part.now ≤ file_bytes) × (all (fits_in (length scratch.old)) (record_in part.now) ≡ true) }
+    requires value_bytes_in_bounds { (value_bytes ≤ length scratch.old) × (entries_end ≤ length entries.old) }
+    ensures { SetAsked (record_in d.now) (records (read_of part.now)) result }
 {
     let kinds = columns::read(d, &mut *scratch);
     let limited = has_field(d, b"%allowed");
@@ -147,10 +147,10 @@ fn judge_members(d: &[u8], part: &[u8], scratch: &mut [u8], entries: &mut [u32])
 
 // Question 13 of a set whose records have its key.
 fn keys_apart(d: &[u8], part: &[u8], scratch: &mut [u8], entries: &mut [u32]) -> bool
-    requires rules { IsRules d.now × (length d.now ≤ fileBytes) }
-    requires part_value { (isReadable part.now ≡ true) × (length part.now ≤ fileBytes) × HaveKeys (recordIn d.now) (records (read_of part.now)) }
-    requires value_bytes_in_bounds { (valueBytes ≤ length scratch.old) × (entriesEnd ≤ length entries.old) }
-    ensures { result ≡ distinct (keys_of (ruled (recordIn d.now) (records (read_of part.now)))) }
+    requires rules { IsRules d.now × (length d.now ≤ file_bytes) }
+    requires part_value { (is_readable part.now ≡ true) × (length part.now ≤ file_bytes) × HaveKeys (record_in d.now) (records (read_of part.now)) }
+    requires value_bytes_in_bounds { (value_bytes ≤ length scratch.old) × (entries_end ≤ length entries.old) }
+    ensures { result ≡ distinct (keys_of (ruled (record_in d.now) (records (read_of part.now)))) }
 {
     let v = records::next_named(d, b"%key");
     let FoundField::At {
@@ -171,10 +171,10 @@ fn keys_apart(d: &[u8], part: &[u8], scratch: &mut [u8], entries: &mut [u32]) ->
 
 // Questions 13, 14 and 30 of a set whose records have its key; so many they are. The number of the first that says no, else 0.
 fn judge_whole(d: &[u8], count: usize, part: &[u8], scratch: &mut [u8], entries: &mut [u32]) -> u32
-    requires rules { IsRules d.now × (length d.now ≤ fileBytes) × (count ≡ length (records (read_of part.now))) }
-    requires part_value { (isReadable part.now ≡ true) × (length part.now ≤ fileBytes) × HaveKeys (recordIn d.now) (records (read_of part.now)) }
-    requires value_bytes_in_bounds { (valueBytes ≤ length scratch.old) × (entriesEnd ≤ length entries.old) }
-    ensures { result ≡ firstNo (wholeRows intBounds) (ruled (recordIn d.now) (records (read_of part.now))) }
+    requires rules { IsRules d.now × (length d.now ≤ file_bytes) × (count ≡ length (records (read_of part.now))) }
+    requires part_value { (is_readable part.now ≡ true) × (length part.now ≤ file_bytes) × HaveKeys (record_in d.now) (records (read_of part.now)) }
+    requires value_bytes_in_bounds { (value_bytes ≤ length scratch.old) × (entries_end ≤ length entries.old) }
+    ensures { result ≡ first_no (whole_rows int_bounds) (ruled (record_in d.now) (records (read_of part.now))) }
 {
     if !keys_apart(d, part, &mut *scratch, &mut *entries) {
         return Refusal::KEY;
@@ -190,10 +190,10 @@ fn judge_whole(d: &[u8], count: usize, part: &[u8], scratch: &mut [u8], entries:
 
 // The number of the first of questions 8 to 14 and 30 that a set fails, else 0: d is its descriptor, part the bytes of its records.
 pub fn judge_set(d: &[u8], part: &[u8], scratch: &mut [u8], entries: &mut [u32]) -> u32
-    requires rules { IsRules d.now × (length d.now ≤ fileBytes) }
-    requires part_value { (isReadable part.now ≡ true) × (length part.now ≤ fileBytes) × AllFit (records (read_of part.now)) }
-    requires value_bytes_in_bounds { (valueBytes ≤ length scratch.old) × (entriesEnd ≤ length entries.old) }
-    ensures { result ≡ setNo intBounds (ruled (recordIn d.now) (records (read_of part.now))) }
+    requires rules { IsRules d.now × (length d.now ≤ file_bytes) }
+    requires part_value { (is_readable part.now ≡ true) × (length part.now ≤ file_bytes) × AllFit (records (read_of part.now)) }
+    requires value_bytes_in_bounds { (value_bytes ≤ length scratch.old) × (entries_end ≤ length entries.old) }
+    ensures { result ≡ set_no int_bounds (ruled (record_in d.now) (records (read_of part.now))) }
 {
     let a = judge_members(d, part, &mut *scratch, &mut *entries);
     if a.number != 0 {

@@ -2,14 +2,14 @@
 // is held against all types that name it.
 ghost use Rattle.std.specs.Prelude.{◌≡◌, true, ◌+◌, ◌-◌, ◌≤◌, eqb, length};
 ghost use Rattle.format.specs.Bytes.{pick, all};
-ghost use Rattle.format.specs.Limits.{fileBytes, listWords};
+ghost use Rattle.format.specs.Limits.{file_bytes, list_words};
 ghost use Rattle.format.specs.Pieces.{read_of};
 ghost use Rattle.format.proofs.Least.{least};
 ghost use Rattle.format.proofs.Records.{records};
-ghost use Rattle.records.specs.Places.{isReadable};
-ghost use Rattle.records.specs.Walk.{recordIn};
-ghost use Rattle.rules.specs.Tallies.{tallyNo};
-ghost use Rattle.rules.specs.Members.{IsRulebook, fitsIn, partNo};
+ghost use Rattle.records.specs.Places.{is_readable};
+ghost use Rattle.records.specs.Walk.{record_in};
+ghost use Rattle.rules.specs.Tallies.{tally_no};
+ghost use Rattle.rules.specs.Members.{IsRulebook, fits_in, part_no};
 
 use super::tables::{NextName, SeenName, Tables};
 use super::tallies::Tally;
@@ -37,8 +37,8 @@ pub struct Asked {
 
 // One record more, which has so many fields and this tally; without fields it is none.
 fn closed(a: Asked, fields: usize, t: Tally, limited: bool, keyed: bool, mandatory: usize) -> Asked
-    requires { (mandatory ≤ listWords) × (a.count ≤ fileBytes) }
-    ensures { (result.number ≡ pick (eqb fields 0) a.number (least a.number (tallyNo t limited keyed mandatory))) × (result.count ≡ pick (eqb fields 0) a.count (a.count + 1)) }
+    requires { (mandatory ≤ list_words) × (a.count ≤ file_bytes) }
+    ensures { (result.number ≡ pick (eqb fields 0) a.number (least a.number (tally_no t limited keyed mandatory))) × (result.count ≡ pick (eqb fields 0) a.count (a.count + 1)) }
 {
     if fields == 0 {
         return a;
@@ -71,8 +71,8 @@ pub fn judge_part(
     scratch: &mut [u8],
 ) -> Asked
     requires rulebook { IsRulebook d.now entries.now sets.now r }
-    requires s_value { (isReadable s.now ≡ true) × (length s.now ≤ fileBytes) × (all (fitsIn (length scratch.old)) (recordIn s.now) ≡ true) }
-    ensures { (result.number ≡ partNo d.now r.tables.names.from (r.typed.symbols.next - r.tables.names.from) (records (read_of s.now))) × (result.count ≡ length (records (read_of s.now))) }
+    requires s_value { (is_readable s.now ≡ true) × (length s.now ≤ file_bytes) × (all (fits_in (length scratch.old)) (record_in s.now) ≡ true) }
+    ensures { (result.number ≡ part_no d.now r.tables.names.from (r.typed.symbols.next - r.tables.names.from) (records (read_of s.now))) × (result.count ≡ length (records (read_of s.now))) }
 {
     let tables = r.tables;
     let mandatory = tables.mandatory.count;

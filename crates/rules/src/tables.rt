@@ -2,11 +2,11 @@
 ghost use Rattle.std.specs.Prelude.{◌≡◌, List, ◌≤◌, length};
 ghost use Rattle.format.specs.Bytes.{Bytes, text, among};
 ghost use Rattle.words.specs.Spans.{span};
-ghost use Rattle.records.specs.Walk.{recordIn};
-ghost use Rattle.records.specs.Named.{valuesFrom};
+ghost use Rattle.records.specs.Walk.{record_in};
+ghost use Rattle.records.specs.Named.{values_from};
 ghost use Rattle.dictionary.specs.Known.{Described};
 ghost use Rattle.dictionary.specs.Numbered.{IsWords, Places};
-ghost use Rattle.rules.specs.Tables.{names_at, entriesEnd, IsTables, Stands, SeenAt};
+ghost use Rattle.rules.specs.Tables.{names_at, entries_end, IsTables, Stands, SeenAt};
 
 use dictionary::wordsets::Words;
 use dictionary::{Dictionary, Tag, wordsets};
@@ -34,8 +34,8 @@ impl Tables {
 
 // The tables of a descriptor, from one of its `%type` fields on.
 pub fn read(d: &[u8], from: usize, entries: &mut [u32], sets: &mut [u64]) -> Tables
-    requires described { Described d.now × (from ≤ length (valuesFrom d.now (text "%type") 0)) }
-    requires entries_end_in_bounds { (entriesEnd ≤ length entries.old) × (names_at ≤ length sets.old) }
+    requires described { Described d.now × (from ≤ length (values_from d.now (text "%type") 0)) }
+    requires entries_end_in_bounds { (entries_end ≤ length entries.old) × (names_at ≤ length sets.old) }
     ensures { IsTables d.now entries.new sets.new result × (result.names.from ≡ from) }
 {
     let mandatory = wordsets::read(
@@ -80,7 +80,7 @@ pub struct Seen {
 // A name is looked up in the tables of a descriptor.
 pub fn look_up(d: &[u8], entries: &[u32], sets: &[u64], t: Tables, name: &[u8]) -> Seen
     requires { IsTables d.now entries.now sets.now t }
-    ensures { Stands (recordIn d.now) t.names.from t.names.next name.now result }
+    ensures { Stands (record_in d.now) t.names.from t.names.next name.now result }
 {
     let names = t.names;
     let known = dictionary::look_up(d, &entries[Tables::NAMES..Tables::SYMBOLS], names, name);
@@ -127,8 +127,8 @@ pub struct NextName {
 pub fn recall(d: &[u8], entries: &[u32], sets: &[u64], t: Tables, s: &[u8], n: NextName) -> Seen
     requires tables { IsTables d.now entries.now sets.now t }
     requires at_le_end { (n.at ≤ n.end) × (n.end ≤ length s.now) }
-    requires seen_at { SeenAt (recordIn d.now) t.names.from t.names.next s.now n.before }
-    ensures { Stands (recordIn d.now) t.names.from t.names.next (span n.at n.end s.now) result }
+    requires seen_at { SeenAt (record_in d.now) t.names.from t.names.next s.now n.before }
+    ensures { Stands (record_in d.now) t.names.from t.names.next (span n.at n.end s.now) result }
 {
     let old = n.before;
     let a = old.at;

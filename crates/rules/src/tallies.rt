@@ -1,10 +1,10 @@
 // What a record has of the names that a descriptor lists, field by field, as a few numbers: questions 8 to 11.
 ghost use Rattle.std.specs.Prelude.{◌≡◌, ◌+◌, ◌≤◌, min};
 ghost use Rattle.format.specs.Bytes.{pick};
-ghost use Rattle.format.specs.Limits.{listWords};
+ghost use Rattle.format.specs.Limits.{list_words};
 ghost use Rattle.terms.specs.Sets.{in_set};
-ghost use Rattle.dictionary.specs.Tags.{prohibitedTag, allowedTag, keyTag};
-ghost use Rattle.rules.specs.Tallies.{hasAll, empty, counted, tallyNo};
+ghost use Rattle.dictionary.specs.Tags.{prohibited_tag, allowed_tag, key_tag};
+ghost use Rattle.rules.specs.Tallies.{has_all, empty, counted, tally_no};
 
 use dictionary::{Tag, wordsets};
 use format::Refusal;
@@ -48,7 +48,7 @@ fn bump(n: u8, hit: bool) -> u8
 // One field more, by what the dictionary knows of its name (prohibited, allowed, the key) and the places of that among the
 // mandatory and the unique words.
 pub fn count(t: Tally, known: u64, mandatory: u64, unique: u64) -> Tally
-    ensures { result ≡ counted t (in_set prohibitedTag known) (in_set allowedTag known) (in_set keyTag known) mandatory unique }
+    ensures { result ≡ counted t (in_set prohibited_tag known) (in_set allowed_tag known) (in_set key_tag known) mandatory unique }
 {
     let prohibited = terms::has(known, Tag::PROHIBITED as u64);
     let allowed = terms::has(known, Tag::ALLOWED as u64);
@@ -65,8 +65,8 @@ pub fn count(t: Tally, known: u64, mandatory: u64, unique: u64) -> Tally
 
 // Are the first n places all in a set?
 fn has_all(set: u64, n: usize) -> bool
-    requires { n ≤ listWords }
-    ensures { result ≡ hasAll n set }
+    requires { n ≤ list_words }
+    ensures { result ≡ has_all n set }
 {
     wordsets::missing(set, n) == 0
 }
@@ -74,8 +74,8 @@ fn has_all(set: u64, n: usize) -> bool
 // The number of the first of questions 8 to 11 that the record fails, else 0: `limited` tells whether there are `%allowed` fields, `keyed` whether there is a key,
 // and `mandatory` how many words are mandatory.
 pub fn number(t: Tally, limited: bool, keyed: bool, mandatory: usize) -> u32
-    requires { mandatory ≤ listWords }
-    ensures { result ≡ tallyNo t limited keyed mandatory }
+    requires { mandatory ≤ list_words }
+    ensures { result ≡ tally_no t limited keyed mandatory }
 {
     if t.prohibited {
         return Refusal::PROHIBITED;

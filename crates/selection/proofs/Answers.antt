@@ -5,12 +5,12 @@ use mathlib.Core.List.{List, [], ◌∷◌, map}
 use lib.ListN.{length}
 use Rattle.format.specs.Bytes.{Bytes, text}
 use Rattle.format.specs.Pieces.{pieces, read_of}
-use Rattle.format.specs.Sets.{setsOf}
-use Rattle.format.specs.Questions.{fileOf, verdictIn, verdict}
+use Rattle.format.specs.Sets.{sets_of}
+use Rattle.format.specs.Questions.{file_of, verdict_in, verdict}
 use Rattle.format.specs.Calls.{Answer}
-use Rattle.selection.specs.Reading.{parts_of, readExpression}
+use Rattle.selection.specs.Reading.{parts_of, read_expression}
 use Rattle.selection.specs.Meaning.{holds}
-use Rattle.selection.specs.Found.{Listed, findAnswer}
+use Rattle.selection.specs.Found.{Listed, find_answer}
 
 abbrev file : Bytes
 file = text "%rec: R\n\na: 1\nb: x\n\na: 2\n\nb: y\n"
@@ -25,19 +25,19 @@ abbrev refusing : ℕ → Listed
 refusing k = record { result = Answer.refusal k; list = full }
 
 -- `!`, `&&` and `||`; `!=` where the field is missing; none found
-finds : map (λ (e : Bytes). findAnswer file (length file) (text "R") e full) (text "a=1" ∷ text "!a=1" ∷ text "!(a=1 && b='x')" ∷ text "!a=1 || !b='x'" ∷ text "a!=1" ∷ text "a=3" ∷ [])
+finds : map (λ (e : Bytes). find_answer file (length file) (text "R") e full) (text "a=1" ∷ text "!a=1" ∷ text "!(a=1 && b='x')" ∷ text "!a=1 || !b='x'" ∷ text "a!=1" ∷ text "a=3" ∷ [])
     ≡ listing 1 (0 ∷ 7 ∷ 7 ∷ []) ∷ listing 2 (1 ∷ 2 ∷ 7 ∷ []) ∷ listing 2 (1 ∷ 2 ∷ 7 ∷ []) ∷ listing 2 (1 ∷ 2 ∷ 7 ∷ []) ∷ listing 1 (1 ∷ 7 ∷ 7 ∷ []) ∷ listing 0 full ∷ []
-unfolding pieces read_of setsOf fileOf verdictIn verdict findAnswer parts_of readExpression holds
+unfolding pieces read_of sets_of file_of verdict_in verdict find_answer parts_of read_expression holds
 finds = refl
 
 -- the file's numbers, 21, 33, in this order
-refuses : findAnswer file 0 (text "S") (text "a=") full ∷ findAnswer file 99 (text "S") (text "a=") full ∷ findAnswer file (length file) (text "S") (text "a=") full ∷ findAnswer file (length file) (text "R") (text "a=") full ∷ []
+refuses : find_answer file 0 (text "S") (text "a=") full ∷ find_answer file 99 (text "S") (text "a=") full ∷ find_answer file (length file) (text "S") (text "a=") full ∷ find_answer file (length file) (text "R") (text "a=") full ∷ []
     ≡ refusing 21 ∷ refusing 1 ∷ refusing 21 ∷ refusing 33 ∷ []
-unfolding pieces read_of setsOf fileOf verdictIn verdict findAnswer parts_of readExpression
+unfolding pieces read_of sets_of file_of verdict_in verdict find_answer parts_of read_expression
 refuses = refl
 
 -- 34, and a list of no entries that none are found for
-narrow : findAnswer file (length file) (text "R") (text "!a=1") (7 ∷ []) ∷ findAnswer file (length file) (text "R") (text "a=3") [] ∷ []
+narrow : find_answer file (length file) (text "R") (text "!a=1") (7 ∷ []) ∷ find_answer file (length file) (text "R") (text "a=3") [] ∷ []
     ≡ record { result = Answer.refusal 34; list = 7 ∷ [] } ∷ listing 0 [] ∷ []
-unfolding pieces read_of setsOf fileOf verdictIn verdict findAnswer parts_of readExpression holds
+unfolding pieces read_of sets_of file_of verdict_in verdict find_answer parts_of read_expression holds
 narrow = refl

@@ -12,102 +12,102 @@ use borrow.Author.Tests.{le-leb, lt-leb}
 use Rattle.format.specs.Bytes.{Bytes, pick, is_some}
 use Rattle.format.specs.Pieces.{read_of}
 use Rattle.format.specs.Records.{Record}
-use Rattle.format.specs.Sets.{RecSet, setsOf}
-use Rattle.format.specs.Questions.{verdict, firstNo}
-use Rattle.format.specs.Plain.{Sought, soughtMembers, foundRows, index_of, membersIn}
-use Rattle.format.specs.Calls.{Answer, checkAnswer, thenNo, soughtSet, over}
+use Rattle.format.specs.Sets.{RecSet, sets_of}
+use Rattle.format.specs.Questions.{verdict, first_no}
+use Rattle.format.specs.Plain.{Sought, sought_members, found_rows, index_of, members_in}
+use Rattle.format.specs.Calls.{Answer, check_answer, then_no, sought_set, over}
 use Rattle.format.proofs.Records.{records}
 use Rattle.words.specs.Spans.{span}
 use Rattle.records.specs.declared.RecordSet.{RecordSet}
 use Rattle.records.proofs.SetOf.{SetOf, members-at}
 use Rattle.selection.specs.Expressions.{Expression}
-use Rattle.selection.specs.Reading.{readExpression}
+use Rattle.selection.specs.Reading.{read_expression}
 use Rattle.selection.specs.Meaning.{holds}
-use Rattle.selection.specs.Found.{numbersFrom, foundBy, findNo, Listed, listed, findAnswer, findIn}
+use Rattle.selection.specs.Found.{numbers_from, found_by, find_no, Listed, listed, find_answer, find_in}
 use Rattle.selection.specs.Programs.{IsProgram}
-use Rattle.selection.specs.Rows.{testsIn, codesIn, ProgramOf}
+use Rattle.selection.specs.Rows.{tests_in, codes_in, ProgramOf}
 use Rattle.selection.specs.declared.programs.Program.{Program}
 use Rattle.selection.proofs.Ints.{no_truth}
 use Rattle.selection.proofs.Walking.{listed as over-front}
 
 module _ (s n w : Bytes) (list : List ℕ) where
   abbrev ss : List RecSet
-  ss = setsOf (read_of s)
+  ss = sets_of (read_of s)
 
   abbrev found : List ℕ
-  found = foundBy (readExpression w) (membersIn ss (index_of n ss))
+  found = found_by (read_expression w) (members_in ss (index_of n ss))
 
-  answerBy : Bool → Bool → Bool → Listed
-  answerBy a b c = listed (thenNo (pick a 0 21) (thenNo (pick b 0 33) (pick c 0 34))) found list
+  answer_by : Bool → Bool → Bool → Listed
+  answer_by a b c = listed (then_no (pick a 0 21) (then_no (pick b 0 33) (pick c 0 34))) found list
 
-  find-is : findIn s n w list ≡ answerBy (is_some (index_of n ss)) (is_some (readExpression w)) (leb (length found) (length list))
-  unfolding findIn answerBy
+  find-is : find_in s n w list ≡ answer_by (is_some (index_of n ss)) (is_some (read_expression w)) (leb (length found) (length list))
+  unfolding find_in answer_by
   find-is = refl
 
-  pub find-missing : index_of n ss ≡ none → findIn s n w list ≡ record { result = Answer.refusal 21; list = list }
-  unfolding answerBy
-  find-missing e = find-is ∙ ap (λ (a : Bool). answerBy a (is_some (readExpression w)) (leb (length found) (length list))) (ap is_some e)
+  pub find-missing : index_of n ss ≡ none → find_in s n w list ≡ record { result = Answer.refusal 21; list = list }
+  unfolding answer_by
+  find-missing e = find-is ∙ ap (λ (a : Bool). answer_by a (is_some (read_expression w)) (leb (length found) (length list))) (ap is_some e)
 
   module _ (p : RecordSet) (f : SetOf s n p) where
     there : is_some (index_of n ss) ≡ true
     there = ap is_some f.there
 
-    members-are : membersIn ss (index_of n ss) ≡ records (read_of (span p.begin p.after s))
-    members-are = ap (membersIn ss) f.there ∙ members-at f.index ss ∙ sym f.members
+    members-are : members_in ss (index_of n ss) ≡ records (read_of (span p.begin p.after s))
+    members-are = ap (members_in ss) f.there ∙ members-at f.index ss ∙ sym f.members
 
-    pub find-formless : is_some (readExpression w) ≡ false → findIn s n w list ≡ record { result = Answer.refusal 33; list = list }
-    unfolding answerBy
-    find-formless e = find-is ∙ (λ i. answerBy (there i) (e i) (leb (length found) (length list)))
+    pub find-formless : is_some (read_expression w) ≡ false → find_in s n w list ≡ record { result = Answer.refusal 33; list = list }
+    unfolding answer_by
+    find-formless e = find-is ∙ (λ i. answer_by (there i) (e i) (leb (length found) (length list)))
 
-    module _ (q : Program) (is : true ≡ is_some (readExpression w)) (program : ProgramOf w (readExpression w) q) where
+    module _ (q : Program) (is : true ≡ is_some (read_expression w)) (program : ProgramOf w (read_expression w) q) where
       -- what a walk counts and lists is what is found
-      counted : (k : ℕ) → ((x : Expression) → IsProgram x (testsIn w q) (codesIn q) → k ≡ length (numbersFrom (holds x) 0 (records (read_of (span p.begin p.after s))))) → k ≡ length found
-      counted k h = go (readExpression w) is program ∙ ap (λ (rs : List Record). length (foundBy (readExpression w) rs)) (sym members-are)
+      counted : (k : ℕ) → ((x : Expression) → IsProgram x (tests_in w q) (codes_in q) → k ≡ length (numbers_from (holds x) 0 (records (read_of (span p.begin p.after s))))) → k ≡ length found
+      counted k h = go (read_expression w) is program ∙ ap (λ (rs : List Record). length (found_by (read_expression w) rs)) (sym members-are)
         where
-          go : (o : Option Expression) → true ≡ is_some o → ProgramOf w o q → k ≡ length (foundBy o (records (read_of (span p.begin p.after s))))
+          go : (o : Option Expression) → true ≡ is_some o → ProgramOf w o q → k ≡ length (found_by o (records (read_of (span p.begin p.after s))))
           go none i g = absurd (no_truth i)
           go (some x) i g = h x g
 
-      walked : (old new : List ℕ) → ((x : Expression) → IsProgram x (testsIn w q) (codesIn q) → new ≡ over-front (numbersFrom (holds x) 0 (records (read_of (span p.begin p.after s)))) old) → new ≡ over-front found old
-      walked old new h = go (readExpression w) is program ∙ ap (λ (rs : List Record). over-front (foundBy (readExpression w) rs) old) (sym members-are)
+      walked : (old new : List ℕ) → ((x : Expression) → IsProgram x (tests_in w q) (codes_in q) → new ≡ over-front (numbers_from (holds x) 0 (records (read_of (span p.begin p.after s)))) old) → new ≡ over-front found old
+      walked old new h = go (read_expression w) is program ∙ ap (λ (rs : List Record). over-front (found_by (read_expression w) rs) old) (sym members-are)
         where
-          go : (o : Option Expression) → true ≡ is_some o → ProgramOf w o q → new ≡ over-front (foundBy o (records (read_of (span p.begin p.after s)))) old
+          go : (o : Option Expression) → true ≡ is_some o → ProgramOf w o q → new ≡ over-front (found_by o (records (read_of (span p.begin p.after s)))) old
           go none i g = absurd (no_truth i)
           go (some x) i g = h x g
 
-      pub find-short : (k : ℕ) → ((x : Expression) → IsProgram x (testsIn w q) (codesIn q) → k ≡ length (numbersFrom (holds x) 0 (records (read_of (span p.begin p.after s))))) → length list < k → findIn s n w list ≡ record { result = Answer.refusal 34; list = list }
-      unfolding answerBy
+      pub find-short : (k : ℕ) → ((x : Expression) → IsProgram x (tests_in w q) (codes_in q) → k ≡ length (numbers_from (holds x) 0 (records (read_of (span p.begin p.after s))))) → length list < k → find_in s n w list ≡ record { result = Answer.refusal 34; list = list }
+      unfolding answer_by
       find-short k h l =
           let z = lt-leb (length found) (length list) (omega (arith, counted k h)) in
-          find-is ∙ (λ i. answerBy (there i) (sym is i) (z i))
+          find-is ∙ (λ i. answer_by (there i) (sym is i) (z i))
 
-      pub find-found : (k : ℕ) (out : List ℕ) → ((x : Expression) → IsProgram x (testsIn w q) (codesIn q) → k ≡ length (numbersFrom (holds x) 0 (records (read_of (span p.begin p.after s))))) →
-          ((x : Expression) → IsProgram x (testsIn w q) (codesIn q) → out ≡ over-front (numbersFrom (holds x) 0 (records (read_of (span p.begin p.after s)))) list) → k ≤ length list → findIn s n w list ≡ record { result = Answer.value k; list = out }
-      unfolding answerBy
+      pub find-found : (k : ℕ) (out : List ℕ) → ((x : Expression) → IsProgram x (tests_in w q) (codes_in q) → k ≡ length (numbers_from (holds x) 0 (records (read_of (span p.begin p.after s))))) →
+          ((x : Expression) → IsProgram x (tests_in w q) (codes_in q) → out ≡ over-front (numbers_from (holds x) 0 (records (read_of (span p.begin p.after s)))) list) → k ≤ length list → find_in s n w list ≡ record { result = Answer.value k; list = out }
+      unfolding answer_by
       find-found k out h g l =
           let c = counted k h in
           let z = le-leb (length found) (length list) (omega (arith, c)) in
           let o : over found list ≡ out = ap (λ (ns : List ℕ). over ns list) (sym (take_all (length list) found (omega (arith, c)))) ∙ sym (walked list out g) in
-          find-is ∙ (λ i. answerBy (there i) (sym is i) (z i)) ∙ (λ i. record { result = Answer.value (sym c i); list = o i })
+          find-is ∙ (λ i. answer_by (there i) (sym is i) (z i)) ∙ (λ i. record { result = Answer.value (sym c i); list = o i })
 
 -- The file's own questions come first
 
 module _ (buffer : Bytes) (used : ℕ) (n w : Bytes) (list : List ℕ) where
-  abbrev answerAt : ℕ → Listed
-  answerAt v =
-      let q : Sought = soughtSet (setsOf (read_of (take used buffer))) n in
-      let f : List ℕ = foundBy (readExpression w) (soughtMembers q) in
-      listed (thenNo (thenNo v (firstNo foundRows q)) (findNo (readExpression w) f list)) f list
+  abbrev answer_at : ℕ → Listed
+  answer_at v =
+      let q : Sought = sought_set (sets_of (read_of (take used buffer))) n in
+      let f : List ℕ = found_by (read_expression w) (sought_members q) in
+      listed (then_no (then_no v (first_no found_rows q)) (find_no (read_expression w) f list)) f list
 
-  answer-is : findAnswer buffer used n w list ≡ answerAt (verdict buffer used)
-  unfolding findAnswer
+  answer-is : find_answer buffer used n w list ≡ answer_at (verdict buffer used)
+  unfolding find_answer
   answer-is = refl
 
-  pub find-refused : (k : ℕ) → k ≡ checkAnswer buffer used → (k ≡ 0 → ⊥) → findAnswer buffer used n w list ≡ record { result = Answer.refusal k; list = list }
-  unfolding checkAnswer
+  pub find-refused : (k : ℕ) → k ≡ check_answer buffer used → (k ≡ 0 → ⊥) → find_answer buffer used n w list ≡ record { result = Answer.refusal k; list = list }
+  unfolding check_answer
   find-refused zero e h = absurd (h refl)
-  find-refused (suc k) e h = answer-is ∙ ap answerAt (sym e)
+  find-refused (suc k) e h = answer-is ∙ ap answer_at (sym e)
 
-  pub find-text : (k : ℕ) → k ≡ checkAnswer buffer used → k ≡ 0 → findIn (take used buffer) n w list ≡ findAnswer buffer used n w list
-  unfolding checkAnswer findIn
-  find-text k e z = sym (answer-is ∙ ap answerAt (sym e ∙ z))
+  pub find-text : (k : ℕ) → k ≡ check_answer buffer used → k ≡ 0 → find_in (take used buffer) n w list ≡ find_answer buffer used n w list
+  unfolding check_answer find_in
+  find-text k e z = sym (answer-is ∙ ap answer_at (sym e ∙ z))

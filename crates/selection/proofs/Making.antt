@@ -12,22 +12,22 @@ use lib.Seq.{drop-drop, take-suc-set}
 use borrow.Author.Tests.{eq-eqb, ne_eqb}
 use Rattle.format.specs.Bytes.{Bytes, pick}
 use Rattle.words.specs.Spans.{span}
-use Rattle.selection.specs.Expressions.{string, Sign, operand, bytesAtMost}
-use Rattle.selection.specs.Reading.{signFront}
-use Rattle.selection.specs.Programs.{Test, Progress, toStage, ifAt, pastName, pastOperand, testsWith}
-use Rattle.selection.specs.Tokens.{signIn, frontIn}
-use Rattle.selection.specs.Rows.{testsAtMost, testIn, testsIn, codesIn, Filled, Extends, pastSymbol, codesOfSymbol, pastFront, testsFront, codesFront}
+use Rattle.selection.specs.Expressions.{string, Sign, operand, bytes_at_most}
+use Rattle.selection.specs.Reading.{sign_front}
+use Rattle.selection.specs.Programs.{Test, Progress, to_stage, if_at, past_name, past_operand, tests_with}
+use Rattle.selection.specs.Tokens.{sign_in, front_in}
+use Rattle.selection.specs.Rows.{tests_at_most, test_in, tests_in, codes_in, Filled, Extends, past_symbol, codes_of_symbol, past_front, tests_front, codes_front}
 use Rattle.selection.specs.declared.parts.Symbol.{Symbol}
 use Rattle.selection.specs.declared.parts.Token.{Token}
 use Rattle.selection.specs.declared.programs.Comparison.{Comparison}
 use Rattle.selection.specs.declared.programs.Program.{Program}
 use Rattle.selection.proofs.Ints.{pick_true, pick-false}
 
-pub at_stage : (k : ℕ) (g h q : Progress) → g.stage ≡ k → q ≡ h → q ≡ ifAt k g h
-at_stage k g h q e f = f ∙ sym (pick_true (eqb g.stage k) h (toStage 4 g) (eq-eqb g.stage k e))
+pub at_stage : (k : ℕ) (g h q : Progress) → g.stage ≡ k → q ≡ h → q ≡ if_at k g h
+at_stage k g h q e f = f ∙ sym (pick_true (eqb g.stage k) h (to_stage 4 g) (eq-eqb g.stage k e))
 
-pub off-stage : (k : ℕ) (g h q : Progress) → (g.stage ≡ k → ⊥) → q ≡ toStage 4 g → q ≡ ifAt k g h
-off-stage k g h q e f = f ∙ sym (pick-false (eqb g.stage k) h (toStage 4 g) (ne_eqb g.stage k e))
+pub off-stage : (k : ℕ) (g h q : Progress) → (g.stage ≡ k → ⊥) → q ≡ to_stage 4 g → q ≡ if_at k g h
+off-stage k g h q e f = f ∙ sym (pick-false (eqb g.stage k) h (to_stage 4 g) (ne_eqb g.stage k e))
 
 -- places of the expression
 
@@ -42,22 +42,22 @@ text-span s at n =
 -- past a token
 
 module _ (s : Bytes) (at n : ℕ) (g q : Progress) (t : Token) where
-  pub past-name-token : q ≡ pastName (span at (at + n) s) g → t ≡ Token.Name n → q ≡ pastFront (frontIn (drop at s) t) g
-  past-name-token e f = e ∙ ap (λ (w : Bytes). pastName w g) (name-span s at n) ∙ ap (λ (x : Token). pastFront (frontIn (drop at s) x) g) (sym f)
+  pub past-name-token : q ≡ past_name (span at (at + n) s) g → t ≡ Token.Name n → q ≡ past_front (front_in (drop at s) t) g
+  past-name-token e f = e ∙ ap (λ (w : Bytes). past_name w g) (name-span s at n) ∙ ap (λ (x : Token). past_front (front_in (drop at s) x) g) (sym f)
 
-  pub past-text-token : q ≡ pastOperand (string (span (at + 1) (at + n - 1) s)) g → t ≡ Token.Text n → q ≡ pastFront (frontIn (drop at s) t) g
-  past-text-token e f = e ∙ ap (λ (w : Bytes). pastOperand (string w) g) (text-span s at n) ∙ ap (λ (x : Token). pastFront (frontIn (drop at s) x) g) (sym f)
+  pub past-text-token : q ≡ past_operand (string (span (at + 1) (at + n - 1) s)) g → t ≡ Token.Text n → q ≡ past_front (front_in (drop at s) t) g
+  past-text-token e f = e ∙ ap (λ (w : Bytes). past_operand (string w) g) (text-span s at n) ∙ ap (λ (x : Token). past_front (front_in (drop at s) x) g) (sym f)
 
-pub past-sign-token : (s : Bytes) (g q : Progress) (x : Symbol) → q ≡ pastSymbol (signIn x) g → q ≡ pastFront (frontIn s (Token.Sign x)) g
-past-sign-token s g q x e = e ∙ go (signIn x)
+pub past-sign-token : (s : Bytes) (g q : Progress) (x : Symbol) → q ≡ past_symbol (sign_in x) g → q ≡ past_front (front_in s (Token.Sign x)) g
+past-sign-token s g q x e = e ∙ go (sign_in x)
   where
-    go : (o : Option Sign) → pastSymbol o g ≡ pastFront (signFront o) g
+    go : (o : Option Sign) → past_symbol o g ≡ past_front (sign_front o) g
     go none = refl
     go (some y) = refl
 
 -- a code and a comparison more
 
-pub code-added : (p : Program) (c : ℕ) → Filled p → p.size < bytesAtMost → Extends p (record { rows = p.rows; count = p.count; codes = set p.codes p.size c; size = p.size + 1 }) (c ∷ [])
+pub code-added : (p : Program) (c : ℕ) → Filled p → p.size < bytes_at_most → Extends p (record { rows = p.rows; count = p.count; codes = set p.codes p.size c; size = p.size + 1 }) (c ∷ [])
 code-added p c f h =
     record {
       filled = record { rows_long = f.rows_long; codes-long = length-set p.codes p.size c ∙ f.codes-long; few = f.few; short = omega arith };
@@ -65,56 +65,56 @@ code-added p c f h =
       one = omega arith;
     }
 
-pub row-added : (p : Program) (x : Comparison) → Filled p → p.count < testsAtMost →
+pub row-added : (p : Program) (x : Comparison) → Filled p → p.count < tests_at_most →
     let q : Program = record { rows = set p.rows p.count x; count = p.count + 1; codes = p.codes; size = p.size } in
-    Extends p q [] × (q.size ≡ p.size) × ((s : Bytes) → testsIn s q ≡ testsIn s p ++ (testIn s x ∷ []))
+    Extends p q [] × (q.size ≡ p.size) × ((s : Bytes) → tests_in s q ≡ tests_in s p ++ (test_in s x ∷ []))
 row-added p x f h = (
   record {
     filled = record { rows_long = length-set p.rows p.count x ∙ f.rows_long; codes-long = f.codes-long; few = omega arith; short = f.short };
-    codes = sym (append-nil (codesIn p));
+    codes = sym (append-nil (codes_in p));
     one = omega arith;
   },
   refl,
-  λ s. ap (λ (k : ℕ). map (testIn s) (take k (set p.rows p.count x))) (add-one p.count)
-      ∙ ap (map (testIn s)) (take-suc-set p.rows p.count x (omega (arith, f.rows_long)))
-      ∙ map-append (testIn s) (take p.count p.rows) (x ∷ []),
+  λ s. ap (λ (k : ℕ). map (test_in s) (take k (set p.rows p.count x))) (add-one p.count)
+      ∙ ap (map (test_in s)) (take-suc-set p.rows p.count x (omega (arith, f.rows_long)))
+      ∙ map-append (test_in s) (take p.count p.rows) (x ∷ []),
 )
 
 pub no-code-added : (p : Program) → Filled p → Extends p p []
-no-code-added p f = record { filled = f; codes = sym (append-nil (codesIn p)); one = omega arith }
+no-code-added p f = record { filled = f; codes = sym (append-nil (codes_in p)); one = omega arith }
 
 -- a program with a comparison, behind one with its code
 pub both-added : (p q r : Program) (cs : List ℕ) → Extends p q cs → Extends q r [] → r.size ≡ q.size → Extends p r cs
-both-added p q r cs x y e = record { filled = y.filled; codes = y.codes ∙ append-nil (codesIn q) ∙ x.codes; one = omega (arith, x.one) }
+both-added p q r cs x y e = record { filled = y.filled; codes = y.codes ∙ append-nil (codes_in q) ∙ x.codes; one = omega (arith, x.one) }
 
-pub same_tests : (s : Bytes) (p q : Program) → q.rows ≡ p.rows → q.count ≡ p.count → testsIn s q ≡ testsIn s p
-same_tests s p q e f = λ i. map (testIn s) (take (f i) (e i))
+pub same_tests : (s : Bytes) (p q : Program) → q.rows ≡ p.rows → q.count ≡ p.count → tests_in s q ≡ tests_in s p
+same_tests s p q e f = λ i. map (test_in s) (take (f i) (e i))
 
 pub test-added : (ts us vs : List Test) (e : Test) (b : Bool) → vs ≡ us ++ (e ∷ []) → us ≡ ts → b ≡ true → vs ≡ pick b (ts ++ (e ∷ [])) ts
 test-added ts us vs e b h k t = h ∙ ap (λ (ws : List Test). ws ++ (e ∷ [])) k ∙ sym (pick_true b (ts ++ (e ∷ [])) ts t)
 
 -- what a sign adds
 
-pub sign_kept : (p : Program) (g y : Symbol) → g ≡ y → codesOfSymbol (signIn y) ≡ [] → Filled p → Extends p p (codesOfSymbol (signIn g))
-sign_kept p g y e z f = subst (λ (x : Symbol). Extends p p (codesOfSymbol (signIn x))) (sym e) (subst (Extends p p) (sym z) (no-code-added p f))
+pub sign_kept : (p : Program) (g y : Symbol) → g ≡ y → codes_of_symbol (sign_in y) ≡ [] → Filled p → Extends p p (codes_of_symbol (sign_in g))
+sign_kept p g y e z f = subst (λ (x : Symbol). Extends p p (codes_of_symbol (sign_in x))) (sym e) (subst (Extends p p) (sym z) (no-code-added p f))
 
-pub sign-added : (p q : Program) (g y : Symbol) → g ≡ y → Extends p q (codesOfSymbol (signIn y)) → Extends p q (codesOfSymbol (signIn g))
-sign-added p q g y e x = subst (λ (z : Symbol). Extends p q (codesOfSymbol (signIn z))) (sym e) x
+pub sign-added : (p q : Program) (g y : Symbol) → g ≡ y → Extends p q (codes_of_symbol (sign_in y)) → Extends p q (codes_of_symbol (sign_in g))
+sign-added p q g y e x = subst (λ (z : Symbol). Extends p q (codes_of_symbol (sign_in z))) (sym e) x
 
 -- what a token adds
 
 abbrev pub Adds : Bytes → Bytes → Progress → Program → Program → Token → Type 0
-Adds s w g p q t = Extends p q (codesFront (frontIn w t)) × (testsIn s q ≡ testsFront g (frontIn w t) (testsIn s p))
+Adds s w g p q t = Extends p q (codes_front (front_in w t)) × (tests_in s q ≡ tests_front g (front_in w t) (tests_in s p))
 
 pub token-adds : (s w : Bytes) (g : Progress) (p q : Program) (t y : Token) → t ≡ y → Adds s w g p q y → Adds s w g p q t
 token-adds s w g p q t y e a = subst (Adds s w g p q) (sym e) a
 
-pub sign-adds : (s w : Bytes) (g : Progress) (p q : Program) (x : Symbol) → Extends p q (codesOfSymbol (signIn x)) → testsIn s q ≡ testsIn s p → Adds s w g p q (Token.Sign x)
-sign-adds s w g p q x a e = go (signIn x) a
+pub sign-adds : (s w : Bytes) (g : Progress) (p q : Program) (x : Symbol) → Extends p q (codes_of_symbol (sign_in x)) → tests_in s q ≡ tests_in s p → Adds s w g p q (Token.Sign x)
+sign-adds s w g p q x a e = go (sign_in x) a
   where
-    go : (o : Option Sign) → Extends p q (codesOfSymbol o) → Extends p q (codesFront (signFront o)) × (testsIn s q ≡ testsFront g (signFront o) (testsIn s p))
+    go : (o : Option Sign) → Extends p q (codes_of_symbol o) → Extends p q (codes_front (sign_front o)) × (tests_in s q ≡ tests_front g (sign_front o) (tests_in s p))
     go none a = (a, e)
     go (some y) a = (a, e)
 
-pub text-adds : (s : Bytes) (at n : ℕ) (g : Progress) (p q : Program) → Extends p q (0 ∷ []) → testsIn s q ≡ testsWith g (operand (string (span (at + 1) (at + n - 1) s))) (testsIn s p) → Adds s (drop at s) g p q (Token.Text n)
-text-adds s at n g p q a e = (a, e ∙ ap (λ (w : Bytes). testsWith g (operand (string w)) (testsIn s p)) (text-span s at n))
+pub text-adds : (s : Bytes) (at n : ℕ) (g : Progress) (p q : Program) → Extends p q (0 ∷ []) → tests_in s q ≡ tests_with g (operand (string (span (at + 1) (at + n - 1) s))) (tests_in s p) → Adds s (drop at s) g p q (Token.Text n)
+text-adds s at n g p q a e = (a, e ∙ ap (λ (w : Bytes). tests_with g (operand (string w)) (tests_in s p)) (text-span s at n))

@@ -12,16 +12,16 @@ use lib.Seq.{take_all, take-nil}
 use borrow.Author.Tests.{eqb-true, eqb-false, eq-eqb, ne_eqb, lt-ltb, le-ltb, ltb-true, ltb-false}
 use Rattle.format.specs.Bytes.{Bytes, same}
 use Rattle.format.specs.Words.{trim}
-use Rattle.format.specs.Numbers.{Int, intBounds, int_of, isAtMost}
+use Rattle.format.specs.Numbers.{Int, int_bounds, int_of, is_at_most}
 use Rattle.words.specs.Spans.{span}
 use Rattle.values.proofs.Tests.{by_bool}
-use Rattle.numbers.specs.Meaning.{intIn, intAnswer}
+use Rattle.numbers.specs.Meaning.{int_in, int_answer}
 use Rattle.numbers.specs.declared.IntOf.{IntOf}
 use Rattle.terms.specs.Sets.{in_set}
 use Rattle.terms.proofs.Sets.{in-none, in-or}
-use Rattle.selection.specs.Meaning.{intsCompare, intCompares, stringCompares, satisfies}
-use Rattle.selection.specs.Tokens.{operatorIn}
-use Rattle.selection.specs.Rows.{operandIn, noComparison, name_at, satisfiesAt}
+use Rattle.selection.specs.Meaning.{ints_compare, int_compares, string_compares, satisfies}
+use Rattle.selection.specs.Tokens.{operator_in}
+use Rattle.selection.specs.Rows.{operand_in, no_comparison, name_at, satisfies_at}
 use Rattle.selection.specs.declared.parts.Operator.{Operator}
 use Rattle.selection.specs.declared.programs.Operand.{Operand}
 use Rattle.selection.specs.declared.programs.Comparison.{Comparison}
@@ -41,14 +41,14 @@ span-all s a e h = take_all (length s - a) (drop a s) (omega (arith, length-drop
 -- comparisons, by the operator that the code has
 
 module _ (o y : Operator) (e : o ≡ y) where
-  pub ints-by : (r : Bool) (m n : Int) → r ≡ intsCompare (operatorIn y) m n → r ≡ intsCompare (operatorIn o) m n
-  ints-by r m n h = h ∙ ap (λ (x : Operator). intsCompare (operatorIn x) m n) (sym e)
+  pub ints-by : (r : Bool) (m n : Int) → r ≡ ints_compare (operator_in y) m n → r ≡ ints_compare (operator_in o) m n
+  ints-by r m n h = h ∙ ap (λ (x : Operator). ints_compare (operator_in x) m n) (sym e)
 
-pub int-by : (o : Operator) (x y : IntOf) (n : Int) (r : Bool) → x ≡ y → r ≡ intCompares (operatorIn o) (intAnswer y) n → r ≡ intCompares (operatorIn o) (intAnswer x) n
-int-by o x y n r e h = h ∙ ap (λ (z : IntOf). intCompares (operatorIn o) (intAnswer z) n) (sym e)
+pub int-by : (o : Operator) (x y : IntOf) (n : Int) (r : Bool) → x ≡ y → r ≡ int_compares (operator_in o) (int_answer y) n → r ≡ int_compares (operator_in o) (int_answer x) n
+int-by o x y n r e h = h ∙ ap (λ (z : IntOf). int_compares (operator_in o) (int_answer z) n) (sym e)
 
-pub operand-by : (s : Bytes) (o : Operator) (x y : Operand) (v : Bytes) (r : Bool) → x ≡ y → r ≡ satisfies (operatorIn o) (operandIn s y) v → r ≡ satisfies (operatorIn o) (operandIn s x) v
-operand-by s o x y v r e h = h ∙ ap (λ (z : Operand). satisfies (operatorIn o) (operandIn s z) v) (sym e)
+pub operand-by : (s : Bytes) (o : Operator) (x y : Operand) (v : Bytes) (r : Bool) → x ≡ y → r ≡ satisfies (operator_in o) (operand_in s y) v → r ≡ satisfies (operator_in o) (operand_in s x) v
+operand-by s o x y v r e h = h ∙ ap (λ (z : Operand). satisfies (operator_in o) (operand_in s z) v) (sym e)
 
 -- a set of those below k that pass a test
 
@@ -77,7 +77,7 @@ marked_more p k set next hit m h e j =
     and-false false = refl
 
 -- an element, whatever stands for one that is not there
-pub same-element : (cs : List Comparison) (k : ℕ) (d : Comparison) → k < length cs → get_or cs k d ≡ get_or cs k noComparison
+pub same-element : (cs : List Comparison) (k : ℕ) (d : Comparison) → k < length cs → get_or cs k d ≡ get_or cs k no_comparison
 same-element [] k d h = absurd (omega arith)
 same-element (c ∷ cs) zero d h = refl
 same-element (c ∷ cs) (suc k) d h = same-element cs k d (omega arith)
@@ -89,10 +89,10 @@ module _ (e : Bytes) (cs : List Comparison) (k : ℕ) (d : Comparison) (there : 
   pub name_by : (own name : Bytes) (hit : Bool) → own ≡ span (get_or cs k d).start (get_or cs k d).end e → hit ≡ same own name → hit ≡ same (name_at e cs k) name
   name_by own name hit h f = f ∙ ap (λ (w : Bytes). same w name) (h ∙ ap (λ (c : Comparison). span c.start c.end e) (same-element cs k d there))
 
-  pub hit-by : (asked hit : Bool) (hits : ℕ) (v : Bytes) → asked ≡ in_set k hits → hit ≡ (asked && satisfies (operatorIn (get_or cs k d).operator) (operandIn e (get_or cs k d).operand) v) → hit ≡ (in_set k hits && satisfiesAt e cs k v)
+  pub hit-by : (asked hit : Bool) (hits : ℕ) (v : Bytes) → asked ≡ in_set k hits → hit ≡ (asked && satisfies (operator_in (get_or cs k d).operator) (operand_in e (get_or cs k d).operand) v) → hit ≡ (in_set k hits && satisfies_at e cs k v)
   hit-by asked hit hits v h f =
-      f ∙ ap (λ (b : Bool). b && satisfies (operatorIn (get_or cs k d).operator) (operandIn e (get_or cs k d).operand) v) h
-      ∙ ap (λ (c : Comparison). in_set k hits && satisfies (operatorIn c.operator) (operandIn e c.operand) v) (same-element cs k d there)
+      f ∙ ap (λ (b : Bool). b && satisfies (operator_in (get_or cs k d).operator) (operand_in e (get_or cs k d).operand) v) h
+      ∙ ap (λ (c : Comparison). in_set k hits && satisfies (operator_in c.operator) (operand_in e c.operand) v) (same-element cs k d there)
 
 -- what is satisfied, of those that have the name
 
@@ -107,10 +107,10 @@ hit-both false b c x hit e = refl
 
 -- a set with what a field satisfies
 module _ (e : Bytes) (cs : List Comparison) (c set hits : ℕ) (name v : Bytes) (named : (k : ℕ) → in_set k hits ≡ (ltb k c && same (name_at e cs k) name)) where
-  pub field-none : hits ≡ 0 → (k : ℕ) → in_set k set ≡ (in_set k set || (ltb k c && (same (name_at e cs k) name && satisfiesAt e cs k v)))
-  field-none z k = none-hit (ltb k c) (same (name_at e cs k) name) (satisfiesAt e cs k v) (in_set k set) (sym (named k) ∙ ap (in_set k) z ∙ in-none k)
+  pub field-none : hits ≡ 0 → (k : ℕ) → in_set k set ≡ (in_set k set || (ltb k c && (same (name_at e cs k) name && satisfies_at e cs k v)))
+  field-none z k = none-hit (ltb k c) (same (name_at e cs k) name) (satisfies_at e cs k v) (in_set k set) (sym (named k) ∙ ap (in_set k) z ∙ in-none k)
 
-  pub field-marks : (some : ℕ) (w : Bytes) → w ≡ v → ((k : ℕ) → in_set k some ≡ (ltb k c && (in_set k hits && satisfiesAt e cs k w))) → (k : ℕ) → in_set k (bit_or set some) ≡ (in_set k set || (ltb k c && (same (name_at e cs k) name && satisfiesAt e cs k v)))
+  pub field-marks : (some : ℕ) (w : Bytes) → w ≡ v → ((k : ℕ) → in_set k some ≡ (ltb k c && (in_set k hits && satisfies_at e cs k w))) → (k : ℕ) → in_set k (bit_or set some) ≡ (in_set k set || (ltb k c && (same (name_at e cs k) name && satisfies_at e cs k v)))
   field-marks some w q h k =
-      in-or k set some ∙ ap (λ (b : Bool). in_set k set || b) (h k ∙ ap (λ (x : Bytes). ltb k c && (in_set k hits && satisfiesAt e cs k x)) q)
-      ∙ hit-both (ltb k c) (same (name_at e cs k) name) (satisfiesAt e cs k v) (in_set k set) (in_set k hits) (named k)
+      in-or k set some ∙ ap (λ (b : Bool). in_set k set || b) (h k ∙ ap (λ (x : Bytes). ltb k c && (in_set k hits && satisfies_at e cs k x)) q)
+      ∙ hit-both (ltb k c) (same (name_at e cs k) name) (satisfies_at e cs k v) (in_set k set) (in_set k hits) (named k)

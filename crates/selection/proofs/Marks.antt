@@ -8,17 +8,17 @@ use mathlib.Core.Option.{Option, none}
 use lib.Dec.{eqb, leb}
 use lib.ListN.{get_or}
 use borrow.Author.Tests.{ne_eqb, le-leb, lt-leb}
-use Rattle.format.specs.Bytes.{Bytes, pick, isDigit}
+use Rattle.format.specs.Bytes.{Bytes, pick, is_digit}
 use Rattle.selection.specs.Expressions.{Sign}
-use Rattle.selection.specs.Reading.{allSigns, signAmong, isIntFirst}
+use Rattle.selection.specs.Reading.{all_signs, sign_among, is_int_first}
 
 -- a sign is told by two bytes
-pub sign-of-two : (c : ℕ) (s : Bytes) → signAmong allSigns (c ∷ s) ≡ signAmong allSigns (c ∷ get_or s 0 0 ∷ [])
+pub sign-of-two : (c : ℕ) (s : Bytes) → sign_among all_signs (c ∷ s) ≡ sign_among all_signs (c ∷ get_or s 0 0 ∷ [])
 sign-of-two c [] = refl
 sign-of-two c (d ∷ s) = refl
 
 abbrev two : ℕ → ℕ → Option Sign
-two b d = signAmong allSigns (b ∷ d ∷ [])
+two b d = sign_among all_signs (b ∷ d ∷ [])
 
 pub one_byte : (x b d : ℕ) (g : Option Sign) → b ≡ x → g ≡ two x d → g ≡ two b d
 one_byte x b d g e h = h ∙ ap (λ (c : ℕ). two c d) (sym e)
@@ -41,14 +41,14 @@ or-none : (t : Bool) → t || false ≡ t
 or-none true = refl
 or-none false = refl
 
-begins-by : (b : ℕ) → (b ≡ 45 → ⊥) → isIntFirst b ≡ isDigit b
-begins-by b h = ap (λ (t : Bool). isDigit b || t) (ne_eqb b 45 h) ∙ or-none (isDigit b)
+begins-by : (b : ℕ) → (b ≡ 45 → ⊥) → is_int_first b ≡ is_digit b
+begins-by b h = ap (λ (t : Bool). is_digit b || t) (ne_eqb b 45 h) ∙ or-none (is_digit b)
 
-pub begins-minus : (b : ℕ) → b ≡ 45 → true ≡ isIntFirst b
-begins-minus b e = ap isIntFirst (sym e)
+pub begins-minus : (b : ℕ) → b ≡ 45 → true ≡ is_int_first b
+begins-minus b e = ap is_int_first (sym e)
 
-pub begins-digit : (b : ℕ) → (b ≡ 45 → ⊥) → 48 ≤ b → leb b 57 ≡ isIntFirst b
+pub begins-digit : (b : ℕ) → (b ≡ 45 → ⊥) → 48 ≤ b → leb b 57 ≡ is_int_first b
 begins-digit b h l = ap (λ (t : Bool). t && leb b 57) (sym (le-leb 48 b l)) ∙ sym (begins-by b h)
 
-pub begins-other : (b : ℕ) → (b ≡ 45 → ⊥) → b < 48 → false ≡ isIntFirst b
+pub begins-other : (b : ℕ) → (b ≡ 45 → ⊥) → b < 48 → false ≡ is_int_first b
 begins-other b h l = ap (λ (t : Bool). t && leb b 57) (sym (lt-leb 48 b l)) ∙ sym (begins-by b h)

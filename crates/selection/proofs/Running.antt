@@ -7,24 +7,24 @@ use borrow.Author.Tests.{ne_eqb}
 use Rattle.format.specs.Bytes.{pick}
 use Rattle.terms.specs.Sets.{in_set}
 use Rattle.selection.specs.declared.runs.Machine.{Machine}
-use Rattle.selection.specs.Programs.{differ, answeredBy, joined, wholeAnswer, on_test, onOpen, onClose, onCode}
+use Rattle.selection.specs.Programs.{differ, answered_by, joined, whole_answer, on_test, on_open, on_close, on_code}
 
-pub answered-on : (x : ℕ) (b d : Bool) → d ≡ differ (eqb (x / 4) 1) b → eqb (x / 2 % 2) 1 && d ≡ true → x % 2 + 2 ≡ answeredBy x b
+pub answered-on : (x : ℕ) (b d : Bool) → d ≡ differ (eqb (x / 4) 1) b → eqb (x / 2 % 2) 1 && d ≡ true → x % 2 + 2 ≡ answered_by x b
 answered-on x b d e h = ap (λ (t : Bool). pick t (x % 2 + 2) (x % 2)) (sym (ap (λ (t : Bool). eqb (x / 2 % 2) 1 && t) (sym e) ∙ h))
 
-pub answered-off : (x : ℕ) (b d : Bool) → d ≡ differ (eqb (x / 4) 1) b → eqb (x / 2 % 2) 1 && d ≡ false → x % 2 ≡ answeredBy x b
+pub answered-off : (x : ℕ) (b d : Bool) → d ≡ differ (eqb (x / 4) 1) b → eqb (x / 2 % 2) 1 && d ≡ false → x % 2 ≡ answered_by x b
 answered-off x b d e h = ap (λ (t : Bool). pick t (x % 2 + 2) (x % 2)) (sym (ap (λ (t : Bool). eqb (x / 2 % 2) 1 && t) (sym e) ∙ h))
 
 module _ (m : Machine) (c : ℕ) where
-  pub on-test : (l : ℕ) → c ≡ 0 → l ≡ answeredBy m.level (eqb (m.bits % 2) 1) → record { level = l; outer = m.outer; bits = m.bits / 2 } ≡ onCode c m
+  pub on-test : (l : ℕ) → c ≡ 0 → l ≡ answered_by m.level (eqb (m.bits % 2) 1) → record { level = l; outer = m.outer; bits = m.bits / 2 } ≡ on_code c m
   unfolding in_set
-  on-test l e h = (λ i. record { level = h i; outer = m.outer; bits = m.bits / 2 }) ∙ ap (λ (k : ℕ). onCode k m) (sym e)
+  on-test l e h = (λ i. record { level = h i; outer = m.outer; bits = m.bits / 2 }) ∙ ap (λ (k : ℕ). on_code k m) (sym e)
 
-  pub on-other : (k : ℕ) (n : Machine) → c ≡ k → n ≡ onCode k m → n ≡ onCode c m
-  on-other k n e h = h ∙ ap (λ (j : ℕ). onCode j m) (sym e)
+  pub on-other : (k : ℕ) (n : Machine) → c ≡ k → n ≡ on_code k m → n ≡ on_code c m
+  on-other k n e h = h ∙ ap (λ (j : ℕ). on_code j m) (sym e)
 
-  pub on-join : (l : ℕ) → c ≡ 2 → l ≡ joined m.level → record { level = l; outer = m.outer; bits = m.bits } ≡ onCode c m
-  on-join l e h = (λ i. record { level = h i; outer = m.outer; bits = m.bits }) ∙ ap (λ (k : ℕ). onCode k m) (sym e)
+  pub on-join : (l : ℕ) → c ≡ 2 → l ≡ joined m.level → record { level = l; outer = m.outer; bits = m.bits } ≡ on_code c m
+  on-join l e h = (λ i. record { level = h i; outer = m.outer; bits = m.bits }) ∙ ap (λ (k : ℕ). on_code k m) (sym e)
 
-  pub on-close : (l : ℕ) (b : Bool) → (c ≡ 0 → ⊥) → (c ≡ 1 → ⊥) → (c ≡ 2 → ⊥) → (c ≡ 3 → ⊥) → b ≡ wholeAnswer m.level → l ≡ answeredBy (m.outer % 8) b → record { level = l; outer = m.outer / 8; bits = m.bits } ≡ onCode c m
-  on-close l b h i j k e f = (λ d. record { level = (f ∙ ap (answeredBy (m.outer % 8)) e) d; outer = m.outer / 8; bits = m.bits }) ∙ sym (rw (ne_eqb c 0 h, ne_eqb c 1 i, ne_eqb c 2 j, ne_eqb c 3 k))
+  pub on-close : (l : ℕ) (b : Bool) → (c ≡ 0 → ⊥) → (c ≡ 1 → ⊥) → (c ≡ 2 → ⊥) → (c ≡ 3 → ⊥) → b ≡ whole_answer m.level → l ≡ answered_by (m.outer % 8) b → record { level = l; outer = m.outer / 8; bits = m.bits } ≡ on_code c m
+  on-close l b h i j k e f = (λ d. record { level = (f ∙ ap (answered_by (m.outer % 8)) e) d; outer = m.outer / 8; bits = m.bits }) ∙ sym (rw (ne_eqb c 0 h, ne_eqb c 1 i, ne_eqb c 2 j, ne_eqb c 3 k))

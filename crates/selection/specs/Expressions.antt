@@ -1,17 +1,17 @@
 -- Expressions (document 02, order 11), and the grammar as a relation between them and bytes. How bytes are read is another matter (`Reading`).
 use Rattle.std.specs.Prelude.{ℕ, suc, ◌≤◌, ◌≡◌, Bool, true, false, not, List, [], ◌∷◌, ◌++◌, eqb, length}
 use Rattle.std.proofs.Math.Option.{some}
-use Rattle.format.specs.Bytes.{Bytes, text, all, isBlank}
-use Rattle.format.specs.Lines.{isName}
-use Rattle.format.specs.Numbers.{Int, intBounds, int_of}
+use Rattle.format.specs.Bytes.{Bytes, text, all, is_blank}
+use Rattle.format.specs.Lines.{is_name}
+use Rattle.format.specs.Numbers.{Int, int_bounds, int_of}
 
 -- "one of `=` `!=` `<` `<=` `>` `>=`"
 pub data Operator : Type 0 where
   equals : Operator
   differs : Operator
-  lessThan : Operator
+  less_than : Operator
   at_most : Operator
-  moreThan : Operator
+  more_than : Operator
   at_least : Operator
 
 -- "and an int or a quoted string"
@@ -28,96 +28,96 @@ pub data Expression : Type 0 where
 -- the signs, and the parts of an expression: names, operands and signs
 pub data Sign : Type 0 where
   comparing : Operator → Sign
-  notSign : Sign
-  andSign : Sign
-  orSign : Sign
-  openSign : Sign
-  closeSign : Sign
+  not_sign : Sign
+  and_sign : Sign
+  or_sign : Sign
+  open_sign : Sign
+  close_sign : Sign
 
 pub data Part : Type 0 where
-  fieldName : Bytes → Part
+  field_name : Bytes → Part
   operand : Operand → Part
   sign : Sign → Part
 
-abbrev pub signBytes : Sign → Bytes
-signBytes (comparing equals) = text "="
-signBytes (comparing differs) = text "!="
-signBytes (comparing lessThan) = text "<"
-signBytes (comparing at_most) = text "<="
-signBytes (comparing moreThan) = text ">"
-signBytes (comparing at_least) = text ">="
-signBytes notSign = text "!"
-signBytes andSign = text "&&"
-signBytes orSign = text "||"
-signBytes openSign = text "("
-signBytes closeSign = text ")"
+abbrev pub sign_bytes : Sign → Bytes
+sign_bytes (comparing equals) = text "="
+sign_bytes (comparing differs) = text "!="
+sign_bytes (comparing less_than) = text "<"
+sign_bytes (comparing at_most) = text "<="
+sign_bytes (comparing more_than) = text ">"
+sign_bytes (comparing at_least) = text ">="
+sign_bytes not_sign = text "!"
+sign_bytes and_sign = text "&&"
+sign_bytes or_sign = text "||"
+sign_bytes open_sign = text "("
+sign_bytes close_sign = text ")"
 
 -- "between `'` marks, none inside"
-abbrev pub isInString : ℕ → Bool
-isInString c = not (eqb c 39)
+abbrev pub is_in_string : ℕ → Bool
+is_in_string c = not (eqb c 39)
 
 -- which bytes a part is spelt with; blanks stand between parts, "within a part none"
 pub data Spells : Bytes → Part → Type 0 where
-  spellsName : (w : Bytes) → isName w ≡ true → Spells w (fieldName w)
-  spellsInt : (w : Bytes) (z : Int) → int_of intBounds w ≡ some z → Spells w (operand (int z))
-  spellsString : (w : Bytes) → all isInString w ≡ true → Spells (39 ∷ (w ++ (39 ∷ []))) (operand (string w))
-  spellsSign : (g : Sign) → Spells (signBytes g) (sign g)
+  spells_name : (w : Bytes) → is_name w ≡ true → Spells w (field_name w)
+  spells_int : (w : Bytes) (z : Int) → int_of int_bounds w ≡ some z → Spells w (operand (int z))
+  spells_string : (w : Bytes) → all is_in_string w ≡ true → Spells (39 ∷ (w ++ (39 ∷ []))) (operand (string w))
+  spells_sign : (g : Sign) → Spells (sign_bytes g) (sign g)
 
 -- A place is told by the bytes from there on. At place s, after any blanks, there is a part, and it ends at place t.
 pub data PartAt : Bytes → Part → Bytes → Type 0 where
-  behindBlank : {s t : Bytes} {p : Part} (c : ℕ) → isBlank c ≡ true → PartAt s p t → PartAt (c ∷ s) p t
+  behind_blank : {s t : Bytes} {p : Part} (c : ℕ) → is_blank c ≡ true → PartAt s p t → PartAt (c ∷ s) p t
   at_once : {w : Bytes} {p : Part} (t : Bytes) → Spells w p → PartAt (w ++ t) p t
 
 -- "Strings take only `=` and `!=`"
-abbrev pub takesStrings : Operator → Bool
-takesStrings equals = true
-takesStrings differs = true
-takesStrings lessThan = false
-takesStrings at_most = false
-takesStrings moreThan = false
-takesStrings at_least = false
+abbrev pub takes_strings : Operator → Bool
+takes_strings equals = true
+takes_strings differs = true
+takes_strings less_than = false
+takes_strings at_most = false
+takes_strings more_than = false
+takes_strings at_least = false
 
 -- The three lines of the grammar: the bytes between places s and t are such an expression, with n parentheses open at once at the most.
 --     or = and | or "||" and      and = unary | and "&&" unary      unary = "!" unary | "(" or ")" | name op int | name ("=" | "!=") string
 mutual
   pub data Or : ℕ → Bytes → Bytes → Expression → Type 0 where
-    orOne : {n : ℕ} {s t : Bytes} {e : Expression} → And n s t e → Or n s t e
-    orMore : {n : ℕ} {s t u v : Bytes} {e f : Expression} → Or n s t e → PartAt t (sign orSign) u → And n u v f → Or n s v (disjunction e f)
+    or_one : {n : ℕ} {s t : Bytes} {e : Expression} → And n s t e → Or n s t e
+    or_more : {n : ℕ} {s t u v : Bytes} {e f : Expression} → Or n s t e → PartAt t (sign or_sign) u → And n u v f → Or n s v (disjunction e f)
 
   pub data And : ℕ → Bytes → Bytes → Expression → Type 0 where
-    andOne : {n : ℕ} {s t : Bytes} {e : Expression} → Unary n s t e → And n s t e
-    andMore : {n : ℕ} {s t u v : Bytes} {e f : Expression} → And n s t e → PartAt t (sign andSign) u → Unary n u v f → And n s v (conjunction e f)
+    and_one : {n : ℕ} {s t : Bytes} {e : Expression} → Unary n s t e → And n s t e
+    and_more : {n : ℕ} {s t u v : Bytes} {e f : Expression} → And n s t e → PartAt t (sign and_sign) u → Unary n u v f → And n s v (conjunction e f)
 
   pub data Unary : ℕ → Bytes → Bytes → Expression → Type 0 where
-    unaryNot : {n : ℕ} {s t u : Bytes} {e : Expression} → PartAt s (sign notSign) t → Unary n t u e → Unary n s u (negation e)
-    unaryGroup : {n : ℕ} {s t u v : Bytes} {e : Expression} → PartAt s (sign openSign) t → Or n t u e → PartAt u (sign closeSign) v → Unary (suc n) s v e
-    unaryInt : {n : ℕ} {s t u v : Bytes} {m : Bytes} {o : Operator} {z : Int} → PartAt s (fieldName m) t → PartAt t (sign (comparing o)) u → PartAt u (operand (int z)) v → Unary n s v (comparison m o (int z))
-    unaryString : {n : ℕ} {s t u v : Bytes} {m : Bytes} {o : Operator} {w : Bytes} → PartAt s (fieldName m) t → PartAt t (sign (comparing o)) u → takesStrings o ≡ true → PartAt u (operand (string w)) v → Unary n s v (comparison m o (string w))
+    unary_not : {n : ℕ} {s t u : Bytes} {e : Expression} → PartAt s (sign not_sign) t → Unary n t u e → Unary n s u (negation e)
+    unary_group : {n : ℕ} {s t u v : Bytes} {e : Expression} → PartAt s (sign open_sign) t → Or n t u e → PartAt u (sign close_sign) v → Unary (suc n) s v e
+    unary_int : {n : ℕ} {s t u v : Bytes} {m : Bytes} {o : Operator} {z : Int} → PartAt s (field_name m) t → PartAt t (sign (comparing o)) u → PartAt u (operand (int z)) v → Unary n s v (comparison m o (int z))
+    unary_string : {n : ℕ} {s t u v : Bytes} {m : Bytes} {o : Operator} {w : Bytes} → PartAt s (field_name m) t → PartAt t (sign (comparing o)) u → takes_strings o ≡ true → PartAt u (operand (string w)) v → Unary n s v (comparison m o (string w))
 
 -- all of the bytes are the expression, blanks behind it included; neither limit is asked
 pub record Written (n : ℕ) (s : Bytes) (e : Expression) : Type 0 where
   pub end : Bytes
   pub expression : Or n s end e
-  pub blanks : all isBlank end ≡ true
+  pub blanks : all is_blank end ≡ true
 
 -- the parts of an expression by the grammar, followed by those of others
 abbrev mutual
-  pub orCut : {n : ℕ} {s t : Bytes} {e : Expression} → Or n s t e → List Part → List Part
-  orCut (orOne x) ps = andCut x ps
-  orCut (orMore x a y) ps = orCut x (sign orSign ∷ andCut y ps)
+  pub or_cut : {n : ℕ} {s t : Bytes} {e : Expression} → Or n s t e → List Part → List Part
+  or_cut (or_one x) ps = and_cut x ps
+  or_cut (or_more x a y) ps = or_cut x (sign or_sign ∷ and_cut y ps)
 
-  pub andCut : {n : ℕ} {s t : Bytes} {e : Expression} → And n s t e → List Part → List Part
-  andCut (andOne x) ps = unaryCut x ps
-  andCut (andMore x a y) ps = andCut x (sign andSign ∷ unaryCut y ps)
+  pub and_cut : {n : ℕ} {s t : Bytes} {e : Expression} → And n s t e → List Part → List Part
+  and_cut (and_one x) ps = unary_cut x ps
+  and_cut (and_more x a y) ps = and_cut x (sign and_sign ∷ unary_cut y ps)
 
-  pub unaryCut : {n : ℕ} {s t : Bytes} {e : Expression} → Unary n s t e → List Part → List Part
-  unaryCut (unaryNot a x) ps = sign notSign ∷ unaryCut x ps
-  unaryCut (unaryGroup a x b) ps = sign openSign ∷ orCut x (sign closeSign ∷ ps)
-  unaryCut (unaryInt {m = m} {o = o} {z = z} a b c) ps = fieldName m ∷ sign (comparing o) ∷ operand (int z) ∷ ps
-  unaryCut (unaryString {m = m} {o = o} {w = w} a b q c) ps = fieldName m ∷ sign (comparing o) ∷ operand (string w) ∷ ps
+  pub unary_cut : {n : ℕ} {s t : Bytes} {e : Expression} → Unary n s t e → List Part → List Part
+  unary_cut (unary_not a x) ps = sign not_sign ∷ unary_cut x ps
+  unary_cut (unary_group a x b) ps = sign open_sign ∷ or_cut x (sign close_sign ∷ ps)
+  unary_cut (unary_int {m = m} {o = o} {z = z} a b c) ps = field_name m ∷ sign (comparing o) ∷ operand (int z) ∷ ps
+  unary_cut (unary_string {m = m} {o = o} {w = w} a b q c) ps = field_name m ∷ sign (comparing o) ∷ operand (string w) ∷ ps
 
 abbrev pub cut_of : {n : ℕ} {s : Bytes} {e : Expression} → Written n s e → List Part
-cut_of x = orCut x.expression []
+cut_of x = or_cut x.expression []
 
 -- the same with the places where the parts begin, behind blanks, and end
 pub record Cut : Type 0 where
@@ -125,38 +125,38 @@ pub record Cut : Type 0 where
   pub begins : Bytes
   pub ends : Bytes
 
-abbrev pub beginsAt : {s t : Bytes} {p : Part} → PartAt s p t → Bytes
-beginsAt (behindBlank c e n) = beginsAt n
-beginsAt (at_once {w = w} t x) = w ++ t
+abbrev pub begins_at : {s t : Bytes} {p : Part} → PartAt s p t → Bytes
+begins_at (behind_blank c e n) = begins_at n
+begins_at (at_once {w = w} t x) = w ++ t
 
 abbrev pub placed : {s t : Bytes} {p : Part} → PartAt s p t → Cut
-placed {t = t} {p = p} a = record { part = p; begins = beginsAt a; ends = t }
+placed {t = t} {p = p} a = record { part = p; begins = begins_at a; ends = t }
 
 abbrev mutual
-  pub orPlaces : {n : ℕ} {s t : Bytes} {e : Expression} → Or n s t e → List Cut → List Cut
-  orPlaces (orOne x) cs = andPlaces x cs
-  orPlaces (orMore x a y) cs = orPlaces x (placed a ∷ andPlaces y cs)
+  pub or_places : {n : ℕ} {s t : Bytes} {e : Expression} → Or n s t e → List Cut → List Cut
+  or_places (or_one x) cs = and_places x cs
+  or_places (or_more x a y) cs = or_places x (placed a ∷ and_places y cs)
 
-  pub andPlaces : {n : ℕ} {s t : Bytes} {e : Expression} → And n s t e → List Cut → List Cut
-  andPlaces (andOne x) cs = unaryPlaces x cs
-  andPlaces (andMore x a y) cs = andPlaces x (placed a ∷ unaryPlaces y cs)
+  pub and_places : {n : ℕ} {s t : Bytes} {e : Expression} → And n s t e → List Cut → List Cut
+  and_places (and_one x) cs = unary_places x cs
+  and_places (and_more x a y) cs = and_places x (placed a ∷ unary_places y cs)
 
-  pub unaryPlaces : {n : ℕ} {s t : Bytes} {e : Expression} → Unary n s t e → List Cut → List Cut
-  unaryPlaces (unaryNot a x) cs = placed a ∷ unaryPlaces x cs
-  unaryPlaces (unaryGroup a x b) cs = placed a ∷ orPlaces x (placed b ∷ cs)
-  unaryPlaces (unaryInt a b c) cs = placed a ∷ placed b ∷ placed c ∷ cs
-  unaryPlaces (unaryString a b q c) cs = placed a ∷ placed b ∷ placed c ∷ cs
+  pub unary_places : {n : ℕ} {s t : Bytes} {e : Expression} → Unary n s t e → List Cut → List Cut
+  unary_places (unary_not a x) cs = placed a ∷ unary_places x cs
+  unary_places (unary_group a x b) cs = placed a ∷ or_places x (placed b ∷ cs)
+  unary_places (unary_int a b c) cs = placed a ∷ placed b ∷ placed c ∷ cs
+  unary_places (unary_string a b q c) cs = placed a ∷ placed b ∷ placed c ∷ cs
 
 abbrev pub places_of : {n : ℕ} {s : Bytes} {e : Expression} → Written n s e → List Cut
-places_of x = orPlaces x.expression []
+places_of x = or_places x.expression []
 
 -- "parentheses nest up to 16 deep", "An expression has at most 256 bytes."
-abbrev pub openAtMost : ℕ
-openAtMost = 16
+abbrev pub open_at_most : ℕ
+open_at_most = 16
 
-abbrev pub bytesAtMost : ℕ
-bytesAtMost = 256
+abbrev pub bytes_at_most : ℕ
+bytes_at_most = 256
 
 pub record IsExpression (s : Bytes) (e : Expression) : Type 0 where
-  pub stands : Written openAtMost s e
-  pub fits : length s ≤ bytesAtMost
+  pub stands : Written open_at_most s e
+  pub fits : length s ≤ bytes_at_most

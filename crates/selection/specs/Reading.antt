@@ -1,91 +1,91 @@
 -- The reader of expressions, which computes: it cuts the bytes into parts, and groups these one after another.
 use Rattle.std.specs.Prelude.{ℕ, zero, suc, Bool, true, false, ◌&&◌, ◌||◌, List, [], ◌∷◌, eqb, leb, length}
 use Rattle.std.proofs.Math.Option.{Option, none, some}
-use Rattle.format.specs.Bytes.{Bytes, pick, isDigit, isBlank}
+use Rattle.format.specs.Bytes.{Bytes, pick, is_digit, is_blank}
 use Rattle.format.specs.Lists.{onward, front}
-use Rattle.format.specs.Lines.{isFirst, isLater}
-use Rattle.format.specs.Numbers.{Int, intBounds, int_of}
-use Rattle.selection.specs.Expressions.{Operator, equals, differs, lessThan, at_most, moreThan, at_least, Operand, int, string, Expression, comparison, negation, conjunction, disjunction}
-use Rattle.selection.specs.Expressions.{Sign, comparing, notSign, andSign, orSign, openSign, closeSign, Part, fieldName, operand, sign, signBytes, isInString, takesStrings, openAtMost, bytesAtMost}
+use Rattle.format.specs.Lines.{is_first, is_later}
+use Rattle.format.specs.Numbers.{Int, int_bounds, int_of}
+use Rattle.selection.specs.Expressions.{Operator, equals, differs, less_than, at_most, more_than, at_least, Operand, int, string, Expression, comparison, negation, conjunction, disjunction}
+use Rattle.selection.specs.Expressions.{Sign, comparing, not_sign, and_sign, or_sign, open_sign, close_sign, Part, field_name, operand, sign, sign_bytes, is_in_string, takes_strings, open_at_most, bytes_at_most}
 
 -- Cutting
 
 -- is a text at the front of another
-abbrev pub beginsWith : Bytes → Bytes → Bool
-beginsWith [] s = true
-beginsWith (x ∷ w) [] = false
-beginsWith (x ∷ w) (y ∷ s) = eqb x y && beginsWith w s
+abbrev pub begins_with : Bytes → Bytes → Bool
+begins_with [] s = true
+begins_with (x ∷ w) [] = false
+begins_with (x ∷ w) (y ∷ s) = eqb x y && begins_with w s
 
 -- the sign at the front of a text; those of two bytes are tried before those of one
-abbrev pub allSigns : List Sign
-allSigns = comparing differs ∷ comparing at_most ∷ comparing at_least ∷ comparing equals ∷ comparing lessThan ∷ comparing moreThan ∷ notSign ∷ andSign ∷ orSign ∷ openSign ∷ closeSign ∷ []
+abbrev pub all_signs : List Sign
+all_signs = comparing differs ∷ comparing at_most ∷ comparing at_least ∷ comparing equals ∷ comparing less_than ∷ comparing more_than ∷ not_sign ∷ and_sign ∷ or_sign ∷ open_sign ∷ close_sign ∷ []
 
-abbrev pub signAmong : List Sign → Bytes → Option Sign
-signAmong [] s = none
-signAmong (g ∷ gs) s = pick (beginsWith (signBytes g) s) (some g) (signAmong gs s)
+abbrev pub sign_among : List Sign → Bytes → Option Sign
+sign_among [] s = none
+sign_among (g ∷ gs) s = pick (begins_with (sign_bytes g) s) (some g) (sign_among gs s)
 
 -- the front of a text: one blank, one part with its number of bytes, or no part
 pub data Front : Type 0 where
   no_part : Front
-  oneBlank : Front
-  onePart : Part → ℕ → Front
+  one_blank : Front
+  one_part : Part → ℕ → Front
 
-abbrev pub signFront : Option Sign → Front
-signFront none = no_part
-signFront (some g) = onePart (sign g) (length (signBytes g))
+abbrev pub sign_front : Option Sign → Front
+sign_front none = no_part
+sign_front (some g) = one_part (sign g) (length (sign_bytes g))
 
-abbrev pub intFront : ℕ → Option Int → Front
-intFront n none = no_part
-intFront n (some z) = onePart (operand (int z)) n
+abbrev pub int_front : ℕ → Option Int → Front
+int_front n none = no_part
+int_front n (some z) = one_part (operand (int z)) n
 
-abbrev pub nameFront : Bytes → Front
-nameFront w = onePart (fieldName w) (length w)
+abbrev pub name_front : Bytes → Front
+name_front w = one_part (field_name w) (length w)
 
-abbrev pub stringFront : Bytes → Front
-stringFront w = onePart (operand (string w)) (suc (suc (length w)))
+abbrev pub string_front : Bytes → Front
+string_front w = one_part (operand (string w)) (suc (suc (length w)))
 
-abbrev pub isIntFirst : ℕ → Bool
-isIntFirst c = isDigit c || eqb c 45
+abbrev pub is_int_first : ℕ → Bool
+is_int_first c = is_digit c || eqb c 45
 
 -- A name and an int go on as long as they may; a string without its second mark is told to be longer than the text.
-abbrev pub frontOf : ℕ → Bytes → Front
-frontOf c s =
-    pick (isFirst c) (nameFront (c ∷ front isLater s))
-    (pick (isIntFirst c) (intFront (suc (length (front isLater s))) (int_of intBounds (c ∷ front isLater s)))
-    (pick (isBlank c) oneBlank
-    (pick (eqb c 39) (stringFront (front isInString s))
-    (signFront (signAmong allSigns (c ∷ s))))))
+abbrev pub front_of : ℕ → Bytes → Front
+front_of c s =
+    pick (is_first c) (name_front (c ∷ front is_later s))
+    (pick (is_int_first c) (int_front (suc (length (front is_later s))) (int_of int_bounds (c ∷ front is_later s)))
+    (pick (is_blank c) one_blank
+    (pick (eqb c 39) (string_front (front is_in_string s))
+    (sign_front (sign_among all_signs (c ∷ s))))))
 
 -- how many bytes it has, where it is no part one
-abbrev pub frontBytes : Front → ℕ
-frontBytes no_part = 1
-frontBytes oneBlank = 1
-frontBytes (onePart p n) = n
+abbrev pub front_bytes : Front → ℕ
+front_bytes no_part = 1
+front_bytes one_blank = 1
+front_bytes (one_part p n) = n
 
 -- how many bytes it has behind the first one; and what it adds to the parts behind it
-abbrev pub oneLess : ℕ → ℕ
-oneLess zero = zero
-oneLess (suc n) = n
+abbrev pub one_less : ℕ → ℕ
+one_less zero = zero
+one_less (suc n) = n
 
-abbrev pub sizeBehind : Front → ℕ
-sizeBehind no_part = zero
-sizeBehind oneBlank = zero
-sizeBehind (onePart p n) = oneLess n
+abbrev pub size_behind : Front → ℕ
+size_behind no_part = zero
+size_behind one_blank = zero
+size_behind (one_part p n) = one_less n
 
-abbrev pub withFront : Front → List Part → Option (List Part)
-withFront no_part ps = none
-withFront oneBlank ps = some ps
-withFront (onePart p n) ps = some (p ∷ ps)
+abbrev pub with_front : Front → List Part → Option (List Part)
+with_front no_part ps = none
+with_front one_blank ps = some ps
+with_front (one_part p n) ps = some (p ∷ ps)
 
 -- the parts of a text without its first bytes, if it has so many
-abbrev pub partsBehind : ℕ → Bytes → Option (List Part)
-partsBehind zero [] = some []
-partsBehind (suc k) [] = none
-partsBehind (suc k) (c ∷ s) = partsBehind k s
-partsBehind zero (c ∷ s) = onward (withFront (frontOf c s)) (partsBehind (sizeBehind (frontOf c s)) s)
+abbrev pub parts_behind : ℕ → Bytes → Option (List Part)
+parts_behind zero [] = some []
+parts_behind (suc k) [] = none
+parts_behind (suc k) (c ∷ s) = parts_behind k s
+parts_behind zero (c ∷ s) = onward (with_front (front_of c s)) (parts_behind (size_behind (front_of c s)) s)
 
 unfoldable pub parts_of : Bytes → Option (List Part)
-parts_of s = partsBehind zero s
+parts_of s = parts_behind zero s
 
 -- Grouping
 
@@ -95,8 +95,8 @@ pub record Level : Type 0 where
   pub anded : Option Expression
   pub nots : ℕ
 
-abbrev pub emptyLevel : Level
-emptyLevel = record { ored = none; anded = none; nots = zero }
+abbrev pub empty_level : Level
+empty_level = record { ored = none; anded = none; nots = zero }
 
 -- Where the reading of a level is: it wants an operand, has its name, has its operator too, or is done with it; then the expression is what stands behind the last `||`.
 pub data Stage : Type 0 where
@@ -114,82 +114,82 @@ pub record Reader : Type 0 where
 abbrev pub reader : ℕ → List Level → Stage → Option Reader
 reader n k x = some (record { room = n; outer = k; stage = x })
 
-abbrev pub negatedBy : ℕ → Expression → Expression
-negatedBy zero e = e
-negatedBy (suc b) e = negatedBy b (negation e)
+abbrev pub negated_by : ℕ → Expression → Expression
+negated_by zero e = e
+negated_by (suc b) e = negated_by b (negation e)
 
-abbrev pub andWith : Option Expression → Expression → Expression
-andWith none e = e
-andWith (some a) e = conjunction a e
+abbrev pub and_with : Option Expression → Expression → Expression
+and_with none e = e
+and_with (some a) e = conjunction a e
 
-abbrev pub orWith : Option Expression → Expression → Expression
-orWith none e = e
-orWith (some a) e = disjunction a e
+abbrev pub or_with : Option Expression → Expression → Expression
+or_with none e = e
+or_with (some a) e = disjunction a e
 
 -- a level with an operand read: its `!` first, then its `&&`
-abbrev pub operandOn : Level → Expression → Stage
-operandOn f e = done f.ored (andWith f.anded (negatedBy f.nots e))
+abbrev pub operand_on : Level → Expression → Stage
+operand_on f e = done f.ored (and_with f.anded (negated_by f.nots e))
 
-abbrev pub oneNot : Level → Level
-oneNot f = record { ored = f.ored; anded = f.anded; nots = suc f.nots }
+abbrev pub one_not : Level → Level
+one_not f = record { ored = f.ored; anded = f.anded; nots = suc f.nots }
 
-abbrev pub levelOpened : ℕ → List Level → Level → Option Reader
-levelOpened zero k f = none
-levelOpened (suc n) k f = reader n (f ∷ k) (wanting emptyLevel)
+abbrev pub level_opened : ℕ → List Level → Level → Option Reader
+level_opened zero k f = none
+level_opened (suc n) k f = reader n (f ∷ k) (wanting empty_level)
 
-abbrev pub levelClosed : ℕ → List Level → Expression → Option Reader
-levelClosed n [] e = none
-levelClosed n (f ∷ k) e = reader (suc n) k (operandOn f e)
+abbrev pub level_closed : ℕ → List Level → Expression → Option Reader
+level_closed n [] e = none
+level_closed n (f ∷ k) e = reader (suc n) k (operand_on f e)
 
 -- "Strings take only `=` and `!=`"
-abbrev pub mayTake : Operator → Operand → Bool
-mayTake o (int z) = true
-mayTake o (string w) = takesStrings o
+abbrev pub may_take : Operator → Operand → Bool
+may_take o (int z) = true
+may_take o (string w) = takes_strings o
 
 abbrev pub advance : ℕ → List Level → Stage → Part → Option Reader
-advance n k (wanting f) (fieldName m) = reader n k (naming f m)
+advance n k (wanting f) (field_name m) = reader n k (naming f m)
 advance n k (wanting f) (operand v) = none
 advance n k (wanting f) (sign (comparing o)) = none
-advance n k (wanting f) (sign notSign) = reader n k (wanting (oneNot f))
-advance n k (wanting f) (sign andSign) = none
-advance n k (wanting f) (sign orSign) = none
-advance n k (wanting f) (sign openSign) = levelOpened n k f
-advance n k (wanting f) (sign closeSign) = none
-advance n k (naming f m) (fieldName l) = none
+advance n k (wanting f) (sign not_sign) = reader n k (wanting (one_not f))
+advance n k (wanting f) (sign and_sign) = none
+advance n k (wanting f) (sign or_sign) = none
+advance n k (wanting f) (sign open_sign) = level_opened n k f
+advance n k (wanting f) (sign close_sign) = none
+advance n k (naming f m) (field_name l) = none
 advance n k (naming f m) (operand v) = none
 advance n k (naming f m) (sign (comparing o)) = reader n k (holding f m o)
-advance n k (naming f m) (sign notSign) = none
-advance n k (naming f m) (sign andSign) = none
-advance n k (naming f m) (sign orSign) = none
-advance n k (naming f m) (sign openSign) = none
-advance n k (naming f m) (sign closeSign) = none
-advance n k (holding f m o) (fieldName l) = none
-advance n k (holding f m o) (operand v) = pick (mayTake o v) (reader n k (operandOn f (comparison m o v))) none
+advance n k (naming f m) (sign not_sign) = none
+advance n k (naming f m) (sign and_sign) = none
+advance n k (naming f m) (sign or_sign) = none
+advance n k (naming f m) (sign open_sign) = none
+advance n k (naming f m) (sign close_sign) = none
+advance n k (holding f m o) (field_name l) = none
+advance n k (holding f m o) (operand v) = pick (may_take o v) (reader n k (operand_on f (comparison m o v))) none
 advance n k (holding f m o) (sign g) = none
-advance n k (done l e) (fieldName m) = none
+advance n k (done l e) (field_name m) = none
 advance n k (done l e) (operand v) = none
 advance n k (done l e) (sign (comparing o)) = none
-advance n k (done l e) (sign notSign) = none
-advance n k (done l e) (sign andSign) = reader n k (wanting (record { ored = l; anded = some e; nots = zero }))
-advance n k (done l e) (sign orSign) = reader n k (wanting (record { ored = some (orWith l e); anded = none; nots = zero }))
-advance n k (done l e) (sign openSign) = none
-advance n k (done l e) (sign closeSign) = levelClosed n k (orWith l e)
+advance n k (done l e) (sign not_sign) = none
+advance n k (done l e) (sign and_sign) = reader n k (wanting (record { ored = l; anded = some e; nots = zero }))
+advance n k (done l e) (sign or_sign) = reader n k (wanting (record { ored = some (or_with l e); anded = none; nots = zero }))
+advance n k (done l e) (sign open_sign) = none
+advance n k (done l e) (sign close_sign) = level_closed n k (or_with l e)
 
 -- behind the last part: done with an operand, and with no level around
-abbrev pub atEnd : List Level → Stage → Option Expression
-atEnd k (wanting f) = none
-atEnd k (naming f m) = none
-atEnd k (holding f m o) = none
-atEnd [] (done l e) = some (orWith l e)
-atEnd (f ∷ k) (done l e) = none
+abbrev pub at_end : List Level → Stage → Option Expression
+at_end k (wanting f) = none
+at_end k (naming f m) = none
+at_end k (holding f m o) = none
+at_end [] (done l e) = some (or_with l e)
+at_end (f ∷ k) (done l e) = none
 
-abbrev pub groupedFrom : List Part → Reader → Option Expression
-groupedFrom [] r = atEnd r.outer r.stage
-groupedFrom (p ∷ ps) r = onward (groupedFrom ps) (advance r.room r.outer r.stage p)
+abbrev pub grouped_from : List Part → Reader → Option Expression
+grouped_from [] r = at_end r.outer r.stage
+grouped_from (p ∷ ps) r = onward (grouped_from ps) (advance r.room r.outer r.stage p)
 
 abbrev pub beginning : Reader
-beginning = record { room = openAtMost; outer = []; stage = wanting emptyLevel }
+beginning = record { room = open_at_most; outer = []; stage = wanting empty_level }
 
-unfoldable pub readExpression : Bytes → Option Expression
+unfoldable pub read_expression : Bytes → Option Expression
 unfolding parts_of
-readExpression s = onward (λ (ps : List Part). pick (leb (length s) bytesAtMost) (groupedFrom ps beginning) none) (parts_of s)
+read_expression s = onward (λ (ps : List Part). pick (leb (length s) bytes_at_most) (grouped_from ps beginning) none) (parts_of s)

@@ -2,61 +2,61 @@
 use Rattle.std.specs.Prelude.{ℕ, ◌-◌, take, drop}
 use Rattle.std.proofs.Math.Option.{Option, none, some}
 use Rattle.format.specs.Bytes.{Bytes}
-use Rattle.numbers.specs.Meaning.{intIn}
-use Rattle.selection.specs.Expressions.{Operator as Comparing, equals, differs, lessThan, at_most, moreThan, at_least, int, string, Sign, comparing, notSign, andSign, orSign, openSign, closeSign, fieldName, operand}
-use Rattle.selection.specs.Reading.{Front, no_part, oneBlank, onePart, signFront}
+use Rattle.numbers.specs.Meaning.{int_in}
+use Rattle.selection.specs.Expressions.{Operator as Comparing, equals, differs, less_than, at_most, more_than, at_least, int, string, Sign, comparing, not_sign, and_sign, or_sign, open_sign, close_sign, field_name, operand}
+use Rattle.selection.specs.Reading.{Front, no_part, one_blank, one_part, sign_front}
 use Rattle.selection.specs.declared.parts.Operator.{Operator}
 use Rattle.selection.specs.declared.parts.Symbol.{Symbol}
 use Rattle.selection.specs.declared.parts.Token.{Token}
 
-abbrev pub operatorIn : Operator → Comparing
-operatorIn Operator.Equals = equals
-operatorIn Operator.Differs = differs
-operatorIn Operator.LessThan = lessThan
-operatorIn Operator.AtMost = at_most
-operatorIn Operator.MoreThan = moreThan
-operatorIn Operator.AtLeast = at_least
+abbrev pub operator_in : Operator → Comparing
+operator_in Operator.Equals = equals
+operator_in Operator.Differs = differs
+operator_in Operator.LessThan = less_than
+operator_in Operator.AtMost = at_most
+operator_in Operator.MoreThan = more_than
+operator_in Operator.AtLeast = at_least
 
-abbrev pub signIn : Symbol → Option Sign
-signIn (Symbol.Comparing o) = some (comparing (operatorIn o))
-signIn Symbol.Not = some notSign
-signIn Symbol.And = some andSign
-signIn Symbol.Or = some orSign
-signIn Symbol.Open = some openSign
-signIn Symbol.Close = some closeSign
-signIn Symbol.Unknown = none
+abbrev pub sign_in : Symbol → Option Sign
+sign_in (Symbol.Comparing o) = some (comparing (operator_in o))
+sign_in Symbol.Not = some not_sign
+sign_in Symbol.And = some and_sign
+sign_in Symbol.Or = some or_sign
+sign_in Symbol.Open = some open_sign
+sign_in Symbol.Close = some close_sign
+sign_in Symbol.Unknown = none
 
 -- the front of the text that a token was found in
-abbrev pub frontIn : Bytes → Token → Front
-frontIn s Token.Nothing = no_part
-frontIn s Token.Gap = oneBlank
-frontIn s (Token.Name n) = onePart (fieldName (take n s)) n
-frontIn s (Token.Int w n) = onePart (operand (int (intIn w))) n
-frontIn s (Token.Text n) = onePart (operand (string (take (n - 2) (drop 1 s)))) n
-frontIn s (Token.Sign m) = signFront (signIn m)
+abbrev pub front_in : Bytes → Token → Front
+front_in s Token.Nothing = no_part
+front_in s Token.Gap = one_blank
+front_in s (Token.Name n) = one_part (field_name (take n s)) n
+front_in s (Token.Int w n) = one_part (operand (int (int_in w))) n
+front_in s (Token.Text n) = one_part (operand (string (take (n - 2) (drop 1 s)))) n
+front_in s (Token.Sign m) = sign_front (sign_in m)
 
 -- how many bytes it has
-abbrev pub operatorBytes : Operator → ℕ
-operatorBytes Operator.Equals = 1
-operatorBytes Operator.Differs = 2
-operatorBytes Operator.LessThan = 1
-operatorBytes Operator.AtMost = 2
-operatorBytes Operator.MoreThan = 1
-operatorBytes Operator.AtLeast = 2
+abbrev pub operator_bytes : Operator → ℕ
+operator_bytes Operator.Equals = 1
+operator_bytes Operator.Differs = 2
+operator_bytes Operator.LessThan = 1
+operator_bytes Operator.AtMost = 2
+operator_bytes Operator.MoreThan = 1
+operator_bytes Operator.AtLeast = 2
 
-abbrev pub symbolBytes : Symbol → ℕ
-symbolBytes (Symbol.Comparing o) = operatorBytes o
-symbolBytes Symbol.Not = 1
-symbolBytes Symbol.And = 2
-symbolBytes Symbol.Or = 2
-symbolBytes Symbol.Open = 1
-symbolBytes Symbol.Close = 1
-symbolBytes Symbol.Unknown = 1
+abbrev pub symbol_bytes : Symbol → ℕ
+symbol_bytes (Symbol.Comparing o) = operator_bytes o
+symbol_bytes Symbol.Not = 1
+symbol_bytes Symbol.And = 2
+symbol_bytes Symbol.Or = 2
+symbol_bytes Symbol.Open = 1
+symbol_bytes Symbol.Close = 1
+symbol_bytes Symbol.Unknown = 1
 
-abbrev pub tokenBytes : Token → ℕ
-tokenBytes Token.Nothing = 1
-tokenBytes Token.Gap = 1
-tokenBytes (Token.Name n) = n
-tokenBytes (Token.Int w n) = n
-tokenBytes (Token.Text n) = n
-tokenBytes (Token.Sign g) = symbolBytes g
+abbrev pub token_bytes : Token → ℕ
+token_bytes Token.Nothing = 1
+token_bytes Token.Gap = 1
+token_bytes (Token.Name n) = n
+token_bytes (Token.Int w n) = n
+token_bytes (Token.Text n) = n
+token_bytes (Token.Sign g) = symbol_bytes g

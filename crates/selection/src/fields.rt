@@ -2,14 +2,14 @@
 ghost use Rattle.std.specs.Prelude.{◌≡◌, ◌&&◌, ◌||◌, ℕ, ◌<◌, ◌≤◌, eqb, ltb, length};
 ghost use Rattle.format.specs.Bytes.{same};
 ghost use Rattle.format.specs.Words.{trim};
-ghost use Rattle.format.specs.Numbers.{intBounds, int_of};
-ghost use Rattle.values.specs.Value.{valueFrom};
+ghost use Rattle.format.specs.Numbers.{int_bounds, int_of};
+ghost use Rattle.values.specs.Value.{value_from};
 ghost use Rattle.words.specs.Spans.{span};
-ghost use Rattle.numbers.specs.Meaning.{intIn, intAnswer};
+ghost use Rattle.numbers.specs.Meaning.{int_in, int_answer};
 ghost use Rattle.terms.specs.Sets.{tags, in_set};
-ghost use Rattle.selection.specs.Meaning.{intsCompare, stringCompares, satisfies, intCompares};
-ghost use Rattle.selection.specs.Tokens.{operatorIn};
-ghost use Rattle.selection.specs.Rows.{operandIn, Filled, name_at, satisfiesAt};
+ghost use Rattle.selection.specs.Meaning.{ints_compare, string_compares, satisfies, int_compares};
+ghost use Rattle.selection.specs.Tokens.{operator_in};
+ghost use Rattle.selection.specs.Rows.{operand_in, Filled, name_at, satisfies_at};
 
 use super::parts::Operator;
 use super::programs::{Comparison, Operand, Program};
@@ -33,7 +33,7 @@ fn span_of(s: &[u8], start: usize, end: usize) -> &[u8]
 
 // Two ints compared.
 fn ints_compare(o: Operator, x: Whole, y: Whole) -> bool
-    ensures { result ≡ intsCompare (operatorIn o) (intIn x) (intIn y) }
+    ensures { result ≡ ints_compare (operator_in o) (int_in x) (int_in y) }
 {
     let low = numbers::at_most(x, y);
     let high = numbers::at_most(y, x);
@@ -49,7 +49,7 @@ fn ints_compare(o: Operator, x: Whole, y: Whole) -> bool
 
 // What a value is as an int, compared with one.
 fn int_compares(o: Operator, x: IntOf, y: Whole) -> bool
-    ensures { result ≡ intCompares (operatorIn o) (intAnswer x) (intIn y) }
+    ensures { result ≡ int_compares (operator_in o) (int_answer x) (int_in y) }
 {
     match x {
         IntOf::Value(w) => ints_compare(o, w, y),
@@ -58,7 +58,7 @@ fn int_compares(o: Operator, x: IntOf, y: Whole) -> bool
 }
 
 fn string_compares(o: Operator, alike: bool) -> bool
-    ensures { result ≡ stringCompares (operatorIn o) alike }
+    ensures { result ≡ string_compares (operator_in o) alike }
 {
     match o {
         Operator::Equals => alike,
@@ -72,8 +72,8 @@ fn string_compares(o: Operator, alike: bool) -> bool
 
 // Does a value, which is x as an int, satisfy a comparison of the expression e?
 fn is_satisfied(e: &[u8], operator: Operator, operand: Operand, v: &[u8], x: IntOf) -> bool
-    requires { intAnswer x ≡ int_of intBounds (trim v.now) }
-    ensures { result ≡ satisfies (operatorIn operator) (operandIn e.now operand) v.now }
+    requires { int_answer x ≡ int_of int_bounds (trim v.now) }
+    ensures { result ≡ satisfies (operator_in operator) (operand_in e.now operand) v.now }
 {
     match operand {
         Operand::Int(y) => int_compares(operator, x, y),
@@ -116,8 +116,8 @@ fn named(e: &[u8], p: Program, name: &[u8]) -> u64
 
 // Is a comparison to be asked, and does a value, which is x as an int, satisfy it?
 fn is_hit(e: &[u8], asked: bool, row: Comparison, v: &[u8], x: IntOf) -> bool
-    requires { intAnswer x ≡ int_of intBounds (trim v.now) }
-    ensures { result ≡ (asked && satisfies (operatorIn row.operator) (operandIn e.now row.operand) v.now) }
+    requires { int_answer x ≡ int_of int_bounds (trim v.now) }
+    ensures { result ≡ (asked && satisfies (operator_in row.operator) (operand_in e.now row.operand) v.now) }
 {
     if asked {
         let operator = row.operator;
@@ -130,8 +130,8 @@ fn is_hit(e: &[u8], asked: bool, row: Comparison, v: &[u8], x: IntOf) -> bool
 // Those of a set of comparisons that a value satisfies, which is x as an int.
 fn satisfying(e: &[u8], p: Program, hits: u64, v: &[u8], x: IntOf) -> u64
     requires filled { Filled p }
-    requires x_value { intAnswer x ≡ int_of intBounds (trim v.now) }
-    ensures { (k : ℕ) → in_set k result ≡ (ltb k p.count && (in_set k hits && satisfiesAt e.now p.rows k v.now)) }
+    requires x_value { int_answer x ≡ int_of int_bounds (trim v.now) }
+    ensures { (k : ℕ) → in_set k result ≡ (ltb k p.count && (in_set k hits && satisfies_at e.now p.rows k v.now)) }
 {
     let rows = p.rows;
     let mut set = 0;
@@ -156,8 +156,8 @@ pub(crate) fn with_field(
     s: &[u8],
     scratch: &mut [u8],
 ) -> u64
-    requires { Filled p × (length (valueFrom s.now) ≤ length scratch.old) }
-    ensures { (k : ℕ) → in_set k result ≡ (in_set k set || (ltb k p.count && (same (name_at e.now p.rows k) name.now && satisfiesAt e.now p.rows k (valueFrom s.now)))) }
+    requires { Filled p × (length (value_from s.now) ≤ length scratch.old) }
+    ensures { (k : ℕ) → in_set k result ≡ (in_set k set || (ltb k p.count && (same (name_at e.now p.rows k) name.now && satisfies_at e.now p.rows k (value_from s.now)))) }
 {
     let hits = named(e, p, name);
     if hits == 0 {

@@ -2,12 +2,12 @@
 // expression is read once into a program; a set's records are then walked, and which of the
 // program's comparisons hold for a record is a set in one number.
 ghost use Rattle.std.specs.Prelude.{◌≡◌, true, ◌≤◌, length};
-ghost use Rattle.format.specs.Limits.{fileBytes};
+ghost use Rattle.format.specs.Limits.{file_bytes};
 ghost use Rattle.format.specs.Pieces.{read_of};
-ghost use Rattle.format.specs.Sets.{setsOf};
+ghost use Rattle.format.specs.Sets.{sets_of};
 ghost use Rattle.format.proofs.Passing.{SetsPass};
-ghost use Rattle.records.specs.Places.{isReadable};
-ghost use Rattle.selection.specs.Found.{listedBy, findAnswer, findIn};
+ghost use Rattle.records.specs.Places.{is_readable};
+ghost use Rattle.selection.specs.Found.{listed_by, find_answer, find_in};
 
 use format::{Answer, Refusal};
 use records::FoundSet;
@@ -21,8 +21,8 @@ mod walks;
 // The records of a set that an expression finds, in a text that passes: they are counted in one
 // walk, and listed in another where the list has room for them.
 fn find_in(s: &[u8], set: &[u8], expression: &[u8], list: &mut [usize]) -> Answer
-    requires { (isReadable s.now ≡ true) × (length s.now ≤ fileBytes) × SetsPass (setsOf (read_of s.now)) }
-    ensures { findIn s.now set.now expression.now list.old ≡ listedBy result list.new }
+    requires { (is_readable s.now ≡ true) × (length s.now ≤ file_bytes) × SetsPass (sets_of (read_of s.now)) }
+    ensures { find_in s.now set.now expression.now list.old ≡ listed_by result list.new }
 {
     let f = records::find_set(s, set);
     let FoundSet::At(p) = f else {
@@ -48,7 +48,7 @@ fn find_in(s: &[u8], set: &[u8], expression: &[u8], list: &mut [usize]) -> Answe
 // The numbers of the records of a set that an expression finds, put into a list; entries behind
 // them stay. Refused, every entry stays.
 pub fn find(buf: &[u8], used: usize, set: &[u8], expression: &[u8], list: &mut [usize]) -> Answer
-    ensures { findAnswer buf.now used set.now expression.now list.old ≡ listedBy result list.new }
+    ensures { find_answer buf.now used set.now expression.now list.old ≡ listed_by result list.new }
 {
     let n = integrity::check(buf, used);
     if n != 0 {

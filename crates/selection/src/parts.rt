@@ -1,11 +1,11 @@
 // The parts of an expression, as the reader of the definitions cuts them.
 ghost use Rattle.std.specs.Prelude.{◌≡◌, [], ◌∷◌, ◌<◌, ◌≤◌, length, drop, get_or};
-ghost use Rattle.format.specs.Bytes.{classTable};
-ghost use Rattle.format.specs.Lines.{isLater};
+ghost use Rattle.format.specs.Bytes.{class_table};
+ghost use Rattle.format.specs.Lines.{is_later};
 ghost use Rattle.lines.specs.Line.{run};
-ghost use Rattle.selection.specs.Expressions.{bytesAtMost};
-ghost use Rattle.selection.specs.Reading.{allSigns, signAmong, isIntFirst, frontOf};
-ghost use Rattle.selection.specs.Tokens.{signIn, frontIn, operatorBytes, symbolBytes, tokenBytes};
+ghost use Rattle.selection.specs.Expressions.{bytes_at_most};
+ghost use Rattle.selection.specs.Reading.{all_signs, sign_among, is_int_first, front_of};
+ghost use Rattle.selection.specs.Tokens.{sign_in, front_in, operator_bytes, symbol_bytes, token_bytes};
 
 use numbers::{IntOf, Whole};
 
@@ -44,7 +44,7 @@ pub(crate) enum Token {
 
 // The sign that two bytes begin with.
 fn sign_of(b: u8, next: u8) -> Symbol
-    ensures { signIn result ≡ signAmong allSigns (b ∷ next ∷ []) }
+    ensures { sign_in result ≡ sign_among all_signs (b ∷ next ∷ []) }
 {
     if b == b'=' {
         return Symbol::Comparing(Operator::Equals);
@@ -90,8 +90,8 @@ fn sign_of(b: u8, next: u8) -> Symbol
 
 // How many bytes at the front a name may go on in.
 fn name_len(table: &[u8; 256], s: &[u8]) -> usize
-    requires { table.now ≡ classTable }
-    ensures { result ≡ run isLater s.now }
+    requires { table.now ≡ class_table }
+    ensures { result ≡ run is_later s.now }
 {
     let mut i = 0;
     while i < s.len() {
@@ -105,7 +105,7 @@ fn name_len(table: &[u8; 256], s: &[u8]) -> usize
 }
 
 fn is_int_first(b: u8) -> bool
-    ensures { result ≡ isIntFirst b }
+    ensures { result ≡ is_int_first b }
 {
     if b == b'-' {
         return true;
@@ -115,9 +115,9 @@ fn is_int_first(b: u8) -> bool
 
 // What a text begins with.
 pub(crate) fn token_at(table: &[u8; 256], s: &[u8]) -> Token
-    requires table_value { table.now ≡ classTable }
-    requires s_nonzero { (0 < length s.now) × (length s.now ≤ bytesAtMost) }
-    ensures { frontIn s.now result ≡ frontOf (get_or s.now 0 0) (drop 1 s.now) }
+    requires table_value { table.now ≡ class_table }
+    requires s_nonzero { (0 < length s.now) × (length s.now ≤ bytes_at_most) }
+    ensures { front_in s.now result ≡ front_of (get_or s.now 0 0) (drop 1 s.now) }
 {
     let b = s[0];
     if format::is_first(table, b) {
@@ -147,7 +147,7 @@ pub(crate) fn token_at(table: &[u8; 256], s: &[u8]) -> Token
 }
 
 fn operator_bytes(o: Operator) -> usize
-    ensures { result ≡ operatorBytes o }
+    ensures { result ≡ operator_bytes o }
 {
     match o {
         Operator::Equals => 1,
@@ -160,7 +160,7 @@ fn operator_bytes(o: Operator) -> usize
 }
 
 fn symbol_bytes(g: Symbol) -> usize
-    ensures { result ≡ symbolBytes g }
+    ensures { result ≡ symbol_bytes g }
 {
     match g {
         Symbol::Comparing(o) => operator_bytes(o),
@@ -175,7 +175,7 @@ fn symbol_bytes(g: Symbol) -> usize
 
 // How many bytes a token has; what is no part is one byte.
 pub(crate) fn token_bytes(t: Token) -> usize
-    ensures { result ≡ tokenBytes t }
+    ensures { result ≡ token_bytes t }
 {
     match t {
         Token::Nothing => 1,

@@ -2,12 +2,12 @@
 ghost use Rattle.std.specs.Prelude.{◌≡◌, [], ◌∷◌, ◌++◌, ◌&&◌, eqb, ◌+◌, ◌<◌, ◌≤◌, drop};
 ghost use Rattle.format.specs.Bytes.{Bytes, is_some};
 ghost use Rattle.words.specs.Spans.{span};
-ghost use Rattle.selection.specs.Expressions.{bytesAtMost};
-ghost use Rattle.selection.specs.Reading.{mayTake, readExpression};
-ghost use Rattle.selection.specs.Programs.{toStage, ifAt, pastName, pastOperand, pastSign, testsWith};
-ghost use Rattle.selection.specs.Expressions.{comparing, openSign, closeSign, takesStrings, operand};
-ghost use Rattle.selection.specs.Tokens.{operatorIn, signIn, frontIn, tokenBytes};
-ghost use Rattle.selection.specs.Rows.{testsAtMost, operandIn, testIn, testsIn, codesIn, progressIn, Filled, Extends, pastSymbol, codesOfSymbol, pastFront, testsFront, codesFront, ProgramOf};
+ghost use Rattle.selection.specs.Expressions.{bytes_at_most};
+ghost use Rattle.selection.specs.Reading.{may_take, read_expression};
+ghost use Rattle.selection.specs.Programs.{to_stage, if_at, past_name, past_operand, past_sign, tests_with};
+ghost use Rattle.selection.specs.Expressions.{comparing, open_sign, close_sign, takes_strings, operand};
+ghost use Rattle.selection.specs.Tokens.{operator_in, sign_in, front_in, token_bytes};
+ghost use Rattle.selection.specs.Rows.{tests_at_most, operand_in, test_in, tests_in, codes_in, progress_in, Filled, Extends, past_symbol, codes_of_symbol, past_front, tests_front, codes_front, ProgramOf};
 
 use super::parts;
 use super::parts::{Operator, Symbol, Token};
@@ -64,7 +64,7 @@ struct Reading {
 
 // The same at another stage.
 fn to_stage(r: Reading, stage: u8) -> Reading
-    ensures { (s : Bytes) → progressIn s result ≡ toStage stage (progressIn s r) }
+    ensures { (s : Bytes) → progress_in s result ≡ to_stage stage (progress_in s r) }
 {
     let operator = r.operator;
     Reading {
@@ -78,7 +78,7 @@ fn to_stage(r: Reading, stage: u8) -> Reading
 
 // Past a name.
 fn past_name(r: Reading, start: usize, end: usize) -> Reading
-    ensures { (s : Bytes) → progressIn s result ≡ pastName (span start end s) (progressIn s r) }
+    ensures { (s : Bytes) → progress_in s result ≡ past_name (span start end s) (progress_in s r) }
 {
     if r.stage != 0 {
         return to_stage(r, 4);
@@ -95,7 +95,7 @@ fn past_name(r: Reading, start: usize, end: usize) -> Reading
 
 // Past an operator.
 fn past_operator(r: Reading, operator: Operator) -> Reading
-    ensures { (s : Bytes) → progressIn s result ≡ pastSign (comparing (operatorIn operator)) (progressIn s r) }
+    ensures { (s : Bytes) → progress_in s result ≡ past_sign (comparing (operator_in operator)) (progress_in s r) }
 {
     if r.stage != 1 {
         return to_stage(r, 4);
@@ -110,7 +110,7 @@ fn past_operator(r: Reading, operator: Operator) -> Reading
 }
 
 fn takes_strings(o: Operator) -> bool
-    ensures { result ≡ takesStrings (operatorIn o) }
+    ensures { result ≡ takes_strings (operator_in o) }
 {
     match o {
         Operator::Equals => true,
@@ -124,7 +124,7 @@ fn takes_strings(o: Operator) -> bool
 
 // May an operator stand before an operand?
 fn may_take(o: Operator, v: Operand) -> bool
-    ensures { (s : Bytes) → result ≡ mayTake (operatorIn o) (operandIn s v) }
+    ensures { (s : Bytes) → result ≡ may_take (operator_in o) (operand_in s v) }
 {
     match v {
         Operand::Int(_) => true,
@@ -134,7 +134,7 @@ fn may_take(o: Operator, v: Operand) -> bool
 
 // Past an int or a string.
 fn past_operand(r: Reading, v: Operand) -> Reading
-    ensures { (s : Bytes) → progressIn s result ≡ pastOperand (operandIn s v) (progressIn s r) }
+    ensures { (s : Bytes) → progress_in s result ≡ past_operand (operand_in s v) (progress_in s r) }
 {
     if r.stage != 2 {
         return to_stage(r, 4);
@@ -148,7 +148,7 @@ fn past_operand(r: Reading, v: Operand) -> Reading
 
 // Past a `(`.
 fn past_open(r: Reading) -> Reading
-    ensures { (s : Bytes) → progressIn s result ≡ pastSign openSign (progressIn s r) }
+    ensures { (s : Bytes) → progress_in s result ≡ past_sign open_sign (progress_in s r) }
 {
     if r.stage != 0 {
         return to_stage(r, 4);
@@ -168,7 +168,7 @@ fn past_open(r: Reading) -> Reading
 
 // Past a `)`.
 fn past_close(r: Reading) -> Reading
-    ensures { (s : Bytes) → progressIn s result ≡ pastSign closeSign (progressIn s r) }
+    ensures { (s : Bytes) → progress_in s result ≡ past_sign close_sign (progress_in s r) }
 {
     if r.stage != 3 {
         return to_stage(r, 4);
@@ -188,7 +188,7 @@ fn past_close(r: Reading) -> Reading
 
 // The next stage, where the reading is at a given one.
 fn from_stage(r: Reading, at: u8, next: u8) -> Reading
-    ensures { (s : Bytes) → progressIn s result ≡ ifAt at (progressIn s r) (toStage next (progressIn s r)) }
+    ensures { (s : Bytes) → progress_in s result ≡ if_at at (progress_in s r) (to_stage next (progress_in s r)) }
 {
     if r.stage == at {
         return to_stage(r, next);
@@ -198,7 +198,7 @@ fn from_stage(r: Reading, at: u8, next: u8) -> Reading
 
 // Past a sign.
 fn past_sign(r: Reading, g: Symbol) -> Reading
-    ensures { (s : Bytes) → progressIn s result ≡ pastSymbol (signIn g) (progressIn s r) }
+    ensures { (s : Bytes) → progress_in s result ≡ past_symbol (sign_in g) (progress_in s r) }
 {
     match g {
         Symbol::Comparing(o) => past_operator(r, o),
@@ -213,8 +213,8 @@ fn past_sign(r: Reading, g: Symbol) -> Reading
 
 // Past a token at a place.
 fn past_token(r: Reading, t: Token, at: usize) -> Reading
-    requires { (1 ≤ tokenBytes t) × (at + tokenBytes t ≤ bytesAtMost) }
-    ensures { (s : Bytes) → progressIn s result ≡ pastFront (frontIn (drop at s) t) (progressIn s r) }
+    requires { (1 ≤ token_bytes t) × (at + token_bytes t ≤ bytes_at_most) }
+    ensures { (s : Bytes) → progress_in s result ≡ past_front (front_in (drop at s) t) (progress_in s r) }
 {
     match t {
         Token::Nothing => to_stage(r, 4),
@@ -236,7 +236,7 @@ fn past_token(r: Reading, t: Token, at: usize) -> Reading
 
 // One code more.
 fn with_code(p: Program, c: u8) -> Program
-    requires { Filled p × (p.size < bytesAtMost) }
+    requires { Filled p × (p.size < bytes_at_most) }
     ensures { Extends p result (c ∷ []) × (result.rows ≡ p.rows) × (result.count ≡ p.count) }
 {
     let mut q = p;
@@ -248,8 +248,8 @@ fn with_code(p: Program, c: u8) -> Program
 
 // One comparison more.
 fn with_row(p: Program, row: Comparison) -> Program
-    requires { Filled p × (p.count < testsAtMost) }
-    ensures { Extends p result [] × (result.size ≡ p.size) × ((s : Bytes) → testsIn s result ≡ testsIn s p ++ (testIn s row ∷ [])) }
+    requires { Filled p × (p.count < tests_at_most) }
+    ensures { Extends p result [] × (result.size ≡ p.size) × ((s : Bytes) → tests_in s result ≡ tests_in s p ++ (test_in s row ∷ [])) }
 {
     let mut q = p;
     let at = p.count;
@@ -260,8 +260,8 @@ fn with_row(p: Program, row: Comparison) -> Program
 
 // A program with the code of an operand, and its comparison where one is awaited.
 fn with_operand(p: Program, r: Reading, v: Operand) -> Program
-    requires { Filled p × (p.size < bytesAtMost) × (r.stage ≡ 2 → p.count < testsAtMost) }
-    ensures { Extends p result (0 ∷ []) × ((s : Bytes) → testsIn s result ≡ testsWith (progressIn s r) (operand (operandIn s v)) (testsIn s p)) }
+    requires { Filled p × (p.size < bytes_at_most) × (r.stage ≡ 2 → p.count < tests_at_most) }
+    ensures { Extends p result (0 ∷ []) × ((s : Bytes) → tests_in s result ≡ tests_with (progress_in s r) (operand (operand_in s v)) (tests_in s p)) }
 {
     let q = with_code(p, 0);
     if r.stage != 2 {
@@ -281,8 +281,8 @@ fn with_operand(p: Program, r: Reading, v: Operand) -> Program
 
 // A program with the code of a sign, if it has one.
 fn with_sign(p: Program, g: Symbol) -> Program
-    requires { Filled p × (p.size < bytesAtMost) }
-    ensures { Extends p result (codesOfSymbol (signIn g)) × ((s : Bytes) → testsIn s result ≡ testsIn s p) }
+    requires { Filled p × (p.size < bytes_at_most) }
+    ensures { Extends p result (codes_of_symbol (sign_in g)) × ((s : Bytes) → tests_in s result ≡ tests_in s p) }
 {
     match g {
         Symbol::Comparing(_) => p,
@@ -297,9 +297,9 @@ fn with_sign(p: Program, g: Symbol) -> Program
 
 // A program with what a token at a place adds to it.
 fn with_token(p: Program, r: Reading, t: Token, at: usize) -> Program
-    requires filled { Filled p × (p.size < bytesAtMost) × (r.stage ≡ 2 → p.count < testsAtMost) }
-    requires bound { (1 ≤ tokenBytes t) × (at + tokenBytes t ≤ bytesAtMost) }
-    ensures { (s : Bytes) → Extends p result (codesFront (frontIn (drop at s) t)) × (testsIn s result ≡ testsFront (progressIn s r) (frontIn (drop at s) t) (testsIn s p)) }
+    requires filled { Filled p × (p.size < bytes_at_most) × (r.stage ≡ 2 → p.count < tests_at_most) }
+    requires bound { (1 ≤ token_bytes t) × (at + token_bytes t ≤ bytes_at_most) }
+    ensures { (s : Bytes) → Extends p result (codes_front (front_in (drop at s) t)) × (tests_in s result ≡ tests_front (progress_in s r) (front_in (drop at s) t) (tests_in s p)) }
 {
     match t {
         Token::Nothing => p,
@@ -357,7 +357,7 @@ pub(crate) struct Compiled {
 
 // An expression read.
 pub(crate) fn read(s: &[u8]) -> Compiled
-    ensures { (result.ok ≡ is_some (readExpression s.now)) × Filled result.program × ProgramOf s.now (readExpression s.now) result.program }
+    ensures { (result.ok ≡ is_some (read_expression s.now)) × Filled result.program × ProgramOf s.now (read_expression s.now) result.program }
 {
     let table = format::classes();
     let mut p = empty();

@@ -1,6 +1,6 @@
 // The codes of a program run over the bits of its comparisons, one level of parentheses at a time.
 ghost use Rattle.std.specs.Prelude.{◌≡◌};
-ghost use Rattle.selection.specs.Programs.{differ, answeredBy, joined, wholeAnswer, onCode, runAnswer};
+ghost use Rattle.selection.specs.Programs.{differ, answered_by, joined, whole_answer, on_code, run_answer};
 
 // A level, the levels around it, and the bits that were not used yet.
 #[derive(Drop)]
@@ -18,7 +18,7 @@ fn differ(a: bool, b: bool) -> bool
 
 // A level with the answer of an operand.
 fn answered_by(x: u64, b: bool) -> u64
-    ensures { result ≡ answeredBy x b }
+    ensures { result ≡ answered_by x b }
 {
     let all = x / 2 % 2 == 1;
     let odd = x / 4 == 1;
@@ -37,14 +37,14 @@ fn joined(x: u64) -> u64
 
 // The answer of a level.
 fn whole_answer(x: u64) -> bool
-    ensures { result ≡ wholeAnswer x }
+    ensures { result ≡ whole_answer x }
 {
     x % 4 != 0
 }
 
 // Past one code.
 fn on_code(m: Machine, c: u8) -> Machine
-    ensures { result ≡ onCode c m }
+    ensures { result ≡ on_code c m }
 {
     if c == 0 {
         return Machine {
@@ -83,7 +83,7 @@ fn on_code(m: Machine, c: u8) -> Machine
 
 // What the codes answer over some bits.
 pub(crate) fn run(codes: &[u8], bits: u64) -> bool
-    ensures { result ≡ runAnswer codes.now bits }
+    ensures { result ≡ run_answer codes.now bits }
 {
     let mut m = Machine {
         level: 2,

@@ -1,19 +1,19 @@
 // The records of a part that a program finds, in one walk over their bytes.
 ghost use Rattle.std.specs.Prelude.{◌≡◌, true, ◌≤◌, ltb, length, take, set};
 ghost use Rattle.format.specs.Bytes.{pick, all};
-ghost use Rattle.format.specs.Limits.{fileBytes};
+ghost use Rattle.format.specs.Limits.{file_bytes};
 ghost use Rattle.format.specs.Pieces.{read_of};
 ghost use Rattle.format.specs.Calls.{over};
 ghost use Rattle.format.proofs.Records.{records};
-ghost use Rattle.records.specs.Places.{isReadable};
-ghost use Rattle.records.specs.Walk.{recordIn};
-ghost use Rattle.rules.specs.Members.{fitsIn};
+ghost use Rattle.records.specs.Places.{is_readable};
+ghost use Rattle.records.specs.Walk.{record_in};
+ghost use Rattle.rules.specs.Members.{fits_in};
 ghost use Rattle.selection.specs.Expressions.{Expression};
 ghost use Rattle.selection.specs.Meaning.{holds};
-ghost use Rattle.selection.specs.Found.{numbersFrom};
-ghost use Rattle.selection.specs.Programs.{IsProgram, runAnswer};
-ghost use Rattle.selection.specs.Rows.{testsIn, codesIn, Filled};
-ghost use Rattle.selection.specs.Walks.{closedNumber, closedFound, closedList};
+ghost use Rattle.selection.specs.Found.{numbers_from};
+ghost use Rattle.selection.specs.Programs.{IsProgram, run_answer};
+ghost use Rattle.selection.specs.Rows.{tests_in, codes_in, Filled};
+ghost use Rattle.selection.specs.Walks.{closed_number, closed_found, closed_list};
 
 use super::programs::Program;
 use super::{fields, runs};
@@ -38,8 +38,8 @@ fn put(list: &mut [usize], at: usize, number: usize)
 // One record more, which has so many fields and these comparisons hold for it; without fields it
 // is none. Its number goes into the list where that has room.
 fn closed(codes: &[u8], size: usize, fields: usize, set: u64, t: Tally, list: &mut [usize]) -> Tally
-    requires { (size ≤ length codes.now) × (t.met ≤ fileBytes) × (t.found ≤ fileBytes) }
-    ensures { (result.met ≡ closedNumber fields t.met) × (result.found ≡ closedFound fields (runAnswer (take size codes.now) set) t.found) × (list.new ≡ closedList fields (runAnswer (take size codes.now) set) t.met t.found list.old) }
+    requires { (size ≤ length codes.now) × (t.met ≤ file_bytes) × (t.found ≤ file_bytes) }
+    ensures { (result.met ≡ closed_number fields t.met) × (result.found ≡ closed_found fields (run_answer (take size codes.now) set) t.found) × (list.new ≡ closed_list fields (run_answer (take size codes.now) set) t.met t.found list.old) }
 {
     if fields == 0 {
         return t;
@@ -68,8 +68,8 @@ pub(crate) fn list_found(
     scratch: &mut [u8],
     list: &mut [usize],
 ) -> usize
-    requires { Filled p × (isReadable s.now ≡ true) × (length s.now ≤ fileBytes) × (all (fitsIn (length scratch.old)) (recordIn s.now) ≡ true) }
-    ensures { (x : Expression) → IsProgram x (testsIn e.now p) (codesIn p) → (result ≡ length (numbersFrom (holds x) 0 (records (read_of s.now)))) × (list.new ≡ over (take (length list.old) (numbersFrom (holds x) 0 (records (read_of s.now)))) list.old) }
+    requires { Filled p × (is_readable s.now ≡ true) × (length s.now ≤ file_bytes) × (all (fits_in (length scratch.old)) (record_in s.now) ≡ true) }
+    ensures { (x : Expression) → IsProgram x (tests_in e.now p) (codes_in p) → (result ≡ length (numbers_from (holds x) 0 (records (read_of s.now)))) × (list.new ≡ over (take (length list.old) (numbers_from (holds x) 0 (records (read_of s.now)))) list.old) }
 {
     let codes = p.codes;
     let size = p.size;

@@ -11,81 +11,81 @@ use lib.ListN.{length, get_or, take, drop, set, length-set, length-append, lengt
 use lib.Seq.{get_or-set_same, get_or-set_other, take-suc-set, length-take-le}
 use Rattle.format.specs.Bytes.{Bytes, pick, among}
 use Rattle.format.specs.Records.{Field, Record}
-use Rattle.values.specs.Value.{valueFrom}
+use Rattle.values.specs.Value.{value_from}
 use Rattle.words.specs.Spans.{span}
 use Rattle.words.specs.RuleNames.{place_in}
 use Rattle.words.proofs.RuleNames.{place-among}
-use Rattle.records.specs.Places.{isReadable}
-use Rattle.records.specs.Walk.{recordIn}
-use Rattle.records.specs.Fields.{fieldsFrom, fieldBetween, FieldHere}
-use Rattle.keys.specs.Marks.{markAt, marksOf, Inside}
+use Rattle.records.specs.Places.{is_readable}
+use Rattle.records.specs.Walk.{record_in}
+use Rattle.records.specs.Fields.{fields_from, field_between, FieldHere}
+use Rattle.keys.specs.Marks.{mark_at, marks_of, Inside}
 use Rattle.singulars.specs.Marks.{rank_of, mark_of, marks, entry_of}
 use Rattle.singulars.specs.Gathered.{GatheredAs}
 use Rattle.singulars.specs.declared.Gathered.{Gathered}
 
 pub record Enters (ws : List Bytes) (s : Bytes) (entries : List ℕ) (n i : ℕ) : Type 0 where
   pub inside : i ≤ length s
-  pub readable : isReadable (drop i s) ≡ true
+  pub readable : is_readable (drop i s) ≡ true
   pub room : n ≤ length entries
   pub entered : Inside s n entries
-  pub all : marksOf s (take n entries) ++ marks ws (fieldsFrom s i) ≡ marks ws (fieldsFrom s 0)
+  pub all : marks_of s (take n entries) ++ marks ws (fields_from s i) ≡ marks ws (fields_from s 0)
 
 -- the mark of an entry
-entry-mark : (s : Bytes) (at rank x : ℕ) → at < 65536 → x ≡ at + 65536 * rank → markAt s x ≡ rank ∷ valueFrom (drop at s)
+entry-mark : (s : Bytes) (at rank x : ℕ) → at < 65536 → x ≡ at + 65536 * rank → mark_at s x ≡ rank ∷ value_from (drop at s)
 entry-mark s at rank x h e =
     let p : x / 65536 ≡ rank = omega arith in
     let q : x % 65536 ≡ at = omega arith in
-    λ i. p i ∷ valueFrom (drop (q i) s)
+    λ i. p i ∷ value_from (drop (q i) s)
 
 module _ (ws : List Bytes) (s : Bytes) where
-  pub enters-start : (l : List ℕ) → isReadable s ≡ true → Enters ws s l 0 0
+  pub enters-start : (l : List ℕ) → is_readable s ≡ true → Enters ws s l 0 0
   enters-start l e = record { inside = omega arith; readable = e; room = omega arith; entered = λ i h. absurd (omega arith); all = refl }
 
   module _ (l : List ℕ) (n i : ℕ) (g : Enters ws s l n i) where
-    pub enters-end : fieldsFrom s i ≡ [] → GatheredAs ws s (recordIn s) l (Gathered.All n)
-    enters-end e = (g.room, g.entered, sym (append-nil (marksOf s (take n l))) ∙ ap (λ (r : Record). marksOf s (take n l) ++ marks ws r) (sym e) ∙ g.all)
+    pub enters-end : fields_from s i ≡ [] → GatheredAs ws s (record_in s) l (Gathered.All n)
+    enters-end e = (g.room, g.entered, sym (append-nil (marks_of s (take n l))) ∙ ap (λ (r : Record). marks_of s (take n l) ++ marks ws r) (sym e) ∙ g.all)
 
     -- a field from a to e, whose name has place k in the list
     module _ (a m v e : ℕ) (f : FieldHere s i a m v e) (k : ℕ) (p : k ≡ place_in (span a m s) ws) where
       abbrev here : Field
-      here = fieldBetween s a m v e
+      here = field_between s a m v e
 
-      told : (b : Bool) → among (span a m s) ws ≡ b → marks ws (fieldsFrom s i) ≡ pick b (mark_of ws here ∷ marks ws (fieldsFrom s e)) (marks ws (fieldsFrom s e))
-      told b q = ap (marks ws) f.fields ∙ ap (λ (t : Bool). pick t (mark_of ws here ∷ marks ws (fieldsFrom s e)) (marks ws (fieldsFrom s e))) q
+      told : (b : Bool) → among (span a m s) ws ≡ b → marks ws (fields_from s i) ≡ pick b (mark_of ws here ∷ marks ws (fields_from s e)) (marks ws (fields_from s e))
+      told b q = ap (marks ws) f.fields ∙ ap (λ (t : Bool). pick t (mark_of ws here ∷ marks ws (fields_from s e)) (marks ws (fields_from s e))) q
 
-      unlisted : length ws ≤ k → marks ws (fieldsFrom s i) ≡ marks ws (fieldsFrom s e)
+      unlisted : length ws ≤ k → marks ws (fields_from s i) ≡ marks ws (fields_from s e)
       unlisted h = told false (sym (place-among (span a m s) ws) ∙ le-ltb (place_in (span a m s) ws) (length ws) (omega (arith, p, h)))
 
-      listed : k < length ws → marks ws (fieldsFrom s i) ≡ mark_of ws here ∷ marks ws (fieldsFrom s e)
+      listed : k < length ws → marks ws (fields_from s i) ≡ mark_of ws here ∷ marks ws (fields_from s e)
       listed h = told true (sym (place-among (span a m s) ws) ∙ lt-ltb (place_in (span a m s) ws) (length ws) (omega (arith, p, h)))
 
       -- it is passed over
       pub enters-skip : length ws ≤ k → Enters ws s l n e
       enters-skip h =
-          record { inside = f.inside; readable = f.readable; room = g.room; entered = g.entered; all = ap (λ (xs : List Bytes). marksOf s (take n l) ++ xs) (sym (unlisted h)) ∙ g.all }
+          record { inside = f.inside; readable = f.readable; room = g.room; entered = g.entered; all = ap (λ (xs : List Bytes). marks_of s (take n l) ++ xs) (sym (unlisted h)) ∙ g.all }
 
       -- there is no room for it
-      pub enters-full : k < length ws → length l ≤ n → GatheredAs ws s (recordIn s) l Gathered.More
+      pub enters-full : k < length ws → length l ≤ n → GatheredAs ws s (record_in s) l Gathered.More
       enters-full h full =
-          let long : length (marksOf s (take n l)) ≡ n = length-map (take n l) (markAt s) ∙ length-take-le n l g.room in
-          omega (arith, long, ap length (listed h), ap length (sym g.all), length-append (marksOf s (take n l)) (marks ws (fieldsFrom s i)))
+          let long : length (marks_of s (take n l)) ≡ n = length-map (take n l) (mark_at s) ∙ length-take-le n l g.room in
+          omega (arith, long, ap length (listed h), ap length (sym g.all), length-append (marks_of s (take n l)) (marks ws (fields_from s i)))
 
       -- it is entered
-      module _ (h : k < length ws) (room : n < length l) (short : length s ≤ 65536) (x : ℕ) (y : x ≡ entry_of v k (valueFrom (drop v s))) where
-        mark-is : markAt s x ≡ mark_of ws here
+      module _ (h : k < length ws) (room : n < length l) (short : length s ≤ 65536) (x : ℕ) (y : x ≡ entry_of v k (value_from (drop v s))) where
+        mark-is : mark_at s x ≡ mark_of ws here
         mark-is =
-            entry-mark s v (rank_of k (valueFrom (drop v s))) x (omega (arith, f.value_there, short)) y
+            entry-mark s v (rank_of k (value_from (drop v s))) x (omega (arith, f.value_there, short)) y
             ∙ (λ j. rank_of (p j) (f.ends-itself j) ∷ f.ends-itself j)
 
         place_inside : x % 65536 ≤ length s
         place_inside = omega (arith, y, f.value_there, short)
 
-        marks-more : marksOf s (take (n + 1) (set l n x)) ≡ marksOf s (take n l) ++ (markAt s x ∷ [])
-        marks-more = ap (λ (j : ℕ). marksOf s (take j (set l n x))) (add-one n) ∙ ap (marksOf s) (take-suc-set l n x room) ∙ map-append (markAt s) (take n l) (x ∷ [])
+        marks-more : marks_of s (take (n + 1) (set l n x)) ≡ marks_of s (take n l) ++ (mark_at s x ∷ [])
+        marks-more = ap (λ (j : ℕ). marks_of s (take j (set l n x))) (add-one n) ∙ ap (marks_of s) (take-suc-set l n x room) ∙ map-append (mark_at s) (take n l) (x ∷ [])
 
         pub enters-more : Enters ws s (set l n x) (n + 1) e
         enters-more =
-            let later : List Bytes = marks ws (fieldsFrom s e) in
+            let later : List Bytes = marks ws (fields_from s e) in
             record {
               inside = f.inside;
               readable = f.readable;
@@ -96,8 +96,8 @@ module _ (ws : List Bytes) (s : Bytes) where
                   (subst (λ (z : ℕ). z % 65536 ≤ length s) (sym (get_or-set_same l n x 0 room)) place_inside);
               all =
                   ap (λ (xs : List Bytes). xs ++ later) marks-more
-                  ∙ append_assoc (marksOf s (take n l)) (markAt s x ∷ []) later
-                  ∙ ap (λ (z : Bytes). marksOf s (take n l) ++ (z ∷ later)) mark-is
-                  ∙ ap (λ (xs : List Bytes). marksOf s (take n l) ++ xs) (sym (listed h))
+                  ∙ append_assoc (marks_of s (take n l)) (mark_at s x ∷ []) later
+                  ∙ ap (λ (z : Bytes). marks_of s (take n l) ++ (z ∷ later)) mark-is
+                  ∙ ap (λ (xs : List Bytes). marks_of s (take n l) ++ xs) (sym (listed h))
                   ∙ g.all;
             }

@@ -7,8 +7,8 @@ use Rattle.format.specs.Lists.{flat}
 use Rattle.format.specs.Rules.{singular, distinct}
 use Rattle.format.specs.Sets.{values_of}
 use Rattle.format.specs.Words.{words}
-use Rattle.records.specs.Walk.{recordIn}
-use Rattle.records.specs.Named.{valuesFrom}
+use Rattle.records.specs.Walk.{record_in}
+use Rattle.records.specs.Named.{values_from}
 
-pub none-singular : (d s : Bytes) → valuesFrom d (text "%singular") 0 ≡ [] → true ≡ all (λ (n : Bytes). distinct (values_of n (recordIn s))) (singular (recordIn d))
-none-singular d s e = sym (ap (λ (vs : List Bytes). all (λ (n : Bytes). distinct (values_of n (recordIn s))) (flat (map words vs))) e)
+pub none-singular : (d s : Bytes) → values_from d (text "%singular") 0 ≡ [] → true ≡ all (λ (n : Bytes). distinct (values_of n (record_in s))) (singular (record_in d))
+none-singular d s e = sym (ap (λ (vs : List Bytes). all (λ (n : Bytes). distinct (values_of n (record_in s))) (flat (map words vs))) e)

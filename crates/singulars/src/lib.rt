@@ -1,16 +1,16 @@
 // Question 30: has no singular name of a set the same value twice? The fields of these names are gathered as entries in one walk over the records, and the entries are told apart as those of keys are.
 ghost use Rattle.std.specs.Prelude.{◌≡◌, true, ◌<◌, ◌≤◌, length, drop};
 ghost use Rattle.format.specs.Bytes.{all};
-ghost use Rattle.format.specs.Limits.{fileBytes, listWords};
+ghost use Rattle.format.specs.Limits.{file_bytes, list_words};
 ghost use Rattle.format.specs.Rules.{singular, distinct};
 ghost use Rattle.format.specs.Sets.{values_of};
-ghost use Rattle.values.specs.Value.{valueFrom};
-ghost use Rattle.records.specs.Places.{isReadable};
-ghost use Rattle.records.specs.Walk.{recordIn};
+ghost use Rattle.values.specs.Value.{value_from};
+ghost use Rattle.records.specs.Places.{is_readable};
+ghost use Rattle.records.specs.Walk.{record_in};
 ghost use Rattle.dictionary.specs.Known.{Described};
 ghost use Rattle.dictionary.specs.Numbered.{IsListed};
 ghost use Rattle.singulars.specs.Marks.{entry_of};
-ghost use Rattle.singulars.specs.Gathered.{entriesRoom, GatheredAs};
+ghost use Rattle.singulars.specs.Gathered.{entries_room, GatheredAs};
 
 use dictionary::wordsets;
 use dictionary::wordsets::Listed;
@@ -19,8 +19,8 @@ use sorting::Entry;
 
 // The entry of the value that begins at a place, of the name at place k of the list.
 fn entry(s: &[u8], at: usize, k: usize) -> u32
-    requires { (at < fileBytes) × (k < listWords) }
-    ensures { result ≡ entry_of at k (valueFrom (drop at s.now)) }
+    requires { (at < file_bytes) × (k < list_words) }
+    ensures { result ≡ entry_of at k (value_from (drop at s.now)) }
 {
     let p = sorting::narrow(sorting::mix(s, at, false)) / Entry::TAGGED;
     sorting::narrow(at) + Entry::PLACES * sorting::narrow(k) + Entry::TAGGED * p
@@ -35,9 +35,9 @@ enum Gathered {
 
 // The entries of the fields in s whose names are singular.
 fn gather(d: &[u8], l: Listed, s: &[u8], entries: &mut [u32]) -> Gathered
-    requires listed { IsListed d.now (singular (recordIn d.now)) l }
-    requires s_value { (isReadable s.now ≡ true) × (length s.now ≤ fileBytes) }
-    ensures { GatheredAs (singular (recordIn d.now)) s.now (recordIn s.now) entries.new result }
+    requires listed { IsListed d.now (singular (record_in d.now)) l }
+    requires s_value { (is_readable s.now ≡ true) × (length s.now ≤ file_bytes) }
+    ensures { GatheredAs (singular (record_in d.now)) s.now (record_in s.now) entries.new result }
 {
     let words = l.entries;
     let sets = l.sets;
@@ -73,9 +73,9 @@ fn gather(d: &[u8], l: Listed, s: &[u8], entries: &mut [u32]) -> Gathered
 // Have all singular names of a descriptor d each value at most once in s? The entries' order afterwards is free.
 pub fn values_apart(d: &[u8], s: &[u8], entries: &mut [u32]) -> bool
     requires described { Described d.now }
-    requires s_value { (isReadable s.now ≡ true) × (length s.now ≤ fileBytes) }
-    requires entries_room_in_bounds { entriesRoom ≤ length entries.old }
-    ensures { result ≡ all (λ n. distinct (values_of n (recordIn s.now))) (singular (recordIn d.now)) }
+    requires s_value { (is_readable s.now ≡ true) × (length s.now ≤ file_bytes) }
+    requires entries_room_in_bounds { entries_room ≤ length entries.old }
+    ensures { result ≡ all (λ n. distinct (values_of n (record_in s.now))) (singular (record_in d.now)) }
 {
     let f = records::next_named(d, b"%singular");
     let FoundField::At {

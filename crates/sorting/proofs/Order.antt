@@ -7,7 +7,7 @@ use mathlib.Core.Logic.{◌⊎◌, inl, inr, ⊎_elim}
 use borrow.Author.Tests.{lt-ltb, le-ltb}
 use Rattle.format.specs.Bytes.{Bytes}
 use Rattle.values.proofs.Tests.{three_ways}
-use Rattle.sorting.specs.Order.{comparedOf}
+use Rattle.sorting.specs.Order.{compared_of}
 use Rattle.sorting.specs.declared.Compared.{Compared}
 
 -- where two different constructors would be equal
@@ -16,25 +16,25 @@ never e = absurd (omega arith)
 
 -- what the first bytes decide
 module _ (x y : ℕ) (s t : Bytes) where
-  pub compared-lt : x < y → comparedOf (x ∷ s) (y ∷ t) ≡ Compared.Before
-  unfolding comparedOf
+  pub compared-lt : x < y → compared_of (x ∷ s) (y ∷ t) ≡ Compared.Before
+  unfolding compared_of
   compared-lt h = rw (lt-ltb x y h)
 
-  pub compared-gt : y < x → comparedOf (x ∷ s) (y ∷ t) ≡ Compared.Behind
-  unfolding comparedOf
+  pub compared-gt : y < x → compared_of (x ∷ s) (y ∷ t) ≡ Compared.Behind
+  unfolding compared_of
   compared-gt h = rw (le-ltb x y (omega arith), lt-ltb y x h)
 
-  pub compared-on : y ≤ x → x ≤ y → comparedOf (x ∷ s) (y ∷ t) ≡ comparedOf s t
-  unfolding comparedOf
+  pub compared-on : y ≤ x → x ≤ y → compared_of (x ∷ s) (y ∷ t) ≡ compared_of s t
+  unfolding compared_of
   compared-on h g = rw (le-ltb x y h, le-ltb y x g)
 
-pub compared_same : (a : Bytes) → comparedOf a a ≡ Compared.Equal
-unfolding comparedOf
+pub compared_same : (a : Bytes) → compared_of a a ≡ Compared.Equal
+unfolding compared_of
 compared_same [] = refl
 compared_same (x ∷ a) = rw (le-ltb x x (omega arith)) (compared_same a)
 
-pub equal-same : (a b : Bytes) → comparedOf a b ≡ Compared.Equal → a ≡ b
-unfolding comparedOf
+pub equal-same : (a b : Bytes) → compared_of a b ≡ Compared.Equal → a ≡ b
+unfolding compared_of
 equal-same [] [] e = refl
 equal-same [] (y ∷ t) e = never (cc)
 equal-same (x ∷ s) [] e = never (cc)
@@ -43,14 +43,14 @@ equal-same (x ∷ s) (y ∷ t) e =
     (λ h. never (cc (compared-gt x y s t h)))
     (λ h. let q = equal-same s t (sym (compared-on x y s t (omega arith) (omega arith)) ∙ e) in cc)
 
-before-cases : (x y : ℕ) (s t : Bytes) → comparedOf (x ∷ s) (y ∷ t) ≡ Compared.Before → (x < y) ⊎ ((x ≡ y) × (comparedOf s t ≡ Compared.Before))
+before-cases : (x y : ℕ) (s t : Bytes) → compared_of (x ∷ s) (y ∷ t) ≡ Compared.Before → (x < y) ⊎ ((x ≡ y) × (compared_of s t ≡ Compared.Before))
 before-cases x y s t e =
     three_ways x y (λ h. inl h)
     (λ h. never (cc (compared-gt x y s t h)))
     (λ h. inr (h, sym (compared-on x y s t (omega arith) (omega arith)) ∙ e))
 
-pub before-trans : (a b c : Bytes) → comparedOf a b ≡ Compared.Before → comparedOf b c ≡ Compared.Before → comparedOf a c ≡ Compared.Before
-unfolding comparedOf
+pub before-trans : (a b c : Bytes) → compared_of a b ≡ Compared.Before → compared_of b c ≡ Compared.Before → compared_of a c ≡ Compared.Before
+unfolding compared_of
 before-trans [] [] c e f = f
 before-trans [] (y ∷ t) [] e f = never (cc)
 before-trans [] (y ∷ t) (w ∷ u) e f = refl
@@ -66,12 +66,12 @@ before-trans (x ∷ s) (y ∷ t) (w ∷ u) e f =
     (before-cases y w t u f))
     (before-cases x y s t e)
 
-pub before-apart : (a b : Bytes) → comparedOf a b ≡ Compared.Before → a ≡ b → ⊥
-before-apart a b e q = let f : comparedOf a a ≡ Compared.Before = rw (← q) at e in never (cc (compared_same a))
+pub before-apart : (a b : Bytes) → compared_of a b ≡ Compared.Before → a ≡ b → ⊥
+before-apart a b e q = let f : compared_of a a ≡ Compared.Before = rw (← q) at e in never (cc (compared_same a))
 
 -- the other way round
-pub behind-before : (a b : Bytes) → comparedOf a b ≡ Compared.Behind → comparedOf b a ≡ Compared.Before
-unfolding comparedOf
+pub behind-before : (a b : Bytes) → compared_of a b ≡ Compared.Behind → compared_of b a ≡ Compared.Before
+unfolding compared_of
 behind-before [] [] e = never (cc)
 behind-before [] (y ∷ t) e = never (cc)
 behind-before (x ∷ s) [] e = refl

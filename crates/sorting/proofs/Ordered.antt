@@ -9,7 +9,7 @@ use borrow.Author.Tests.{ltb-true, lt-ltb, ne_eqb}
 use lib.Dec.{eqb, ltb}
 use lib.ListN.{length}
 use Rattle.format.specs.Bytes.{Bytes, pick}
-use Rattle.values.specs.Likeness.{ahead, last_of, likenessOf}
+use Rattle.values.specs.Likeness.{ahead, last_of, likeness_of}
 use Rattle.sorting.specs.Order.{first_of, order_of}
 use Rattle.sorting.specs.declared.Compared.{Compared}
 use Rattle.values.specs.declared.ends.Likeness.{Likeness}
@@ -30,10 +30,10 @@ equal-only Likeness.Equal e = refl
 equal-only (Likeness.Unlike f) e = absurd (first-never f e)
 equal-only (Likeness.Differ k f) e = absurd (first-never f e)
 
-pub order_same : (a b : Bytes) → order_of (likenessOf a b) ≡ Compared.Equal → a ≡ b
-order_same a b e = likeness-same a b (equal-only (likenessOf a b) e)
+pub order_same : (a b : Bytes) → order_of (likeness_of a b) ≡ Compared.Equal → a ≡ b
+order_same a b e = likeness-same a b (equal-only (likeness_of a b) e)
 
-pub order-apart : (a b : Bytes) → order_of (likenessOf a b) ≡ Compared.Before → a ≡ b → ⊥
+pub order-apart : (a b : Bytes) → order_of (likeness_of a b) ≡ Compared.Before → a ≡ b → ⊥
 order-apart a b e q = let f = sym (ap order_of (same-likeness a b q)) ∙ e in never (cc)
 
 -- two bytes more in front
@@ -75,16 +75,16 @@ last-trans (x ∷ a) (y ∷ b) (z ∷ c) h g e f =
     (last-cases y z b c n f))
     (last-cases x y a b m e)
 
-order-cases : (a b : Bytes) → order_of (likenessOf a b) ≡ Compared.Before → (length a < length b) ⊎ ((length a ≡ length b) × (order_of (last_of a b) ≡ Compared.Before))
+order-cases : (a b : Bytes) → order_of (likeness_of a b) ≡ Compared.Before → (length a < length b) ⊎ ((length a ≡ length b) × (order_of (last_of a b) ≡ Compared.Before))
 order-cases a b e =
     three_ways (length a) (length b) (λ h. inl h)
     (λ h. let f = sym (ap order_of (likeness-longer a b h)) ∙ e in never (cc))
     (λ h. inr (h, sym (ap order_of (likeness-last a b h)) ∙ e))
 
-order-shorter : (a b : Bytes) → length a < length b → order_of (likenessOf a b) ≡ Compared.Before
+order-shorter : (a b : Bytes) → length a < length b → order_of (likeness_of a b) ≡ Compared.Before
 order-shorter a b h = ap order_of (likeness-shorter a b h)
 
-pub order_trans : (a b c : Bytes) → order_of (likenessOf a b) ≡ Compared.Before → order_of (likenessOf b c) ≡ Compared.Before → order_of (likenessOf a c) ≡ Compared.Before
+pub order_trans : (a b c : Bytes) → order_of (likeness_of a b) ≡ Compared.Before → order_of (likeness_of b c) ≡ Compared.Before → order_of (likeness_of a c) ≡ Compared.Before
 order_trans a b c e f =
     ⊎_elim
     (λ p. ⊎_elim (λ q. order-shorter a c (omega arith)) (λ q. let g = q.0 in order-shorter a c (omega arith)) (order-cases b c f))

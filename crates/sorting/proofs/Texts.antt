@@ -6,9 +6,9 @@ use mathlib.Core.List.{[], ◌∷◌}
 use lib.ListN.{length, drop}
 use Rattle.format.specs.Lists.{front, behind}
 use Rattle.format.specs.Bytes.{Bytes, pick, all}
-use Rattle.values.specs.Value.{valueFrom}
+use Rattle.values.specs.Value.{value_from}
 use Rattle.values.specs.declared.Decoded.{Decoded}
-use Rattle.sorting.specs.Texts.{keeps, textAt, TextByte}
+use Rattle.sorting.specs.Texts.{keeps, text_at, TextByte}
 use Rattle.values.proofs.Tests.{by_bool}
 
 -- the longest front of a text that begins with a byte
@@ -52,9 +52,9 @@ front-all : (v : Bytes) → front (keeps false) v ≡ v
 front-all [] = refl
 front-all (c ∷ v) = ap {B = Bytes} (λ x. c ∷ x) (front-all v)
 
-pub text-whole : (s : Bytes) (i : ℕ) → textAt false s i ≡ valueFrom (drop i s)
-unfolding textAt
-text-whole s i = front-all (valueFrom (drop i s))
+pub text-whole : (s : Bytes) (i : ℕ) → text_at false s i ≡ value_from (drop i s)
+unfolding text_at
+text-whole s i = front-all (value_from (drop i s))
 
 -- the value has ended, its next byte ends the text, or goes on with it
 not-false : (t : Bool) → not t ≡ false → t ≡ true
@@ -66,18 +66,18 @@ not-true true e = sym e
 not-true false e = refl
 
 module _ (words : Bool) (s : Bytes) (i : ℕ) where
-  pub text-ended : valueFrom (drop i s) ≡ [] → TextByte words s i Decoded.End
-  unfolding textAt
+  pub text-ended : value_from (drop i s) ≡ [] → TextByte words s i Decoded.End
+  unfolding text_at
   text-ended e = ap (front (keeps words)) e
 
-  module _ (b k : ℕ) (e : valueFrom (drop i s) ≡ b ∷ valueFrom (drop k s)) where
+  module _ (b k : ℕ) (e : value_from (drop i s) ≡ b ∷ value_from (drop k s)) where
     pub text-stop : not (keeps words b) ≡ true → TextByte words s i Decoded.End
-    unfolding textAt
-    text-stop g = front-stop (keeps words) (valueFrom (drop i s)) (valueFrom (drop k s)) b e (not-true (keeps words b) g)
+    unfolding text_at
+    text-stop g = front-stop (keeps words) (value_from (drop i s)) (value_from (drop k s)) b e (not-true (keeps words b) g)
 
     pub text-on : not (keeps words b) ≡ false → i < k → k ≤ length s → TextByte words s i (Decoded.Byte b k)
-    unfolding textAt
-    text-on g h l = (front-on (keeps words) (valueFrom (drop i s)) (valueFrom (drop k s)) b e (not-false (keeps words b) g), h, l)
+    unfolding text_at
+    text-on g h l = (front-on (keeps words) (value_from (drop i s)) (value_from (drop k s)) b e (not-false (keeps words b) g), h, l)
 
 -- what an answer tells, once its form is known
 pub text-told : (words : Bool) (s : Bytes) (i : ℕ) (x : Decoded) {y : Decoded} → TextByte words s i x → x ≡ y → TextByte words s i y

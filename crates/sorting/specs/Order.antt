@@ -5,11 +5,11 @@ use Rattle.sorting.specs.declared.Compared.{Compared}
 use Rattle.values.specs.declared.ends.Likeness.{Likeness}
 
 -- the first against the second, by the first byte in which they differ; a proper front comes before
-unfoldable pub comparedOf : Bytes → Bytes → Compared
-comparedOf [] [] = Compared.Equal
-comparedOf [] (y ∷ t) = Compared.Before
-comparedOf (x ∷ s) [] = Compared.Behind
-comparedOf (x ∷ s) (y ∷ t) = pick (ltb x y) Compared.Before (pick (ltb y x) Compared.Behind (comparedOf s t))
+unfoldable pub compared_of : Bytes → Bytes → Compared
+compared_of [] [] = Compared.Equal
+compared_of [] (y ∷ t) = Compared.Before
+compared_of (x ∷ s) [] = Compared.Behind
+compared_of (x ∷ s) (y ∷ t) = pick (ltb x y) Compared.Before (pick (ltb y x) Compared.Behind (compared_of s t))
 
 -- values by how they compare: the shorter comes before the longer; of two of one length, that with the lesser byte at the last place where they differ
 abbrev pub first_of : Bool → Compared

@@ -1,8 +1,8 @@
 // Entries of texts, sorted in place. A text stands at a place of a file: a value from there to its end, or the word that it begins with. An entry is a
 // number whose lower 16 bits are the place of its text. Nothing is promised of the order that the sort makes: whoever needs it looks whether the entries rise.
 ghost use Rattle.std.specs.Prelude.{◌≡◌, true, not, [], ◌∷◌, ◌<◌, ◌≤◌, ◌%◌, length};
-ghost use Rattle.sorting.specs.Texts.{keeps, textAt, TextByte, mixed};
-ghost use Rattle.sorting.specs.Order.{comparedOf, first_of, order_of};
+ghost use Rattle.sorting.specs.Texts.{keeps, text_at, TextByte, mixed};
+ghost use Rattle.sorting.specs.Order.{compared_of, first_of, order_of};
 ghost use Rattle.sorting.specs.Moves.{swapped, Moved};
 
 use values::{Decoded, Likeness};
@@ -94,7 +94,7 @@ pub fn text_byte(s: &[u8], i: usize, words: bool) -> Decoded
 
 // The bytes of a text mixed into one number: its upper bits tell most texts apart.
 pub fn mix(s: &[u8], i: usize, words: bool) -> usize
-    ensures { (result ≡ mixed 2166136261 (textAt words s.now i)) × (result < 4294967296) }
+    ensures { (result ≡ mixed 2166136261 (text_at words s.now i)) × (result < 4294967296) }
 {
     let mut h = Mixing::START;
     let mut at = i;
@@ -118,7 +118,7 @@ pub enum Compared {
 
 // Two words compared, without decoding them to anywhere.
 pub fn compare_words(s: &[u8], i: usize, j: usize) -> Compared
-    ensures { result ≡ comparedOf (textAt true s.now i) (textAt true s.now j) }
+    ensures { result ≡ compared_of (text_at true s.now i) (text_at true s.now j) }
 {
     let mut a = i;
     let mut b = j;

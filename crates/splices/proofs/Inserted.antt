@@ -7,7 +7,7 @@ use mathlib.Core.List.{List, [], ◌∷◌, ◌++◌, append_assoc, append-nil}
 use lib.ListN.{length, take, drop, get_or, set, length-append}
 use lib.Seq.{take-suc, drop-cons, drop-drop, set_at, length-take-le, append_snoc, take-append_seam, drop-append_seam}
 use Rattle.format.specs.Bytes.{Bytes}
-use Rattle.format.specs.Written.{Pair, writtenAll}
+use Rattle.format.specs.Written.{Pair, written_all}
 use Rattle.format.specs.Calls.{over, placed}
 use Rattle.records.proofs.SetInserts.{InsertTold}
 use Rattle.splices.specs.Space.{spliced, inserted}
@@ -55,10 +55,10 @@ behind-text w s zero h = absurd (omega arith)
 behind-text w s (suc k) h = refl
 
 -- what the laws of the definitions tell of an insert
-pub told-inserted : (s : Bytes) (z : ℕ) (ps : List Pair) (t : Bytes) → InsertTold s z ps t → t ≡ inserted s z (writtenAll ps)
+pub told-inserted : (s : Bytes) (z : ℕ) (ps : List Pair) (t : Bytes) → InsertTold s z ps t → t ≡ inserted s z (written_all ps)
 unfolding inserted
 told-inserted s zero ps t h = h.front refl
-told-inserted s (suc k) ps t h = h.behind (omega arith) ∙ ap (λ (e : ℕ). take (suc k) s ++ ((10 ∷ writtenAll ps) ++ drop e s)) (let e : suc k ≡ suc k + 0 = omega arith in e)
+told-inserted s (suc k) ps t h = h.behind (omega arith) ∙ ap (λ (e : ℕ). take (suc k) s ++ ((10 ∷ written_all ps) ++ drop e s)) (let e : suc k ≡ suc k + 0 = omega arith in e)
 
 -- a text laid over the front, and another behind it
 pub over-both : (b v w : Bytes) → take (length v) (over v b) ++ over w (drop (length v) (over v b)) ≡ over (v ++ w) b

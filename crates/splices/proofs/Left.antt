@@ -10,8 +10,8 @@ use borrow.Rule.Slice.PartMut.{put_mid}
 use Rattle.format.specs.Bytes.{Bytes}
 use Rattle.format.specs.Calls.{placed}
 use Rattle.words.specs.Spans.{span}
-use Rattle.records.specs.Places.{isReadable}
-use Rattle.records.specs.Fields.{fieldsFrom, FieldHere}
+use Rattle.records.specs.Places.{is_readable}
+use Rattle.records.specs.Fields.{fields_from, FieldHere}
 use Rattle.records.proofs.Steps.{drop-take}
 use Rattle.records.proofs.Unfielding.{left_of, left-all, left-field}
 use Rattle.splices.specs.Space.{spliced}
@@ -22,15 +22,15 @@ pub record Keeping (s now : Bytes) (n i : ℕ) : Type 0 where
   pub low : n ≤ i
   pub inside : i ≤ length s
   pub rest : drop i now ≡ drop i s
-  pub readable : isReadable (drop i s) ≡ true
+  pub readable : is_readable (drop i s) ≡ true
   pub kept : take n now ++ left_of (drop i s) ≡ left_of s
 
-pub keeping-begins : (s : Bytes) → isReadable s ≡ true → Keeping s s 0 0
+pub keeping-begins : (s : Bytes) → is_readable s ≡ true → Keeping s s 0 0
 keeping-begins s e = record { same = refl; low = omega arith; inside = omega arith; rest = refl; readable = e; kept = refl }
 
 module _ {s now : Bytes} {n i : ℕ} (c : Keeping s now n i) where
-  pub keeping-readable : isReadable (drop i now) ≡ true
-  keeping-readable = ap isReadable c.rest ∙ c.readable
+  pub keeping-readable : is_readable (drop i now) ≡ true
+  keeping-readable = ap is_readable c.rest ∙ c.readable
 
   -- k bytes that stay
   module _ (k : ℕ) (fits : i + k ≤ length s) (now' : Bytes) (e : now' ≡ paste now n (drop i now) k) where
@@ -61,7 +61,7 @@ module _ {s now : Bytes} {n i : ℕ} (c : Keeping s now n i) where
         ∙ ap (λ (x : ℕ). drop x s) (sym y)
 
     -- all that is left of the part
-    pub keeping-ends : i + k ≡ length s → fieldsFrom now i ≡ [] → (n + k ≤ length s) × (take (n + k) now' ≡ left_of s)
+    pub keeping-ends : i + k ≡ length s → fields_from now i ≡ [] → (n + k ≤ length s) × (take (n + k) now' ≡ left_of s)
     keeping-ends h f = (
       omega (arith, c.low),
       moved_front
@@ -82,7 +82,7 @@ module _ {s now : Bytes} {n i : ℕ} (c : Keeping s now n i) where
         low = omega (arith, f.begins, f.moves, c.low);
         inside = omega (arith, f.inside, c.same);
         rest = moved-rest k fits now' q e beyond;
-        readable = sym (ap isReadable here) ∙ f.readable;
+        readable = sym (ap is_readable here) ∙ f.readable;
         kept =
             ap (λ (x : Bytes). x ++ left_of (drop e s)) (moved_front k fits now' q)
             ∙ append_assoc (take n now) (take k (drop i now)) (left_of (drop e s))

@@ -2,7 +2,7 @@
 ghost use Rattle.std.specs.Prelude.{◌≡◌, true, ◌-◌, ◌≤◌, length, take};
 ghost use Rattle.format.specs.Calls.{placed};
 ghost use Rattle.words.specs.Spans.{span};
-ghost use Rattle.records.specs.Places.{isReadable};
+ghost use Rattle.records.specs.Places.{is_readable};
 ghost use Rattle.records.proofs.Unfielding.{left_of};
 ghost use Rattle.splices.specs.Space.{spliced};
 
@@ -11,7 +11,7 @@ use records::NextField;
 
 // What stays of a part, its comments and blank lines, moves to its front: how many bytes that are.
 fn keep_loose(part: &mut [u8]) -> usize
-    requires { isReadable part.old ≡ true }
+    requires { is_readable part.old ≡ true }
     ensures { (result ≤ length part.old) × (take result part.new ≡ left_of part.old) }
 {
     let mut n = 0;
@@ -38,7 +38,7 @@ fn keep_loose(part: &mut [u8]) -> usize
 // The fields of a part from start to end go, and what else stands there stays.
 pub fn cut_fields(buf: &mut [u8], used: usize, start: usize, end: usize) -> usize
     requires start_le_end { (start ≤ end) × (end ≤ used) × (used ≤ length buf.old) }
-    requires buf_value { isReadable (span start end (take used buf.old)) ≡ true }
+    requires buf_value { is_readable (span start end (take used buf.old)) ≡ true }
     ensures { (result ≡ length (spliced (take used buf.old) start (end - start) (left_of (span start end (take used buf.old)))))
         × (buf.new ≡ placed (spliced (take used buf.old) start (end - start) (left_of (span start end (take used buf.old)))) used buf.old) }
 {

@@ -2,8 +2,8 @@
 ghost use Rattle.std.specs.Prelude.{◌≡◌, true, ◌∷◌, ◌+◌, ◌≤◌, length, take};
 ghost use Rattle.format.specs.Bytes.{is_some};
 ghost use Rattle.format.specs.Calls.{over, placed};
-ghost use Rattle.requests.specs.Pairs.{pairsFrom};
-ghost use Rattle.splices.specs.Space.{spliced, inserted, recordText};
+ghost use Rattle.requests.specs.Pairs.{pairs_from};
+ghost use Rattle.splices.specs.Space.{spliced, inserted, record_text};
 
 use super::space::open_space;
 
@@ -17,9 +17,9 @@ pub struct NewRecord {
 
 // A record's text at the front of out, which holds it: its first fields, which are written already, then the pairs of a request.
 fn put_fields(out: &mut [u8], first: &[u8], req: &[u8], from: usize)
-    requires from_value { is_some (pairsFrom req.now from) ≡ true }
-    requires from_in_bounds { length (recordText first.now req.now from) ≤ length out.old }
-    ensures { out.new ≡ over (recordText first.now req.now from) out.old }
+    requires from_value { is_some (pairs_from req.now from) ≡ true }
+    requires from_in_bounds { length (record_text first.now req.now from) ≤ length out.old }
+    ensures { out.new ≡ over (record_text first.now req.now from) out.old }
 {
     let n = first.len();
     writing::put_bytes(&mut *out, first);
@@ -29,10 +29,10 @@ fn put_fields(out: &mut [u8], first: &[u8], req: &[u8], from: usize)
 // A newline and a record's text.
 fn put_behind(buf: &mut [u8], used: usize, r: NewRecord, first: &[u8], req: &[u8]) -> usize
     requires at_le_used { (r.at ≤ used) × (used ≤ length buf.old) × (used + (r.len + 1) ≤ length buf.old) }
-    requires from_value { is_some (pairsFrom req.now r.from) ≡ true }
-    requires len_value { r.len ≡ length (recordText first.now req.now r.from) }
-    ensures { (result ≡ length (spliced (take used buf.old) r.at 0 (10 ∷ recordText first.now req.now r.from)))
-        × (buf.new ≡ placed (spliced (take used buf.old) r.at 0 (10 ∷ recordText first.now req.now r.from)) used buf.old) }
+    requires from_value { is_some (pairs_from req.now r.from) ≡ true }
+    requires len_value { r.len ≡ length (record_text first.now req.now r.from) }
+    ensures { (result ≡ length (spliced (take used buf.old) r.at 0 (10 ∷ record_text first.now req.now r.from)))
+        × (buf.new ≡ placed (spliced (take used buf.old) r.at 0 (10 ∷ record_text first.now req.now r.from)) used buf.old) }
 {
     let at = r.at;
     let new = r.len + 1;
@@ -45,11 +45,11 @@ fn put_behind(buf: &mut [u8], used: usize, r: NewRecord, first: &[u8], req: &[u8
 
 // A record's text in front, with a newline behind it where a text follows.
 fn put_front(buf: &mut [u8], used: usize, r: NewRecord, first: &[u8], req: &[u8]) -> usize
-    requires used_in_bounds { (used ≤ length buf.old) × (length (inserted (take used buf.old) 0 (recordText first.now req.now r.from)) ≤ length buf.old) }
-    requires from_value { is_some (pairsFrom req.now r.from) ≡ true }
-    requires len_value { r.len ≡ length (recordText first.now req.now r.from) }
-    ensures { (result ≡ length (inserted (take used buf.old) 0 (recordText first.now req.now r.from)))
-        × (buf.new ≡ placed (inserted (take used buf.old) 0 (recordText first.now req.now r.from)) used buf.old) }
+    requires used_in_bounds { (used ≤ length buf.old) × (length (inserted (take used buf.old) 0 (record_text first.now req.now r.from)) ≤ length buf.old) }
+    requires from_value { is_some (pairs_from req.now r.from) ≡ true }
+    requires len_value { r.len ≡ length (record_text first.now req.now r.from) }
+    ensures { (result ≡ length (inserted (take used buf.old) 0 (record_text first.now req.now r.from)))
+        × (buf.new ≡ placed (inserted (take used buf.old) 0 (record_text first.now req.now r.from)) used buf.old) }
 {
     let len = r.len;
     if used == 0 {
@@ -65,11 +65,11 @@ fn put_front(buf: &mut [u8], used: usize, r: NewRecord, first: &[u8], req: &[u8]
 
 // A record at the end of a set: behind a newline, and at 0 in front of the text. Its first fields are written already.
 pub fn put_record(buf: &mut [u8], used: usize, r: NewRecord, first: &[u8], req: &[u8]) -> usize
-    requires at_le_used { (r.at ≤ used) × (used ≤ length buf.old) × (length (inserted (take used buf.old) r.at (recordText first.now req.now r.from)) ≤ length buf.old) }
-    requires from_value { is_some (pairsFrom req.now r.from) ≡ true }
-    requires len_value { r.len ≡ length (recordText first.now req.now r.from) }
-    ensures { (result ≡ length (inserted (take used buf.old) r.at (recordText first.now req.now r.from)))
-        × (buf.new ≡ placed (inserted (take used buf.old) r.at (recordText first.now req.now r.from)) used buf.old) }
+    requires at_le_used { (r.at ≤ used) × (used ≤ length buf.old) × (length (inserted (take used buf.old) r.at (record_text first.now req.now r.from)) ≤ length buf.old) }
+    requires from_value { is_some (pairs_from req.now r.from) ≡ true }
+    requires len_value { r.len ≡ length (record_text first.now req.now r.from) }
+    ensures { (result ≡ length (inserted (take used buf.old) r.at (record_text first.now req.now r.from)))
+        × (buf.new ≡ placed (inserted (take used buf.old) r.at (record_text first.now req.now r.from)) used buf.old) }
 {
     if r.at == 0 {
         return put_front(buf, used, r, first, req);

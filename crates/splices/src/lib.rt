@@ -1,6 +1,6 @@
 // One change of a text that stands at the front of a lent buffer: a part of it makes room for another, and what lies behind moves.
 ghost use Rattle.std.specs.Prelude.{◌≡◌, [], ◌+◌, ◌-◌, ◌≤◌, length, take};
-ghost use Rattle.format.specs.Limits.{fileBytes};
+ghost use Rattle.format.specs.Limits.{file_bytes};
 ghost use Rattle.format.specs.Written.{written};
 ghost use Rattle.format.specs.Calls.{placed};
 ghost use Rattle.splices.specs.Space.{spliced};
@@ -35,7 +35,7 @@ pub fn put_text(
     value: &[u8],
 ) -> usize
     requires bound { (at + old ≤ used) × (used ≤ length buf.old) × ((used - old) + length (written name.now value.now) ≤ length buf.old) }
-    requires name_len_bound { (length name.now ≤ fileBytes) × (length value.now ≤ fileBytes) }
+    requires name_len_bound { (length name.now ≤ file_bytes) × (length value.now ≤ file_bytes) }
     ensures { (result ≡ length (spliced (take used buf.old) at old (written name.now value.now)))
         × (buf.new ≡ placed (spliced (take used buf.old) at old (written name.now value.now)) used buf.old) }
 {

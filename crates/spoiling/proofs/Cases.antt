@@ -11,15 +11,15 @@ use Rattle.format.specs.Bytes.{text, all}
 use Rattle.format.specs.Lists.{nth}
 use Rattle.format.specs.Records.{Field}
 use Rattle.format.specs.Sets.{RecSet}
-use Rattle.format.specs.Numbers.{intBounds}
+use Rattle.format.specs.Numbers.{int_bounds}
 use Rattle.format.specs.Rules.{key}
 use Rattle.format.specs.Written.{Pair}
-use Rattle.format.specs.Questions.{firstNo, limitRows, ruleRows}
+use Rattle.format.specs.Questions.{first_no, limit_rows, rule_rows}
 use Rattle.format.specs.Edits.{Change, Act, Edit, in_set}
 use Rattle.format.specs.Plain.{set_at}
-use Rattle.format.proofs.Judging.{recordNo}
-use Rattle.spoiling.specs.Effects.{spoiledNo}
-use Rattle.spoiling.specs.Inserts.{withRecords}
+use Rattle.format.proofs.Judging.{record_no}
+use Rattle.spoiling.specs.Effects.{spoiled_no}
+use Rattle.spoiling.specs.Inserts.{with_records}
 use Rattle.spoiling.proofs.Passing.{AllPass}
 use Rattle.spoiling.proofs.Counting.{Applies}
 
@@ -51,14 +51,14 @@ record Case : Type 0 where
 abbrev case : Edit → ℕ → Case
 case e k = record { place = 1; edit = e; number = k }
 
-abbrev inTill : Edit → ℕ → Case
-inTill e k = record { place = 2; edit = e; number = k }
+abbrev in_till : Edit → ℕ → Case
+in_till e k = record { place = 2; edit = e; number = k }
 
 abbrev change : ℕ → String → ℕ → Change → Edit
 change j n o c = Edit.on j (Act.change (text n) o c)
 
 abbrev holds : Case → Bool
-holds c = eqb (spoiledNo intBounds c.edit (set_at c.place sets)) c.number && eqb (firstNo (limitRows ++ ruleRows intBounds) (nth c.place (in_set c.edit) sets)) c.number
+holds c = eqb (spoiled_no int_bounds c.edit (set_at c.place sets)) c.number && eqb (first_no (limit_rows ++ rule_rows int_bounds) (nth c.place (in_set c.edit) sets)) c.number
 
 numbers : all holds (
     case (Edit.insert (pair "Id" "3" ∷ [])) 0 ∷
@@ -75,14 +75,14 @@ numbers : all holds (
     case (change 1 "Id" 0 Change.dropped) 10 ∷
     case (change 0 "Stamp" 1 Change.dropped) 0 ∷
     case (Edit.on 0 Act.delete) 0 ∷
-    inTill (Edit.on 0 Act.delete) 14 ∷
-    inTill (Edit.insert (pair "Id" "2" ∷ [])) 14 ∷
-    inTill (Edit.insert (pair "Id" "1" ∷ [])) 13 ∷
-    inTill (change 0 "Id" 0 (Change.value (text "2"))) 0 ∷ []) ≡ true
-unfolding spoiledNo recordNo
+    in_till (Edit.on 0 Act.delete) 14 ∷
+    in_till (Edit.insert (pair "Id" "2" ∷ [])) 14 ∷
+    in_till (Edit.insert (pair "Id" "1" ∷ [])) 13 ∷
+    in_till (change 0 "Id" 0 (Change.value (text "2"))) 0 ∷ []) ≡ true
+unfolding spoiled_no record_no
 numbers = refl
 
-passes : AllPass intBounds sets
+passes : AllPass int_bounds sets
 passes = refl
 
 stands : Applies (change 1 "Old" 0 (Change.name (text "Stamp"))) (set_at 1 sets).members
@@ -92,5 +92,5 @@ one-key-after : length (key (set_at 1 sets).rules) ≤ 1
 one-key-after = omega arith
 
 -- two records pass, before and between; two others break the size
-merges : (AllPass intBounds (withRecords (record { place = 1; pairs = pair "Id" "3" ∷ [] } ∷ record { place = 0; pairs = pair "A" "b" ∷ [] } ∷ []) sets)) × (firstNo (limitRows ++ ruleRows intBounds) (withRecords (record { place = 1; pairs = pair "Id" "3" ∷ [] } ∷ record { place = 1; pairs = pair "Id" "4" ∷ [] } ∷ []) sets) ≡ 14)
+merges : (AllPass int_bounds (with_records (record { place = 1; pairs = pair "Id" "3" ∷ [] } ∷ record { place = 0; pairs = pair "A" "b" ∷ [] } ∷ []) sets)) × (first_no (limit_rows ++ rule_rows int_bounds) (with_records (record { place = 1; pairs = pair "Id" "3" ∷ [] } ∷ record { place = 1; pairs = pair "Id" "4" ∷ [] } ∷ []) sets) ≡ 14)
 merges = (refl, refl)

@@ -8,10 +8,10 @@ use Rattle.format.specs.Lists.{flat}
 use Rattle.format.specs.Records.{Record}
 use Rattle.format.specs.Sets.{values_of}
 use Rattle.format.specs.Rules.{distinct}
-use Rattle.format.specs.Questions.{valuesIn}
+use Rattle.format.specs.Questions.{values_in}
 use Rattle.format.proofs.Elements.{Each, any_none, none_any}
 use Rattle.format.proofs.Listing.{same-swap}
-use Rattle.spoiling.specs.Effects.{areApart}
+use Rattle.spoiling.specs.Effects.{are_apart}
 
 -- put among others: one, and several
 
@@ -47,12 +47,12 @@ put-by true f a false true = and-false (f && a) ∙ sym (and-false f)
 put-by true f a false false = and-true (f && a)
 
 -- with several, exactly if these are distinct too and none of them is among the others
-pub distinct-among : (xs fs ys : List Bytes) → distinct (xs ++ (fs ++ ys)) ≡ (distinct (xs ++ ys) && (distinct fs && areApart fs (xs ++ ys)))
+pub distinct-among : (xs fs ys : List Bytes) → distinct (xs ++ (fs ++ ys)) ≡ (distinct (xs ++ ys) && (distinct fs && are_apart fs (xs ++ ys)))
 distinct-among xs [] ys = sym (and-true (distinct (xs ++ ys)))
 distinct-among xs (f ∷ fs) ys =
     distinct-between xs f (fs ++ ys)
     ∙ (λ i. distinct-among xs fs ys i && not (any-among (same f) xs fs ys i))
-    ∙ put-by (distinct (xs ++ ys)) (distinct fs) (areApart fs (xs ++ ys)) (among f fs) (among f (xs ++ ys))
+    ∙ put-by (distinct (xs ++ ys)) (distinct fs) (are_apart fs (xs ++ ys)) (among f fs) (among f (xs ++ ys))
 
 -- a list made of another by putting values somewhere into it
 pub record Joins (stay new whole : List Bytes) : Type 0 where
@@ -61,11 +61,11 @@ pub record Joins (stay new whole : List Bytes) : Type 0 where
   pub stays : stay ≡ front ++ back
   pub makes : whole ≡ front ++ (new ++ back)
 
-pub joins-distinct : (stay new whole : List Bytes) → Joins stay new whole → distinct whole ≡ (distinct stay && (distinct new && areApart new stay))
+pub joins-distinct : (stay new whole : List Bytes) → Joins stay new whole → distinct whole ≡ (distinct stay && (distinct new && are_apart new stay))
 joins-distinct stay new whole h =
     ap distinct h.makes
     ∙ distinct-among h.front new h.back
-    ∙ ap (λ (vs : List Bytes). distinct vs && (distinct new && areApart new vs)) (sym h.stays)
+    ∙ ap (λ (vs : List Bytes). distinct vs && (distinct new && are_apart new vs)) (sym h.stays)
 
 pub joins-behind : (stay new whole xs : List Bytes) → Joins stay new whole → Joins (xs ++ stay) new (xs ++ whole)
 joins-behind stay new whole xs h = record {
@@ -134,9 +134,9 @@ values-joined n (f ∷ a) b = go (same n f.name) (values-joined n a b)
     go true e = ap {B = List Bytes} (λ vs. f.value ∷ vs) e
     go false e = e
 
-pub record-values-joined : (n : Bytes) (rs ts : List Record) → valuesIn n (rs ++ ts) ≡ valuesIn n rs ++ valuesIn n ts
+pub record-values-joined : (n : Bytes) (rs ts : List Record) → values_in n (rs ++ ts) ≡ values_in n rs ++ values_in n ts
 record-values-joined n [] ts = refl
-record-values-joined n (r ∷ rs) ts = ap (λ (vs : List Bytes). values_of n r ++ vs) (record-values-joined n rs ts) ∙ sym (append_assoc (values_of n r) (valuesIn n rs) (valuesIn n ts))
+record-values-joined n (r ∷ rs) ts = ap (λ (vs : List Bytes). values_of n r ++ vs) (record-values-joined n rs ts) ∙ sym (append_assoc (values_of n r) (values_in n rs) (values_in n ts))
 
 pub values-fewer : (n : Bytes) {a b : Record} → Within a b → Within (values_of n a) (values_of n b)
 values-fewer n Within.nothing = Within.nothing

@@ -12,11 +12,11 @@ use Rattle.format.specs.Numbering.{or_else}
 use Rattle.format.proofs.Elements.{Each}
 use Rattle.format.proofs.Lines.{all_append}
 use Rattle.format.proofs.Least.{least, leasts}
-use Rattle.spoiling.specs.Effects.{kthOf}
+use Rattle.spoiling.specs.Effects.{kth_of}
 use Rattle.spoiling.proofs.Distinct.{Within, within-self}
 
 -- the k-th of all elements
-pub kth-element : {A : Type 0} (d : A) (xs : List A) (k : ℕ) → k < length xs → kthOf always k xs ≡ some (get_or xs k d)
+pub kth-element : {A : Type 0} (d : A) (xs : List A) (k : ℕ) → k < length xs → kth_of always k xs ≡ some (get_or xs k d)
 kth-element d [] k h = absurd (omega arith)
 kth-element d (x ∷ xs) zero h = refl
 kth-element d (x ∷ xs) (suc k) h = kth-element d xs k (omega arith)
@@ -52,41 +52,41 @@ module _ {A : Type 0} (f : A → ℕ) where
       ap (λ (n : ℕ). least n (leasts (map f (xs ++ ys)))) k.0 ∙ leasts-after xs ys k.1
 
 -- the elements behind the k-th
-abbrev pub behindKth : {A : Type 0} → (A → Bool) → ℕ → List A → List A
-behindKth t k [] = []
-behindKth t k (x ∷ xs) = turn (t x) k xs (λ (j : ℕ). behindKth t j xs)
+abbrev pub behind_kth : {A : Type 0} → (A → Bool) → ℕ → List A → List A
+behind_kth t k [] = []
+behind_kth t k (x ∷ xs) = turn (t x) k xs (λ (j : ℕ). behind_kth t j xs)
 
 -- others take the place of the k-th
 module _ {A : Type 0} (t : A → Bool) (g : A → List A) where
   -- the least number is theirs
-  pub leasts-replaced : (f : A → ℕ) (xs : List A) (k : ℕ) → leasts (map f xs) ≡ 0 → leasts (map f (at t k g xs)) ≡ leasts (map f (or_else [] g (kthOf t k xs)))
+  pub leasts-replaced : (f : A → ℕ) (xs : List A) (k : ℕ) → leasts (map f xs) ≡ 0 → leasts (map f (at t k g xs)) ≡ leasts (map f (or_else [] g (kth_of t k xs)))
   leasts-replaced f [] k e = refl
   leasts-replaced f (x ∷ xs) k e = let h = least-both (f x) (leasts (map f xs)) e in go (t x) k h.0 h.1 (λ j. leasts-replaced f xs j h.1)
     where
-      go : (b : Bool) (k : ℕ) → f x ≡ 0 → leasts (map f xs) ≡ 0 → ((j : ℕ) → leasts (map f (at t j g xs)) ≡ leasts (map f (or_else [] g (kthOf t j xs))))
-          → leasts (map f (turn b k (g x ++ xs) (λ (j : ℕ). x ∷ at t j g xs))) ≡ leasts (map f (or_else [] g (turn b k (some x) (λ (j : ℕ). kthOf t j xs))))
+      go : (b : Bool) (k : ℕ) → f x ≡ 0 → leasts (map f xs) ≡ 0 → ((j : ℕ) → leasts (map f (at t j g xs)) ≡ leasts (map f (or_else [] g (kth_of t j xs))))
+          → leasts (map f (turn b k (g x ++ xs) (λ (j : ℕ). x ∷ at t j g xs))) ≡ leasts (map f (or_else [] g (turn b k (some x) (λ (j : ℕ). kth_of t j xs))))
       go true zero n ns ih = leasts-before f (g x) xs ns
       go true (suc k) n ns ih = ap (λ (m : ℕ). least m (leasts (map f (at t k g xs)))) n ∙ ih k
       go false k n ns ih = ap (λ (m : ℕ). least m (leasts (map f (at t k g xs)))) n ∙ ih k
 
   -- a test of all asks them
-  pub all-replaced : (p : A → Bool) (xs : List A) (k : ℕ) → all p xs ≡ true → all p (at t k g xs) ≡ all p (or_else [] g (kthOf t k xs))
+  pub all-replaced : (p : A → Bool) (xs : List A) (k : ℕ) → all p xs ≡ true → all p (at t k g xs) ≡ all p (or_else [] g (kth_of t k xs))
   all-replaced p [] k e = refl
   all-replaced p (x ∷ xs) k e = let h = (and-eq-true_iff (p x) (all p xs)).0 e in go (t x) k h.0 h.1 (λ j. all-replaced p xs j h.1)
     where
-      go : (b : Bool) (k : ℕ) → p x ≡ true → all p xs ≡ true → ((j : ℕ) → all p (at t j g xs) ≡ all p (or_else [] g (kthOf t j xs)))
-          → all p (turn b k (g x ++ xs) (λ (j : ℕ). x ∷ at t j g xs)) ≡ all p (or_else [] g (turn b k (some x) (λ (j : ℕ). kthOf t j xs)))
+      go : (b : Bool) (k : ℕ) → p x ≡ true → all p xs ≡ true → ((j : ℕ) → all p (at t j g xs) ≡ all p (or_else [] g (kth_of t j xs)))
+          → all p (turn b k (g x ++ xs) (λ (j : ℕ). x ∷ at t j g xs)) ≡ all p (or_else [] g (turn b k (some x) (λ (j : ℕ). kth_of t j xs)))
       go true zero n ns ih = all_append p (g x) xs ∙ ap (λ (c : Bool). all p (g x) && c) ns ∙ and-true (all p (g x))
       go true (suc k) n ns ih = ap (λ (c : Bool). c && all p (at t k g xs)) n ∙ ih k
       go false k n ns ih = ap (λ (c : Bool). c && all p (at t k g xs)) n ∙ ih k
 
   -- the list is what stands before, they, and what stands behind
-  pub replaced-parts : (xs : List A) (k : ℕ) → at t k g xs ≡ before t k xs ++ (or_else [] g (kthOf t k xs) ++ behindKth t k xs)
+  pub replaced-parts : (xs : List A) (k : ℕ) → at t k g xs ≡ before t k xs ++ (or_else [] g (kth_of t k xs) ++ behind_kth t k xs)
   replaced-parts [] k = refl
   replaced-parts (x ∷ xs) k = go (t x) k (replaced-parts xs)
     where
-      go : (b : Bool) (k : ℕ) → ((j : ℕ) → at t j g xs ≡ before t j xs ++ (or_else [] g (kthOf t j xs) ++ behindKth t j xs))
-          → turn b k (g x ++ xs) (λ (j : ℕ). x ∷ at t j g xs) ≡ turn b k [] (λ (j : ℕ). x ∷ before t j xs) ++ (or_else [] g (turn b k (some x) (λ (j : ℕ). kthOf t j xs)) ++ turn b k xs (λ (j : ℕ). behindKth t j xs))
+      go : (b : Bool) (k : ℕ) → ((j : ℕ) → at t j g xs ≡ before t j xs ++ (or_else [] g (kth_of t j xs) ++ behind_kth t j xs))
+          → turn b k (g x ++ xs) (λ (j : ℕ). x ∷ at t j g xs) ≡ turn b k [] (λ (j : ℕ). x ∷ before t j xs) ++ (or_else [] g (turn b k (some x) (λ (j : ℕ). kth_of t j xs)) ++ turn b k xs (λ (j : ℕ). behind_kth t j xs))
       go true zero ih = refl
       go true (suc k) ih = ap {B = List A} (λ ys. x ∷ ys) (ih k)
       go false k ih = ap {B = List A} (λ ys. x ∷ ys) (ih k)

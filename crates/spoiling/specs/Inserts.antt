@@ -14,17 +14,17 @@ pub record NewRecord : Type 0 where
   pub place : ℕ
   pub pairs : List Pair
 
-abbrev pub withRecord : NewRecord → List RecSet → List RecSet
-withRecord x ss = nth x.place (in_set (Edit.insert x.pairs)) ss
+abbrev pub with_record : NewRecord → List RecSet → List RecSet
+with_record x ss = nth x.place (in_set (Edit.insert x.pairs)) ss
 
-abbrev pub withRecords : List NewRecord → List RecSet → List RecSet
-withRecords [] ss = ss
-withRecords (x ∷ xs) ss = withRecords xs (withRecord x ss)
+abbrev pub with_records : List NewRecord → List RecSet → List RecSet
+with_records [] ss = ss
+with_records (x ∷ xs) ss = with_records xs (with_record x ss)
 
 -- with numbers for the names that it omits (document 02, order 6), from the records that stand when it comes; none where a name has no number
-abbrev pub completedRecord : Bounds → NewRecord → List RecSet → Option NewRecord
-completedRecord b x ss = map (λ (ps : List Pair). record { place = x.place; pairs = ps }) (completed b (set_at x.place ss) x.pairs)
+abbrev pub completed_record : Bounds → NewRecord → List RecSet → Option NewRecord
+completed_record b x ss = map (λ (ps : List Pair). record { place = x.place; pairs = ps }) (completed b (set_at x.place ss) x.pairs)
 
-abbrev pub completedRecords : Bounds → List NewRecord → List RecSet → Option (List NewRecord)
-completedRecords b [] ss = some []
-completedRecords b (x ∷ xs) ss = onward (λ (y : NewRecord). map (λ (ys : List NewRecord). y ∷ ys) (completedRecords b xs (withRecord y ss))) (completedRecord b x ss)
+abbrev pub completed_records : Bounds → List NewRecord → List RecSet → Option (List NewRecord)
+completed_records b [] ss = some []
+completed_records b (x ∷ xs) ss = onward (λ (y : NewRecord). map (λ (ys : List NewRecord). y ∷ ys) (completed_records b xs (with_record y ss))) (completed_record b x ss)

@@ -11,7 +11,7 @@ use Rattle.format.specs.Bytes.{Bytes}
 use Rattle.sorting.specs.declared.Compared.{Compared}
 use Rattle.values.proofs.Tests.{dec-lt}
 use Rattle.terms.specs.Sets.{in_set, Answers}
-use Rattle.terms.specs.Entries.{tag_of, word_at, termsOf}
+use Rattle.terms.specs.Entries.{tag_of, word_at, terms_of}
 use Rattle.terms.specs.Order.{ranked, Rising, Low}
 use Rattle.terms.specs.Joined.{TagsFrom, Joined}
 use Rattle.terms.proofs.Tests.{or-none, some, some_at}
@@ -60,7 +60,7 @@ module _ (s : Bytes) (l : List ℕ) where
       subst (λ (p : ℕ). TagsFrom s l p (get_or (set sets j x) p 0)) same (subst (TagsFrom s l j) (sym (get_or-set_same sets j x 0 room)) t))
 
   -- the first entry that is not before w has it
-  pub found_first : (w : Bytes) (sets : List ℕ) (i : ℕ) → i < length l → Joined s l sets → Low s l w i → ranked (W i) w ≡ Compared.Equal → Answers w (termsOf s l) (get_or sets i 0)
+  pub found_first : (w : Bytes) (sets : List ℕ) (i : ℕ) → i < length l → Joined s l sets → Low s l w i → ranked (W i) w ≡ Compared.Equal → Answers w (terms_of s l) (get_or sets i 0)
   found_first w sets i h j low e k =
       j i h k
       ∙ ap (λ (v : Bytes). some v k s (drop i l)) (ranked-same (W i) w e)

@@ -9,7 +9,7 @@ use lib.ListN.{length, get_or, set, take, drop, length-set, drop_of_length-le}
 use lib.Seq.{take-suc, take-suc-set, drop-set-lt}
 use Rattle.format.specs.Bytes.{Bytes}
 use Rattle.terms.specs.Sets.{Term, says}
-use Rattle.terms.specs.Entries.{termAt, Entries, Kept}
+use Rattle.terms.specs.Entries.{term_at, Entries, Kept}
 use Rattle.terms.proofs.Tests.{or_assoc, or-none, some, some-append, some-cut, some_at}
 use Rattle.terms.proofs.Prints.{entries-set}
 
@@ -34,10 +34,10 @@ pub merged-start : (s : Bytes) (l : List ℕ) → 0 < length l → Entries s (le
 merged-start s l h e = record { long = refl; behind = omega arith; inside = h; entries = e; kept = λ w k. sym (some-cut w k s l 1) }
 
 module _ (w : Bytes) (k : ℕ) (s : Bytes) where
-  one_more : (l : List ℕ) (x : ℕ) → some w k s (l ++ (x ∷ [])) ≡ some w k s l || says w k (termAt s x)
-  one_more l x = some-append w k s l (x ∷ []) ∙ ap (λ (t : Bool). some w k s l || t) (or-none (says w k (termAt s x)))
+  one_more : (l : List ℕ) (x : ℕ) → some w k s (l ++ (x ∷ [])) ≡ some w k s l || says w k (term_at s x)
+  one_more l x = some-append w k s l (x ∷ []) ∙ ap (λ (t : Bool). some w k s l || t) (or-none (says w k (term_at s x)))
 
-  first-last : (l : List ℕ) (n : ℕ) → n < length l → some w k s (take (suc n) l) ≡ some w k s (take n l) || says w k (termAt s (get_or l n 0))
+  first-last : (l : List ℕ) (n : ℕ) → n < length l → some w k s (take (suc n) l) ≡ some w k s (take n l) || says w k (term_at s (get_or l n 0))
   first-last l n h = ap (some w k s) (take-suc l n 0 h) ∙ one_more (take n l) (get_or l n 0)
 
 module _ (s : Bytes) (l₀ l : List ℕ) (last i : ℕ) (m : Merged s l₀ l last i) (h : i < length l) where
@@ -45,7 +45,7 @@ module _ (s : Bytes) (l₀ l : List ℕ) (last i : ℕ) (m : Merged s l₀ l las
   y = get_or l i 0
 
   -- an entry like the last one kept is passed over
-  pub merged-twin : termAt s (get_or l last 0) ≡ termAt s y → Merged s l₀ l last (i + 1)
+  pub merged-twin : term_at s (get_or l last 0) ≡ term_at s y → Merged s l₀ l last (i + 1)
   merged-twin e =
       let b = m.behind in
       record {
@@ -56,8 +56,8 @@ module _ (s : Bytes) (l₀ l : List ℕ) (last i : ℕ) (m : Merged s l₀ l las
         kept =
             λ w k.
             ap (λ (t : Bool). t || some w k s (drop (i + 1) l)) (first-last w k s l last (omega arith))
-            ∙ said-twice (some w k s (take last l)) (says w k (termAt s (get_or l last 0))) (some w k s (drop (i + 1) l))
-            ∙ ap (λ (t : Term). (some w k s (take last l) || says w k (termAt s (get_or l last 0))) || (says w k t || some w k s (drop (i + 1) l))) e
+            ∙ said-twice (some w k s (take last l)) (says w k (term_at s (get_or l last 0))) (some w k s (drop (i + 1) l))
+            ∙ ap (λ (t : Term). (some w k s (take last l) || says w k (term_at s (get_or l last 0))) || (says w k t || some w k s (drop (i + 1) l))) e
             ∙ sym (ap₂ ◌||◌ (first-last w k s l last (omega arith)) (some_at w k s l i h))
             ∙ m.kept w k;
       }
@@ -76,9 +76,9 @@ module _ (s : Bytes) (l₀ l : List ℕ) (last i : ℕ) (m : Merged s l₀ l las
         kept =
             λ w k.
             ap₂ ◌||◌
-            (ap (some w k s) (take-suc-set l (last + 1) y (omega arith)) ∙ one_more w k s (take (last + 1) l) y ∙ ap (λ (z : ℕ). some w k s (take z l) || says w k (termAt s y)) one)
+            (ap (some w k s) (take-suc-set l (last + 1) y (omega arith)) ∙ one_more w k s (take (last + 1) l) y ∙ ap (λ (z : ℕ). some w k s (take z l) || says w k (term_at s y)) one)
             (ap (some w k s) (drop-set-lt (i + 1) l (last + 1) y (omega arith)))
-            ∙ or_assoc (some w k s (take (suc last) l)) (says w k (termAt s y)) (some w k s (drop (i + 1) l))
+            ∙ or_assoc (some w k s (take (suc last) l)) (says w k (term_at s y)) (some w k s (drop (i + 1) l))
             ∙ ap (λ (t : Bool). some w k s (take (suc last) l) || t) (sym (some_at w k s l i h))
             ∙ m.kept w k;
       }

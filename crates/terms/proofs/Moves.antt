@@ -7,7 +7,7 @@ use Rattle.format.specs.Bytes.{Bytes}
 use Rattle.sorting.specs.Moves.{Moved}
 use Rattle.sorting.proofs.Moves.{moved-each, moved-any}
 use Rattle.terms.specs.Sets.{says}
-use Rattle.terms.specs.Entries.{termAt, IsEntry, Entries, Kept}
+use Rattle.terms.specs.Entries.{term_at, IsEntry, Entries, Kept}
 use Rattle.terms.proofs.Tests.{some-any}
 
 module _ (s : Bytes) (l m : List ℕ) (v : Moved l m) where
@@ -15,4 +15,4 @@ module _ (s : Bytes) (l m : List ℕ) (v : Moved l m) where
   moved-entries e = moved-each (IsEntry s) v e
 
   pub moved-kept : Kept s l m
-  moved-kept w k = some-any w k s m ∙ moved-any (λ (e : ℕ). says w k (termAt s e)) v ∙ sym (some-any w k s l)
+  moved-kept w k = some-any w k s m ∙ moved-any (λ (e : ℕ). says w k (term_at s e)) v ∙ sym (some-any w k s l)

@@ -4,20 +4,20 @@ use mathlib.Core.List.{◌∷◌}
 use Rattle.format.specs.Bytes.{Bytes}
 use Rattle.sorting.specs.declared.Compared.{Compared}
 use Rattle.sorting.proofs.Order.{before-trans, before-apart, equal-same, behind-before}
-use Rattle.terms.specs.Entries.{printOf}
+use Rattle.terms.specs.Entries.{print_of}
 use Rattle.terms.specs.Order.{ranked, NotBehind}
 
 pub ranked-trans : (a b c : Bytes) → ranked a b ≡ Compared.Before → ranked b c ≡ Compared.Before → ranked a c ≡ Compared.Before
-ranked-trans a b c = before-trans (printOf a ∷ a) (printOf b ∷ b) (printOf c ∷ c)
+ranked-trans a b c = before-trans (print_of a ∷ a) (print_of b ∷ b) (print_of c ∷ c)
 
 pub ranked-apart : (a b : Bytes) → ranked a b ≡ Compared.Before → a ≡ b → ⊥
-ranked-apart a b e q = let f : ranked a a ≡ Compared.Before = rw (← q) at e in before-apart (printOf a ∷ a) (printOf a ∷ a) f refl
+ranked-apart a b e q = let f : ranked a a ≡ Compared.Before = rw (← q) at e in before-apart (print_of a ∷ a) (print_of a ∷ a) f refl
 
 pub ranked-same : (a b : Bytes) → ranked a b ≡ Compared.Equal → a ≡ b
-ranked-same a b e = let q = equal-same (printOf a ∷ a) (printOf b ∷ b) e in cc
+ranked-same a b e = let q = equal-same (print_of a ∷ a) (print_of b ∷ b) e in cc
 
 pub ranked-behind : (a b : Bytes) → ranked a b ≡ Compared.Behind → ranked b a ≡ Compared.Before
-ranked-behind a b = behind-before (printOf a ∷ a) (printOf b ∷ b)
+ranked-behind a b = behind-before (print_of a ∷ a) (print_of b ∷ b)
 
 by-compared : {P : Type 0} (c : Compared) → (c ≡ Compared.Equal → P) → (c ≡ Compared.Before → P) → (c ≡ Compared.Behind → P) → P
 by-compared Compared.Equal f g h = f refl

@@ -11,10 +11,10 @@ use lib.Dec.{eqb}
 use lib.ListN.{length, get_or, set, take}
 use lib.Seq.{get_or-set_same, get_or-set_other, get_or-take, length-take-le, take-suc-set}
 use Rattle.format.specs.Bytes.{Bytes}
-use Rattle.sorting.specs.Texts.{textAt}
+use Rattle.sorting.specs.Texts.{text_at}
 use Rattle.values.proofs.Tests.{by_bool}
-use Rattle.terms.specs.Sets.{termOf}
-use Rattle.terms.specs.Entries.{printOf, entry_of, word_at, termAt, termsOf, IsEntry, Entries}
+use Rattle.terms.specs.Sets.{term_of}
+use Rattle.terms.specs.Entries.{print_of, entry_of, word_at, term_at, terms_of, IsEntry, Entries}
 
 -- the entry of the word at a place
 module _ (s : Bytes) (at tag : ℕ) (low : at < 65536) (fits : tag < 64) where
@@ -27,14 +27,14 @@ module _ (s : Bytes) (at tag : ℕ) (low : at < 65536) (fits : tag < 64) where
   print-of : (p : ℕ) → (at + 65536 * tag + 4194304 * p) / 4194304 ≡ p
   print-of p = omega arith
 
-  entry-word : word_at s (entry_of at tag (textAt true s at)) ≡ textAt true s at
-  entry-word = ap (textAt true s) (place_of (printOf (textAt true s at)))
+  entry-word : word_at s (entry_of at tag (text_at true s at)) ≡ text_at true s at
+  entry-word = ap (text_at true s) (place_of (print_of (text_at true s at)))
 
-  pub entry-is : IsEntry s (entry_of at tag (textAt true s at))
-  entry-is = print-of (printOf (textAt true s at)) ∙ ap printOf (sym entry-word)
+  pub entry-is : IsEntry s (entry_of at tag (text_at true s at))
+  entry-is = print-of (print_of (text_at true s at)) ∙ ap print_of (sym entry-word)
 
-  pub entry-term : termAt s (entry_of at tag (textAt true s at)) ≡ termOf tag (textAt true s at)
-  entry-term = (λ i. termOf (tag_of (printOf (textAt true s at)) i) (entry-word i))
+  pub entry-term : term_at s (entry_of at tag (text_at true s at)) ≡ term_of tag (text_at true s at)
+  entry-term = (λ i. term_of (tag_of (print_of (text_at true s at)) i) (entry-word i))
 
 -- entries up to a place, and one stored
 pub entries-front : (s : Bytes) (l : List ℕ) (n : ℕ) → n ≤ length l → Entries s n l → Entries s (length (take n l)) (take n l)
@@ -52,5 +52,5 @@ module _ (s : Bytes) (l : List ℕ) (n e : ℕ) (room : n < length l) where
       below_more (λ (i : ℕ). IsEntry s (get_or (set l n e) i 0)) n (λ i g. subst (IsEntry s) (sym (get_or-set_other l n i e 0 (omega arith))) (h i g))
       (subst (IsEntry s) (sym (get_or-set_same l n e 0 room)) k)
 
-  pub terms-more : termsOf s (take (n + 1) (set l n e)) ≡ termsOf s (take n l) ++ (termAt s e ∷ [])
-  terms-more = ap (λ (k : ℕ). termsOf s (take k (set l n e))) (add-one n) ∙ ap (termsOf s) (take-suc-set l n e room) ∙ map-append (termAt s) (take n l) (e ∷ [])
+  pub terms-more : terms_of s (take (n + 1) (set l n e)) ≡ terms_of s (take n l) ++ (term_at s e ∷ [])
+  terms-more = ap (λ (k : ℕ). terms_of s (take k (set l n e))) (add-one n) ∙ ap (terms_of s) (take-suc-set l n e room) ∙ map-append (term_at s) (take n l) (e ∷ [])

@@ -11,7 +11,7 @@ use Rattle.format.specs.Bytes.{Bytes}
 use Rattle.sorting.specs.declared.Compared.{Compared}
 use Rattle.values.proofs.Tests.{dec-lt}
 use Rattle.terms.specs.Sets.{in_set, says, Answers}
-use Rattle.terms.specs.Entries.{tag_of, word_at, termAt, termsOf}
+use Rattle.terms.specs.Entries.{tag_of, word_at, term_at, terms_of}
 use Rattle.terms.specs.Order.{ranked, NotBehind, Rising, Low}
 use Rattle.terms.proofs.Tests.{or_assoc, or-none, says-hit, says-miss, some, some-cut, some_at, some-none}
 use Rattle.terms.proofs.Sets.{in-none, in-or, in-single}
@@ -22,20 +22,20 @@ module _ (s : Bytes) (l : List ℕ) (w : Bytes) where
   W q = word_at s (get_or l q 0)
 
   -- the tag of an entry whose word is w
-  pub tag-said : (i k b : ℕ) → W i ≡ w → b ≡ 2 ^ tag_of (get_or l i 0) → in_set k b ≡ says w k (termAt s (get_or l i 0))
-  tag-said i k b e c = ap (in_set k) c ∙ in-single (tag_of (get_or l i 0)) k ∙ sym (says-hit w k (termAt s (get_or l i 0)) e)
+  pub tag-said : (i k b : ℕ) → W i ≡ w → b ≡ 2 ^ tag_of (get_or l i 0) → in_set k b ≡ says w k (term_at s (get_or l i 0))
+  tag-said i k b e c = ap (in_set k) c ∙ in-single (tag_of (get_or l i 0)) k ∙ sym (says-hit w k (term_at s (get_or l i 0)) e)
 
   -- the tags of w are those in the set x and those that entries from i on have
   abbrev pub Left : ℕ → ℕ → Type 0
   Left x i = (k : ℕ) → in_set k x || some w k s (drop i l) ≡ some w k s l
 
-  pub left-none : (x i : ℕ) → length l ≤ i → Left x i → Answers w (termsOf s l) x
+  pub left-none : (x i : ℕ) → length l ≤ i → Left x i → Answers w (terms_of s l) x
   left-none x i h f k = sym (or-none (in_set k x)) ∙ ap (λ (z : List ℕ). in_set k x || some w k s z) (sym (drop_of_length-le l h)) ∙ f k
 
   module _ (x i : ℕ) (h : i < length l) (f : Left x i) where
     pub left-hit : ranked (W i) w ≡ Compared.Equal → (b : ℕ) → b ≡ 2 ^ tag_of (get_or l i 0) → Left (bit_or x b) (i + 1)
     left-hit e b c k =
-        let t = termAt s (get_or l i 0) in
+        let t = term_at s (get_or l i 0) in
         let z : Bool = some w k s (drop (i + 1) l) in
         ap (λ (y : Bool). y || z) (in-or k x b ∙ ap (λ (y : Bool). in_set k x || y) (tag-said i k b (ranked-same (W i) w e) c))
         ∙ or_assoc (in_set k x) (says w k t) z
@@ -45,7 +45,7 @@ module _ (s : Bytes) (l : List ℕ) (w : Bytes) where
     pub left-miss : (w ≡ W i → ⊥) → Left x (i + 1)
     left-miss n k =
         let z : Bool = some w k s (drop (i + 1) l) in
-        ap (λ (y : Bool). in_set k x || y) (sym (some_at w k s l i h ∙ ap (λ (y : Bool). y || z) (says-miss w k (termAt s (get_or l i 0)) n))) ∙ f k
+        ap (λ (y : Bool). in_set k x || y) (sym (some_at w k s l i h ∙ ap (λ (y : Bool). y || z) (says-miss w k (term_at s (get_or l i 0)) n))) ∙ f k
 
   -- a word before w, and one behind it
   pub not-before : (i : ℕ) → ranked (W i) w ≡ Compared.Before → w ≡ W i → ⊥
@@ -86,11 +86,11 @@ module _ (s : Bytes) (l : List ℕ) (w : Bytes) where
         (λ q b z.
         ranked-apart w (W (i + q)) (lt-le w (W i) (W (i + q)) e (rises (i + q) (omega arith) i (omega arith))) (z ∙ ap (word_at s) (get_or-drop i l q 0)))
 
-    pub left-stop : (x i : ℕ) → Left x i → ranked (W i) w ≡ Compared.Behind → Answers w (termsOf s l) x
+    pub left-stop : (x i : ℕ) → Left x i → ranked (W i) w ≡ Compared.Behind → Answers w (terms_of s l) x
     left-stop x i f e k = sym (or-none (in_set k x)) ∙ ap (λ (y : Bool). in_set k x || y) (sym (none-behind k i (ranked-behind (W i) w e))) ∙ f k
 
 -- of no entries no tag is found
-pub none_found : (s w : Bytes) (l : List ℕ) (n : ℕ) → n ≡ 0 → Answers w (termsOf s (take n l)) 0
+pub none_found : (s w : Bytes) (l : List ℕ) (n : ℕ) → n ≡ 0 → Answers w (terms_of s (take n l)) 0
 none_found s w l n e k = rw e (in-none k)
 
 -- the first entries by themselves

@@ -7,7 +7,7 @@ use lib.ListN.{get_or, take, length-append, get_or-append}
 use lib.Seq.{take-append-le}
 use Rattle.format.specs.Bytes.{Bytes}
 use Rattle.terms.specs.Sets.{tagged}
-use Rattle.terms.specs.Entries.{word_at, termsOf, IsEntry}
+use Rattle.terms.specs.Entries.{word_at, terms_of, IsEntry}
 use Rattle.terms.specs.Order.{NotBehind, IsTable, Holds}
 use Rattle.terms.specs.declared.Table.{Table}
 
@@ -27,5 +27,5 @@ module _ (s : Bytes) (m x : List ℕ) (t : Table) (h : IsTable s m t) where
   }
 
 -- and it has the terms of the entries that it was made of
-pub front-terms : (s : Bytes) (l m x : List ℕ) (t : Table) → Holds s l m t → (w : Bytes) (k : ℕ) → tagged w k (termsOf s (take t.count (m ++ x))) ≡ tagged w k (termsOf s l)
-front-terms s l m x t h w k = ap (λ (y : List ℕ). tagged w k (termsOf s y)) (take-append-le t.count m x h.table.room) ∙ h.kept w k
+pub front-terms : (s : Bytes) (l m x : List ℕ) (t : Table) → Holds s l m t → (w : Bytes) (k : ℕ) → tagged w k (terms_of s (take t.count (m ++ x))) ≡ tagged w k (terms_of s l)
+front-terms s l m x t h w k = ap (λ (y : List ℕ). tagged w k (terms_of s y)) (take-append-le t.count m x h.table.room) ∙ h.kept w k

@@ -10,7 +10,7 @@ use Rattle.format.specs.Bytes.{Bytes, any, same}
 use Rattle.lines.proofs.Cuts.{at-cons}
 use Rattle.values.proofs.Tests.{same_self, same-apart}
 use Rattle.terms.specs.Sets.{Term, says, tagged}
-use Rattle.terms.specs.Entries.{word_at, termAt, termsOf}
+use Rattle.terms.specs.Entries.{word_at, term_at, terms_of}
 
 pub or_assoc : (a b c : Bool) → (a || b) || c ≡ a || (b || c)
 or_assoc true b c = refl
@@ -37,22 +37,22 @@ module _ (w : Bytes) (k : ℕ) where
   module _ (s : Bytes) where
     -- some entry says so
     abbrev pub some : List ℕ → Bool
-    some l = tagged w k (termsOf s l)
+    some l = tagged w k (terms_of s l)
 
-    pub some-any : (l : List ℕ) → some l ≡ any (λ (e : ℕ). says w k (termAt s e)) l
+    pub some-any : (l : List ℕ) → some l ≡ any (λ (e : ℕ). says w k (term_at s e)) l
     some-any [] = refl
-    some-any (x ∷ l) = ap (λ (t : Bool). says w k (termAt s x) || t) (some-any l)
+    some-any (x ∷ l) = ap (λ (t : Bool). says w k (term_at s x) || t) (some-any l)
 
     pub some-append : (a b : List ℕ) → some (a ++ b) ≡ some a || some b
-    some-append a b = ap (tagged w k) (map-append (termAt s) a b) ∙ tagged-append (termsOf s a) (termsOf s b)
+    some-append a b = ap (tagged w k) (map-append (term_at s) a b) ∙ tagged-append (terms_of s a) (terms_of s b)
 
     pub some-cut : (l : List ℕ) (i : ℕ) → some l ≡ some (take i l) || some (drop i l)
     some-cut l i = ap some (sym (take-append-drop i l)) ∙ some-append (take i l) (drop i l)
 
-    pub some_at : (l : List ℕ) (i : ℕ) → i < length l → some (drop i l) ≡ says w k (termAt s (get_or l i 0)) || some (drop (i + 1) l)
+    pub some_at : (l : List ℕ) (i : ℕ) → i < length l → some (drop i l) ≡ says w k (term_at s (get_or l i 0)) || some (drop (i + 1) l)
     some_at l i h = ap some (at-cons l i h)
 
     -- none has the word
     pub some-none : (l : List ℕ) → ((q : ℕ) → q < length l → w ≡ word_at s (get_or l q 0) → ⊥) → some l ≡ false
     some-none [] f = refl
-    some-none (x ∷ l) f = ap₂ ◌||◌ (says-miss (termAt s x) (f 0 (zero-lt-suc (length l)))) (some-none l (λ q h. f (suc q) (suc-le-suc h)))
+    some-none (x ∷ l) f = ap₂ ◌||◌ (says-miss (term_at s x) (f 0 (zero-lt-suc (length l)))) (some-none l (λ q h. f (suc q) (suc-le-suc h)))

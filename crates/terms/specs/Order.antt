@@ -1,14 +1,14 @@
 -- Words in order, by fingerprint and then by their bytes; what a table is.
 use Rattle.std.specs.Prelude.{ℕ, ◌-◌, ◌<◌, ◌≤◌, ◌≡◌, true, List, ◌∷◌, length, get_or, take}
 use Rattle.format.specs.Bytes.{Bytes}
-use Rattle.sorting.specs.Order.{comparedOf}
+use Rattle.sorting.specs.Order.{compared_of}
 use Rattle.sorting.specs.declared.Compared.{Compared}
-use Rattle.terms.specs.Entries.{printOf, word_at, Entries, Kept}
+use Rattle.terms.specs.Entries.{print_of, word_at, Entries, Kept}
 use Rattle.terms.specs.declared.Table.{Table}
 
 -- words with their fingerprints in front
 abbrev pub ranked : Bytes → Bytes → Compared
-ranked a b = comparedOf (printOf a ∷ a) (printOf b ∷ b)
+ranked a b = compared_of (print_of a ∷ a) (print_of b ∷ b)
 
 -- the second is not before the first
 abbrev pub NotBehind : Bytes → Bytes → Type 0

@@ -16,8 +16,8 @@ pub record Term : Type 0 where
   pub word : Bytes
   pub tag : ℕ
 
-abbrev pub termOf : ℕ → Bytes → Term
-termOf k w = record { word = w; tag = k }
+abbrev pub term_of : ℕ → Bytes → Term
+term_of k w = record { word = w; tag = k }
 
 -- is a term the word w with tag k
 abbrev pub says : Bytes → ℕ → Term → Bool

@@ -2,11 +2,11 @@
 // What is proved does not depend on the sort: a table that was not found to rise is searched from end to end.
 ghost use Rattle.std.specs.Prelude.{◌≡◌, true, ◌+◌, ◌<◌, ◌≤◌, ◌^◌, length, get_or, take};
 ghost use Rattle.format.specs.Bytes.{same};
-ghost use Rattle.format.specs.Limits.{fileBytes};
-ghost use Rattle.sorting.specs.Texts.{textAt, mixed};
-ghost use Rattle.sorting.specs.Order.{comparedOf};
+ghost use Rattle.format.specs.Limits.{file_bytes};
+ghost use Rattle.sorting.specs.Texts.{text_at, mixed};
+ghost use Rattle.sorting.specs.Order.{compared_of};
 ghost use Rattle.terms.specs.Sets.{tags, in_set, Answers};
-ghost use Rattle.terms.specs.Entries.{printOf, entry_of, tag_of, word_at, termAt, termsOf, IsEntry, Entries, Kept};
+ghost use Rattle.terms.specs.Entries.{print_of, entry_of, tag_of, word_at, term_at, terms_of, IsEntry, Entries, Kept};
 ghost use Rattle.terms.specs.Order.{ranked, NotBehind, Rising, Low, IsTable, Holds};
 ghost use Rattle.terms.specs.Joined.{TagsFrom, Joined, IsJoined};
 
@@ -51,15 +51,15 @@ fn mix_word(w: &[u8]) -> usize
 
 // The fingerprint of a word.
 fn word_print(w: &[u8]) -> u32
-    ensures { result ≡ printOf w.now }
+    ensures { result ≡ print_of w.now }
 {
     sorting::narrow(mix_word(w)) / Table::PRINT
 }
 
 // The entry of the word at a place, with a tag.
 pub fn entry(s: &[u8], at: usize, tag: u32) -> u32
-    requires { (at < fileBytes) × (tag < tags) }
-    ensures { (result ≡ entry_of at tag (textAt true s.now at)) × IsEntry s.now result × (termAt s.now result ≡ record { word = textAt true s.now at; tag = tag }) }
+    requires { (at < file_bytes) × (tag < tags) }
+    ensures { (result ≡ entry_of at tag (text_at true s.now at)) × IsEntry s.now result × (term_at s.now result ≡ record { word = text_at true s.now at; tag = tag }) }
 {
     let p = sorting::narrow(sorting::mix(s, at, true)) / Table::PRINT;
     sorting::narrow(at) + Table::TAG * tag + Table::PRINT * p
@@ -67,7 +67,7 @@ pub fn entry(s: &[u8], at: usize, tag: u32) -> u32
 
 // The word at a place compared with another.
 fn compare_word(s: &[u8], at: usize, w: &[u8]) -> Compared
-    ensures { result ≡ comparedOf (textAt true s.now at) w.now }
+    ensures { result ≡ compared_of (text_at true s.now at) w.now }
 {
     let mut i = at;
     let mut n = 0;
@@ -96,7 +96,7 @@ fn compare_word(s: &[u8], at: usize, w: &[u8]) -> Compared
 
 // The word of an entry compared with another, whose fingerprint is given; by their bytes only where the fingerprints are equal.
 fn compare(s: &[u8], x: u32, w: &[u8], print: u32) -> Compared
-    requires { IsEntry s.now x × (print ≡ printOf w.now) }
+    requires { IsEntry s.now x × (print ≡ print_of w.now) }
     ensures { result ≡ ranked (word_at s.now x) w.now }
 {
     let p = x / Table::PRINT;
@@ -148,7 +148,7 @@ fn same_word(s: &[u8], x: u32, y: u32) -> bool
 // Have two entries the same word and the same tag?
 fn is_twin(s: &[u8], x: u32, y: u32) -> bool
     requires { IsEntry s.now x × IsEntry s.now y }
-    ensures { result ≡ true → termAt s.now x ≡ termAt s.now y }
+    ensures { result ≡ true → term_at s.now x ≡ term_at s.now y }
 {
     if tag(x) != tag(y) {
         return false;
@@ -235,10 +235,10 @@ pub fn build(s: &[u8], entries: &mut [u32]) -> Table
 // The tags of the entries from one on whose word is w, if all before it come before w; where no word is behind the next, a word behind w ends the search.
 fn find_from(s: &[u8], entries: &[u32], from: usize, sorted: bool, w: &[u8], print: u32) -> u64
     requires entries { Entries s.now (length entries.now) entries.now }
-    requires print_value { print ≡ printOf w.now }
+    requires print_value { print ≡ print_of w.now }
     requires from_in_bounds { (from ≤ length entries.now) × Low s.now entries.now w.now from }
     requires rising { sorted ≡ true → Rising s.now (length entries.now) entries.now }
-    ensures { Answers w.now (termsOf s.now entries.now) result }
+    ensures { Answers w.now (terms_of s.now entries.now) result }
 {
     let mut set = 0;
     let mut i = from;
@@ -267,8 +267,8 @@ fn find_from(s: &[u8], entries: &[u32], from: usize, sorted: bool, w: &[u8], pri
 // The tags of all entries whose word is w, in any order of the entries.
 fn find_all(s: &[u8], entries: &[u32], w: &[u8], print: u32) -> u64
     requires entries { Entries s.now (length entries.now) entries.now }
-    requires print_value { print ≡ printOf w.now }
-    ensures { Answers w.now (termsOf s.now entries.now) result }
+    requires print_value { print ≡ print_of w.now }
+    ensures { Answers w.now (terms_of s.now entries.now) result }
 {
     find_from(s, entries, 0, false, w, print)
 }
@@ -276,7 +276,7 @@ fn find_all(s: &[u8], entries: &[u32], w: &[u8], print: u32) -> u64
 // Where no word is behind the next: the first entry whose word is not before w.
 fn first_of(s: &[u8], entries: &[u32], w: &[u8], print: u32) -> usize
     requires entries { Entries s.now (length entries.now) entries.now }
-    requires print_value { (print ≡ printOf w.now) × Rising s.now (length entries.now) entries.now }
+    requires print_value { (print ≡ print_of w.now) × Rising s.now (length entries.now) entries.now }
     ensures { (result ≤ length entries.now) × Low s.now entries.now w.now result × (result < length entries.now → NotBehind w.now (word_at s.now (get_or entries.now result 0))) }
 {
     let mut lo = 0;
@@ -302,8 +302,8 @@ fn first_of(s: &[u8], entries: &[u32], w: &[u8], print: u32) -> usize
 // The same where no word is behind the next: at most 64 turns from the first on, since twins are merged.
 fn find_sorted(s: &[u8], entries: &[u32], w: &[u8], print: u32) -> u64
     requires entries { Entries s.now (length entries.now) entries.now }
-    requires print_value { (print ≡ printOf w.now) × Rising s.now (length entries.now) entries.now }
-    ensures { Answers w.now (termsOf s.now entries.now) result }
+    requires print_value { (print ≡ print_of w.now) × Rising s.now (length entries.now) entries.now }
+    ensures { Answers w.now (terms_of s.now entries.now) result }
 {
     let i = first_of(s, entries, w, print);
     find_from(s, entries, i, true, w, print)
@@ -312,7 +312,7 @@ fn find_sorted(s: &[u8], entries: &[u32], w: &[u8], print: u32) -> u64
 // The set of the tags that the word w has in a table.
 pub fn find(s: &[u8], entries: &[u32], t: Table, w: &[u8]) -> u64
     requires { IsTable s.now entries.now t }
-    ensures { Answers w.now (termsOf s.now (take t.count entries.now)) result }
+    ensures { Answers w.now (terms_of s.now (take t.count entries.now)) result }
 {
     let n = t.count;
     if n == 0 {
@@ -372,9 +372,9 @@ pub fn join(s: &[u8], entries: &[u32], t: Table, sets: &mut [u64])
 // Where no word is behind the next: the set of the first entry whose word is w.
 fn find_first(s: &[u8], entries: &[u32], sets: &[u64], w: &[u8], print: u32) -> u64
     requires entries { Entries s.now (length entries.now) entries.now }
-    requires print_value { (print ≡ printOf w.now) × Rising s.now (length entries.now) entries.now }
+    requires print_value { (print ≡ print_of w.now) × Rising s.now (length entries.now) entries.now }
     requires entries_in_bounds { (length entries.now ≤ length sets.now) × Joined s.now entries.now sets.now }
-    ensures { Answers w.now (termsOf s.now entries.now) result }
+    ensures { Answers w.now (terms_of s.now entries.now) result }
 {
     let i = first_of(s, entries, w, print);
     if i == entries.len() {
@@ -391,7 +391,7 @@ fn find_first(s: &[u8], entries: &[u32], sets: &[u64], w: &[u8], print: u32) -> 
 // The set of the tags that the word w has in a table with the sets of its words: its first entry answers for all.
 pub fn find_joined(s: &[u8], entries: &[u32], t: Table, sets: &[u64], w: &[u8]) -> u64
     requires { IsJoined s.now entries.now sets.now t }
-    ensures { Answers w.now (termsOf s.now (take t.count entries.now)) result }
+    ensures { Answers w.now (terms_of s.now (take t.count entries.now)) result }
 {
     let n = t.count;
     if n == 0 {

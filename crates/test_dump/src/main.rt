@@ -1,6 +1,6 @@
 // Prints each record of the recfile on standard input, descriptors included: its names and decoded values, and a blank line behind it.
 ghost use Rattle.std.specs.Prelude.{◌≡◌, true};
-ghost use Rattle.records.specs.Places.{isReadable};
+ghost use Rattle.records.specs.Places.{is_readable};
 
 use format::Record;
 use records::{NextField, NextRecord};
@@ -20,7 +20,7 @@ fn dump(s: &[u8]) {
 }
 
 fn dump_records(s: &[u8])
-    requires { isReadable s.now ≡ true }
+    requires { is_readable s.now ≡ true }
 {
     let mut i = 0;
     loop {
@@ -36,7 +36,7 @@ fn dump_records(s: &[u8])
 }
 
 fn dump_record(s: &[u8])
-    requires { isReadable s.now ≡ true }
+    requires { is_readable s.now ≡ true }
 {
     let mut i = 0;
     loop {

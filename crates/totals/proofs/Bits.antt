@@ -11,7 +11,7 @@ use lib.Signed.{mag, lt_z, non_neg}
 use mir.Syntax.{w64}
 use mir.Val.{Fits, SFits, to_z, of_z}
 use mir.Facts.{to_z-of_z}
-use Rattle.totals.specs.Totals.{signed, rounded, isBelow0, hundredthsOf}
+use Rattle.totals.specs.Totals.{signed, rounded, is_below0, hundredths_of}
 use Rattle.totals.proofs.Digits.{abs-signed}
 use Rattle.totals.proofs.Fitting.{abs-add}
 
@@ -92,10 +92,10 @@ module _ (z : ℤ) (h : Held z) where
   pub cast-seen : lt_z (to_z w64 (of_z w64 z)) (pos 0) ≡ false → T (non_neg (to_z w64 (of_z w64 z))) × Fits w64 (nat_abs (to_z w64 (of_z w64 z)))
   cast-seen e = subst Casts (sym (seen-is z h)) (casts z refl (above z (ap (λ (x : ℤ). lt_z x (pos 0)) (sym (seen-is z h)) ∙ e)))
 
-  pub seen_below : lt_z (to_z w64 (of_z w64 z)) (pos 0) ≡ isBelow0 z
+  pub seen_below : lt_z (to_z w64 (of_z w64 z)) (pos 0) ≡ is_below0 z
   seen_below = ap (λ (x : ℤ). lt_z x (pos 0)) (seen-is z h) ∙ test z
     where
-      test : (x : ℤ) → lt_z x (pos 0) ≡ isBelow0 x
+      test : (x : ℤ) → lt_z x (pos 0) ≡ is_below0 x
       test (pos n) = le-ltb n 0 (omega arith)
       test (negsuc n) = refl
 
@@ -110,15 +110,15 @@ signed-plus b m h e = seen-is (pos m) h ∙ ap (λ (c : Bool). signed c m) (sym 
 rounded-below : (n : ℕ) → n < 9223372036854775808 → rounded n < 9223372036854775808
 rounded-below n h = omega arith
 
-pub hundredths-held : (z : ℤ) → Held z → Held (hundredthsOf z)
-unfolding hundredthsOf
-hundredths-held z h = omega (arith, abs-signed (isBelow0 z) (rounded (nat_abs z)), rounded-below (nat_abs z) h)
+pub hundredths-held : (z : ℤ) → Held z → Held (hundredths_of z)
+unfolding hundredths_of
+hundredths-held z h = omega (arith, abs-signed (is_below0 z) (rounded (nat_abs z)), rounded-below (nat_abs z) h)
 
-pub hundredths-is : (z r : ℤ) (m k : ℕ) → Held z → m ≡ nat_abs (to_z w64 (of_z w64 z)) → k ≡ rounded m → r ≡ signed (lt_z (to_z w64 (of_z w64 z)) (pos 0)) k → to_z w64 (of_z w64 r) ≡ hundredthsOf z
-unfolding hundredthsOf
+pub hundredths-is : (z r : ℤ) (m k : ℕ) → Held z → m ≡ nat_abs (to_z w64 (of_z w64 z)) → k ≡ rounded m → r ≡ signed (lt_z (to_z w64 (of_z w64 z)) (pos 0)) k → to_z w64 (of_z w64 r) ≡ hundredths_of z
+unfolding hundredths_of
 hundredths-is z r m k h e f g =
     let n : k ≡ rounded (nat_abs z) = f ∙ ap rounded (e ∙ ap nat_abs (seen-is z h)) in
-    let s : r ≡ hundredthsOf z = g ∙ (λ i. signed (seen_below z h i) (n i)) in
+    let s : r ≡ hundredths_of z = g ∙ (λ i. signed (seen_below z h i) (n i)) in
     seen-is r (omega (arith, ap nat_abs s, hundredths-held z h)) ∙ s
 
 -- the millionths of a value, by its sign and magnitude

@@ -7,12 +7,12 @@ use mathlib.Core.List.{List, [], ◌∷◌, ◌++◌, append_assoc, append-nil, 
 use lib.ListN.{length, get_or}
 use borrow.Author.Tests.{ltb-true}
 use Rattle.format.specs.Bytes.{Bytes, pick, same}
-use Rattle.format.specs.Lists.{isFilled, filter, turn, at, always}
+use Rattle.format.specs.Lists.{is_filled, filter, turn, at, always}
 use Rattle.format.specs.Records.{Field, Record}
 use Rattle.format.specs.Sets.{values_of}
-use Rattle.format.specs.Written.{newField}
-use Rattle.format.specs.Edits.{Change, Act, Edit, isNamed, changeField, inRecord, inMembers}
-use Rattle.format.specs.Questions.{occurrences, valuesIn}
+use Rattle.format.specs.Written.{new_field}
+use Rattle.format.specs.Edits.{Change, Act, Edit, is_named, change_field, in_record, in_members}
+use Rattle.format.specs.Questions.{occurrences, values_in}
 use Rattle.format.proofs.Listing.{same_true}
 use Rattle.totals.proofs.Sums.{Replaces}
 use Rattle.totals.proofs.Edited.{IsFound}
@@ -26,9 +26,9 @@ values-append m (f ∷ r) s = go (same m f.name) (values-append m r s)
     go true e = ap {B = List Bytes} (λ (vs : List Bytes). f.value ∷ vs) e
     go false e = e
 
-pub in-append : (m : Bytes) (rs ss : List Record) → valuesIn m (rs ++ ss) ≡ valuesIn m rs ++ valuesIn m ss
+pub in-append : (m : Bytes) (rs ss : List Record) → values_in m (rs ++ ss) ≡ values_in m rs ++ values_in m ss
 in-append m [] ss = refl
-in-append m (r ∷ rs) ss = ap (λ (vs : List Bytes). values_of m r ++ vs) (in-append m rs ss) ∙ sym (append_assoc (values_of m r) (valuesIn m rs) (valuesIn m ss))
+in-append m (r ∷ rs) ss = ap (λ (vs : List Bytes). values_of m r ++ vs) (in-append m rs ss) ∙ sym (append_assoc (values_of m r) (values_in m rs) (values_in m ss))
 
 -- replacing within a longer list
 within-longer : (old new xs ys u w : List Bytes) → Replaces old new xs ys → Replaces old new (u ++ (xs ++ w)) (u ++ (ys ++ w))
@@ -46,11 +46,11 @@ record Cut (n : Bytes) (o : ℕ) (g : Field → Record) (r : Record) : Type 0 wh
   field : Field
   behind : Record
   parts : r ≡ before ++ (field ∷ behind)
-  changed : at (isNamed n) o g r ≡ before ++ (g field ++ behind)
+  changed : at (is_named n) o g r ≡ before ++ (g field ++ behind)
   named : n ≡ field.name
   valued : field.value ≡ get_or (values_of n r) o []
 
-cut_on : (n : Bytes) (o : ℕ) (g : Field → Record) (f : Field) (r : Record) → Cut n o g r → (k : ℕ) → at (isNamed n) k g (f ∷ r) ≡ f ∷ at (isNamed n) o g r → get_or (values_of n (f ∷ r)) k [] ≡ get_or (values_of n r) o [] → Cut n k g (f ∷ r)
+cut_on : (n : Bytes) (o : ℕ) (g : Field → Record) (f : Field) (r : Record) → Cut n o g r → (k : ℕ) → at (is_named n) k g (f ∷ r) ≡ f ∷ at (is_named n) o g r → get_or (values_of n (f ∷ r)) k [] ≡ get_or (values_of n r) o [] → Cut n k g (f ∷ r)
 cut_on n o g f r c k e h = record {
   before = f ∷ c.before;
   field = c.field;
@@ -65,8 +65,8 @@ cut_at : (n : Bytes) (g : Field → Record) (r : Record) (o : ℕ) → o < occur
 cut_at n g [] o h = absurd (omega arith)
 cut_at n g (f ∷ r) o h = go (same n f.name) refl (cut_at n g r) o h
   where
-    turned : (t : Bool) (k : ℕ) → same n f.name ≡ t → at (isNamed n) k g (f ∷ r) ≡ turn t k (g f ++ r) (λ (j : ℕ). f ∷ at (isNamed n) j g r)
-    turned t k e = ap (λ (b : Bool). turn b k (g f ++ r) (λ (j : ℕ). f ∷ at (isNamed n) j g r)) e
+    turned : (t : Bool) (k : ℕ) → same n f.name ≡ t → at (is_named n) k g (f ∷ r) ≡ turn t k (g f ++ r) (λ (j : ℕ). f ∷ at (is_named n) j g r)
+    turned t k e = ap (λ (b : Bool). turn b k (g f ++ r) (λ (j : ℕ). f ∷ at (is_named n) j g r)) e
 
     listed : (t : Bool) (k : ℕ) → same n f.name ≡ t → get_or (values_of n (f ∷ r)) k [] ≡ get_or (pick t (f.value ∷ values_of n r) (values_of n r)) k []
     listed t k e = ap (λ (b : Bool). get_or (pick b (f.value ∷ values_of n r) (values_of n r)) k []) e
@@ -80,23 +80,23 @@ cut_at n g (f ∷ r) o h = go (same n f.name) refl (cut_at n g r) o h
     go false e ih k h = cut_on n k g f r (ih k (fewer false k e h)) k (turned false k e) (listed false k e)
 
 -- The values of a name that an act takes off a record, and those that it puts there.
-abbrev pub ifNamed : Bytes → Bytes → Bytes → List Bytes
-ifNamed m n v = pick (same m n) (v ∷ []) []
+abbrev pub if_named : Bytes → Bytes → Bytes → List Bytes
+if_named m n v = pick (same m n) (v ∷ []) []
 
-abbrev pub takenOff : Bytes → Act → Record → List Bytes
-takenOff m Act.delete r = values_of m r
-takenOff m (Act.add p) r = []
-takenOff m (Act.change n o c) r = ifNamed m n (get_or (values_of n r) o [])
+abbrev pub taken_off : Bytes → Act → Record → List Bytes
+taken_off m Act.delete r = values_of m r
+taken_off m (Act.add p) r = []
+taken_off m (Act.change n o c) r = if_named m n (get_or (values_of n r) o [])
 
-abbrev pub changedTo : Bytes → Change → Bytes → Bytes → List Bytes
-changedTo m (Change.value w) n v = ifNamed m n w
-changedTo m Change.dropped n v = []
-changedTo m (Change.name k) n v = ifNamed m k v
+abbrev pub changed_to : Bytes → Change → Bytes → Bytes → List Bytes
+changed_to m (Change.value w) n v = if_named m n w
+changed_to m Change.dropped n v = []
+changed_to m (Change.name k) n v = if_named m k v
 
-abbrev pub putThere : Bytes → Act → Record → List Bytes
-putThere m Act.delete r = []
-putThere m (Act.add p) r = ifNamed m p.name p.value
-putThere m (Act.change n o c) r = changedTo m c n (get_or (values_of n r) o [])
+abbrev pub put_there : Bytes → Act → Record → List Bytes
+put_there m Act.delete r = []
+put_there m (Act.add p) r = if_named m p.name p.value
+put_there m (Act.change n o c) r = changed_to m c n (get_or (values_of n r) o [])
 
 -- the record and the occurrence that an act names are there
 abbrev OnField : Act → Record → Type 0
@@ -104,35 +104,35 @@ OnField Act.delete r = Unit {0}
 OnField (Act.add p) r = Unit {0}
 OnField (Act.change n o c) r = o < occurrences n r
 
-changed-values : (m : Bytes) (c : Change) (f : Field) → values_of m (changeField c f) ≡ changedTo m c f.name f.value
+changed-values : (m : Bytes) (c : Change) (f : Field) → values_of m (change_field c f) ≡ changed_to m c f.name f.value
 changed-values m (Change.value w) f = refl
 changed-values m Change.dropped f = refl
 changed-values m (Change.name k) f = refl
 
-act-replaces : (m : Bytes) (a : Act) (r : Record) → OnField a r → Replaces (takenOff m a r) (putThere m a r) (values_of m r) (values_of m (inRecord a r))
+act-replaces : (m : Bytes) (a : Act) (r : Record) → OnField a r → Replaces (taken_off m a r) (put_there m a r) (values_of m r) (values_of m (in_record a r))
 act-replaces m Act.delete r h = whole-list (values_of m r) []
-act-replaces m (Act.add p) r h = (values_of m r, [], sym (append-nil (values_of m r)), values-append m r (newField p ∷ []) ∙ ap (λ (vs : List Bytes). values_of m r ++ vs) (sym (append-nil (ifNamed m p.name p.value))))
+act-replaces m (Act.add p) r h = (values_of m r, [], sym (append-nil (values_of m r)), values-append m r (new_field p ∷ []) ∙ ap (λ (vs : List Bytes). values_of m r ++ vs) (sym (append-nil (if_named m p.name p.value))))
 act-replaces m (Act.change n o c) r h =
-    let k = cut_at n (changeField c) r o h in
+    let k = cut_at n (change_field c) r o h in
     let split : (x : Record) → values_of m (k.before ++ (x ++ k.behind)) ≡ values_of m k.before ++ (values_of m x ++ values_of m k.behind) =
     λ x. values-append m k.before (x ++ k.behind) ∙ ap (λ (vs : List Bytes). values_of m k.before ++ vs) (values-append m x k.behind) in
     let v : List Bytes → List Bytes = λ vs. values_of m k.before ++ (vs ++ values_of m k.behind) in (
       values_of m k.before,
       values_of m k.behind,
-      ap (values_of m) k.parts ∙ split (k.field ∷ []) ∙ (λ i. v (ifNamed m (sym k.named i) (k.valued i))),
-      ap (values_of m) k.changed ∙ split (changeField c k.field) ∙ ap v (changed-values m c k.field ∙ (λ i. changedTo m c (sym k.named i) (k.valued i))),
+      ap (values_of m) k.parts ∙ split (k.field ∷ []) ∙ (λ i. v (if_named m (sym k.named i) (k.valued i))),
+      ap (values_of m) k.changed ∙ split (change_field c k.field) ∙ ap v (changed-values m c k.field ∙ (λ i. changed_to m c (sym k.named i) (k.valued i))),
     )
 
 -- the same of a set's records
 abbrev pub taken : Bytes → Edit → List Record → List Bytes
 taken m (Edit.insert new) ms = []
-taken m (Edit.on j a) ms = takenOff m a (get_or ms j [])
+taken m (Edit.on j a) ms = taken_off m a (get_or ms j [])
 
 abbrev pub given : Bytes → Edit → List Record → List Bytes
-given m (Edit.insert new) ms = values_of m (map newField new)
-given m (Edit.on j a) ms = putThere m a (get_or ms j [])
+given m (Edit.insert new) ms = values_of m (map new_field new)
+given m (Edit.on j a) ms = put_there m a (get_or ms j [])
 
-left-values : (m : Bytes) (r : Record) → valuesIn m (filter isFilled (r ∷ [])) ≡ values_of m r
+left-values : (m : Bytes) (r : Record) → values_in m (filter is_filled (r ∷ [])) ≡ values_of m r
 left-values m [] = refl
 left-values m (f ∷ r) = append-nil (values_of m (f ∷ r))
 
@@ -149,15 +149,15 @@ on-field j Act.delete ms h = tt
 on-field j (Act.add p) ms h = tt
 on-field j (Act.change n o c) ms h = ltb-true o (occurrences n (get_or ms j [])) h.1
 
-pub edit-replaces : (m : Bytes) (e : Edit) (ms : List Record) → IsFound e ms → Replaces (taken m e ms) (given m e ms) (valuesIn m ms) (valuesIn m (inMembers e ms))
-edit-replaces m (Edit.insert new) ms h = (valuesIn m ms, [], sym (append-nil (valuesIn m ms)), in-append m ms (map newField new ∷ []))
+pub edit-replaces : (m : Bytes) (e : Edit) (ms : List Record) → IsFound e ms → Replaces (taken m e ms) (given m e ms) (values_in m ms) (values_in m (in_members e ms))
+edit-replaces m (Edit.insert new) ms h = (values_in m ms, [], sym (append-nil (values_in m ms)), in-append m ms (map new_field new ∷ []))
 edit-replaces m (Edit.on j a) ms h =
     let r : Record = get_or ms j [] in
-    let g : Record → List Record = λ (x : Record). filter isFilled (inRecord a x ∷ []) in
+    let g : Record → List Record = λ (x : Record). filter is_filled (in_record a x ∷ []) in
     let k = member-parts g j ms (ltb-true j (length ms) h.0) in
-    let c = within-longer (takenOff m a r) (putThere m a r) (values_of m r) (values_of m (inRecord a r)) (valuesIn m k.0) (valuesIn m k.1) (act-replaces m a r (on-field j a ms h)) in (
+    let c = within-longer (taken_off m a r) (put_there m a r) (values_of m r) (values_of m (in_record a r)) (values_in m k.0) (values_in m k.1) (act-replaces m a r (on-field j a ms h)) in (
       c.0,
       c.1,
-      ap (valuesIn m) k.2 ∙ in-append m k.0 (r ∷ k.1) ∙ c.2,
-      ap (valuesIn m) k.3 ∙ in-append m k.0 (g r ++ k.1) ∙ ap (λ (vs : List Bytes). valuesIn m k.0 ++ vs) (in-append m (g r) k.1 ∙ ap (λ (vs : List Bytes). vs ++ valuesIn m k.1) (left-values m (inRecord a r))) ∙ c.3,
+      ap (values_in m) k.2 ∙ in-append m k.0 (r ∷ k.1) ∙ c.2,
+      ap (values_in m) k.3 ∙ in-append m k.0 (g r ++ k.1) ∙ ap (λ (vs : List Bytes). values_in m k.0 ++ vs) (in-append m (g r) k.1 ∙ ap (λ (vs : List Bytes). vs ++ values_in m k.1) (left-values m (in_record a r))) ∙ c.3,
     )

@@ -9,28 +9,28 @@ use lib.Dec.{ltb, eqb}
 use lib.IntN.{ℤ, pos, negsuc, neg_ℤ, nat_abs, ◌+ℤ◌, ◌-ℤ◌, ◌*ℤ◌, neg_ℤ-neg_ℤ, neg_ℤ-+ℤ}
 use borrow.Author.Tests.{ltb-true, ltb-false, eqb-true, eqb-false}
 use Rattle.format.specs.Bytes.{pick}
-use Rattle.totals.specs.Totals.{signed, isBelow0}
+use Rattle.totals.specs.Totals.{signed, is_below0}
 use Rattle.totals.proofs.Digits.{abs-signed}
 
 -- so many millionths in hundredths: the nearest, and of two that are as near the even one
 abbrev pub up : ℕ → ℕ → ℕ
 up hundredths rest = pick (ltb 5000 rest) 1 (pick (eqb rest 5000) (hundredths % 2) 0)
 
-abbrev pub toEven : ℕ → ℕ
-toEven n = n / 10000 + up (n / 10000) (n % 10000)
+abbrev pub to_even : ℕ → ℕ
+to_even n = n / 10000 + up (n / 10000) (n % 10000)
 
-abbrev pub evenHundredths : ℤ → ℤ
-evenHundredths z = signed (isBelow0 z) (toEven (nat_abs z))
+abbrev pub even_hundredths : ℤ → ℤ
+even_hundredths z = signed (is_below0 z) (to_even (nat_abs z))
 
 -- the examples of the order, and both sides of halves
 abbrev minus : ℕ → ℤ
 minus n = neg_ℤ (pos n)
 
-halves : map evenHundredths (pos 125000 ∷ pos 135000 ∷ pos 5000 ∷ minus 5000 ∷ pos 124999 ∷ pos 125001 ∷ pos 134999 ∷ pos 135001 ∷ pos 4999 ∷ pos 5001 ∷ pos 15000 ∷ pos 25000 ∷ [])
+halves : map even_hundredths (pos 125000 ∷ pos 135000 ∷ pos 5000 ∷ minus 5000 ∷ pos 124999 ∷ pos 125001 ∷ pos 134999 ∷ pos 135001 ∷ pos 4999 ∷ pos 5001 ∷ pos 15000 ∷ pos 25000 ∷ [])
     ≡ pos 12 ∷ pos 14 ∷ pos 0 ∷ pos 0 ∷ pos 12 ∷ pos 13 ∷ pos 13 ∷ pos 14 ∷ pos 0 ∷ pos 1 ∷ pos 2 ∷ pos 2 ∷ []
 halves = refl
 
-halves-below : map evenHundredths (minus 15000 ∷ minus 25000 ∷ minus 14999 ∷ minus 15001 ∷ minus 24999 ∷ minus 25001 ∷ minus 4999 ∷ minus 5001 ∷ minus 10000 ∷ pos 0 ∷ [])
+halves-below : map even_hundredths (minus 15000 ∷ minus 25000 ∷ minus 14999 ∷ minus 15001 ∷ minus 24999 ∷ minus 25001 ∷ minus 4999 ∷ minus 5001 ∷ minus 10000 ∷ pos 0 ∷ [])
     ≡ minus 2 ∷ minus 2 ∷ minus 1 ∷ minus 2 ∷ minus 2 ∷ minus 3 ∷ pos 0 ∷ minus 1 ∷ minus 1 ∷ pos 0 ∷ []
 halves-below = refl
 
@@ -55,7 +55,7 @@ by-rest n d r e h = go (ltb 5000 r) refl (eqb r 5000) refl
         let s : r ≡ 5000 → ⊥ = eqb-false r 5000 q in
         (omega arith, λ t. absurd (s (omega (arith, t))))
 
-rounds : (n : ℕ) → Rounds n (toEven n)
+rounds : (n : ℕ) → Rounds n (to_even n)
 rounds n = by-rest n (n / 10000) (n % 10000) (sym (div-add-mod' n 10000)) (omega arith)
 
 -- any other is at least as far
@@ -112,56 +112,56 @@ both-turned x y = ap nat_abs (sym (neg_ℤ-+ℤ x (neg_ℤ y))) ∙ abs_neg (x -
 one-turned : (n m : ℕ) → nat_abs (pos n -ℤ neg_ℤ (pos m)) ≡ n + m
 one-turned n m = ap (λ (x : ℤ). nat_abs (pos n +ℤ x)) (neg_ℤ-neg_ℤ (pos m))
 
-abbrev farBy : Bool → Bool → ℕ → ℕ → ℕ
-farBy true true n m = apart n m
-farBy true false n m = n + m
-farBy false true n m = n + m
-farBy false false n m = apart n m
+abbrev far_by : Bool → Bool → ℕ → ℕ → ℕ
+far_by true true n m = apart n m
+far_by true false n m = n + m
+far_by false true n m = n + m
+far_by false false n m = apart n m
 
-by-signs : (b c : Bool) (n m : ℕ) → nat_abs (signed b n -ℤ signed c m) ≡ farBy b c n m
+by-signs : (b c : Bool) (n m : ℕ) → nat_abs (signed b n -ℤ signed c m) ≡ far_by b c n m
 by-signs true true n m = both-turned (pos n) (pos m) ∙ apart-pos n m
 by-signs true false n m = ap (λ (x : ℤ). nat_abs (neg_ℤ (pos n) -ℤ x)) (sym (neg_ℤ-neg_ℤ (pos m))) ∙ both-turned (pos n) (neg_ℤ (pos m)) ∙ one-turned n m
 by-signs false true n m = one-turned n m
 by-signs false false n m = apart-pos n m
 
-far-by : (b c : Bool) (n k : ℕ) → far (signed b n) (signed c k) ≡ farBy b c n (k * 10000)
+far-by : (b c : Bool) (n k : ℕ) → far (signed b n) (signed c k) ≡ far_by b c n (k * 10000)
 far-by b c n k = ap (λ (x : ℤ). nat_abs (signed b n -ℤ x)) (scaled c k) ∙ by-signs b c n (k * 10000)
 
 -- a number is its sign and its magnitude
-by_parts : (z : ℤ) → signed (isBelow0 z) (nat_abs z) ≡ z
+by_parts : (z : ℤ) → signed (is_below0 z) (nat_abs z) ≡ z
 by_parts (pos n) = refl
 by_parts (negsuc n) = refl
 
-far-parts : (z h : ℤ) → far z h ≡ farBy (isBelow0 z) (isBelow0 h) (nat_abs z) (nat_abs h * 10000)
-far-parts z h = (λ i. far (sym (by_parts z) i) (sym (by_parts h) i)) ∙ far-by (isBelow0 z) (isBelow0 h) (nat_abs z) (nat_abs h)
+far-parts : (z h : ℤ) → far z h ≡ far_by (is_below0 z) (is_below0 h) (nat_abs z) (nat_abs h * 10000)
+far-parts z h = (λ i. far (sym (by_parts z) i) (sym (by_parts h) i)) ∙ far-by (is_below0 z) (is_below0 h) (nat_abs z) (nat_abs h)
 
-alike-far : (b : Bool) (n m : ℕ) → farBy b b n m ≡ apart n m
+alike-far : (b : Bool) (n m : ℕ) → far_by b b n m ≡ apart n m
 alike-far true n m = refl
 alike-far false n m = refl
 
-best-far : (z : ℤ) → far z (evenHundredths z) ≡ apart (nat_abs z) (toEven (nat_abs z) * 10000)
-best-far z = ap (λ (x : ℤ). far x (evenHundredths z)) (sym (by_parts z)) ∙ far-by (isBelow0 z) (isBelow0 z) (nat_abs z) (toEven (nat_abs z)) ∙ alike-far (isBelow0 z) (nat_abs z) (toEven (nat_abs z) * 10000)
+best-far : (z : ℤ) → far z (even_hundredths z) ≡ apart (nat_abs z) (to_even (nat_abs z) * 10000)
+best-far z = ap (λ (x : ℤ). far x (even_hundredths z)) (sym (by_parts z)) ∙ far-by (is_below0 z) (is_below0 z) (nat_abs z) (to_even (nat_abs z)) ∙ alike-far (is_below0 z) (nat_abs z) (to_even (nat_abs z) * 10000)
 
 -- a hundredth of the other sign is no nearer than 0
-best-least : (b c : Bool) (n k : ℕ) → apart n (toEven n * 10000) ≤ farBy b c n (k * 10000)
-best-least true true n k = no-nearer n (toEven n) k (rounds n)
-best-least true false n k = omega (arith, no-nearer n (toEven n) 0 (rounds n))
-best-least false true n k = omega (arith, no-nearer n (toEven n) 0 (rounds n))
-best-least false false n k = no-nearer n (toEven n) k (rounds n)
+best-least : (b c : Bool) (n k : ℕ) → apart n (to_even n * 10000) ≤ far_by b c n (k * 10000)
+best-least true true n k = no-nearer n (to_even n) k (rounds n)
+best-least true false n k = omega (arith, no-nearer n (to_even n) 0 (rounds n))
+best-least false true n k = omega (arith, no-nearer n (to_even n) 0 (rounds n))
+best-least false false n k = no-nearer n (to_even n) k (rounds n)
 
 -- "the nearest": no hundredth is nearer to the sum
-pub none-nearer : (z h : ℤ) → far z (evenHundredths z) ≤ far z h
-none-nearer z h = omega (arith, best-far z, far-parts z h, best-least (isBelow0 z) (isBelow0 h) (nat_abs z) (nat_abs h))
+pub none-nearer : (z h : ℤ) → far z (even_hundredths z) ≤ far z h
+none-nearer z h = omega (arith, best-far z, far-parts z h, best-least (is_below0 z) (is_below0 h) (nat_abs z) (nat_abs h))
 
 -- "an exact half goes to the even one"
-pub tie-even : (z : ℤ) → far z (evenHundredths z) ≡ 5000 → nat_abs (evenHundredths z) % 2 ≡ 0
-tie-even z e = ap (λ (n : ℕ). n % 2) (abs-signed (isBelow0 z) (toEven (nat_abs z))) ∙ (rounds (nat_abs z)).1 (sym (best-far z) ∙ e)
+pub tie-even : (z : ℤ) → far z (even_hundredths z) ≡ 5000 → nat_abs (even_hundredths z) % 2 ≡ 0
+tie-even z e = ap (λ (n : ℕ). n % 2) (abs-signed (is_below0 z) (to_even (nat_abs z))) ∙ (rounds (nat_abs z)).1 (sym (best-far z) ∙ e)
 
 -- negative sums mirror
-pub negated : (z : ℤ) → evenHundredths (neg_ℤ z) ≡ neg_ℤ (evenHundredths z)
+pub negated : (z : ℤ) → even_hundredths (neg_ℤ z) ≡ neg_ℤ (even_hundredths z)
 negated (pos zero) = refl
 negated (pos (suc n)) = refl
-negated (negsuc n) = sym (neg_ℤ-neg_ℤ (pos (toEven (suc n))))
+negated (negsuc n) = sym (neg_ℤ-neg_ℤ (pos (to_even (suc n))))
 
 -- There is exactly one such number.
 signed-zero : (b c : Bool) → signed b 0 ≡ signed c 0
@@ -170,19 +170,19 @@ signed-zero true false = refl
 signed-zero false true = refl
 signed-zero false false = refl
 
-only-by : (b c : Bool) (n k : ℕ) → farBy b c n (k * 10000) ≤ apart n (toEven n * 10000) → (farBy b c n (k * 10000) ≡ 5000 → k % 2 ≡ 0) → signed c k ≡ signed b (toEven n)
-only-by true true n k l t = ap (signed true) (only_one n (toEven n) k (rounds n) (omega (arith, l, (rounds n).0), t))
-only-by false false n k l t = ap (signed false) (only_one n (toEven n) k (rounds n) (omega (arith, l, (rounds n).0), t))
+only-by : (b c : Bool) (n k : ℕ) → far_by b c n (k * 10000) ≤ apart n (to_even n * 10000) → (far_by b c n (k * 10000) ≡ 5000 → k % 2 ≡ 0) → signed c k ≡ signed b (to_even n)
+only-by true true n k l t = ap (signed true) (only_one n (to_even n) k (rounds n) (omega (arith, l, (rounds n).0), t))
+only-by false false n k l t = ap (signed false) (only_one n (to_even n) k (rounds n) (omega (arith, l, (rounds n).0), t))
 only-by true false n k l t =
-    let z : k ≡ 0 = omega (arith, l, no-nearer n (toEven n) 0 (rounds n)) in
-    let q : 0 ≡ toEven n = only_one n (toEven n) 0 (rounds n) (omega (arith, l, (rounds n).0), λ e. refl) in
+    let z : k ≡ 0 = omega (arith, l, no-nearer n (to_even n) 0 (rounds n)) in
+    let q : 0 ≡ to_even n = only_one n (to_even n) 0 (rounds n) (omega (arith, l, (rounds n).0), λ e. refl) in
     ap (signed false) z ∙ signed-zero false true ∙ ap (signed true) q
 only-by false true n k l t =
-    let z : k ≡ 0 = omega (arith, l, no-nearer n (toEven n) 0 (rounds n)) in
-    let q : 0 ≡ toEven n = only_one n (toEven n) 0 (rounds n) (omega (arith, l, (rounds n).0), λ e. refl) in
+    let z : k ≡ 0 = omega (arith, l, no-nearer n (to_even n) 0 (rounds n)) in
+    let q : 0 ≡ to_even n = only_one n (to_even n) 0 (rounds n) (omega (arith, l, (rounds n).0), λ e. refl) in
     ap (signed true) z ∙ signed-zero true false ∙ ap (signed false) q
 
-pub one-such : (z h : ℤ) → ((k : ℤ) → far z h ≤ far z k) → (far z h ≡ 5000 → nat_abs h % 2 ≡ 0) → h ≡ evenHundredths z
+pub one-such : (z h : ℤ) → ((k : ℤ) → far z h ≤ far z k) → (far z h ≡ 5000 → nat_abs h % 2 ≡ 0) → h ≡ even_hundredths z
 one-such z h l t =
     sym (by_parts h)
-    ∙ only-by (isBelow0 z) (isBelow0 h) (nat_abs z) (nat_abs h) (omega (arith, l (evenHundredths z), best-far z, far-parts z h)) (λ e. t (far-parts z h ∙ e))
+    ∙ only-by (is_below0 z) (is_below0 h) (nat_abs z) (nat_abs h) (omega (arith, l (even_hundredths z), best-far z, far-parts z h)) (λ e. t (far-parts z h ∙ e))

@@ -12,12 +12,12 @@ use borrow.Author.Tests.{lt-ltb, ltb-true, ltb-false}
 use mir.Syntax.{w64}
 use mir.Val.{to_z, of_z}
 use Rattle.format.specs.Bytes.{Bytes}
-use Rattle.format.specs.Words.{isGap}
+use Rattle.format.specs.Words.{is_gap}
 use Rattle.format.specs.Numbers.{digit}
-use Rattle.values.specs.Value.{valueFrom}
+use Rattle.values.specs.Value.{value_from}
 use Rattle.values.proofs.Decoding.{byte_inside, plain_at}
-use Rattle.totals.specs.Totals.{wholeDigits, fractionDigits, signed, millionthsOf}
-use Rattle.totals.specs.Figures.{begun, stepped, filledFrom, toldBy, read_on, counted}
+use Rattle.totals.specs.Totals.{whole_digits, fraction_digits, signed, millionths_of}
+use Rattle.totals.specs.Figures.{begun, stepped, filled_from, told_by, read_on, counted}
 use Rattle.totals.specs.Plain.{Run, PlainTold}
 use Rattle.totals.specs.declared.figures.Figure.{Figure}
 use Rattle.totals.specs.declared.figures.Counted.{Counted}
@@ -28,7 +28,7 @@ use Rattle.totals.proofs.Folding.{gap_is, read-millionths}
 
 -- a digit stands for itself in a value
 module _ (s : Bytes) (j : ℕ) (l : j < length s) (d : ℕ) (g : d ≡ digit (get_or s j 0)) (h : d < 10) where
-  digit-next : valueFrom (drop j s) ≡ get_or s j 0 ∷ valueFrom (drop (j + 1) s)
+  digit-next : value_from (drop j s) ≡ get_or s j 0 ∷ value_from (drop (j + 1) s)
   digit-next =
       plain_at s j l (λ z. let w : d ≡ 16 = g ∙ ap digit z in omega (arith, w, h)) (λ z y. let w : d ≡ 16 = g ∙ ap digit z in omega (arith, w, h))
 
@@ -41,13 +41,13 @@ module _ (s : Bytes) (i e m : ℕ) where
         before = h;
         first = λ l. absurd (omega (arith, l));
         small = λ k l. subst (λ (x : ℕ). m < 10 ^ x) (same k) l;
-        whole = λ n k l. ap (λ (x : ℕ). read_on (Figure.Whole n x m) (valueFrom (drop i s))) (same k);
-        fraction = λ n k l. ap (λ (x : ℕ). read_on (Figure.Fraction n x m) (valueFrom (drop i s))) (same k);
+        whole = λ n k l. ap (λ (x : ℕ). read_on (Figure.Whole n x m) (value_from (drop i s))) (same k);
+        fraction = λ n k l. ap (λ (x : ℕ). read_on (Figure.Fraction n x m) (value_from (drop i s))) (same k);
       }
 
   module _ (j q : ℕ) (r : Run s i e m j q) (l : j < length s) (f : j < e) (d : ℕ) (g : d ≡ digit (get_or s j 0)) (h : d < 10) where
     abbrev later : Bytes
-    later = valueFrom (drop (j + 1) s)
+    later = value_from (drop (j + 1) s)
 
     abbrev grown : ℕ
     grown = q * 10 + d
@@ -79,17 +79,17 @@ module _ (s : Bytes) (i e m : ℕ) where
         }
 
 -- two digits behind the dot
-pub fill-two : (k m : ℕ) → k ≡ 2 → m * 10000 ≡ filledFrom k m
+pub fill-two : (k m : ℕ) → k ≡ 2 → m * 10000 ≡ filled_from k m
 fill-two k m e =
     let z : m * 10000 ≡ (((m * 10 + 0) * 10 + 0) * 10 + 0) * 10 + 0 = omega arith in
-    let y : (((m * 10 + 0) * 10 + 0) * 10 + 0) * 10 + 0 ≡ filledFrom 2 m = refl in
-    z ∙ y ∙ ap (λ (x : ℕ). filledFrom x m) (sym e)
+    let y : (((m * 10 + 0) * 10 + 0) * 10 + 0) * 10 + 0 ≡ filled_from 2 m = refl in
+    z ∙ y ∙ ap (λ (x : ℕ). filled_from x m) (sym e)
 
 -- a digit at the start is the first one before the dot, and behind a dot the first one behind it
-not-gap : (b : ℕ) → digit b < 10 → isGap b ≡ false
-not-gap b h = go (isGap b) refl
+not-gap : (b : ℕ) → digit b < 10 → is_gap b ≡ false
+not-gap b h = go (is_gap b) refl
   where
-    go : (t : Bool) → isGap b ≡ t → t ≡ false
+    go : (t : Bool) → is_gap b ≡ t → t ≡ false
     go true y = absurd (false≢true (sym (gap_is b y).0 ∙ lt-ltb (digit b) 10 h))
     go false y = refl
 
@@ -98,12 +98,12 @@ module _ (s : Bytes) (a : ℕ) (l : a < length s) (h : digit (get_or s a 0) < 10
   b = get_or s a 0
 
   abbrev behind : Bytes
-  behind = valueFrom (drop (a + 1) s)
+  behind = value_from (drop (a + 1) s)
 
-  next : valueFrom (drop a s) ≡ b ∷ behind
+  next : value_from (drop a s) ≡ b ∷ behind
   next = digit-next s a l (digit b) refl h
 
-  start-whole : read_on Figure.Start (valueFrom (drop a s)) ≡ read_on (Figure.Whole false 0 0) (valueFrom (drop a s))
+  start-whole : read_on Figure.Start (value_from (drop a s)) ≡ read_on (Figure.Whole false 0 0) (value_from (drop a s))
   start-whole =
       let ne : b ≡ 45 → ⊥ = λ z. let w : digit b ≡ 16 = ap digit z in omega (arith, w, h) in
       let one : Figure.Whole false 1 (digit b) ≡ stepped Figure.Start b = begun-yes b (digit b) refl false h ∙ start-digit b (not-gap b h) ne in
@@ -113,36 +113,36 @@ module _ (s : Bytes) (a : ℕ) (l : a < length s) (h : digit (get_or s a 0) < 10
       ∙ ap (λ (F : Figure). read_on F behind) (sym one ∙ ap (Figure.Whole false 1) z ∙ zero)
       ∙ sym (ap (read_on (Figure.Whole false 0 0)) next)
 
-  dot-fraction : (n : Bool) (m : ℕ) → read_on (Figure.Dot n m) (valueFrom (drop a s)) ≡ read_on (Figure.Fraction n 0 m) (valueFrom (drop a s))
+  dot-fraction : (n : Bool) (m : ℕ) → read_on (Figure.Dot n m) (value_from (drop a s)) ≡ read_on (Figure.Fraction n 0 m) (value_from (drop a s))
   dot-fraction n m =
       ap (read_on (Figure.Dot n m)) next
       ∙ ap (λ (F : Figure). read_on F behind) (sym (dot-digit b (digit b) refl n m h) ∙ fraction-digit b (digit b) refl n 0 m h (omega arith))
       ∙ sym (ap (read_on (Figure.Fraction n 0 m)) next)
 
 -- a dot behind the digits before it
-dot-next : (s : Bytes) (j : ℕ) (n : Bool) (k m : ℕ) → j < length s → get_or s j 0 ≡ 46 → read_on (Figure.Whole n k m) (valueFrom (drop j s)) ≡ read_on (Figure.Dot n m) (valueFrom (drop (j + 1) s))
+dot-next : (s : Bytes) (j : ℕ) (n : Bool) (k m : ℕ) → j < length s → get_or s j 0 ≡ 46 → read_on (Figure.Whole n k m) (value_from (drop j s)) ≡ read_on (Figure.Dot n m) (value_from (drop (j + 1) s))
 dot-next s j n k m l e =
     let d : digit (get_or s j 0) ≡ 16 = ap digit e in
-    let next : valueFrom (drop j s) ≡ get_or s j 0 ∷ valueFrom (drop (j + 1) s) = plain_at s j l (λ z. omega (arith, e, z)) (λ z y. omega (arith, e, z)) in
+    let next : value_from (drop j s) ≡ get_or s j 0 ∷ value_from (drop (j + 1) s) = plain_at s j l (λ z. omega (arith, e, z)) (λ z y. omega (arith, e, z)) in
     ap (read_on (Figure.Whole n k m)) next
-    ∙ ap (λ (F : Figure). read_on F (valueFrom (drop (j + 1) s))) (sym (whole-dot (get_or s j 0) (digit (get_or s j 0)) refl n k m (omega (arith, d)) e))
+    ∙ ap (λ (F : Figure). read_on F (value_from (drop (j + 1) s))) (sym (whole-dot (get_or s j 0) (digit (get_or s j 0)) refl n k m (omega (arith, d)) e))
 
 -- a plain value: digits to j, and more from a on, behind the dot at j, to z
 module _ (s : Bytes) (e j q : ℕ) (r : Run s 0 e 0 j q) (f : e ≤ length s) (few : e ≤ 8) (some-digits : j ≡ 0 → ⊥) where
   pub whole-small : q < 10 ^ 8
   whole-small = power_below 8 (0 + (j - 0)) q (omega (arith, r.before, few)) (r.small 0 (omega arith))
 
-  begun-whole : millionthsOf (valueFrom s) ≡ read_on (Figure.Whole false j q) (valueFrom (drop j s))
+  begun-whole : millionths_of (value_from s) ≡ read_on (Figure.Whole false j q) (value_from (drop j s))
   begun-whole =
       let l : 0 < j = omega (arith, some-digits) in
       let z : 0 + (j - 0) ≡ j = omega arith in
-      sym (read-millionths (valueFrom s))
+      sym (read-millionths (value_from s))
       ∙ start-whole s 0 (omega (arith, l, r.before, f)) (r.first l)
       ∙ r.whole false 0 (omega (arith, r.before, few))
-      ∙ ap (λ (x : ℕ). read_on (Figure.Whole false x q) (valueFrom (drop j s))) z
+      ∙ ap (λ (x : ℕ). read_on (Figure.Whole false x q) (value_from (drop j s))) z
 
-  pub whole-told : (x : ℕ) → (x ≡ filledFrom 0 q) × (x < 100000000000000) → valueFrom (drop j s) ≡ [] → PlainTold s (PlainValue.Millionths x)
-  unfolding toldBy
+  pub whole-told : (x : ℕ) → (x ≡ filled_from 0 q) × (x < 100000000000000) → value_from (drop j s) ≡ [] → PlainTold s (PlainValue.Millionths x)
+  unfolding told_by
   whole-told x h v = (h.1, begun-whole ∙ ap (read_on (Figure.Whole false j q)) v ∙ ap {B = Option ℤ} (λ (y : ℕ). some (pos y)) (sym h.0))
 
   pub dot-inside : get_or s j 0 ≡ 46 → j < length s
@@ -155,22 +155,22 @@ module _ (s : Bytes) (e j q : ℕ) (r : Run s 0 e 0 j q) (f : e ≤ length s) (f
     pub fraction-small : t < 10 ^ (8 + (z - (j + 1)))
     fraction-small = p.small 8 whole-small
 
-    pub fraction-told : (z ≡ j + 1 → ⊥) → (x : ℕ) → (x ≡ filledFrom (z - (j + 1)) t) × (x < 100000000000000) → valueFrom (drop z s) ≡ [] → PlainTold s (PlainValue.Millionths x)
-    unfolding toldBy
+    pub fraction-told : (z ≡ j + 1 → ⊥) → (x : ℕ) → (x ≡ filled_from (z - (j + 1)) t) × (x < 100000000000000) → value_from (drop z s) ≡ [] → PlainTold s (PlainValue.Millionths x)
+    unfolding told_by
     fraction-told some-behind x h v =
         let l : j + 1 < z = omega (arith, some-behind, p.on) in
         let y : 0 + (z - (j + 1)) ≡ z - (j + 1) = omega arith in
-        let read : millionthsOf (valueFrom s) ≡ read_on (Figure.Fraction false (z - (j + 1)) t) (valueFrom (drop z s)) =
+        let read : millionths_of (value_from s) ≡ read_on (Figure.Fraction false (z - (j + 1)) t) (value_from (drop z s)) =
         begun-whole
         ∙ dot-next s j false j q (dot-inside dot) dot
         ∙ dot-fraction s (j + 1) (omega (arith, l, p.before, g)) (p.first l) false q
         ∙ p.fraction false 0 (omega (arith, p.before, short))
-        ∙ ap (λ (k : ℕ). read_on (Figure.Fraction false k t) (valueFrom (drop z s))) y
+        ∙ ap (λ (k : ℕ). read_on (Figure.Fraction false k t) (value_from (drop z s))) y
         in (h.1, read ∙ ap (read_on (Figure.Fraction false (z - (j + 1)) t)) v ∙ ap {B = Option ℤ} (λ (k : ℕ). some (pos k)) (sym h.0))
 
 -- what an answer tells, once its form is known
 pub plain-told : (s : Bytes) (x : PlainValue) {y : PlainValue} → PlainTold s x → x ≡ y → PlainTold s y
 plain-told s x h e = subst (PlainTold s) e h
 
-pub plain-counted : (s : Bytes) (m : ℕ) (r : ℤ) → PlainTold s (PlainValue.Millionths m) → r ≡ signed false m → counted (Counted.Value (to_z w64 (of_z w64 r))) ≡ millionthsOf (valueFrom s)
+pub plain-counted : (s : Bytes) (m : ℕ) (r : ℤ) → PlainTold s (PlainValue.Millionths m) → r ≡ signed false m → counted (Counted.Value (to_z w64 (of_z w64 r))) ≡ millionths_of (value_from s)
 plain-counted s m r h e = signed-value false r m m (refl, h.0) e ∙ sym h.1

@@ -9,7 +9,7 @@ use lib.ListN.{length, length-append}
 use Rattle.format.specs.Bytes.{Bytes}
 use Rattle.format.specs.Lists.{onward}
 use Rattle.format.specs.Numbering.{every}
-use Rattle.totals.specs.Totals.{millionthsOf, sum_of, Total, total_of, Totalled, totalled}
+use Rattle.totals.specs.Totals.{millionths_of, sum_of, Total, total_of, Totalled, totalled}
 
 -- what each of a list has is what each of its parts has
 module _ {A B : Type 0} (f : A → Option B) where
@@ -64,14 +64,14 @@ Replaces old new xs ys = (a b : List Bytes) × (xs ≡ a ++ (old ++ b)) × (ys �
 -- What the replacing does to a total, where all values count before and after.
 abbrev pub Moved : List Bytes → List Bytes → Total → Total → Type 0
 Moved old new t u =
-    (x y : List ℤ) × (every millionthsOf old ≡ some x) × (every millionthsOf new ≡ some y)
+    (x y : List ℤ) × (every millionths_of old ≡ some x) × (every millionths_of new ≡ some y)
     × (u.millionths ≡ (t.millionths -ℤ sum_of x) +ℤ sum_of y)
     × (u.number + length x ≡ t.number + length y)
 
 alike : {B : Type 0} (o : Option B) (x y : B) → o ≡ some x → o ≡ some y → x ≡ y
 alike o x y e h = some-injective x y (sym e ∙ h)
 
-moved_by : (old new : List Bytes) (a x y b zs ws : List ℤ) → every millionthsOf old ≡ some x → every millionthsOf new ≡ some y → zs ≡ a ++ (x ++ b) → ws ≡ a ++ (y ++ b) → Moved old new (total_of zs) (total_of ws)
+moved_by : (old new : List Bytes) (a x y b zs ws : List ℤ) → every millionths_of old ≡ some x → every millionths_of new ≡ some y → zs ≡ a ++ (x ++ b) → ws ≡ a ++ (y ++ b) → Moved old new (total_of zs) (total_of ws)
 moved_by old new a x y b zs ws e f p q = (
   x,
   y,
@@ -81,23 +81,23 @@ moved_by old new a x y b zs ws e f p q = (
   ap (λ (l : List ℤ). length l + length x) q ∙ number-replaced a x y b ∙ ap (λ (l : List ℤ). length l + length y) (sym p),
 )
 
-pub replaced-total : (old new xs ys : List Bytes) (zs ws : List ℤ) → Replaces old new xs ys → every millionthsOf xs ≡ some zs → every millionthsOf ys ≡ some ws → Moved old new (total_of zs) (total_of ws)
+pub replaced-total : (old new xs ys : List Bytes) (zs ws : List ℤ) → Replaces old new xs ys → every millionths_of xs ≡ some zs → every millionths_of ys ≡ some ws → Moved old new (total_of zs) (total_of ws)
 replaced-total old new xs ys zs ws (a, b, p, q) e f =
-    let h = every-parts millionthsOf a (old ++ b) zs (ap (every millionthsOf) (sym p) ∙ e) in
-    let k = every-parts millionthsOf a (new ++ b) ws (ap (every millionthsOf) (sym q) ∙ f) in
-    let i = every-parts millionthsOf old b h.1 h.3 in
-    let j = every-parts millionthsOf new b k.1 k.3 in
-    let s : k.0 ≡ h.0 = alike (every millionthsOf a) k.0 h.0 k.2 h.2 in
-    let t : j.1 ≡ i.1 = alike (every millionthsOf b) j.1 i.1 j.3 i.3 in
+    let h = every-parts millionths_of a (old ++ b) zs (ap (every millionths_of) (sym p) ∙ e) in
+    let k = every-parts millionths_of a (new ++ b) ws (ap (every millionths_of) (sym q) ∙ f) in
+    let i = every-parts millionths_of old b h.1 h.3 in
+    let j = every-parts millionths_of new b k.1 k.3 in
+    let s : k.0 ≡ h.0 = alike (every millionths_of a) k.0 h.0 k.2 h.2 in
+    let t : j.1 ≡ i.1 = alike (every millionths_of b) j.1 i.1 j.3 i.3 in
     moved_by old new h.0 i.0 j.0 i.1 zs ws i.2 j.2
     (h.4 ∙ ap (λ (l : List ℤ). h.0 ++ l) i.4)
     (k.4 ∙ ap (λ (l : List ℤ). k.0 ++ l) j.4 ∙ (λ n. s n ++ (j.0 ++ t n)))
 
 -- one value in the place of one, values taken off, values put there
-one_has : (v : Bytes) (zs : List ℤ) → every millionthsOf (v ∷ []) ≡ some zs → (a : ℤ) × (millionthsOf v ≡ some a) × (zs ≡ a ∷ [])
-one_has v zs e = let h = every-cons millionthsOf v [] zs e in (h.0, h.2, h.4 ∙ ap {B = List ℤ} (λ (l : List ℤ). h.0 ∷ l) (sym (some-injective [] h.1 h.3)))
+one_has : (v : Bytes) (zs : List ℤ) → every millionths_of (v ∷ []) ≡ some zs → (a : ℤ) × (millionths_of v ≡ some a) × (zs ≡ a ∷ [])
+one_has v zs e = let h = every-cons millionths_of v [] zs e in (h.0, h.2, h.4 ∙ ap {B = List ℤ} (λ (l : List ℤ). h.0 ∷ l) (sym (some-injective [] h.1 h.3)))
 
-pub moved-one : (v w : Bytes) (t u : Total) → Moved (v ∷ []) (w ∷ []) t u → (a b : ℤ) × (millionthsOf v ≡ some a) × (millionthsOf w ≡ some b) × (u.millionths ≡ (t.millionths -ℤ a) +ℤ b) × (u.number ≡ t.number)
+pub moved-one : (v w : Bytes) (t u : Total) → Moved (v ∷ []) (w ∷ []) t u → (a b : ℤ) × (millionths_of v ≡ some a) × (millionths_of w ≡ some b) × (u.millionths ≡ (t.millionths -ℤ a) +ℤ b) × (u.number ≡ t.number)
 moved-one v w t u (x, y, e, f, s, k) =
     let p = one_has v x e in
     let q = one_has w y f in
@@ -105,12 +105,12 @@ moved-one v w t u (x, y, e, f, s, k) =
     let b : sum_of y ≡ q.0 = ap sum_of q.2 ∙ +ℤ_idr q.0 in
     (p.0, q.0, p.1, q.1, s ∙ (λ i. (t.millionths -ℤ a i) +ℤ b i), omega (arith, k, ap length p.2, ap length q.2))
 
-pub moved-off : (old : List Bytes) (t u : Total) → Moved old [] t u → (x : List ℤ) × (every millionthsOf old ≡ some x) × (u.millionths ≡ t.millionths -ℤ sum_of x) × (u.number + length x ≡ t.number)
+pub moved-off : (old : List Bytes) (t u : Total) → Moved old [] t u → (x : List ℤ) × (every millionths_of old ≡ some x) × (u.millionths ≡ t.millionths -ℤ sum_of x) × (u.number + length x ≡ t.number)
 moved-off old t u (x, y, e, f, s, k) =
     let z : y ≡ [] = sym (some-injective [] y f) in
     (x, e, s ∙ ap (λ (l : List ℤ). (t.millionths -ℤ sum_of x) +ℤ sum_of l) z ∙ +ℤ_idr (t.millionths -ℤ sum_of x), omega (arith, k, ap length z))
 
-pub moved_on : (new : List Bytes) (t u : Total) → Moved [] new t u → (y : List ℤ) × (every millionthsOf new ≡ some y) × (u.millionths ≡ t.millionths +ℤ sum_of y) × (u.number ≡ t.number + length y)
+pub moved_on : (new : List Bytes) (t u : Total) → Moved [] new t u → (y : List ℤ) × (every millionths_of new ≡ some y) × (u.millionths ≡ t.millionths +ℤ sum_of y) × (u.number ≡ t.number + length y)
 moved_on new t u (x, y, e, f, s, k) =
     let z : x ≡ [] = sym (some-injective [] x e) in
     (y, f, s ∙ ap (λ (l : List ℤ). (t.millionths -ℤ sum_of l) +ℤ sum_of y) z ∙ ap (λ (m : ℤ). m +ℤ sum_of y) (+ℤ_idr t.millionths), omega (arith, k, ap length z))

@@ -12,13 +12,13 @@ use mir.Syntax.{w64}
 use mir.Val.{to_z, of_z}
 use Rattle.format.specs.Bytes.{Bytes}
 use Rattle.format.specs.Lists.{onward}
-use Rattle.format.specs.Limits.{fileBytes}
+use Rattle.format.specs.Limits.{file_bytes}
 use Rattle.format.specs.Numbering.{every}
 use Rattle.lines.proofs.Cuts.{rest}
-use Rattle.values.specs.Value.{valueFrom}
-use Rattle.records.specs.Places.{isReadable}
-use Rattle.records.specs.Named.{valuesFrom, ValueHere}
-use Rattle.totals.specs.Totals.{millionthsOf, sum_of}
+use Rattle.values.specs.Value.{value_from}
+use Rattle.records.specs.Places.{is_readable}
+use Rattle.records.specs.Named.{values_from, ValueHere}
+use Rattle.totals.specs.Totals.{millionths_of, sum_of}
 use Rattle.totals.specs.Figures.{counted}
 use Rattle.totals.specs.declared.figures.Counted.{Counted}
 use Rattle.totals.specs.Adding.{Sum, summed, added}
@@ -28,15 +28,15 @@ use Rattle.totals.proofs.Fitting.{abs-add}
 use Rattle.totals.proofs.Bits.{seen-is}
 
 -- what has been added, and values that are to come
-abbrev pub addedTo : ℤ → ℕ → Option (List ℤ) → Option Sum
-addedTo z n none = none
-addedTo z n (some zs) = some (record { millionths = z +ℤ sum_of zs; number = n + length zs })
+abbrev pub added_to : ℤ → ℕ → Option (List ℤ) → Option Sum
+added_to z n none = none
+added_to z n (some zs) = some (record { millionths = z +ℤ sum_of zs; number = n + length zs })
 
-from_zero : (x : Option (List ℤ)) → addedTo (pos 0) 0 x ≡ summed x
+from_zero : (x : Option (List ℤ)) → added_to (pos 0) 0 x ≡ summed x
 from_zero none = refl
 from_zero (some zs) = λ i. some (record { millionths = +ℤ_idl (sum_of zs) i; number = zero-add (length zs) i })
 
-one_more : (z y : ℤ) (n : ℕ) (x : Option (List ℤ)) → addedTo z n (map (λ (ys : List ℤ). y ∷ ys) x) ≡ addedTo (z +ℤ y) (n + 1) x
+one_more : (z y : ℤ) (n : ℕ) (x : Option (List ℤ)) → added_to z n (map (λ (ys : List ℤ). y ∷ ys) x) ≡ added_to (z +ℤ y) (n + 1) x
 one_more z y n none = refl
 one_more z y n (some zs) =
     let e : n + length (y ∷ zs) ≡ n + 1 + length zs = omega arith in
@@ -44,38 +44,38 @@ one_more z y n (some zs) =
 
 pub record Adds (name s : Bytes) (z : ℤ) (n i : ℕ) : Type 0 where
   pub inside : i ≤ length s
-  pub readable : isReadable (drop i s) ≡ true
+  pub readable : is_readable (drop i s) ≡ true
   pub few : n ≤ i
   pub small : nat_abs z ≤ n * 100000000000000
-  pub all : summed (every millionthsOf (valuesFrom s name 0)) ≡ addedTo z n (every millionthsOf (valuesFrom s name i))
+  pub all : summed (every millionths_of (values_from s name 0)) ≡ added_to z n (every millionths_of (values_from s name i))
 
-pub adds-start : (name s : Bytes) → isReadable s ≡ true → Adds name s (pos 0) 0 0
-adds-start name s e = record { inside = omega arith; readable = e; few = omega arith; small = omega arith; all = sym (from_zero (every millionthsOf (valuesFrom s name 0))) }
+pub adds-start : (name s : Bytes) → is_readable s ≡ true → Adds name s (pos 0) 0 0
+adds-start name s e = record { inside = omega arith; readable = e; few = omega arith; small = omega arith; all = sym (from_zero (every millionths_of (values_from s name 0))) }
 
 module _ (name s : Bytes) (z : ℤ) (n i : ℕ) (a : Adds name s z n i) where
-  pub adds_fit : length s ≤ fileBytes → nat_abs z < 9223372036854775808
+  pub adds_fit : length s ≤ file_bytes → nat_abs z < 9223372036854775808
   adds_fit h = omega (arith, h, a.inside, a.few, a.small)
 
-  pub adds-end : valuesFrom s name i ≡ [] → added (Added.Sum z n) ≡ summed (every millionthsOf (valuesFrom s name 0))
-  adds-end e = sym (a.all ∙ ap (λ (vs : List Bytes). addedTo z n (every millionthsOf vs)) e ∙ (λ i. some (record { millionths = +ℤ_idr z i; number = add-zero n i })))
+  pub adds-end : values_from s name i ≡ [] → added (Added.Sum z n) ≡ summed (every millionths_of (values_from s name 0))
+  adds-end e = sym (a.all ∙ ap (λ (vs : List Bytes). added_to z n (every millionths_of vs)) e ∙ (λ i. some (record { millionths = +ℤ_idr z i; number = add-zero n i })))
 
   module _ (v e : ℕ) (f : ValueHere s name i v e) where
     -- by what the next value adds
-    next-adds : (x : Option ℤ) → millionthsOf (valueFrom (drop v s)) ≡ x
-        → summed (every millionthsOf (valuesFrom s name 0)) ≡ addedTo z n (onward (λ (y : ℤ). map (λ (ys : List ℤ). y ∷ ys) (every millionthsOf (valuesFrom s name e))) x)
+    next-adds : (x : Option ℤ) → millionths_of (value_from (drop v s)) ≡ x
+        → summed (every millionths_of (values_from s name 0)) ≡ added_to z n (onward (λ (y : ℤ). map (λ (ys : List ℤ). y ∷ ys) (every millionths_of (values_from s name e))) x)
     next-adds x h =
         a.all
-        ∙ ap (λ (vs : List Bytes). addedTo z n (every millionthsOf vs)) f.values
-        ∙ ap (λ (o : Option ℤ). addedTo z n (onward (λ (y : ℤ). map (λ (ys : List ℤ). y ∷ ys) (every millionthsOf (valuesFrom s name e))) o)) (ap millionthsOf (sym f.ends-itself) ∙ h)
+        ∙ ap (λ (vs : List Bytes). added_to z n (every millionths_of vs)) f.values
+        ∙ ap (λ (o : Option ℤ). added_to z n (onward (λ (y : ℤ). map (λ (ys : List ℤ). y ∷ ys) (every millionths_of (values_from s name e))) o)) (ap millionths_of (sym f.ends-itself) ∙ h)
 
     -- it does not count
-    pub adds-not : millionthsOf (valueFrom (drop v s)) ≡ none → added Added.Uncounted ≡ summed (every millionthsOf (valuesFrom s name 0))
+    pub adds-not : millionths_of (value_from (drop v s)) ≡ none → added Added.Uncounted ≡ summed (every millionths_of (values_from s name 0))
     adds-not h = sym (next-adds none h)
 
     -- it counts; numbers as the machine has them
-    module _ (y : ℤ) (h : millionthsOf (valueFrom (drop v s)) ≡ some y) (short : length s ≤ fileBytes) where
+    module _ (y : ℤ) (h : millionths_of (value_from (drop v s)) ≡ some y) (short : length s ≤ file_bytes) where
       value-below : nat_abs y < 100000000000000
-      value-below = (value-small (valueFrom (drop v s)) y h).0
+      value-below = (value-small (value_from (drop v s)) y h).0
 
       value-seen : to_z w64 (of_z w64 y) ≡ y
       value-seen = seen-is y (omega (arith, value-below))
@@ -92,7 +92,7 @@ module _ (name s : Bytes) (z : ℤ) (n i : ℕ) (a : Adds name s z n i) where
         readable = f.readable;
         few = omega (arith, a.few, f.moves);
         small = omega (arith, a.small, abs-add z y, value-below);
-        all = next-adds (some y) h ∙ one_more z y n (every millionthsOf (valuesFrom s name e));
+        all = next-adds (some y) h ∙ one_more z y n (every millionths_of (values_from s name e));
       }
 
       pub adds-more : (r : ℤ) → r ≡ z +ℤ to_z w64 (of_z w64 y) → Adds name s (to_z w64 (of_z w64 r)) (n + 1) e
@@ -102,5 +102,5 @@ module _ (name s : Bytes) (z : ℤ) (n i : ℕ) (a : Adds name s z n i) where
           subst (λ (x : ℤ). Adds name s x (n + 1) e) (sym seen) one-added
 
 -- what is told of a value where it stands
-pub value-counted : (s : Bytes) (v : ℕ) (x : Counted) {y : Counted} → counted x ≡ millionthsOf (valueFrom (take (length s - v) (drop v s))) → x ≡ y → millionthsOf (valueFrom (drop v s)) ≡ counted y
-value-counted s v x h e = sym (sym (ap counted e) ∙ h ∙ ap (λ (t : Bytes). millionthsOf (valueFrom t)) (rest s v))
+pub value-counted : (s : Bytes) (v : ℕ) (x : Counted) {y : Counted} → counted x ≡ millionths_of (value_from (take (length s - v) (drop v s))) → x ≡ y → millionths_of (value_from (drop v s)) ≡ counted y
+value-counted s v x h e = sym (sym (ap counted e) ∙ h ∙ ap (λ (t : Bytes). millionths_of (value_from t)) (rest s v))

@@ -3,12 +3,12 @@ use Rattle.std.specs.Prelude.{ℕ, ◌<◌, List, ℤ, nat_abs, length}
 use Rattle.std.proofs.Math.Option.{Option, none, some}
 use Rattle.format.specs.Bytes.{Bytes}
 use Rattle.format.specs.Pieces.{read_of}
-use Rattle.format.specs.Sets.{setsOf}
+use Rattle.format.specs.Sets.{sets_of}
 use Rattle.format.specs.Numbering.{every}
-use Rattle.format.specs.Questions.{firstNo, valuesIn}
-use Rattle.format.specs.Plain.{Sought, soughtMembers, foundRows}
-use Rattle.format.specs.Calls.{soughtSet}
-use Rattle.totals.specs.Totals.{millionthsOf, sum_of, Totalled, totalled}
+use Rattle.format.specs.Questions.{first_no, values_in}
+use Rattle.format.specs.Plain.{Sought, sought_members, found_rows}
+use Rattle.format.specs.Calls.{sought_set}
+use Rattle.totals.specs.Totals.{millionths_of, sum_of, Totalled, totalled}
 use Rattle.totals.specs.declared.adding.Added.{Added}
 
 -- the sum of values that all count, and how many they are
@@ -16,12 +16,12 @@ pub record Sum : Type 0 where
   pub millionths : ℤ
   pub number : ℕ
 
-abbrev pub sumWith : List ℤ → Sum
-sumWith zs = record { millionths = sum_of zs; number = length zs }
+abbrev pub sum_with : List ℤ → Sum
+sum_with zs = record { millionths = sum_of zs; number = length zs }
 
 abbrev pub summed : Option (List ℤ) → Option Sum
 summed none = none
-summed (some zs) = some (sumWith zs)
+summed (some zs) = some (sum_with zs)
 
 abbrev pub added : Added → Option Sum
 added (Added.Sum z n) = some (record { millionths = z; number = n })
@@ -33,7 +33,7 @@ SumFits (Added.Sum z n) = nat_abs z < 9223372036854775808
 SumFits Added.Uncounted = Unit {0}
 
 -- the call's answer of a text: the file's own questions are not asked
-unfoldable pub totalIn : Bytes → Bytes → Bytes → Totalled
-totalIn s set name =
-    let q : Sought = soughtSet (setsOf (read_of s)) set in
-    totalled (firstNo foundRows q) (every millionthsOf (valuesIn name (soughtMembers q)))
+unfoldable pub total_in : Bytes → Bytes → Bytes → Totalled
+total_in s set name =
+    let q : Sought = sought_set (sets_of (read_of s)) set in
+    totalled (first_no found_rows q) (every millionths_of (values_in name (sought_members q)))

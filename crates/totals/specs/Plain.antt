@@ -3,8 +3,8 @@ use Rattle.std.specs.Prelude.{ℕ, ◌+◌, ◌-◌, ◌^◌, ◌≤◌, ◌<◌
 use Rattle.std.proofs.Math.Option.{some}
 use Rattle.format.specs.Bytes.{Bytes}
 use Rattle.format.specs.Numbers.{digit}
-use Rattle.values.specs.Value.{valueFrom}
-use Rattle.totals.specs.Totals.{wholeDigits, fractionDigits, millionthsOf}
+use Rattle.values.specs.Value.{value_from}
+use Rattle.totals.specs.Totals.{whole_digits, fraction_digits, millionths_of}
 use Rattle.totals.specs.Figures.{read_on}
 use Rattle.totals.specs.declared.figures.Figure.{Figure}
 use Rattle.totals.specs.declared.plain.PlainValue.{PlainValue}
@@ -15,10 +15,10 @@ pub record Run (s : Bytes) (i e m j q : ℕ) : Type 0 where
   pub before : j ≤ e
   pub first : i < j → digit (get_or s i 0) < 10
   pub small : (k : ℕ) → m < 10 ^ k → q < 10 ^ (k + (j - i))
-  pub whole : (n : Bool) (k : ℕ) → k + (j - i) ≤ wholeDigits → read_on (Figure.Whole n k m) (valueFrom (drop i s)) ≡ read_on (Figure.Whole n (k + (j - i)) q) (valueFrom (drop j s))
-  pub fraction : (n : Bool) (k : ℕ) → k + (j - i) ≤ fractionDigits → read_on (Figure.Fraction n k m) (valueFrom (drop i s)) ≡ read_on (Figure.Fraction n (k + (j - i)) q) (valueFrom (drop j s))
+  pub whole : (n : Bool) (k : ℕ) → k + (j - i) ≤ whole_digits → read_on (Figure.Whole n k m) (value_from (drop i s)) ≡ read_on (Figure.Whole n (k + (j - i)) q) (value_from (drop j s))
+  pub fraction : (n : Bool) (k : ℕ) → k + (j - i) ≤ fraction_digits → read_on (Figure.Fraction n k m) (value_from (drop i s)) ≡ read_on (Figure.Fraction n (k + (j - i)) q) (value_from (drop j s))
 
 -- what is told of a plain value
 abbrev pub PlainTold : Bytes → PlainValue → Type 0
-PlainTold s (PlainValue.Millionths m) = (m < 100000000000000) × (millionthsOf (valueFrom s) ≡ some (pos m))
+PlainTold s (PlainValue.Millionths m) = (m < 100000000000000) × (millionths_of (value_from s) ≡ some (pos m))
 PlainTold s PlainValue.Other = Unit {0}

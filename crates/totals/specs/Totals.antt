@@ -4,22 +4,22 @@ use Rattle.std.proofs.Math.Option.{Option, none, some}
 use Rattle.format.specs.Bytes.{Bytes}
 use Rattle.format.specs.Lists.{only_if, onward}
 use Rattle.format.specs.Words.{trim}
-use Rattle.format.specs.Numbers.{numeral, Decimal, decimalOf}
+use Rattle.format.specs.Numbers.{numeral, Decimal, decimal_of}
 use Rattle.format.specs.Numbering.{every}
-use Rattle.format.specs.Questions.{valuesIn}
-use Rattle.format.specs.Plain.{Sought, soughtMembers}
-use Rattle.format.specs.Calls.{setsIn, lookupNo, soughtSet}
+use Rattle.format.specs.Questions.{values_in}
+use Rattle.format.specs.Plain.{Sought, sought_members}
+use Rattle.format.specs.Calls.{sets_in, lookup_no, sought_set}
 use Rattle.totals.specs.declared.Totalled.{Totalled as Reply}
 
 -- "A value counts if it is a real with at most eight digits before the dot and six after."
-abbrev pub wholeDigits : ℕ
-wholeDigits = 8
+abbrev pub whole_digits : ℕ
+whole_digits = 8
 
-abbrev pub fractionDigits : ℕ
-fractionDigits = 6
+abbrev pub fraction_digits : ℕ
+fraction_digits = 6
 
 abbrev pub counts : Decimal → Bool
-counts d = leb (length d.whole) wholeDigits && leb (length d.fraction) fractionDigits
+counts d = leb (length d.whole) whole_digits && leb (length d.fraction) fraction_digits
 
 -- a whole number with its sign: n below zero, or n; −0 is 0
 abbrev pub signed : Bool → ℕ → ℤ
@@ -27,15 +27,15 @@ signed true n = neg_ℤ (pos n)
 signed false n = pos n
 
 -- "as a whole number of millionths": the digits before the dot times 1,000,000, and those behind it, filled with zeros to six
-abbrev pub filledUp : Bytes → Bytes
-filledUp s = s ++ replicate (fractionDigits - length s) 48
+abbrev pub filled_up : Bytes → Bytes
+filled_up s = s ++ replicate (fraction_digits - length s) 48
 
-abbrev pub millionthsIn : Decimal → ℤ
-millionthsIn d = signed d.negative (numeral 10 0 d.whole * 1000000 + numeral 10 0 (filledUp d.fraction))
+abbrev pub millionths_in : Decimal → ℤ
+millionths_in d = signed d.negative (numeral 10 0 d.whole * 1000000 + numeral 10 0 (filled_up d.fraction))
 
 -- the millionths of a value, none where it doesn't count; "Blanks and newlines around a value are ignored" (document 01)
-unfoldable pub millionthsOf : Bytes → Option ℤ
-millionthsOf v = onward (λ (d : Decimal). only_if (counts d) (millionthsIn d)) (decimalOf (trim v))
+unfoldable pub millionths_of : Bytes → Option ℤ
+millionths_of v = onward (λ (d : Decimal). only_if (counts d) (millionths_in d)) (decimal_of (trim v))
 
 -- "add every occurrence, in all records, exactly"
 abbrev pub sum_of : List ℤ → ℤ
@@ -46,12 +46,12 @@ sum_of (z ∷ zs) = z +ℤ sum_of zs
 abbrev pub rounded : ℕ → ℕ
 rounded n = (n + 5000) / 10000
 
-abbrev pub isBelow0 : ℤ → Bool
-isBelow0 (pos n) = false
-isBelow0 (negsuc n) = true
+abbrev pub is_below0 : ℤ → Bool
+is_below0 (pos n) = false
+is_below0 (negsuc n) = true
 
-unfoldable pub hundredthsOf : ℤ → ℤ
-hundredthsOf z = signed (isBelow0 z) (rounded (nat_abs z))
+unfoldable pub hundredths_of : ℤ → ℤ
+hundredths_of z = signed (is_below0 z) (rounded (nat_abs z))
 
 -- "The answer is in hundredths .., with the exact millionths beside it and the number of values added."
 pub record Total : Type 0 where
@@ -60,7 +60,7 @@ pub record Total : Type 0 where
   pub number : ℕ
 
 abbrev pub total_of : List ℤ → Total
-total_of zs = record { hundredths = hundredthsOf (sum_of zs); millionths = sum_of zs; number = length zs }
+total_of zs = record { hundredths = hundredths_of (sum_of zs); millionths = sum_of zs; number = length zs }
 
 -- a total, or a refusal's number
 pub data Totalled : Type 0 where
@@ -68,26 +68,26 @@ pub data Totalled : Type 0 where
   refusal : ℕ → Totalled
 
 -- what the code answers, in these words
-abbrev pub totalledBy : Reply → Totalled
-totalledBy (Reply.Value h m n) = value (record { hundredths = h; millionths = m; number = n })
-totalledBy (Reply.Refused k) = refusal k
+abbrev pub totalled_by : Reply → Totalled
+totalled_by (Reply.Value h m n) = value (record { hundredths = h; millionths = m; number = n })
+totalled_by (Reply.Refused k) = refusal k
 
 -- the same in single numbers: the refusal's, 0 if there is none; how many values were added, 0 where it is refused; and each sum, or another number in its place
-abbrev pub refusalIn : Totalled → ℕ
-refusalIn (value t) = 0
-refusalIn (refusal k) = k
+abbrev pub refusal_in : Totalled → ℕ
+refusal_in (value t) = 0
+refusal_in (refusal k) = k
 
-abbrev pub addedIn : Totalled → ℕ
-addedIn (value t) = t.number
-addedIn (refusal k) = 0
+abbrev pub added_in : Totalled → ℕ
+added_in (value t) = t.number
+added_in (refusal k) = 0
 
-abbrev pub hundredthsOr : ℤ → Totalled → ℤ
-hundredthsOr z (value t) = t.hundredths
-hundredthsOr z (refusal k) = z
+abbrev pub hundredths_or : ℤ → Totalled → ℤ
+hundredths_or z (value t) = t.hundredths
+hundredths_or z (refusal k) = z
 
-abbrev pub millionthsOr : ℤ → Totalled → ℤ
-millionthsOr z (value t) = t.millionths
-millionthsOr z (refusal k) = z
+abbrev pub millionths_or : ℤ → Totalled → ℤ
+millionths_or z (value t) = t.millionths
+millionths_or z (refusal k) = z
 
 -- "32 if some occurrence doesn't count, after the file's numbers and 21"
 abbrev pub totalled : ℕ → Option (List ℤ) → Totalled
@@ -95,7 +95,7 @@ totalled (suc k) x = refusal (suc k)
 totalled zero none = refusal 32
 totalled zero (some zs) = value (total_of zs)
 
-unfoldable pub totalAnswer : Bytes → ℕ → Bytes → Bytes → Totalled
-totalAnswer buffer used set name =
-    let q : Sought = soughtSet (setsIn buffer used) set in
-    totalled (lookupNo buffer used q) (every millionthsOf (valuesIn name (soughtMembers q)))
+unfoldable pub total_answer : Bytes → ℕ → Bytes → Bytes → Totalled
+total_answer buffer used set name =
+    let q : Sought = sought_set (sets_in buffer used) set in
+    totalled (lookup_no buffer used q) (every millionths_of (values_in name (sought_members q)))

@@ -1,11 +1,11 @@
 // The values of a name, added one after another.
 ghost use Rattle.std.specs.Prelude.{◌≡◌, true, ◌≤◌, length};
-ghost use Rattle.format.specs.Limits.{fileBytes};
+ghost use Rattle.format.specs.Limits.{file_bytes};
 ghost use Rattle.format.specs.Numbering.{every};
 ghost use Rattle.format.specs.Sets.{values_of};
-ghost use Rattle.records.specs.Places.{isReadable};
-ghost use Rattle.records.specs.Walk.{recordIn};
-ghost use Rattle.totals.specs.Totals.{millionthsOf};
+ghost use Rattle.records.specs.Places.{is_readable};
+ghost use Rattle.records.specs.Walk.{record_in};
+ghost use Rattle.totals.specs.Totals.{millionths_of};
 ghost use Rattle.totals.specs.Adding.{added, summed, SumFits};
 
 use super::figures::Counted;
@@ -22,8 +22,8 @@ pub enum Added {
 
 // The values in s of the fields of a name, added.
 pub fn add_values(s: &[u8], name: &[u8]) -> Added
-    requires { (isReadable s.now ≡ true) × (length s.now ≤ fileBytes) }
-    ensures { (added result ≡ summed (every millionthsOf (values_of name.now (recordIn s.now)))) × SumFits result }
+    requires { (is_readable s.now ≡ true) × (length s.now ≤ file_bytes) }
+    ensures { (added result ≡ summed (every millionths_of (values_of name.now (record_in s.now)))) × SumFits result }
 {
     let mut i = 0;
     let mut sum: i64 = 0;

@@ -1,8 +1,8 @@
 // A value read digit by digit.
 ghost use Rattle.std.specs.Prelude.{◌≡◌, ◌+◌, ◌^◌, ◌≤◌, ◌<◌};
-ghost use Rattle.values.specs.Value.{valueFrom};
-ghost use Rattle.totals.specs.Totals.{wholeDigits, fractionDigits, millionthsOf};
-ghost use Rattle.totals.specs.Figures.{Within, begun, stepped, filledFrom, toldBy, counted};
+ghost use Rattle.values.specs.Value.{value_from};
+ghost use Rattle.totals.specs.Totals.{whole_digits, fraction_digits, millionths_of};
+ghost use Rattle.totals.specs.Figures.{Within, begun, stepped, filled_from, told_by, counted};
 
 use super::signs::signed_of;
 use values::Decoded;
@@ -189,8 +189,8 @@ pub fn step(f: Figure, b: u8) -> Figure
 
 // A number of so many digits behind the dot, in millionths.
 fn filled(digits: u32, number: u64) -> u64
-    requires { (digits ≤ fractionDigits) × (number < 10 ^ (wholeDigits + digits)) }
-    ensures { (result ≡ filledFrom digits number) × (result < 100000000000000) }
+    requires { (digits ≤ fraction_digits) × (number < 10 ^ (whole_digits + digits)) }
+    ensures { (result ≡ filled_from digits number) × (result < 100000000000000) }
 {
     let mut k = digits;
     let mut m = number;
@@ -204,7 +204,7 @@ fn filled(digits: u32, number: u64) -> u64
 // What the value adds, at its end.
 pub fn told(f: Figure) -> Counted
     requires { Within f }
-    ensures { counted result ≡ toldBy f }
+    ensures { counted result ≡ told_by f }
 {
     match f {
         Figure::Start => Counted::Not,
@@ -234,7 +234,7 @@ pub fn told(f: Figure) -> Counted
 
 // What a text adds to a total.
 pub fn millionths_of(v: &[u8]) -> Counted
-    ensures { counted result ≡ millionthsOf v.now }
+    ensures { counted result ≡ millionths_of v.now }
 {
     let mut f = Figure::Start;
     let mut i = 0;
@@ -248,7 +248,7 @@ pub fn millionths_of(v: &[u8]) -> Counted
 // What the value that begins where s does adds to a total: read where it stands, over joined
 // lines and plus lines.
 pub fn value_millionths(s: &[u8]) -> Counted
-    ensures { counted result ≡ millionthsOf (valueFrom s.now) }
+    ensures { counted result ≡ millionths_of (value_from s.now) }
 {
     let mut f = Figure::Start;
     let mut i = 0;

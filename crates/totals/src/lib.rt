@@ -1,9 +1,9 @@
 // Totals of a field: the values of one name in a set's records, added exactly.
 ghost use Rattle.std.specs.Prelude.{◌≡◌, true, ◌≤◌, ◌<◌, nat_abs, length};
-ghost use Rattle.format.specs.Limits.{fileBytes};
-ghost use Rattle.records.specs.Places.{isReadable};
-ghost use Rattle.totals.specs.Totals.{rounded, hundredthsOf, totalledBy, totalAnswer};
-ghost use Rattle.totals.specs.Adding.{totalIn};
+ghost use Rattle.format.specs.Limits.{file_bytes};
+ghost use Rattle.records.specs.Places.{is_readable};
+ghost use Rattle.totals.specs.Totals.{rounded, hundredths_of, totalled_by, total_answer};
+ghost use Rattle.totals.specs.Adding.{total_in};
 
 use adding::{Added, add_values};
 use format::Refusal;
@@ -29,7 +29,7 @@ fn rounded_of(n: u64) -> u64
 // A sum of millionths in hundredths.
 fn hundredths(sum: i64) -> i64
     requires { nat_abs sum < 9223372036854775808 }
-    ensures { result ≡ hundredthsOf sum }
+    ensures { result ≡ hundredths_of sum }
 {
     let below = sum < 0;
     let n = signs::magnitude(sum);
@@ -50,8 +50,8 @@ pub enum Totalled {
 
 // The total of a name in a set of a readable text.
 fn total_in(s: &[u8], set: &[u8], name: &[u8]) -> Totalled
-    requires { (isReadable s.now ≡ true) × (length s.now ≤ fileBytes) }
-    ensures { totalledBy result ≡ totalIn s.now set.now name.now }
+    requires { (is_readable s.now ≡ true) × (length s.now ≤ file_bytes) }
+    ensures { totalled_by result ≡ total_in s.now set.now name.now }
 {
     let found = find_part(s, set);
     let FoundPart::At { begin, end } = found else {
@@ -72,7 +72,7 @@ fn total_in(s: &[u8], set: &[u8], name: &[u8]) -> Totalled
 // The total of a name in a set of the file at the front of a buffer: every occurrence in every
 // record of the set.
 pub fn total(buf: &[u8], used: usize, set: &[u8], name: &[u8]) -> Totalled
-    ensures { totalledBy result ≡ totalAnswer buf.now used set.now name.now }
+    ensures { totalled_by result ≡ total_answer buf.now used set.now name.now }
 {
     let n = integrity::check(buf, used);
     if n != 0 {

@@ -1,9 +1,9 @@
 // A value that is one plain line of digits, with a dot among them or not. Any other value is read
 // byte by byte.
 ghost use Rattle.std.specs.Prelude.{◌≡◌, true, [], ◌+◌, ◌^◌, ◌≤◌, ◌<◌, length, drop};
-ghost use Rattle.values.specs.Value.{valueFrom};
-ghost use Rattle.totals.specs.Totals.{millionthsOf};
-ghost use Rattle.totals.specs.Figures.{filledFrom, counted};
+ghost use Rattle.values.specs.Value.{value_from};
+ghost use Rattle.totals.specs.Totals.{millionths_of};
+ghost use Rattle.totals.specs.Figures.{filled_from, counted};
 ghost use Rattle.totals.specs.Plain.{Run, PlainTold};
 
 use super::figures::{Counted, value_millionths};
@@ -52,7 +52,7 @@ fn reach(s: &[u8], i: usize, n: usize) -> usize
 // Does a value end at i, at a newline with no plus behind it?
 fn ends_at(s: &[u8], i: usize) -> bool
     requires { i ≤ length s.now }
-    ensures { result ≡ true → valueFrom (drop i s.now) ≡ [] }
+    ensures { result ≡ true → value_from (drop i s.now) ≡ [] }
 {
     if lines::byte(s, i) != b'\n' {
         return false;
@@ -66,7 +66,7 @@ fn ends_at(s: &[u8], i: usize) -> bool
 // A number of so many digits behind the dot, in millionths.
 fn scaled(digits: usize, number: u64) -> u64
     requires { (digits ≤ 6) × (number < 10 ^ (8 + digits)) }
-    ensures { (result ≡ filledFrom digits number) × (result < 100000000000000) }
+    ensures { (result ≡ filled_from digits number) × (result < 100000000000000) }
 {
     if digits == 2 {
         return number * 10000;
@@ -111,7 +111,7 @@ fn plain_value(s: &[u8]) -> PlainValue
 
 // What the value that begins where s does adds to a total.
 pub fn read_value(s: &[u8]) -> Counted
-    ensures { counted result ≡ millionthsOf (valueFrom s.now) }
+    ensures { counted result ≡ millionths_of (value_from s.now) }
 {
     let p = plain_value(s);
     let PlainValue::Millionths(m) = p else {

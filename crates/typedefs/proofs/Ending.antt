@@ -6,8 +6,8 @@ use mathlib.Core.List.{List, [], ◌∷◌}
 use denote.Enum.Declared.{tag_of}
 use lib.ListN.{length, get_or}
 use types.Run.{OneOf, miss}
-use Rattle.typedefs.specs.Targets.{Bounded, targetsIn, onward, followOf, isEnd, leads}
-use Rattle.typedefs.specs.Typedefs.{row_of, row_by, endRow}
+use Rattle.typedefs.specs.Targets.{Bounded, targets_in, onward, follow_of, is_end, leads}
+use Rattle.typedefs.specs.Typedefs.{row_of, row_by, end_row}
 use Rattle.typedefs.specs.declared.Target.{Target}
 use Rattle.typedefs.specs.declared.Targets.{Targets}
 use Rattle.typedefs.specs.declared.Followed.{Followed}
@@ -29,17 +29,17 @@ target-inside (t ∷ ts) zero e = omega arith
 target-inside (t ∷ ts) (suc i) e = omega (arith, target-inside ts i e)
 
 module _ (ts : List Target) where
-  ends-inside : (left i : ℕ) → Inside ts (followOf left ts i)
-  unfolding followOf
+  ends-inside : (left i : ℕ) → Inside ts (follow_of left ts i)
+  unfolding follow_of
   ends-inside zero i = tt
   ends-inside (suc left) i = go (get_or ts i Target.Missing) refl (λ j. ends-inside left j)
     where
-      go : (t : Target) → get_or ts i Target.Missing ≡ t → ((j : ℕ) → Inside ts (followOf left ts j)) → Inside ts (onward t i (λ j. followOf left ts j))
+      go : (t : Target) → get_or ts i Target.Missing ≡ t → ((j : ℕ) → Inside ts (follow_of left ts j)) → Inside ts (onward t i (λ j. follow_of left ts j))
       go Target.Kind e ih = target-inside ts i e
       go (Target.Alias j) e ih = ih j
       go Target.Missing e ih = tt
 
-  pub end-inside : (left i k : ℕ) → followOf left ts i ≡ Followed.End k → k < length ts
+  pub end-inside : (left i k : ℕ) → follow_of left ts i ≡ Followed.End k → k < length ts
   end-inside left i k e = subst (Inside ts) e (ends-inside left i)
 
 -- what stands at a place does not depend on what would stand behind the last
@@ -60,24 +60,24 @@ open_by rows t Followed.Missing h = refl
 open_by rows t Followed.Loop h = refl
 
 module _ (r : Typedefs) (t : Typedef) where
-  pub end-own : OneOf (0 ∷ 2 ∷ []) (tag_of target-type t.target) → t ≡ endRow r t
+  pub end-own : OneOf (0 ∷ 2 ∷ []) (tag_of target-type t.target) → t ≡ end_row r t
   end-own h = own-by r t t.target h
 
   -- f is the end of the chain that an alias begins
-  module _ (j : ℕ) (e : t.target ≡ Target.Alias j) (f : Followed) (q : f ≡ followOf r.targets.count (targetsIn r.targets) j) where
-    chain-row : row_of r.rows t f ≡ endRow r t
+  module _ (j : ℕ) (e : t.target ≡ Target.Alias j) (f : Followed) (q : f ≡ follow_of r.targets.count (targets_in r.targets) j) where
+    chain-row : row_of r.rows t f ≡ end_row r t
     chain-row = ap (row_of r.rows t) q ∙ ap (row_by r t) (sym e)
 
-    pub end-open : OneOf (1 ∷ 2 ∷ []) (tag_of the_type f) → t ≡ endRow r t
+    pub end-open : OneOf (1 ∷ 2 ∷ []) (tag_of the_type f) → t ≡ end_row r t
     end-open h = open_by r.rows t f h ∙ chain-row
 
     pub end-there : (k : ℕ) → f ≡ Followed.End k → Bounded r.targets → k < r.targets.count
-    end-there k g b = omega (arith, end-inside (targetsIn r.targets) r.targets.count j k (sym q ∙ g), targets-length r.targets b)
+    end-there k g b = omega (arith, end-inside (targets_in r.targets) r.targets.count j k (sym q ∙ g), targets-length r.targets b)
 
-    pub end_row : (k : ℕ) (other : Typedef) → f ≡ Followed.End k → k < length r.rows → get_or r.rows k other ≡ endRow r t
-    end_row k other g l = any-default r.rows k other t l ∙ ap (row_of r.rows t) (sym g) ∙ chain-row
+    pub end_row_lem : (k : ℕ) (other : Typedef) → f ≡ Followed.End k → k < length r.rows → get_or r.rows k other ≡ end_row r t
+    end_row_lem k other g l = any-default r.rows k other t l ∙ ap (row_of r.rows t) (sym g) ∙ chain-row
 
 -- and whether it ends
-pub leads-alias : (t : Targets) → Bounded t → (x : Target) (j : ℕ) (f g : Followed) → x ≡ Target.Alias j → f ≡ followOf t.count (targetsIn t) j → f ≡ g → isEnd g ≡ leads (targetsIn t) x
+pub leads-alias : (t : Targets) → Bounded t → (x : Target) (j : ℕ) (f g : Followed) → x ≡ Target.Alias j → f ≡ follow_of t.count (targets_in t) j → f ≡ g → is_end g ≡ leads (targets_in t) x
 leads-alias t b x j f g e q p =
-    ap isEnd (sym p ∙ q) ∙ ap (λ (m : ℕ). isEnd (followOf m (targetsIn t) j)) (sym (targets-length t b)) ∙ ap (leads (targetsIn t)) (sym e)
+    ap is_end (sym p ∙ q) ∙ ap (λ (m : ℕ). is_end (follow_of m (targets_in t) j)) (sym (targets-length t b)) ∙ ap (leads (targets_in t)) (sym e)

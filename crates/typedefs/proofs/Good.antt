@@ -10,14 +10,14 @@ use lib.Seq.{drop-cons}
 use types.Run.{OneOf, miss}
 use Rattle.format.specs.Bytes.{Bytes, text, pick, same, among, all}
 use Rattle.format.specs.Words.{first_word}
-use Rattle.format.specs.Rules.{isTypedefName, distinct}
-use Rattle.values.specs.Value.{valueFrom}
-use Rattle.words.specs.Spans.{span, nextWord}
+use Rattle.format.specs.Rules.{is_typedef_name, distinct}
+use Rattle.values.specs.Value.{value_from}
+use Rattle.words.specs.Spans.{span, next_word}
 use Rattle.words.specs.declared.Word.{Word}
-use Rattle.words.proofs.Finding.{firstBy, first-at}
+use Rattle.words.proofs.Finding.{first_by, first-at}
 use Rattle.records.specs.Named.{ValueHere}
-use Rattle.typedefs.specs.Walks.{namesFrom}
-use Rattle.typedefs.specs.Targets.{indexFrom, leads}
+use Rattle.typedefs.specs.Walks.{names_from}
+use Rattle.typedefs.specs.Targets.{index_from, leads}
 use Rattle.typedefs.specs.declared.Target.{Target}
 use Rattle.typedefs.specs.contracts.Target.{the_type}
 
@@ -26,35 +26,35 @@ words-length [] = refl
 words-length (v ∷ vs) = ap suc (words-length vs)
 
 -- a name that stands nowhere has no typedef
-abbrev pub isMissing : Target → Bool
-isMissing Target.Kind = false
-isMissing (Target.Alias j) = false
-isMissing Target.Missing = true
+abbrev pub is_missing : Target → Bool
+is_missing Target.Kind = false
+is_missing (Target.Alias j) = false
+is_missing Target.Missing = true
 
-pub among-index : (at : ℕ) (n : Bytes) (ns : List Bytes) → isMissing (indexFrom at n ns) ≡ not (among n ns)
-unfolding indexFrom
+pub among-index : (at : ℕ) (n : Bytes) (ns : List Bytes) → is_missing (index_from at n ns) ≡ not (among n ns)
+unfolding index_from
 among-index at n [] = refl
 among-index at n (m ∷ ns) = go (same n m) (among-index (at + 1) n ns)
   where
-    go : (t : Bool) → isMissing (indexFrom (at + 1) n ns) ≡ not (among n ns) → isMissing (pick t (Target.Alias at) (indexFrom (at + 1) n ns)) ≡ not (t || among n ns)
+    go : (t : Bool) → is_missing (index_from (at + 1) n ns) ≡ not (among n ns) → is_missing (pick t (Target.Alias at) (index_from (at + 1) n ns)) ≡ not (t || among n ns)
     go true e = refl
     go false e = e
 
-pub not-missing : (t : Target) → OneOf (0 ∷ 1 ∷ []) (tag_of the_type t) → false ≡ isMissing t
+pub not-missing : (t : Target) → OneOf (0 ∷ 1 ∷ []) (tag_of the_type t) → false ≡ is_missing t
 not-missing Target.Kind h = refl
 not-missing (Target.Alias j) h = refl
 not-missing Target.Missing h = absurd (miss (0 ∷ 1 ∷ []) 2 tt h)
 
 -- the first word that was found
-pub first_found : (s : Bytes) (w : Word) (a e : ℕ) → w ≡ nextWord s → w ≡ Word.At a e → first_word s ≡ span a e s
-first_found s w a e p q = first-at s ∙ ap (firstBy s) (sym p ∙ q)
+pub first_found : (s : Bytes) (w : Word) (a e : ℕ) → w ≡ next_word s → w ≡ Word.At a e → first_word s ≡ span a e s
+first_found s w a e p q = first-at s ∙ ap (first_by s) (sym p ∙ q)
 
-pub first-none : (s : Bytes) (w : Word) → w ≡ nextWord s → w ≡ Word.Nothing → first_word s ≡ []
-first-none s w p q = first-at s ∙ ap (firstBy s) (sym p ∙ q)
+pub first-none : (s : Bytes) (w : Word) → w ≡ next_word s → w ≡ Word.Nothing → first_word s ≡ []
+first-none s w p q = first-at s ∙ ap (first_by s) (sym p ∙ q)
 
 -- the names from byte i on, and from name k on
-pub good-cut : (d : Bytes) (i v e : ℕ) (t : Bool) → ValueHere d (text "%typedef") i v e → t ≡ isTypedefName (first_word (valueFrom (span v e d))) → all isTypedefName (namesFrom d i) ≡ (t && all isTypedefName (namesFrom d e))
-good-cut d i v e t h q = ap (λ (vs : List Bytes). all isTypedefName (map first_word vs)) h.values ∙ ap (λ (b : Bool). b && all isTypedefName (namesFrom d e)) (sym q)
+pub good-cut : (d : Bytes) (i v e : ℕ) (t : Bool) → ValueHere d (text "%typedef") i v e → t ≡ is_typedef_name (first_word (value_from (span v e d))) → all is_typedef_name (names_from d i) ≡ (t && all is_typedef_name (names_from d e))
+good-cut d i v e t h q = ap (λ (vs : List Bytes). all is_typedef_name (map first_word vs)) h.values ∙ ap (λ (b : Bool). b && all is_typedef_name (names_from d e)) (sym q)
 
 module _ (ns : List Bytes) (k : ℕ) where
   pub apart-done : length ns ≤ k → distinct (drop k ns) ≡ true

@@ -2,21 +2,21 @@
 ghost use Rattle.std.specs.Prelude.{◌≡◌, true, not, [], ◌+◌, ◌-◌, ◌≤◌, ◌<◌, length, drop, get_or};
 ghost use Rattle.format.specs.Pieces.{read_of};
 ghost use Rattle.format.specs.Records.{fields_of};
-ghost use Rattle.format.specs.Lines.{isName};
+ghost use Rattle.format.specs.Lines.{is_name};
 ghost use Rattle.format.specs.Bytes.{text, all, among};
-ghost use Rattle.format.specs.Limits.{fileBytes, typedefs};
-ghost use Rattle.format.specs.Words.{first_word, afterWord, split, isTypeName};
-ghost use Rattle.format.specs.Numbers.{intBounds};
-ghost use Rattle.format.specs.Rules.{reserved, isTypedefName, distinct, typedNames, areTypesDefined};
-ghost use Rattle.values.specs.Value.{valueFrom};
-ghost use Rattle.records.specs.Places.{isReadable};
+ghost use Rattle.format.specs.Limits.{file_bytes, typedefs};
+ghost use Rattle.format.specs.Words.{first_word, after_word, split, is_type_name};
+ghost use Rattle.format.specs.Numbers.{int_bounds};
+ghost use Rattle.format.specs.Rules.{reserved, is_typedef_name, distinct, typed_names, are_types_defined};
+ghost use Rattle.values.specs.Value.{value_from};
+ghost use Rattle.records.specs.Places.{is_readable};
 ghost use Rattle.terms.specs.Adding.{Adding};
-ghost use Rattle.records.specs.Named.{valuesFrom};
-ghost use Rattle.typing.specs.Meaning.{typeAnswer, SoundType};
-ghost use Rattle.typedefs.specs.Walks.{namesFrom, fitFrom};
-ghost use Rattle.typedefs.specs.Names.{numbered, ArePlaces, AreNames, tagFrom};
-ghost use Rattle.typedefs.specs.Targets.{indexFrom, targetBy, Bounded, targetsIn, followOf, leads, wellBy};
-ghost use Rattle.typedefs.specs.Typedefs.{IsTypedef, AreTypedefs, endRow};
+ghost use Rattle.records.specs.Named.{values_from};
+ghost use Rattle.typing.specs.Meaning.{type_answer, SoundType};
+ghost use Rattle.typedefs.specs.Walks.{names_from, fit_from};
+ghost use Rattle.typedefs.specs.Names.{numbered, ArePlaces, AreNames, tag_from};
+ghost use Rattle.typedefs.specs.Targets.{index_from, target_by, Bounded, targets_in, follow_of, leads, well_by};
+ghost use Rattle.typedefs.specs.Typedefs.{IsTypedef, AreTypedefs, end_row};
 
 use format::Descriptor;
 use records::FoundField;
@@ -27,7 +27,7 @@ use words::Word;
 
 // The place behind the first word of a text.
 pub fn behind_word(s: &[u8]) -> usize
-    ensures { (result ≤ length s.now) × (drop result s.now ≡ afterWord s.now) }
+    ensures { (result ≤ length s.now) × (drop result s.now ≡ after_word s.now) }
 {
     let w = words::next_word(s);
     let Word::At { start: _, end } = w else {
@@ -45,9 +45,9 @@ struct Places {
 
 // The places, and the names put into entries, each with the number of its typedef.
 fn add_names(d: &[u8], entries: &mut [u32]) -> Places
-    requires d_value { (isReadable d.now ≡ true) × (length d.now ≤ fileBytes) }
-    requires text_len_bound { (length (valuesFrom d.now (text "%typedef") 0) ≤ typedefs) × (all isTypeName (namesFrom d.now 0) ≡ true) × (typedefs ≤ length entries.old) }
-    ensures { ArePlaces d.now result.rows result.count × Adding d.now entries.old 0 (numbered 0 (namesFrom d.now 0)) [] entries.new result.count }
+    requires d_value { (is_readable d.now ≡ true) × (length d.now ≤ file_bytes) }
+    requires text_len_bound { (length (values_from d.now (text "%typedef") 0) ≤ typedefs) × (all is_type_name (names_from d.now 0) ≡ true) × (typedefs ≤ length entries.old) }
+    ensures { ArePlaces d.now result.rows result.count × Adding d.now entries.old 0 (numbered 0 (names_from d.now 0)) [] entries.new result.count }
 {
     let mut rows = [0usize; Descriptor::TYPEDEFS];
     let mut i = 0;
@@ -81,8 +81,8 @@ pub struct Names {
 }
 
 pub fn read_names(d: &[u8]) -> Names
-    requires d_value { (isReadable d.now ≡ true) × (length d.now ≤ fileBytes) }
-    requires text_len_bound { (length (valuesFrom d.now (text "%typedef") 0) ≤ typedefs) × (all isTypeName (namesFrom d.now 0) ≡ true) }
+    requires d_value { (is_readable d.now ≡ true) × (length d.now ≤ file_bytes) }
+    requires text_len_bound { (length (values_from d.now (text "%typedef") 0) ≤ typedefs) × (all is_type_name (names_from d.now 0) ≡ true) }
     ensures { AreNames d.now result }
 {
     let mut entries = [0u32; Descriptor::TYPEDEFS];
@@ -109,7 +109,7 @@ pub enum Target {
 // The typedef of the first tag of a set from one on and below count.
 fn first_tag(set: u64, from: usize, count: usize) -> Target
     requires { (from ≤ count) × (count ≤ typedefs) }
-    ensures { result ≡ tagFrom set from (count - from) }
+    ensures { result ≡ tag_from set from (count - from) }
 {
     let mut k = from;
     while k < count {
@@ -124,7 +124,7 @@ fn first_tag(set: u64, from: usize, count: usize) -> Target
 // The first typedef of a name from one on.
 fn index_from(d: &[u8], names: Names, from: usize, name: &[u8]) -> Target
     requires { AreNames d.now names × (from ≤ names.count) }
-    ensures { result ≡ indexFrom from name.now (drop from (namesFrom d.now 0)) }
+    ensures { result ≡ index_from from name.now (drop from (names_from d.now 0)) }
 {
     let entries = names.entries;
     let t = names.table;
@@ -136,7 +136,7 @@ fn index_from(d: &[u8], names: Names, from: usize, name: &[u8]) -> Target
 // The target of a type that was read from a text.
 fn target_in(d: &[u8], names: Names, s: &[u8], t: TypeOf) -> Target
     requires { AreNames d.now names × SoundType s.now t }
-    ensures { result ≡ targetBy (namesFrom d.now 0) (typeAnswer s.now t) }
+    ensures { result ≡ target_by (names_from d.now 0) (type_answer s.now t) }
 {
     let TypeOf::Is(k) = t else {
         return Target::Missing;
@@ -158,7 +158,7 @@ pub struct Typedef {
 // The typedef whose value stands at a place.
 pub fn read_typedef(d: &[u8], names: Names, value: usize, scratch: &mut [u8]) -> Typedef
     requires are_names { AreNames d.now names }
-    requires value_in_bounds { (value ≤ length d.now) × (length (valueFrom (drop value d.now)) ≤ length scratch.old) }
+    requires value_in_bounds { (value ≤ length d.now) × (length (value_from (drop value d.now)) ≤ length scratch.old) }
     ensures { IsTypedef d.now value result }
 {
     let n = values::copy_value(&d[value..], &mut *scratch);
@@ -193,7 +193,7 @@ pub struct Typedefs {
 
 pub fn read_typedefs(d: &[u8], names: Names, scratch: &mut [u8]) -> Typedefs
     requires are_names { AreNames d.now names }
-    requires text_value { fitFrom (length scratch.old) d.now (text "%typedef") 0 ≡ true }
+    requires text_value { fit_from (length scratch.old) d.now (text "%typedef") 0 ≡ true }
     ensures { AreTypedefs d.now names.places result }
 {
     let places = names.places;
@@ -230,7 +230,7 @@ pub enum Followed {
 // The end of the chain from typedef i on. left: how many typedefs may be met, this one among them.
 pub fn follow(targets: Targets, i: usize, left: usize) -> Followed
     requires { Bounded targets }
-    ensures { result ≡ followOf left (targetsIn targets) i }
+    ensures { result ≡ follow_of left (targets_in targets) i }
 {
     if left == 0 {
         return Followed::Loop;
@@ -250,7 +250,7 @@ pub fn follow(targets: Targets, i: usize, left: usize) -> Followed
 // The typedef in which the type of t ends, which is t itself where that is no alias.
 pub fn end_of(defs: Typedefs, t: Typedef) -> Typedef
     requires { Bounded defs.targets × (length defs.rows ≡ typedefs) }
-    ensures { result ≡ endRow defs t }
+    ensures { result ≡ end_row defs t }
 {
     let to = t.target;
     let Target::Alias(j) = to else {
@@ -267,7 +267,7 @@ pub fn end_of(defs: Typedefs, t: Typedef) -> Typedef
 // Does a target end in a kind?
 fn target_ends(targets: Targets, t: Target) -> bool
     requires { Bounded targets }
-    ensures { result ≡ leads (targetsIn targets) t }
+    ensures { result ≡ leads (targets_in targets) t }
 {
     match t {
         Target::Kind => true,
@@ -286,7 +286,7 @@ fn target_ends(targets: Targets, t: Target) -> bool
 // Do all of them?
 fn all_end(targets: Targets) -> bool
     requires { Bounded targets }
-    ensures { result ≡ all (leads (targetsIn targets)) (targetsIn targets) }
+    ensures { result ≡ all (leads (targets_in targets)) (targets_in targets) }
 {
     let count = targets.count;
     let mut i = 0;
@@ -314,7 +314,7 @@ fn is_reserved(s: &[u8]) -> bool
 
 // Is the first word of a typedef's text a name that it may have?
 fn name_good(s: &[u8]) -> bool
-    ensures { result ≡ isTypedefName (first_word s.now) }
+    ensures { result ≡ is_typedef_name (first_word s.now) }
 {
     let w = words::next_word(s);
     let Word::At { start, end } = w else {
@@ -328,9 +328,9 @@ fn name_good(s: &[u8]) -> bool
 
 // Has every typedef a name that it may have?
 fn names_good(d: &[u8], scratch: &mut [u8]) -> bool
-    requires d_value { isReadable d.now ≡ true }
-    requires text_value { fitFrom (length scratch.old) d.now (text "%typedef") 0 ≡ true }
-    ensures { result ≡ all isTypedefName (namesFrom d.now 0) }
+    requires d_value { is_readable d.now ≡ true }
+    requires text_value { fit_from (length scratch.old) d.now (text "%typedef") 0 ≡ true }
+    ensures { result ≡ all is_typedef_name (names_from d.now 0) }
 {
     let mut i = 0;
     loop {
@@ -354,7 +354,7 @@ fn names_good(d: &[u8], scratch: &mut [u8]) -> bool
 // The first typedef from one on whose name is the first word of a text.
 fn first_index(d: &[u8], names: Names, from: usize, s: &[u8]) -> Target
     requires { AreNames d.now names × (from ≤ names.count) }
-    ensures { result ≡ indexFrom from (first_word s.now) (drop from (namesFrom d.now 0)) }
+    ensures { result ≡ index_from from (first_word s.now) (drop from (names_from d.now 0)) }
 {
     let w = &s[words::gap_end(s)..];
     let e = words::word_end(w);
@@ -364,8 +364,8 @@ fn first_index(d: &[u8], names: Names, from: usize, s: &[u8]) -> Target
 // Has no typedef behind typedef k its name?
 fn name_alone(d: &[u8], names: Names, k: usize, scratch: &mut [u8]) -> bool
     requires are_names { AreNames d.now names × (k < names.count) }
-    requires text_value { fitFrom (length scratch.old) d.now (text "%typedef") 0 ≡ true }
-    ensures { result ≡ not (among (get_or (namesFrom d.now 0) k []) (drop (k + 1) (namesFrom d.now 0))) }
+    requires text_value { fit_from (length scratch.old) d.now (text "%typedef") 0 ≡ true }
+    ensures { result ≡ not (among (get_or (names_from d.now 0) k []) (drop (k + 1) (names_from d.now 0))) }
 {
     let places = names.places;
     let value = places[k];
@@ -380,8 +380,8 @@ fn name_alone(d: &[u8], names: Names, k: usize, scratch: &mut [u8]) -> bool
 // Are the names of all typedefs distinct?
 fn names_apart(d: &[u8], names: Names, scratch: &mut [u8]) -> bool
     requires are_names { AreNames d.now names }
-    requires text_value { fitFrom (length scratch.old) d.now (text "%typedef") 0 ≡ true }
-    ensures { result ≡ distinct (namesFrom d.now 0) }
+    requires text_value { fit_from (length scratch.old) d.now (text "%typedef") 0 ≡ true }
+    ensures { result ≡ distinct (names_from d.now 0) }
 {
     let count = names.count;
     let mut k = 0;
@@ -396,7 +396,7 @@ fn names_apart(d: &[u8], names: Names, scratch: &mut [u8]) -> bool
 
 // Is every part, between commas, of a word a name?
 fn parts_named(s: &[u8]) -> bool
-    ensures { result ≡ all isName (split 44 s.now) }
+    ensures { result ≡ all is_name (split 44 s.now) }
 {
     let mut rest = s;
     loop {
@@ -413,7 +413,7 @@ fn parts_named(s: &[u8]) -> bool
 
 // Are the names of a `%type` field's text names?
 fn names_well(s: &[u8]) -> bool
-    ensures { result ≡ all isName (typedNames s.now) }
+    ensures { result ≡ all is_name (typed_names s.now) }
 {
     let w = words::next_word(s);
     let Word::At { start, end } = w else {
@@ -425,8 +425,8 @@ fn names_well(s: &[u8]) -> bool
 // Is the `%type` field whose value stands at a place well formed?
 fn type_well(d: &[u8], names: Names, targets: Targets, value: usize, scratch: &mut [u8]) -> bool
     requires are_names { AreNames d.now names × Bounded targets }
-    requires value_in_bounds { (value ≤ length d.now) × (length (valueFrom (drop value d.now)) ≤ length scratch.old) }
-    ensures { result ≡ wellBy (namesFrom d.now 0) (targetsIn targets) (valueFrom (drop value d.now)) }
+    requires value_in_bounds { (value ≤ length d.now) × (length (value_from (drop value d.now)) ≤ length scratch.old) }
+    ensures { result ≡ well_by (names_from d.now 0) (targets_in targets) (value_from (drop value d.now)) }
 {
     let n = values::copy_value(&d[value..], &mut *scratch);
     if !names_well(&scratch[..n]) {
@@ -439,9 +439,9 @@ fn type_well(d: &[u8], names: Names, targets: Targets, value: usize, scratch: &m
 
 // Are all of them?
 fn all_well(d: &[u8], names: Names, targets: Targets, scratch: &mut [u8]) -> bool
-    requires d_value { (isReadable d.now ≡ true) × AreNames d.now names × Bounded targets }
-    requires text_value { fitFrom (length scratch.old) d.now (text "%type") 0 ≡ true }
-    ensures { result ≡ all (wellBy (namesFrom d.now 0) (targetsIn targets)) (valuesFrom d.now (text "%type") 0) }
+    requires d_value { (is_readable d.now ≡ true) × AreNames d.now names × Bounded targets }
+    requires text_value { fit_from (length scratch.old) d.now (text "%type") 0 ≡ true }
+    ensures { result ≡ all (well_by (names_from d.now 0) (targets_in targets)) (values_from d.now (text "%type") 0) }
 {
     let mut i = 0;
     loop {
@@ -463,10 +463,10 @@ fn all_well(d: &[u8], names: Names, targets: Targets, scratch: &mut [u8]) -> boo
 
 // Question 7 of a descriptor, the types of `%auto` names aside: are its typedefs and types well formed?
 pub fn types_well(d: &[u8], scratch: &mut [u8]) -> bool
-    requires d_value { (isReadable d.now ≡ true) × (length d.now ≤ fileBytes) }
-    requires text_len_bound { (length (valuesFrom d.now (text "%typedef") 0) ≤ typedefs) × (fitFrom (length scratch.old) d.now (text "%typedef") 0 ≡ true) }
-    requires text_value { fitFrom (length scratch.old) d.now (text "%type") 0 ≡ true }
-    ensures { result ≡ areTypesDefined intBounds (fields_of (read_of d.now)) }
+    requires d_value { (is_readable d.now ≡ true) × (length d.now ≤ file_bytes) }
+    requires text_len_bound { (length (values_from d.now (text "%typedef") 0) ≤ typedefs) × (fit_from (length scratch.old) d.now (text "%typedef") 0 ≡ true) }
+    requires text_value { fit_from (length scratch.old) d.now (text "%type") 0 ≡ true }
+    ensures { result ≡ are_types_defined int_bounds (fields_of (read_of d.now)) }
 {
     if !names_good(d, &mut *scratch) {
         return false;

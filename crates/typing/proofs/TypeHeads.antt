@@ -10,17 +10,17 @@ use lib.ListN.{length, drop, length-drop}
 use lib.Seq.{drop-drop}
 use Rattle.format.specs.Lists.{onward, front, behind}
 use Rattle.format.specs.Bytes.{Bytes, text, pick, same}
-use Rattle.format.specs.Words.{isGap, words}
-use Rattle.format.specs.Numbers.{intBounds}
-use Rattle.format.specs.Types.{Kind, Typed, bare, ranged, range_of, size_of, aliasOf, plainKind, uncomment, beforeComment, enumIn, type_of}
+use Rattle.format.specs.Words.{is_gap, words}
+use Rattle.format.specs.Numbers.{int_bounds}
+use Rattle.format.specs.Types.{Kind, Typed, bare, ranged, range_of, size_of, alias_of, plain_kind, uncomment, before_comment, enum_in, type_of}
 use Rattle.lines.proofs.Cuts.{rest}
 use Rattle.lines.specs.Line.{run}
 use Rattle.words.specs.Spans.{span}
 use Rattle.words.proofs.Finding.{run-le, front-run, behind-run}
-use Rattle.numbers.specs.Meaning.{intAnswer}
+use Rattle.numbers.specs.Meaning.{int_answer}
 use Rattle.numbers.specs.declared.IntOf.{IntOf}
-use Rattle.typing.specs.Meaning.{typedIn, typeAnswer, Sound, SoundType, Told, head_of, rangeIn}
-use Rattle.typing.specs.Symbols.{symbolsOf, isEnum}
+use Rattle.typing.specs.Meaning.{typed_in, type_answer, Sound, SoundType, Told, head_of, range_in}
+use Rattle.typing.specs.Symbols.{symbols_of, is_enum}
 use Rattle.typing.specs.declared.Shape.{Shape}
 use Rattle.typing.specs.declared.TypeOf.{TypeOf}
 use Rattle.typing.specs.declared.kinds.Head.{Head}
@@ -36,20 +36,20 @@ bare-alone k [] = refl
 bare-alone k (w ∷ ws) = refl
 
 -- what the first word w leads to, with the words ws after it
-abbrev pub byHead : Bytes → Bytes → List Bytes → Head → Option Typed
-byHead s w ws (Head.Bare k) = alone (typedIn s k) ws
-byHead s w ws Head.Range = range_of intBounds ws
-byHead s w ws Head.Size = size_of intBounds ws
-byHead s w ws Head.Name = aliasOf w ws
+abbrev pub by_head : Bytes → Bytes → List Bytes → Head → Option Typed
+by_head s w ws (Head.Bare k) = alone (typed_in s k) ws
+by_head s w ws Head.Range = range_of int_bounds ws
+by_head s w ws Head.Size = size_of int_bounds ws
+by_head s w ws Head.Name = alias_of w ws
 
 choose : {A B : Type 0} (f : A → B) (t : Bool) {a b : A} {x y : B} → x ≡ f a → y ≡ f b → pick t x y ≡ f (pick t a b)
 choose f true p q = p
 choose f false p q = q
 
-pub plain-by-head : (s w : Bytes) (ws : List Bytes) → plainKind intBounds (w ∷ ws) ≡ byHead s w ws (head_of w)
+pub plain-by-head : (s w : Bytes) (ws : List Bytes) → plain_kind int_bounds (w ∷ ws) ≡ by_head s w ws (head_of w)
 unfolding head_of
 plain-by-head s w ws =
-    let f = byHead s w ws in
+    let f = by_head s w ws in
     choose f (same w (text "int")) (bare-alone Kind.int ws)
     (choose f (same w (text "range")) refl
     (choose f (same w (text "real")) (bare-alone Kind.real ws)
@@ -91,57 +91,57 @@ told-fault s e = record { answers = sym e; sound = tt }
 pub told_same : (s : Bytes) {o p : Option Typed} {r : TypeOf} → p ≡ o → Told s o r → Told s p r
 told_same s e t = record { answers = t.answers ∙ sym e; sound = t.sound }
 
-range-answers : (s : Bytes) (x y : IntOf) → typeAnswer s (rangeIn x y) ≡ ranged (intAnswer x) (intAnswer y)
+range-answers : (s : Bytes) (x y : IntOf) → type_answer s (range_in x y) ≡ ranged (int_answer x) (int_answer y)
 range-answers s (IntOf.Value a) (IntOf.Value b) = refl
 range-answers s (IntOf.Value a) IntOf.NotInt = refl
 range-answers s IntOf.NotInt y = refl
 
-range-sound : (s : Bytes) (x y : IntOf) → SoundType s (rangeIn x y)
+range-sound : (s : Bytes) (x y : IntOf) → SoundType s (range_in x y)
 range-sound s (IntOf.Value a) (IntOf.Value b) = tt
 range-sound s (IntOf.Value a) IntOf.NotInt = tt
 range-sound s IntOf.NotInt y = tt
 
-pub told-range : (s : Bytes) (x y : IntOf) {o : Option Typed} {r : TypeOf} → r ≡ rangeIn x y → o ≡ ranged (intAnswer x) (intAnswer y) → Told s o r
+pub told-range : (s : Bytes) (x y : IntOf) {o : Option Typed} {r : TypeOf} → r ≡ range_in x y → o ≡ ranged (int_answer x) (int_answer y) → Told s o r
 told-range s x y e q = rw e (record { answers = range-answers s x y ∙ sym q; sound = range-sound s x y })
 
 -- an enum, whose text stands behind `at`
 module _ (s : Bytes) (at : ℕ) (h : at ≤ length s) where
-  pub told-enum : isEnum (symbolsOf (span at (length s) s)) ≡ true → Told s (onward enumIn (uncomment false (drop at s))) (TypeOf.Is (Shape.Enum at (length s)))
+  pub told-enum : is_enum (symbols_of (span at (length s) s)) ≡ true → Told s (onward enum_in (uncomment false (drop at s))) (TypeOf.Is (Shape.Enum at (length s)))
   told-enum e =
       let u = uncomment false (span at (length s) s) in
-      told_same s (ap (λ (t : Bytes). onward enumIn (uncomment false t)) (sym (rest s at)))
+      told_same s (ap (λ (t : Bytes). onward enum_in (uncomment false t)) (sym (rest s at)))
       (record { answers = sym (enum-by u ∙ rw e); sound = (h, omega arith, enum-read u e) })
 
-  pub told-no-enum : isEnum (symbolsOf (span at (length s) s)) ≡ false → Told s (onward enumIn (uncomment false (drop at s))) TypeOf.Fault
-  told-no-enum e = told-fault s (ap (λ (t : Bytes). onward enumIn (uncomment false t)) (sym (rest s at)) ∙ (enum-by (uncomment false (span at (length s) s)) ∙ rw e))
+  pub told-no-enum : is_enum (symbols_of (span at (length s) s)) ≡ false → Told s (onward enum_in (uncomment false (drop at s))) TypeOf.Fault
+  told-no-enum e = told-fault s (ap (λ (t : Bytes). onward enum_in (uncomment false t)) (sym (rest s at)) ∙ (enum-by (uncomment false (span at (length s) s)) ∙ rw e))
 
 -- a shape that stands alone
-pub told-bare : (s w : Bytes) (ws : List Bytes) {k : Shape} → head_of w ≡ Head.Bare k → ws ≡ [] → Told s (plainKind intBounds (w ∷ ws)) (TypeOf.Is k)
+pub told-bare : (s w : Bytes) (ws : List Bytes) {k : Shape} → head_of w ≡ Head.Bare k → ws ≡ [] → Told s (plain_kind int_bounds (w ∷ ws)) (TypeOf.Is k)
 told-bare s w ws {k = k} h e =
-    let a : plainKind intBounds (w ∷ ws) ≡ some (typedIn s k) = plain-by-head s w ws ∙ (ap (byHead s w ws) h ∙ ap (alone (typedIn s k)) e) in
+    let a : plain_kind int_bounds (w ∷ ws) ≡ some (typed_in s k) = plain-by-head s w ws ∙ (ap (by_head s w ws) h ∙ ap (alone (typed_in s k)) e) in
     record { answers = sym a; sound = subst (SoundHead s) h (head-sound s w) }
 
-pub told-not-bare : (s w v : Bytes) (ws vs : List Bytes) {k : Shape} → head_of w ≡ Head.Bare k → ws ≡ v ∷ vs → Told s (plainKind intBounds (w ∷ ws)) TypeOf.Fault
-told-not-bare s w v ws vs {k = k} h e = told-fault s (plain-by-head s w ws ∙ (ap (byHead s w ws) h ∙ ap (alone (typedIn s k)) e))
+pub told-not-bare : (s w v : Bytes) (ws vs : List Bytes) {k : Shape} → head_of w ≡ Head.Bare k → ws ≡ v ∷ vs → Told s (plain_kind int_bounds (w ∷ ws)) TypeOf.Fault
+told-not-bare s w v ws vs {k = k} h e = told-fault s (plain-by-head s w ws ∙ (ap (by_head s w ws) h ∙ ap (alone (typed_in s k)) e))
 
-pub told-by-head : (s w : Bytes) (ws : List Bytes) {h : Head} {r : TypeOf} → head_of w ≡ h → Told s (byHead s w ws h) r → Told s (plainKind intBounds (w ∷ ws)) r
-told-by-head s w ws e t = told_same s (plain-by-head s w ws ∙ ap (byHead s w ws) e) t
+pub told-by-head : (s w : Bytes) (ws : List Bytes) {h : Head} {r : TypeOf} → head_of w ≡ h → Told s (by_head s w ws h) r → Told s (plain_kind int_bounds (w ∷ ws)) r
+told-by-head s w ws e t = told_same s (plain-by-head s w ws ∙ ap (by_head s w ws) e) t
 
 -- the head of a type, n bytes from a on: the word `enum`, or the first word of another type
-module _ (s : Bytes) (a n : ℕ) (p : a ≡ run isGap s) (q : n ≡ run beforeComment (span a (length s) s)) where
+module _ (s : Bytes) (a n : ℕ) (p : a ≡ run is_gap s) (q : n ≡ run before_comment (span a (length s) s)) where
   pub head-le : a + n ≤ length s
-  head-le = omega (arith, p, q ∙ ap (run beforeComment) (rest s a), run-le isGap s, run-le beforeComment (drop a s), length-drop a s)
+  head-le = omega (arith, p, q ∙ ap (run before_comment) (rest s a), run-le is_gap s, run-le before_comment (drop a s), length-drop a s)
 
-  type-by : type_of intBounds s ≡ pick (same (span a (a + n) s) (text "enum")) (onward enumIn (uncomment false (drop (a + n) s))) (plainKind intBounds (words s))
+  type-by : type_of int_bounds s ≡ pick (same (span a (a + n) s) (text "enum")) (onward enum_in (uncomment false (drop (a + n) s))) (plain_kind int_bounds (words s))
   type-by =
-      let l : n ≡ run beforeComment (drop a s) = q ∙ ap (run beforeComment) (rest s a) in
-      let u : behind isGap s ≡ drop a s = behind-run isGap s ∙ rw p in
-      let v : front beforeComment (drop a s) ≡ span a (a + n) s = front-run beforeComment (drop a s) ∙ rw (← l, add-sub_cancel_left) in
-      let w : behind beforeComment (drop a s) ≡ drop (a + n) s = behind-run beforeComment (drop a s) ∙ rw (← l, drop-drop) in
+      let l : n ≡ run before_comment (drop a s) = q ∙ ap (run before_comment) (rest s a) in
+      let u : behind is_gap s ≡ drop a s = behind-run is_gap s ∙ rw p in
+      let v : front before_comment (drop a s) ≡ span a (a + n) s = front-run before_comment (drop a s) ∙ rw (← l, add-sub_cancel_left) in
+      let w : behind before_comment (drop a s) ≡ drop (a + n) s = behind-run before_comment (drop a s) ∙ rw (← l, drop-drop) in
       rw (u, v, w)
 
-  pub told-enum-type : {r : TypeOf} → same (span a (a + n) s) (text "enum") ≡ true → Told s (onward enumIn (uncomment false (drop (a + n) s))) r → Told s (type_of intBounds s) r
+  pub told-enum-type : {r : TypeOf} → same (span a (a + n) s) (text "enum") ≡ true → Told s (onward enum_in (uncomment false (drop (a + n) s))) r → Told s (type_of int_bounds s) r
   told-enum-type h t = told_same s (type-by ∙ rw h) t
 
-  pub told-plain-type : {r : TypeOf} → same (span a (a + n) s) (text "enum") ≡ false → Told s (plainKind intBounds (words s)) r → Told s (type_of intBounds s) r
+  pub told-plain-type : {r : TypeOf} → same (span a (a + n) s) (text "enum") ≡ false → Told s (plain_kind int_bounds (words s)) r → Told s (type_of int_bounds s) r
   told-plain-type h t = told_same s (type-by ∙ rw h) t

@@ -3,41 +3,41 @@ use Rattle.std.specs.Prelude.{◌≤◌, ◌≡◌, Bool, true, false, List, [],
 use Rattle.std.proofs.Math.Option.{Option, none, some}
 use Rattle.format.specs.Bytes.{Bytes, text, pick, same}
 use Rattle.format.specs.Words.{words}
-use Rattle.format.specs.Numbers.{intBounds}
+use Rattle.format.specs.Numbers.{int_bounds}
 use Rattle.format.specs.Types.{Kind, Typed, uncomment, meets}
 use Rattle.words.specs.Spans.{span}
-use Rattle.numbers.specs.Meaning.{intIn}
+use Rattle.numbers.specs.Meaning.{int_in}
 use Rattle.numbers.specs.declared.IntOf.{IntOf}
 use Rattle.typing.specs.declared.Shape.{Shape}
 use Rattle.typing.specs.declared.TypeOf.{TypeOf}
 use Rattle.typing.specs.declared.kinds.Head.{Head}
 
 -- are the comments of a text closed
-abbrev pub isRead : Option Bytes → Bool
-isRead none = false
-isRead (some s) = true
+abbrev pub is_read : Option Bytes → Bool
+is_read none = false
+is_read (some s) = true
 
 -- the symbols of an enum, in the text behind the word `enum`
-abbrev pub symbolsIn : Option Bytes → List Bytes
-symbolsIn none = []
-symbolsIn (some s) = words s
+abbrev pub symbols_in : Option Bytes → List Bytes
+symbols_in none = []
+symbols_in (some s) = words s
 
 -- a shape of a type's text s
-abbrev pub typedIn : Bytes → Shape → Typed
-typedIn s Shape.Int = Typed.kind Kind.int
-typedIn s (Shape.Range a b) = Typed.kind (Kind.range (intIn a) (intIn b))
-typedIn s Shape.Real = Typed.kind Kind.real
-typedIn s Shape.Line = Typed.kind Kind.line
-typedIn s (Shape.Size n) = Typed.kind (Kind.size n)
-typedIn s (Shape.Enum a e) = Typed.kind (Kind.enum (symbolsIn (uncomment false (span a e s))))
-typedIn s Shape.Bool = Typed.kind Kind.bool
-typedIn s Shape.Field = Typed.kind Kind.field
-typedIn s Shape.Uuid = Typed.kind Kind.uuid
-typedIn s (Shape.Alias a e) = Typed.alias (span a e s)
+abbrev pub typed_in : Bytes → Shape → Typed
+typed_in s Shape.Int = Typed.kind Kind.int
+typed_in s (Shape.Range a b) = Typed.kind (Kind.range (int_in a) (int_in b))
+typed_in s Shape.Real = Typed.kind Kind.real
+typed_in s Shape.Line = Typed.kind Kind.line
+typed_in s (Shape.Size n) = Typed.kind (Kind.size n)
+typed_in s (Shape.Enum a e) = Typed.kind (Kind.enum (symbols_in (uncomment false (span a e s))))
+typed_in s Shape.Bool = Typed.kind Kind.bool
+typed_in s Shape.Field = Typed.kind Kind.field
+typed_in s Shape.Uuid = Typed.kind Kind.uuid
+typed_in s (Shape.Alias a e) = Typed.alias (span a e s)
 
-abbrev pub typeAnswer : Bytes → TypeOf → Option Typed
-typeAnswer s (TypeOf.Is k) = some (typedIn s k)
-typeAnswer s TypeOf.Fault = none
+abbrev pub type_answer : Bytes → TypeOf → Option Typed
+type_answer s (TypeOf.Is k) = some (typed_in s k)
+type_answer s TypeOf.Fault = none
 
 -- the places of a shape lie in the text that it was read from, and an enum's comments are closed
 abbrev pub Sound : Bytes → Shape → Type 0
@@ -46,7 +46,7 @@ Sound s (Shape.Range a b) = Unit {0}
 Sound s Shape.Real = Unit {0}
 Sound s Shape.Line = Unit {0}
 Sound s (Shape.Size n) = Unit {0}
-Sound s (Shape.Enum a e) = (a ≤ e) × (e ≤ length s) × (isRead (uncomment false (span a e s)) ≡ true)
+Sound s (Shape.Enum a e) = (a ≤ e) × (e ≤ length s) × (is_read (uncomment false (span a e s)) ≡ true)
 Sound s Shape.Bool = Unit {0}
 Sound s Shape.Field = Unit {0}
 Sound s Shape.Uuid = Unit {0}
@@ -58,7 +58,7 @@ SoundType s TypeOf.Fault = Unit {0}
 
 -- what a reader of types tells of the text s
 pub record Told (s : Bytes) (answer : Option Typed) (r : TypeOf) : Type 0 where
-  pub answers : typeAnswer s r ≡ answer
+  pub answers : type_answer s r ≡ answer
   pub sound : SoundType s r
 
 -- the same of a type that holds no place: whatever the text is
@@ -78,15 +78,15 @@ head_of w =
     (pick (same w (text "uuid")) (Head.Bare Shape.Uuid)
     Head.Name)))))))
 
-abbrev pub rangeIn : IntOf → IntOf → TypeOf
-rangeIn (IntOf.Value a) (IntOf.Value b) = TypeOf.Is (Shape.Range a b)
-rangeIn (IntOf.Value a) IntOf.NotInt = TypeOf.Fault
-rangeIn IntOf.NotInt y = TypeOf.Fault
+abbrev pub range_in : IntOf → IntOf → TypeOf
+range_in (IntOf.Value a) (IntOf.Value b) = TypeOf.Is (Shape.Range a b)
+range_in (IntOf.Value a) IntOf.NotInt = TypeOf.Fault
+range_in IntOf.NotInt y = TypeOf.Fault
 
 -- does a value meet a type; an alias is met by none
-abbrev pub meetsTyped : Typed → Bytes → Bool
-meetsTyped (Typed.kind k) v = meets intBounds k v
-meetsTyped (Typed.alias n) v = false
+abbrev pub meets_typed : Typed → Bytes → Bool
+meets_typed (Typed.kind k) v = meets int_bounds k v
+meets_typed (Typed.alias n) v = false
 
-abbrev pub meetsIn : Bytes → Shape → Bytes → Bool
-meetsIn s k v = meetsTyped (typedIn s k) v
+abbrev pub meets_in : Bytes → Shape → Bytes → Bool
+meets_in s k v = meets_typed (typed_in s k) v

@@ -1,13 +1,13 @@
 // The text of a type, read into a shape by its first word.
 ghost use Rattle.std.specs.Prelude.{◌≡◌, false, ◌≤◌, length, drop};
 ghost use Rattle.format.specs.Words.{words};
-ghost use Rattle.format.specs.Numbers.{intBounds};
+ghost use Rattle.format.specs.Numbers.{int_bounds};
 ghost use Rattle.format.specs.Lists.{onward};
-ghost use Rattle.format.specs.Types.{uncomment, beforeComment, enumIn, end_of, range_of, size_of, aliasOf, plainKind, type_of};
+ghost use Rattle.format.specs.Types.{uncomment, before_comment, enum_in, end_of, range_of, size_of, alias_of, plain_kind, type_of};
 ghost use Rattle.lines.specs.Line.{run};
 ghost use Rattle.words.specs.Spans.{span};
-ghost use Rattle.numbers.specs.Meaning.{intAnswer};
-ghost use Rattle.typing.specs.Meaning.{head_of, rangeIn, Told, Placeless};
+ghost use Rattle.numbers.specs.Meaning.{int_answer};
+ghost use Rattle.typing.specs.Meaning.{head_of, range_in, Told, Placeless};
 
 use super::symbols::is_enum;
 use super::{Shape, TypeOf};
@@ -42,7 +42,7 @@ fn head_of(w: &[u8]) -> Head
 
 // The end of the bytes that a text begins with and that no gap and no comment ends.
 fn head_end(s: &[u8]) -> usize
-    ensures { result ≡ run beforeComment s.now }
+    ensures { result ≡ run before_comment s.now }
 {
     let mut e = 0;
     while e < s.len() {
@@ -60,7 +60,7 @@ fn head_end(s: &[u8]) -> usize
 // An enum, whose text stands behind `at`.
 fn enum_type(s: &[u8], at: usize) -> TypeOf
     requires { at ≤ length s.now }
-    ensures { Told s.now (onward enumIn (uncomment false (drop at s.now))) result }
+    ensures { Told s.now (onward enum_in (uncomment false (drop at s.now))) result }
 {
     if is_enum(&s[at..]) {
         TypeOf::Is(Shape::Enum {
@@ -74,7 +74,7 @@ fn enum_type(s: &[u8], at: usize) -> TypeOf
 
 // One end of a range.
 fn end_of(w: &[u8]) -> IntOf
-    ensures { intAnswer result ≡ end_of intBounds w.now }
+    ensures { int_answer result ≡ end_of int_bounds w.now }
 {
     if lines::same_bytes(w, b"MIN") {
         return IntOf::Value(Whole::Minus(Ends::LEAST));
@@ -87,7 +87,7 @@ fn end_of(w: &[u8]) -> IntOf
 
 // A range between two ends.
 fn ranged(low: IntOf, high: IntOf) -> TypeOf
-    ensures { result ≡ rangeIn low high }
+    ensures { result ≡ range_in low high }
 {
     let IntOf::Value(a) = low else {
         return TypeOf::Fault;
@@ -100,7 +100,7 @@ fn ranged(low: IntOf, high: IntOf) -> TypeOf
 
 // A range: one or two words.
 fn range_of(s: &[u8]) -> TypeOf
-    ensures { Placeless (range_of intBounds (words s.now)) result }
+    ensures { Placeless (range_of int_bounds (words s.now)) result }
 {
     let w = words::next_word(s);
     let Word::At { start: a, end: b } = w else {
@@ -122,7 +122,7 @@ fn range_of(s: &[u8]) -> TypeOf
 
 // A size: one word.
 fn size_of(s: &[u8]) -> TypeOf
-    ensures { Placeless (size_of intBounds (words s.now)) result }
+    ensures { Placeless (size_of int_bounds (words s.now)) result }
 {
     let w = words::next_word(s);
     let Word::At { start, end } = w else {
@@ -142,7 +142,7 @@ fn size_of(s: &[u8]) -> TypeOf
 // A typedef's name from start to end, with nothing after it.
 fn alias_of(s: &[u8], start: usize, end: usize) -> TypeOf
     requires { (start ≤ end) × (end ≤ length s.now) }
-    ensures { Told s.now (aliasOf (span start end s.now) (words (span end (length s.now) s.now))) result }
+    ensures { Told s.now (alias_of (span start end s.now) (words (span end (length s.now) s.now))) result }
 {
     let v = words::next_word(&s[end..]);
     let Word::Nothing = v else {
@@ -157,7 +157,7 @@ fn alias_of(s: &[u8], start: usize, end: usize) -> TypeOf
 
 // A type that is no enum.
 fn plain_type(s: &[u8]) -> TypeOf
-    ensures { Told s.now (plainKind intBounds (words s.now)) result }
+    ensures { Told s.now (plain_kind int_bounds (words s.now)) result }
 {
     let w = words::next_word(s);
     let Word::At { start, end } = w else {
@@ -180,7 +180,7 @@ fn plain_type(s: &[u8]) -> TypeOf
 
 // The type that a text stands for.
 pub fn type_of(s: &[u8]) -> TypeOf
-    ensures { Told s.now (type_of intBounds s.now) result }
+    ensures { Told s.now (type_of int_bounds s.now) result }
 {
     let start = words::gap_end(s);
     let end = start + head_end(&s[start..]);

@@ -1,11 +1,11 @@
 // Does a value meet a type: one test for each kind.
 ghost use Rattle.std.specs.Prelude.{◌≡◌, ◌&&◌, ◌<◌, ◌≤◌, eqb, length, get_or};
 ghost use Rattle.format.specs.Bytes.{among, is_some};
-ghost use Rattle.format.specs.Numbers.{areDigits};
-ghost use Rattle.format.specs.Types.{isInRange, truths, isUuid, isContinuation, sizeCount};
+ghost use Rattle.format.specs.Numbers.{are_digits};
+ghost use Rattle.format.specs.Types.{is_in_range, truths, is_uuid, is_continuation, size_count};
 ghost use Rattle.words.specs.Spans.{span};
-ghost use Rattle.numbers.specs.Meaning.{intIn, intAnswer};
-ghost use Rattle.typing.specs.Meaning.{Sound, meetsIn};
+ghost use Rattle.numbers.specs.Meaning.{int_in, int_answer};
+ghost use Rattle.typing.specs.Meaning.{Sound, meets_in};
 
 use super::Shape;
 use super::symbols::has_symbol;
@@ -21,7 +21,7 @@ fn is_truth(s: &[u8]) -> bool
 // Hex digits from start to end, and a dash behind them?
 fn dashed(s: &[u8], start: usize, end: usize) -> bool
     requires { (start ≤ end) × (end < length s.now) }
-    ensures { result ≡ (areDigits 16 (span start end s.now) && eqb (get_or s.now end 0) 45) }
+    ensures { result ≡ (are_digits 16 (span start end s.now) && eqb (get_or s.now end 0) 45) }
 {
     if numbers::are_digits(&s[start..end], 16) {
         s[end] == b'-'
@@ -32,7 +32,7 @@ fn dashed(s: &[u8], start: usize, end: usize) -> bool
 
 // Is this text a uuid?
 fn is_uuid(s: &[u8]) -> bool
-    ensures { result ≡ isUuid s.now }
+    ensures { result ≡ is_uuid s.now }
 {
     if s.len() != 36 {
         return false;
@@ -54,7 +54,7 @@ fn is_uuid(s: &[u8]) -> bool
 
 // Is what was read an int?
 pub fn is_int(x: IntOf) -> bool
-    ensures { result ≡ is_some (intAnswer x) }
+    ensures { result ≡ is_some (int_answer x) }
 {
     match x {
         IntOf::Value(_) => true,
@@ -64,7 +64,7 @@ pub fn is_int(x: IntOf) -> bool
 
 // Is what was read an int from a to b?
 pub fn is_between(a: Whole, b: Whole, x: IntOf) -> bool
-    ensures { result ≡ isInRange (intIn a) (intIn b) (intAnswer x) }
+    ensures { result ≡ is_in_range (int_in a) (int_in b) (int_answer x) }
 {
     let IntOf::Value(n) = x else {
         return false;
@@ -78,14 +78,14 @@ pub fn is_between(a: Whole, b: Whole, x: IntOf) -> bool
 
 // Is this byte one from hex 80 to BF, which a size leaves out?
 fn is_continuation(c: u8) -> bool
-    ensures { result ≡ isContinuation c }
+    ensures { result ≡ is_continuation c }
 {
     c >= 128 && c <= 191
 }
 
 // The size of a value: how many of its bytes are no continuation.
 fn size_count(v: &[u8]) -> usize
-    ensures { result ≡ sizeCount v.now }
+    ensures { result ≡ size_count v.now }
 {
     let mut i = 0;
     let mut n = 0;
@@ -101,7 +101,7 @@ fn size_count(v: &[u8]) -> usize
 // Does a value meet the type that was read from text? An alias has to be followed first.
 pub fn meets(k: Shape, text: &[u8], v: &[u8]) -> bool
     requires { Sound text.now k }
-    ensures { result ≡ meetsIn text.now k v.now }
+    ensures { result ≡ meets_in text.now k v.now }
 {
     let t = words::trimmed(v);
     let a = t.start;

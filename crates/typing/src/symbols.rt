@@ -1,18 +1,18 @@
 // The text behind the word `enum`: its words, comments passed over, each a symbol.
 ghost use Rattle.std.specs.Prelude.{◌≡◌, true, false, ◌≤◌, length, drop};
-ghost use Rattle.format.specs.Bytes.{classTable, all, among};
-ghost use Rattle.format.specs.Types.{uncomment, isSymbolByte, isSymbol};
+ghost use Rattle.format.specs.Bytes.{class_table, all, among};
+ghost use Rattle.format.specs.Types.{uncomment, is_symbol_byte, is_symbol};
 ghost use Rattle.lines.specs.Line.{run};
-ghost use Rattle.typing.specs.Meaning.{isRead, symbolsIn};
-ghost use Rattle.values.specs.Stretches.{notParen};
-ghost use Rattle.typing.specs.Symbols.{is_plain, symbolsOf, NextSymbol, areSymbols, isEnum};
+ghost use Rattle.typing.specs.Meaning.{is_read, symbols_in};
+ghost use Rattle.values.specs.Stretches.{not_paren};
+ghost use Rattle.typing.specs.Symbols.{is_plain, symbols_of, NextSymbol, are_symbols, is_enum};
 
 use format::Class;
 
 // May a symbol go on with this byte?
 fn symbol_byte(table: &[u8; 256], b: u8) -> bool
-    requires { table.now ≡ classTable }
-    ensures { result ≡ isSymbolByte b }
+    requires { table.now ≡ class_table }
+    ensures { result ≡ is_symbol_byte b }
 {
     if format::is_later(table, b) {
         true
@@ -23,9 +23,9 @@ fn symbol_byte(table: &[u8; 256], b: u8) -> bool
 
 // Do all bytes from `from` on go on a symbol?
 fn symbol_bytes(table: &[u8; 256], s: &[u8], from: usize) -> bool
-    requires table_value { table.now ≡ classTable }
+    requires table_value { table.now ≡ class_table }
     requires from_in_bounds { from ≤ length s.now }
-    ensures { result ≡ all isSymbolByte (drop from s.now) }
+    ensures { result ≡ all is_symbol_byte (drop from s.now) }
 {
     let mut i = from;
     while i < s.len() {
@@ -40,8 +40,8 @@ fn symbol_bytes(table: &[u8; 256], s: &[u8], from: usize) -> bool
 
 // Is this text a symbol?
 fn is_symbol(table: &[u8; 256], s: &[u8]) -> bool
-    requires { table.now ≡ classTable }
-    ensures { result ≡ isSymbol s.now }
+    requires { table.now ≡ class_table }
+    ensures { result ≡ is_symbol s.now }
 {
     if s.len() == 0 {
         return false;
@@ -84,7 +84,7 @@ fn plain_end(s: &[u8]) -> usize
 
 // The first parenthesis of a text.
 fn paren_at(s: &[u8]) -> usize
-    ensures { result ≡ run notParen s.now }
+    ensures { result ≡ run not_paren s.now }
 {
     let mut e = 0;
     while e < s.len() {
@@ -132,8 +132,8 @@ fn next_symbol(s: &[u8]) -> Symbol
 
 // Are all words of the text symbols?
 fn all_symbols(table: &[u8; 256], s: &[u8]) -> bool
-    requires { table.now ≡ classTable }
-    ensures { result ≡ areSymbols (symbolsOf s.now) }
+    requires { table.now ≡ class_table }
+    ensures { result ≡ are_symbols (symbols_of s.now) }
 {
     let mut rest = s;
     loop {
@@ -158,7 +158,7 @@ fn all_symbols(table: &[u8; 256], s: &[u8]) -> bool
 
 // One symbol or more?
 pub(crate) fn is_enum(s: &[u8]) -> bool
-    ensures { result ≡ isEnum (symbolsOf s.now) }
+    ensures { result ≡ is_enum (symbols_of s.now) }
 {
     let table = format::classes();
     let w = next_symbol(s);
@@ -171,8 +171,8 @@ pub(crate) fn is_enum(s: &[u8]) -> bool
 
 // Is v one of the symbols in the text s behind the word `enum`?
 pub(crate) fn has_symbol(s: &[u8], v: &[u8]) -> bool
-    requires { isRead (uncomment false s.now) ≡ true }
-    ensures { result ≡ among v.now (symbolsIn (uncomment false s.now)) }
+    requires { is_read (uncomment false s.now) ≡ true }
+    ensures { result ≡ among v.now (symbols_in (uncomment false s.now)) }
 {
     let mut rest = s;
     loop {

@@ -10,36 +10,36 @@ use lib.ListN.{length, get_or, drop, drop_of_length-le}
 use lib.Seq.{get_or-drop}
 use borrow.Author.Tests.{eqb-true, ne_eqb}
 use Rattle.format.specs.Bytes.{Bytes, pick}
-use Rattle.values.specs.Value.{decode, valueFrom, Plain, Reaches, here, further, plain, Unfolds}
+use Rattle.values.specs.Value.{decode, value_from, Plain, Reaches, here, further, plain, Unfolds}
 use Rattle.values.specs.declared.Decoded.{Decoded}
 use Rattle.lines.proofs.Cuts.{at-cons}
 
 -- A backslash before a newline vanishes with it.
-pub value-joined : (s : Bytes) → valueFrom (92 ∷ 10 ∷ s) ≡ valueFrom s
-unfolding decode valueFrom
+pub value-joined : (s : Bytes) → value_from (92 ∷ 10 ∷ s) ≡ value_from s
+unfolding decode value_from
 value-joined s = refl
 
 -- Any other byte but a newline stands for itself.
-pub value-plain : (c : ℕ) (s : Bytes) → (c ≡ 10 → ⊥) → (c ≡ 92 → get_or s 0 0 ≡ 10 → ⊥) → valueFrom (c ∷ s) ≡ c ∷ valueFrom s
-unfolding decode valueFrom
+pub value-plain : (c : ℕ) (s : Bytes) → (c ≡ 10 → ⊥) → (c ≡ 92 → get_or s 0 0 ≡ 10 → ⊥) → value_from (c ∷ s) ≡ c ∷ value_from s
+unfolding decode value_from
 value-plain c s h k = go (eqb c 92) refl (eqb (get_or s 0 0) 10) refl
   where
-    go : (a : Bool) → eqb c 92 ≡ a → (b : Bool) → eqb (get_or s 0 0) 10 ≡ b → valueFrom (c ∷ s) ≡ c ∷ valueFrom s
+    go : (a : Bool) → eqb c 92 ≡ a → (b : Bool) → eqb (get_or s 0 0) 10 ≡ b → value_from (c ∷ s) ≡ c ∷ value_from s
     go true p true q = absurd (k (eqb-true c 92 p) (eqb-true (get_or s 0 0) 10 q))
     go true p false q = rw (p, q)
     go false p b q = rw (p, ne_eqb c 10 h)
 
 -- A newline ends the value, but for one before a plus: that stands for itself, and the plus and one space vanish.
-pub value-end : (s : Bytes) → (get_or s 0 0 ≡ 43 → ⊥) → valueFrom (10 ∷ s) ≡ []
-unfolding decode valueFrom
+pub value-end : (s : Bytes) → (get_or s 0 0 ≡ 43 → ⊥) → value_from (10 ∷ s) ≡ []
+unfolding decode value_from
 value-end s h = rw (ne_eqb (get_or s 0 0) 43 h)
 
-pub value-space : (s : Bytes) → valueFrom (10 ∷ 43 ∷ 32 ∷ s) ≡ 10 ∷ valueFrom s
-unfolding decode valueFrom
+pub value-space : (s : Bytes) → value_from (10 ∷ 43 ∷ 32 ∷ s) ≡ 10 ∷ value_from s
+unfolding decode value_from
 value-space s = refl
 
-pub value-plus : (s : Bytes) → (get_or s 0 0 ≡ 32 → ⊥) → valueFrom (10 ∷ 43 ∷ s) ≡ 10 ∷ valueFrom s
-unfolding decode valueFrom
+pub value-plus : (s : Bytes) → (get_or s 0 0 ≡ 32 → ⊥) → value_from (10 ∷ 43 ∷ s) ≡ 10 ∷ value_from s
+unfolding decode value_from
 value-plus s h = rw (ne_eqb (get_or s 0 0) 32 h)
 
 -- The bytes from an index on: the byte there and those behind it.
@@ -60,23 +60,23 @@ head-drop : (s : Bytes) (i : ℕ) → get_or (drop i s) 0 0 ≡ get_or s i 0
 head-drop s i = rw (get_or-drop, add-zero)
 
 module _ (s : Bytes) (i : ℕ) where
-  pub nothing-at : length s ≤ i → valueFrom (drop i s) ≡ []
-  unfolding decode valueFrom
+  pub nothing-at : length s ≤ i → value_from (drop i s) ≡ []
+  unfolding decode value_from
   nothing-at h = rw (drop_of_length-le s)
 
-  pub joined_at : get_or s i 0 ≡ 92 → get_or s (i + 1) 0 ≡ 10 → valueFrom (drop i s) ≡ valueFrom (drop (i + 2) s)
+  pub joined_at : get_or s i 0 ≡ 92 → get_or s (i + 1) 0 ≡ 10 → value_from (drop i s) ≡ value_from (drop (i + 2) s)
   joined_at a b = rw (at-two s i 91 9 a b) (value-joined (drop (i + 2) s))
 
-  pub plain_at : i < length s → (get_or s i 0 ≡ 10 → ⊥) → (get_or s i 0 ≡ 92 → get_or s (i + 1) 0 ≡ 10 → ⊥) → valueFrom (drop i s) ≡ get_or s i 0 ∷ valueFrom (drop (i + 1) s)
+  pub plain_at : i < length s → (get_or s i 0 ≡ 10 → ⊥) → (get_or s i 0 ≡ 92 → get_or s (i + 1) 0 ≡ 10 → ⊥) → value_from (drop i s) ≡ get_or s i 0 ∷ value_from (drop (i + 1) s)
   plain_at h a b = rw (at-cons s i h) (value-plain (get_or s i 0) (drop (i + 1) s) a (λ p q. b p (sym (head-drop s (i + 1)) ∙ q)))
 
-  pub end-at : get_or s i 0 ≡ 10 → (get_or s (i + 1) 0 ≡ 43 → ⊥) → valueFrom (drop i s) ≡ []
+  pub end-at : get_or s i 0 ≡ 10 → (get_or s (i + 1) 0 ≡ 43 → ⊥) → value_from (drop i s) ≡ []
   end-at a b = rw (at_byte s i 9 a) (value-end (drop (i + 1) s) (λ q. b (sym (head-drop s (i + 1)) ∙ q)))
 
-  pub space-at : get_or s i 0 ≡ 10 → get_or s (i + 1) 0 ≡ 43 → get_or s (i + 2) 0 ≡ 32 → valueFrom (drop i s) ≡ 10 ∷ valueFrom (drop (i + 3) s)
+  pub space-at : get_or s i 0 ≡ 10 → get_or s (i + 1) 0 ≡ 43 → get_or s (i + 2) 0 ≡ 32 → value_from (drop i s) ≡ 10 ∷ value_from (drop (i + 3) s)
   space-at a b c = rw (at-two s i 9 42 a b, at_byte s (i + 2) 31 c, value-space, add_assoc)
 
-  pub plus-at : get_or s i 0 ≡ 10 → get_or s (i + 1) 0 ≡ 43 → (get_or s (i + 2) 0 ≡ 32 → ⊥) → valueFrom (drop i s) ≡ 10 ∷ valueFrom (drop (i + 2) s)
+  pub plus-at : get_or s i 0 ≡ 10 → get_or s (i + 1) 0 ≡ 43 → (get_or s (i + 2) 0 ≡ 32 → ⊥) → value_from (drop i s) ≡ 10 ∷ value_from (drop (i + 2) s)
   plus-at a b c = rw (at-two s i 9 42 a b) (value-plus (drop (i + 2) s) (λ q. c (sym (head-drop s (i + 2)) ∙ q)))
 
 -- Decoding comes from a place to what it comes to from there.
@@ -96,12 +96,12 @@ plain_more s i k p h a b =
     record { on = omega arith; reached = further p.reached (plain refl h a (λ q r. b q)); counted = omega (arith, ap length e) }
 
 -- The next byte of the value may be looked for further on.
-pub unfolds-from : (s : Bytes) (i j : ℕ) (d : Decoded) → i ≤ j → Reaches s i j → valueFrom (drop i s) ≡ valueFrom (drop j s) → Unfolds s j d → Unfolds s i d
+pub unfolds-from : (s : Bytes) (i j : ℕ) (d : Decoded) → i ≤ j → Reaches s i j → value_from (drop i s) ≡ value_from (drop j s) → Unfolds s j d → Unfolds s i d
 unfolds-from s i j Decoded.End h r e u = e ∙ u
 unfolds-from s i j (Decoded.Byte b k) h r e u = (e ∙ u.0, omega arith, u.2, reaches-on r u.3)
 
 -- What an answer says of the value, once its form is known.
-pub ended : (s : Bytes) (i : ℕ) (d : Decoded) → Unfolds s i d → d ≡ Decoded.End → valueFrom (drop i s) ≡ []
+pub ended : (s : Bytes) (i : ℕ) (d : Decoded) → Unfolds s i d → d ≡ Decoded.End → value_from (drop i s) ≡ []
 ended s i d u e = subst (Unfolds s i) e u
 
 pub goes_on : (s : Bytes) (i : ℕ) (d : Decoded) {b k : ℕ} → Unfolds s i d → d ≡ Decoded.Byte b k → Unfolds s i (Decoded.Byte b k)
@@ -125,6 +125,6 @@ decode-length zero (c ∷ s) =
     (pick_all P (eqb c 10) (pick_all P (eqb (get_or s 0 0) 43) (omega arith) (omega arith)) (omega arith))
 decode-length (suc k) (c ∷ s) = omega (arith, decode-length k s)
 
-pub value-length : (s : Bytes) → length (valueFrom s) ≤ length s
-unfolding valueFrom
+pub value-length : (s : Bytes) → length (value_from s) ≤ length s
+unfolding value_from
 value-length s = decode-length 0 s

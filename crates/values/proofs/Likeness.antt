@@ -9,23 +9,23 @@ use borrow.Author.Tests.{eqb-true, eqb-false, eq-eqb, ne_eqb, lt-ltb, le-ltb}
 use lib.Dec.{eqb, ltb}
 use lib.ListN.{length, get_or}
 use Rattle.format.specs.Bytes.{Bytes, pick}
-use Rattle.values.specs.Likeness.{ahead, last_of, likenessOf, Means}
+use Rattle.values.specs.Likeness.{ahead, last_of, likeness_of, Means}
 use Rattle.values.specs.declared.ends.Likeness.{Likeness}
 use Rattle.values.proofs.Tests.{by_bool, three_ways}
 
 -- which case applies
-pub likeness-unlike : (a b : Bytes) → (length a ≡ length b → ⊥) → likenessOf a b ≡ Likeness.Unlike (ltb (length a) (length b))
-unfolding likenessOf
+pub likeness-unlike : (a b : Bytes) → (length a ≡ length b → ⊥) → likeness_of a b ≡ Likeness.Unlike (ltb (length a) (length b))
+unfolding likeness_of
 likeness-unlike a b h = rw (ne_eqb (length a) (length b) h)
 
-pub likeness-shorter : (a b : Bytes) → length a < length b → likenessOf a b ≡ Likeness.Unlike true
+pub likeness-shorter : (a b : Bytes) → length a < length b → likeness_of a b ≡ Likeness.Unlike true
 likeness-shorter a b h = likeness-unlike a b (λ e. omega arith) ∙ ap Likeness.Unlike (lt-ltb (length a) (length b) h)
 
-pub likeness-longer : (a b : Bytes) → length b < length a → likenessOf a b ≡ Likeness.Unlike false
+pub likeness-longer : (a b : Bytes) → length b < length a → likeness_of a b ≡ Likeness.Unlike false
 likeness-longer a b h = likeness-unlike a b (λ e. omega arith) ∙ ap Likeness.Unlike (le-ltb (length a) (length b) (omega arith))
 
-pub likeness-last : (a b : Bytes) → length a ≡ length b → likenessOf a b ≡ last_of a b
-unfolding likenessOf
+pub likeness-last : (a b : Bytes) → length a ≡ length b → likeness_of a b ≡ last_of a b
+unfolding likeness_of
 likeness-last a b h = rw (eq-eqb (length a) (length b) h)
 
 -- two bytes more in front
@@ -58,7 +58,7 @@ pub last-equal : (a b : Bytes) → length a ≡ length b → last_of a b ≡ Lik
 last-equal a b h e = subst (Means a b) e (last-means a b h)
 
 -- The answer means what it says,
-pub likeness-means : (a b : Bytes) → Means a b (likenessOf a b)
+pub likeness-means : (a b : Bytes) → Means a b (likeness_of a b)
 likeness-means a b =
     by_bool (eqb (length a) (length b))
     (λ q. let h = eqb-true (length a) (length b) q in subst (Means a b) (sym (likeness-last a b h)) (last-means a b h))
@@ -78,29 +78,29 @@ one-means a b (Likeness.Differ k f) (Likeness.Differ l g) m n =
     three_ways k l (λ p. absurd (n.2 (m.3 l p n.1))) (λ p. absurd (m.2 (n.3 k p m.1)))
     (λ p. let e : ltb (get_or a k 0) (get_or b k 0) ≡ ltb (get_or a l 0) (get_or b l 0) = ap (λ (i : ℕ). ltb (get_or a i 0) (get_or b i 0)) p in let u = m.4 ∙ e ∙ sym n.4 in cc)
 
-pub means-likeness : (a b : Bytes) (r : Likeness) → Means a b r → r ≡ likenessOf a b
-means-likeness a b r m = one-means a b r (likenessOf a b) m (likeness-means a b)
+pub means-likeness : (a b : Bytes) (r : Likeness) → Means a b r → r ≡ likeness_of a b
+means-likeness a b r m = one-means a b r (likeness_of a b) m (likeness-means a b)
 
 -- The same by its cases: equal exactly when the bytes are,
-pub likeness-same : (a b : Bytes) → likenessOf a b ≡ Likeness.Equal → a ≡ b
+pub likeness-same : (a b : Bytes) → likeness_of a b ≡ Likeness.Equal → a ≡ b
 likeness-same a b e = subst (Means a b) e (likeness-means a b)
 
-pub same-likeness : (a b : Bytes) → a ≡ b → likenessOf a b ≡ Likeness.Equal
+pub same-likeness : (a b : Bytes) → a ≡ b → likeness_of a b ≡ Likeness.Equal
 same-likeness a b e = sym (means-likeness a b Likeness.Equal e)
 
 -- lengths unlike exactly where they are,
-pub unlike-lengths : (a b : Bytes) {f : Bool} → likenessOf a b ≡ Likeness.Unlike f → length a ≡ length b → ⊥
+pub unlike-lengths : (a b : Bytes) {f : Bool} → likeness_of a b ≡ Likeness.Unlike f → length a ≡ length b → ⊥
 unlike-lengths a b {f} e = (subst (Means a b) e (likeness-means a b)).0
 
 -- and of two of one length, the greatest place at which they differ.
-pub last-difference : (a b : Bytes) {k : ℕ} {f : Bool} → likenessOf a b ≡ Likeness.Differ k f → Means a b (Likeness.Differ k f)
+pub last-difference : (a b : Bytes) {k : ℕ} {f : Bool} → likeness_of a b ≡ Likeness.Differ k f → Means a b (Likeness.Differ k f)
 last-difference a b {k} {f} e = subst (Means a b) e (likeness-means a b)
 
 -- In both cases the texts are not the same.
-pub unlike-apart : (a b : Bytes) {f : Bool} → likenessOf a b ≡ Likeness.Unlike f → a ≡ b → ⊥
+pub unlike-apart : (a b : Bytes) {f : Bool} → likeness_of a b ≡ Likeness.Unlike f → a ≡ b → ⊥
 unlike-apart a b e q = unlike-lengths a b e (ap length q)
 
-pub differ-apart : (a b : Bytes) {k : ℕ} {f : Bool} → likenessOf a b ≡ Likeness.Differ k f → a ≡ b → ⊥
+pub differ-apart : (a b : Bytes) {k : ℕ} {f : Bool} → likeness_of a b ≡ Likeness.Differ k f → a ≡ b → ⊥
 differ-apart a b {k} e q = (last-difference a b e).2 (ap (λ (v : Bytes). get_or v k 0) q)
 
 -- Two texts that end alike, behind fronts of one length and two bytes that differ.

@@ -9,15 +9,15 @@ use lib.ListN.{length, take, drop, length-append}
 use lib.Seq.{take-append_seam}
 use Rattle.format.specs.Lists.{onward}
 use Rattle.format.specs.Bytes.{Bytes, pick}
-use Rattle.format.specs.Lines.{Line, lines, bytes, isEnded, Form, form, joins, cut}
-use Rattle.format.specs.Pieces.{Piece, Mode, after, unopened, Reading, readFrom, piecesIn, pieces, takeLine}
+use Rattle.format.specs.Lines.{Line, lines, bytes, is_ended, Form, form, joins, cut}
+use Rattle.format.specs.Pieces.{Piece, Mode, after, unopened, Reading, read_from, pieces_in, pieces, take_line}
 use Rattle.format.proofs.Elements.{Each, each-parts}
 use Rattle.format.proofs.Lines.{Clean}
 use Rattle.format.proofs.Whole.{Sound}
-use Rattle.lines.specs.Line.{lineLen, firstLine}
-use Rattle.lines.specs.Piece.{lineSize, extentOf, value_at, fieldNext, nextBy, next_of, size_of}
-use Rattle.values.specs.Value.{valueFrom}
-use Rattle.values.specs.Pieces.{piece_of, onPiece}
+use Rattle.lines.specs.Line.{line_len, first_line}
+use Rattle.lines.specs.Piece.{line_size, extent_of, value_at, field_next, next_by, next_of, size_of}
+use Rattle.values.specs.Value.{value_from}
+use Rattle.values.specs.Pieces.{piece_of, on_piece}
 use Rattle.lines.specs.declared.Extent.{Extent}
 use Rattle.lines.specs.declared.Next.{Next}
 use Rattle.values.proofs.Values.{field-value}
@@ -28,25 +28,25 @@ use Rattle.lines.proofs.Shapes.{Shaped, shaped, joins-name}
 use Rattle.lines.proofs.Owned.{opening, Owns, owns}
 
 -- what stands in front of lines, in front of their pieces
-blank-front : (l : Line) (x : Option Reading) → piecesIn (onward (takeLine Form.blank l) x) ≡ onPiece (some (Piece.blank l)) (piecesIn x)
+blank-front : (l : Line) (x : Option Reading) → pieces_in (onward (take_line Form.blank l) x) ≡ on_piece (some (Piece.blank l)) (pieces_in x)
 blank-front l none = refl
 blank-front l (some r) = refl
 
-comment-front : (l : Line) (x : Option Reading) → piecesIn (onward (takeLine Form.comment l) x) ≡ onPiece (some (Piece.comment l)) (piecesIn x)
+comment-front : (l : Line) (x : Option Reading) → pieces_in (onward (take_line Form.comment l) x) ≡ on_piece (some (Piece.comment l)) (pieces_in x)
 comment-front l none = refl
 comment-front l (some r) = refl
 
-field-front : (n v w : Bytes) (l : Line) (own : List Line) (x : Option Reading) → piecesIn (onward (takeLine (Form.field n v) l) (opening w own x)) ≡ onPiece (some (Piece.field n (cut v ++ w) (l ∷ own))) (piecesIn x)
+field-front : (n v w : Bytes) (l : Line) (own : List Line) (x : Option Reading) → pieces_in (onward (take_line (Form.field n v) l) (opening w own x)) ≡ on_piece (some (Piece.field n (cut v ++ w) (l ∷ own))) (pieces_in x)
 field-front n v w l own none = refl
 field-front n v w l own (some r) = refl
 
-fault-front : (l : Line) (x : Option Reading) → piecesIn (onward (takeLine Form.fault l) x) ≡ none
+fault-front : (l : Line) (x : Option Reading) → pieces_in (onward (take_line Form.fault l) x) ≡ none
 fault-front l none = refl
 fault-front l (some r) = refl
 
 -- The value of a field, by the bytes of its lines.
 abbrev ValueLaw : Type 0
-ValueLaw = (n v : Bytes) (l : Line) (own : List Line) → Sound (Piece.field n v (l ∷ own)) → v ≡ valueFrom (drop (value_at (length n) l) (bytes (l ∷ own)))
+ValueLaw = (n v : Bytes) (l : Line) (own : List Line) → Sound (Piece.field n v (l ∷ own)) → v ≡ value_from (drop (value_at (length n) l) (bytes (l ∷ own)))
 
 -- a text whose first line is a field's
 module _ (s : Bytes) (l : Line) (ls : List Line) (clean : Each Clean (l ∷ ls)) (are : bytes (l ∷ ls) ≡ s) (n v : Bytes) (is : form l ≡ Form.field n v) where
@@ -59,12 +59,12 @@ module _ (s : Bytes) (l : Line) (ls : List Line) (clean : Each Clean (l ∷ ls))
   name-is : take (length n) s ≡ n
   name-is = ap (take (length n)) (sym are ∙ ap (λ (x : Line). x ++ (10 ∷ bytes ls)) shape.1 ∙ append_assoc n (58 ∷ shape.0) (10 ∷ bytes ls)) ∙ take-append_seam n ((58 ∷ shape.0) ++ (10 ∷ bytes ls))
 
-  field-sound : (w : Bytes) (own : List Line) → Each Clean (l ∷ own) → readFrom (pick (joins l) Mode.joined Mode.opened) own ≡ opening w own (readFrom Mode.closed []) → Sound (Piece.field n (cut v ++ w) (l ∷ own))
-  field-sound w own c e = (c, ap (λ (F : Form). onward (takeLine (unopened F) l) (readFrom (after (unopened F)) own)) is ∙ ap (λ (m : Mode). onward (takeLine (Form.field n v) l) (readFrom m own)) mode ∙ ap (onward (takeLine (Form.field n v) l)) e)
+  field-sound : (w : Bytes) (own : List Line) → Each Clean (l ∷ own) → read_from (pick (joins l) Mode.joined Mode.opened) own ≡ opening w own (read_from Mode.closed []) → Sound (Piece.field n (cut v ++ w) (l ∷ own))
+  field-sound w own c e = (c, ap (λ (F : Form). onward (take_line (unopened F) l) (read_from (after (unopened F)) own)) is ∙ ap (λ (m : Mode). onward (take_line (Form.field n v) l) (read_from m own)) mode ∙ ap (onward (take_line (Form.field n v) l)) e)
 
-  field_cut : ValueLaw → (e : Extent) → Owns (joins l) (0 + lineSize l) ls e
-      → piecesIn (onward (takeLine (Form.field n v) l) (readFrom (pick (joins v) Mode.joined Mode.opened) ls)) ≡ onPiece (piece_of (fieldNext (length n) (value_at (length n) l) e) s) (pieces (drop (size_of (fieldNext (length n) (value_at (length n) l) e)) s))
-  field_cut law Extent.Open h = ap (λ (m : Mode). piecesIn (onward (takeLine (Form.field n v) l) (readFrom m ls))) mode ∙ ap (λ (x : Option Reading). piecesIn (onward (takeLine (Form.field n v) l) x)) h
+  field_cut : ValueLaw → (e : Extent) → Owns (joins l) (0 + line_size l) ls e
+      → pieces_in (onward (take_line (Form.field n v) l) (read_from (pick (joins v) Mode.joined Mode.opened) ls)) ≡ on_piece (piece_of (field_next (length n) (value_at (length n) l) e) s) (pieces (drop (size_of (field_next (length n) (value_at (length n) l) e)) s))
+  field_cut law Extent.Open h = ap (λ (m : Mode). pieces_in (onward (take_line (Form.field n v) l) (read_from m ls))) mode ∙ ap (λ (x : Option Reading). pieces_in (onward (take_line (Form.field n v) l) x)) h
   field_cut law (Extent.Size k) h =
       let a : List Line = l ∷ h.own in
       let w = h.value in
@@ -72,35 +72,35 @@ module _ (s : Bytes) (l : Line) (ls : List Line) (clean : Each Clean (l ∷ ls))
       let b : bytes (a ++ h.rest) ≡ s = ap (λ (x : List Line). bytes (l ∷ x)) (sym h.parts) ∙ are in
       let size : k ≡ length (bytes a) = omega (arith, h.size, length-append l (10 ∷ bytes h.own)) in
       let sound = field-sound w h.own (each-parts Clean a h.rest c).0 h.whole in
-      let value : cut v ++ w ≡ valueFrom (drop (value_at (length n) l) (take k s)) = law n (cut v ++ w) l h.own sound ∙ ap (λ (x : Bytes). valueFrom (drop (value_at (length n) l) x)) (sym (part_bytes s a h.rest k c b size)) in
-      ap (λ (m : Mode). piecesIn (onward (takeLine (Form.field n v) l) (readFrom m ls))) mode
-      ∙ ap (λ (x : Option Reading). piecesIn (onward (takeLine (Form.field n v) l) x)) h.reads
-      ∙ field-front n v w l h.own (readFrom Mode.closed h.rest)
+      let value : cut v ++ w ≡ value_from (drop (value_at (length n) l) (take k s)) = law n (cut v ++ w) l h.own sound ∙ ap (λ (x : Bytes). value_from (drop (value_at (length n) l) x)) (sym (part_bytes s a h.rest k c b size)) in
+      ap (λ (m : Mode). pieces_in (onward (take_line (Form.field n v) l) (read_from m ls))) mode
+      ∙ ap (λ (x : Option Reading). pieces_in (onward (take_line (Form.field n v) l) x)) h.reads
+      ∙ field-front n v w l h.own (read_from Mode.closed h.rest)
       ∙ rw (name-is, ← value, part-lines s a h.rest k c b size, part-rest s a h.rest k c b size)
 
 -- whatever form the first line has
-module _ (law : ValueLaw) (s : Bytes) (l : Line) (ls : List Line) (clean : Each Clean (l ∷ ls)) (are : bytes (l ∷ ls) ≡ s) (first : firstLine s ≡ l) where
-  behind-line : pieces (drop (lineSize l) s) ≡ piecesIn (readFrom Mode.closed ls)
-  behind-line = part-rest s (l ∷ []) ls (lineSize l) clean are (omega (arith, length-append l (10 ∷ [])))
+module _ (law : ValueLaw) (s : Bytes) (l : Line) (ls : List Line) (clean : Each Clean (l ∷ ls)) (are : bytes (l ∷ ls) ≡ s) (first : first_line s ≡ l) where
+  behind-line : pieces (drop (line_size l) s) ≡ pieces_in (read_from Mode.closed ls)
+  behind-line = part-rest s (l ∷ []) ls (line_size l) clean are (omega (arith, length-append l (10 ∷ [])))
 
-  line-cut : (F : Form) → form l ≡ F → piecesIn (onward (takeLine (unopened F) l) (readFrom (after (unopened F)) ls)) ≡ onPiece (piece_of (nextBy F l ls) s) (pieces (drop (size_of (nextBy F l ls)) s))
-  unfolding extentOf
-  line-cut Form.blank is = blank-front l (readFrom Mode.closed ls) ∙ rw (first, behind-line)
-  line-cut Form.comment is = comment-front l (readFrom Mode.closed ls) ∙ rw (first, behind-line)
-  line-cut (Form.field n v) is = field_cut s l ls clean are n v is law (extentOf (joins l) (0 + lineSize l) ls) (owns ls (joins l) (0 + lineSize l))
-  line-cut (Form.more v) is = fault-front l (readFrom Mode.closed ls)
-  line-cut Form.fault is = fault-front l (readFrom Mode.closed ls)
+  line-cut : (F : Form) → form l ≡ F → pieces_in (onward (take_line (unopened F) l) (read_from (after (unopened F)) ls)) ≡ on_piece (piece_of (next_by F l ls) s) (pieces (drop (size_of (next_by F l ls)) s))
+  unfolding extent_of
+  line-cut Form.blank is = blank-front l (read_from Mode.closed ls) ∙ rw (first, behind-line)
+  line-cut Form.comment is = comment-front l (read_from Mode.closed ls) ∙ rw (first, behind-line)
+  line-cut (Form.field n v) is = field_cut s l ls clean are n v is law (extent_of (joins l) (0 + line_size l) ls) (owns ls (joins l) (0 + line_size l))
+  line-cut (Form.more v) is = fault-front l (read_from Mode.closed ls)
+  line-cut Form.fault is = fault-front l (read_from Mode.closed ls)
 
 pub no_pieces : pieces [] ≡ some []
 unfolding pieces
 no_pieces = refl
 
 -- a text's pieces are its next one and those behind it
-pub next-cut : (s : Bytes) → isEnded s ≡ true → 0 < length s → pieces s ≡ onPiece (piece_of (next_of s) s) (pieces (drop (size_of (next_of s)) s))
+pub next-cut : (s : Bytes) → is_ended s ≡ true → 0 < length s → pieces s ≡ on_piece (piece_of (next_of s) s) (pieces (drop (size_of (next_of s)) s))
 unfolding pieces
 next-cut s e h =
-    let l = firstLine s in
-    let ls = lines (drop (suc (lineLen s)) s) in
-    ap (λ (x : List Line). piecesIn (readFrom Mode.closed x)) (lines_cut s h)
+    let l = first_line s in
+    let ls = lines (drop (suc (line_len s)) s) in
+    ap (λ (x : List Line). pieces_in (read_from Mode.closed x)) (lines_cut s h)
     ∙ line-cut field-value s l ls (first-clean s h) (first-bytes s e h) refl (form l) refl
-    ∙ ap (λ (x : Next). onPiece (piece_of x s) (pieces (drop (size_of x) s))) (sym (next-first s h))
+    ∙ ap (λ (x : Next). on_piece (piece_of x s) (pieces (drop (size_of x) s))) (sym (next-first s h))

@@ -9,9 +9,9 @@ use lib.ListN.{length, drop, get_or, drop_of_length-le, length-drop}
 use borrow.Author.Tests.{eqb-true, eqb-false, eq-eqb, ne_eqb}
 use Rattle.format.specs.Lists.{front, behind}
 use Rattle.format.specs.Bytes.{Bytes, pick, same}
-use Rattle.format.specs.Words.{isGap, notGap}
+use Rattle.format.specs.Words.{is_gap, not_gap}
 use Rattle.lines.proofs.Cuts.{at-cons}
-use Rattle.values.specs.Value.{valueFrom}
+use Rattle.values.specs.Value.{value_from}
 use Rattle.values.proofs.Decoding.{value-length}
 
 -- a text that begins with a byte that is passed, or with another
@@ -24,11 +24,11 @@ module _ (p : ℕ → Bool) (v w : Bytes) (b : ℕ) (e : v ≡ b ∷ w) where
 
 -- a text that begins with a gap, and one that begins with another byte
 module _ (v w : Bytes) (b : ℕ) (e : v ≡ b ∷ w) where
-  pub word-ended : isGap b ≡ true → front notGap v ≡ []
-  word-ended g = ap (front notGap) e ∙ ap (λ (t : Bool). pick (not t) (b ∷ front notGap w) []) g
+  pub word-ended : is_gap b ≡ true → front not_gap v ≡ []
+  word-ended g = ap (front not_gap) e ∙ ap (λ (t : Bool). pick (not t) (b ∷ front not_gap w) []) g
 
-  pub word_on : isGap b ≡ false → front notGap v ≡ b ∷ front notGap w
-  word_on g = ap (front notGap) e ∙ ap (λ (t : Bool). pick (not t) (b ∷ front notGap w) []) g
+  pub word_on : is_gap b ≡ false → front not_gap v ≡ b ∷ front not_gap w
+  word_on g = ap (front not_gap) e ∙ ap (λ (t : Bool). pick (not t) (b ∷ front not_gap w) []) g
 
 -- is a text, from its byte n on, the same as another
 drop-none : (w : Bytes) (n : ℕ) → n ≡ length w → drop n w ≡ []
@@ -63,5 +63,5 @@ front_length p (c ∷ v) = go (p c) (front p v) (front_length p v)
     go true w h = omega arith
     go false w h = omega arith
 
-pub word-length : (s : Bytes) (i : ℕ) → length (front notGap (valueFrom (drop i s))) ≤ length s
-word-length s i = omega (arith, front_length notGap (valueFrom (drop i s)), value-length (drop i s), length-drop i s)
+pub word-length : (s : Bytes) (i : ℕ) → length (front not_gap (value_from (drop i s))) ≤ length s
+word-length s i = omega (arith, front_length not_gap (value_from (drop i s)), value-length (drop i s), length-drop i s)

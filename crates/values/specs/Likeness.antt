@@ -1,7 +1,7 @@
 -- How two values compare: by their lengths, then by their bytes from the last to the first.
 use Rattle.std.specs.Prelude.{ℕ, suc, ◌<◌, ◌≡◌, [], ◌∷◌, eqb, ltb, length, get_or, drop}
 use Rattle.format.specs.Bytes.{Bytes, pick}
-use Rattle.values.specs.Value.{valueFrom, Reaches}
+use Rattle.values.specs.Value.{value_from, Reaches}
 use Rattle.values.specs.declared.ends.Likeness.{Likeness}
 
 -- two bytes in front of texts of one length: they decide only where those are equal
@@ -17,8 +17,8 @@ last_of (x ∷ a) [] = Likeness.Equal
 last_of (x ∷ a) (y ∷ b) = ahead x y (last_of a b)
 
 -- the comparison: lengths that are unlike, and whether the first is the lesser; or the last place
-unfoldable pub likenessOf : Bytes → Bytes → Likeness
-likenessOf a b = pick (eqb (length a) (length b)) (last_of a b) (Likeness.Unlike (ltb (length a) (length b)))
+unfoldable pub likeness_of : Bytes → Bytes → Likeness
+likeness_of a b = pick (eqb (length a) (length b)) (last_of a b) (Likeness.Unlike (ltb (length a) (length b)))
 
 -- what each answer means
 abbrev pub Means : Bytes → Bytes → Likeness → Type 0
@@ -29,6 +29,6 @@ Means a b (Likeness.Differ k f) =
 
 -- a value has a length, and decoding comes to its end at a place
 pub record Measured (s : Bytes) (n i : ℕ) : Type 0 where
-  pub size : length (valueFrom s) ≡ n
+  pub size : length (value_from s) ≡ n
   pub reached : Reaches s 0 i
-  pub rest : valueFrom (drop i s) ≡ []
+  pub rest : value_from (drop i s) ≡ []

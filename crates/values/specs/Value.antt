@@ -15,8 +15,8 @@ decode zero (c ∷ s) =
     (c ∷ decode 0 s))
 decode (suc k) (c ∷ s) = decode k s
 
-unfoldable pub valueFrom : Bytes → Bytes
-valueFrom s = decode 0 s
+unfoldable pub value_from : Bytes → Bytes
+value_from s = decode 0 s
 
 -- what decoding takes at once: a joint (backslash and newline), a newline with the plus behind it and one space, or any other byte that does not end the value
 pub data Step (s : Bytes) (i k : ℕ) : Type 0 where
@@ -34,21 +34,21 @@ pub data Reaches (s : Bytes) (i : ℕ) : ℕ → Type 0 where
 pub record Plain (s : Bytes) (i k : ℕ) : Type 0 where
   pub on : i ≤ k
   pub reached : Reaches s i k
-  pub counted : length (valueFrom (drop i s)) ≡ k - i + length (valueFrom (drop k s))
+  pub counted : length (value_from (drop i s)) ≡ k - i + length (value_from (drop k s))
 
 -- what reading one byte of the value at i says of the rest
 abbrev pub Unfolds : Bytes → ℕ → Decoded → Type 0
-Unfolds s i Decoded.End = valueFrom (drop i s) ≡ []
-Unfolds s i (Decoded.Byte b k) = (valueFrom (drop i s) ≡ b ∷ valueFrom (drop k s)) × (i < k) × (k ≤ length s) × Reaches s i k
+Unfolds s i Decoded.End = value_from (drop i s) ≡ []
+Unfolds s i (Decoded.Byte b k) = (value_from (drop i s) ≡ b ∷ value_from (drop k s)) × (i < k) × (k ≤ length s) × Reaches s i k
 
 -- and what reading the byte before k says, in the value that begins where s does
 abbrev pub Precedes : Bytes → ℕ → Decoded → Type 0
-Precedes s k Decoded.End = valueFrom s ≡ valueFrom (drop k s)
-Precedes s k (Decoded.Byte b i) = (valueFrom (drop i s) ≡ b ∷ valueFrom (drop k s)) × (i < k) × Reaches s 0 i
+Precedes s k Decoded.End = value_from s ≡ value_from (drop k s)
+Precedes s k (Decoded.Byte b i) = (value_from (drop i s) ≡ b ∷ value_from (drop k s)) × (i < k) × Reaches s 0 i
 
 -- a plus that vanishes, since the newline before it is the value's: no backslash joins it; and a space that vanishes with such a plus
-abbrev pub isPlus : Bytes → ℕ → Bool
-isPlus s i = eqb (get_or s i 0) 43 && eqb (get_or s (i - 1) 0) 10 && not (eqb (get_or s (i - 2) 0) 92)
+abbrev pub is_plus : Bytes → ℕ → Bool
+is_plus s i = eqb (get_or s i 0) 43 && eqb (get_or s (i - 1) 0) 10 && not (eqb (get_or s (i - 2) 0) 92)
 
-abbrev pub isPlusSpace : Bytes → ℕ → Bool
-isPlusSpace s i = eqb (get_or s i 0) 32 && isPlus s (i - 1)
+abbrev pub is_plus_space : Bytes → ℕ → Bool
+is_plus_space s i = eqb (get_or s i 0) 32 && is_plus s (i - 1)

@@ -2,8 +2,8 @@
 // then by their bytes from the last to the first.
 ghost use Rattle.std.specs.Prelude.{◌≡◌};
 ghost use Rattle.format.specs.Bytes.{same};
-ghost use Rattle.values.specs.Value.{valueFrom};
-ghost use Rattle.values.specs.Likeness.{likenessOf, Measured};
+ghost use Rattle.values.specs.Value.{value_from};
+ghost use Rattle.values.specs.Likeness.{likeness_of, Measured};
 
 use super::{Decoded, byte_before, plain_end, value_byte};
 
@@ -45,7 +45,7 @@ fn measure(v: &[u8]) -> Span
 // Two values of one length n, which end at i and j, from the last byte to the first.
 fn last_difference(a: &[u8], b: &[u8], n: usize, i: usize, j: usize) -> Likeness
     requires { (Measured a.now n i) × (Measured b.now n j) }
-    ensures { result ≡ likenessOf (valueFrom a.now) (valueFrom b.now) }
+    ensures { result ≡ likeness_of (value_from a.now) (value_from b.now) }
 {
     let mut place = n;
     let mut p = i;
@@ -70,7 +70,7 @@ fn last_difference(a: &[u8], b: &[u8], n: usize, i: usize, j: usize) -> Likeness
 
 // The values that begin where a and b do.
 pub fn compare(a: &[u8], b: &[u8]) -> Likeness
-    ensures { result ≡ likenessOf (valueFrom a.now) (valueFrom b.now) }
+    ensures { result ≡ likeness_of (value_from a.now) (value_from b.now) }
 {
     let x = measure(a);
     let y = measure(b);
@@ -86,7 +86,7 @@ pub fn compare(a: &[u8], b: &[u8]) -> Likeness
 
 // Are the values that begin where a and b do the same?
 pub fn are_equal(a: &[u8], b: &[u8]) -> bool
-    ensures { result ≡ same (valueFrom a.now) (valueFrom b.now) }
+    ensures { result ≡ same (value_from a.now) (value_from b.now) }
 {
     let l = compare(a, b);
     match l {

@@ -1,14 +1,14 @@
 // The int that a value is.
 ghost use Rattle.std.specs.Prelude.{◌≡◌};
 ghost use Rattle.format.specs.Words.{trim};
-ghost use Rattle.format.specs.Numbers.{intBounds, int_of};
-ghost use Rattle.numbers.specs.Meaning.{intAnswer};
+ghost use Rattle.format.specs.Numbers.{int_bounds, int_of};
+ghost use Rattle.numbers.specs.Meaning.{int_answer};
 
 use numbers::IntOf;
 
 // The int that a value is, blanks and newlines around it aside.
 pub fn int_in(v: &[u8]) -> IntOf
-    ensures { intAnswer result ≡ int_of intBounds (trim v.now) }
+    ensures { int_answer result ≡ int_of int_bounds (trim v.now) }
 {
     let t = words::trimmed(v);
     let a = t.start;

@@ -5,7 +5,7 @@
 ghost use Rattle.std.specs.Prelude.{◌≡◌, ◌+◌, ◌-◌, ◌<◌, ◌≤◌, length, get_or};
 ghost use Rattle.format.specs.Bytes.{same};
 ghost use Rattle.format.specs.Calls.{over};
-ghost use Rattle.values.specs.Value.{valueFrom, Plain, Reaches, Unfolds, Precedes, isPlus, isPlusSpace};
+ghost use Rattle.values.specs.Value.{value_from, Plain, Reaches, Unfolds, Precedes, is_plus, is_plus_space};
 
 mod ends;
 mod ints;
@@ -93,7 +93,7 @@ pub fn plain_end(s: &[u8], i: usize) -> usize
 
 // The length of the value that begins where s does.
 pub fn value_len(s: &[u8]) -> usize
-    ensures { result ≡ length (valueFrom s.now) }
+    ensures { result ≡ length (value_from s.now) }
 {
     let mut i = 0;
     let mut n = 0;
@@ -109,8 +109,8 @@ pub fn value_len(s: &[u8]) -> usize
 
 // The value that begins where s does, put into out, which holds it; bytes behind it stay.
 pub fn copy_value(s: &[u8], out: &mut [u8]) -> usize
-    requires { length (valueFrom s.now) ≤ length out.old }
-    ensures { (result ≡ length (valueFrom s.now)) × (out.new ≡ over (valueFrom s.now) out.old) }
+    requires { length (value_from s.now) ≤ length out.old }
+    ensures { (result ≡ length (value_from s.now)) × (out.new ≡ over (value_from s.now) out.old) }
 {
     let mut i = 0;
     let mut n = 0;
@@ -127,7 +127,7 @@ pub fn copy_value(s: &[u8], out: &mut [u8]) -> usize
 
 // Is the value that begins where s does this text?
 pub fn is_text(s: &[u8], text: &[u8]) -> bool
-    ensures { result ≡ same text.now (valueFrom s.now) }
+    ensures { result ≡ same text.now (value_from s.now) }
 {
     let mut at = 0;
     let mut n = 0;
@@ -149,7 +149,7 @@ pub fn is_text(s: &[u8], text: &[u8]) -> bool
 
 // Does a plus stand at i that vanishes from the value, since the newline before it is no joint's?
 fn is_plus(s: &[u8], i: usize) -> bool
-    ensures { result ≡ isPlus s.now i }
+    ensures { result ≡ is_plus s.now i }
 {
     if lines::byte(s, i) != b'+' {
         return false;
@@ -168,7 +168,7 @@ fn is_plus(s: &[u8], i: usize) -> bool
 
 // Does a space stand at i that vanishes with such a plus?
 fn is_plus_space(s: &[u8], i: usize) -> bool
-    ensures { result ≡ isPlusSpace s.now i }
+    ensures { result ≡ is_plus_space s.now i }
 {
     if lines::byte(s, i) != b' ' {
         return false;

@@ -1,7 +1,7 @@
 // What a value lists, read where it stands: its words, and the names between the commas of a word.
 ghost use Rattle.std.specs.Prelude.{◌≡◌, ◌≤◌, length};
 ghost use Rattle.format.specs.Words.{words};
-ghost use Rattle.values.specs.Value.{valueFrom};
+ghost use Rattle.values.specs.Value.{value_from};
 ghost use Rattle.values.specs.Words.{Cuts, Behind};
 
 use super::stretches::{Stretch, pass};
@@ -56,7 +56,7 @@ pub fn part_next(s: &[u8], i: usize) -> Part
 // How many words the value has that begins where s does: a byte that is no gap begins one where
 // a gap, or nothing, stands before it.
 pub fn count_words(s: &[u8]) -> usize
-    ensures { (result ≡ length (words (valueFrom s.now))) × (result ≤ length s.now) }
+    ensures { (result ≡ length (words (value_from s.now))) × (result ≤ length s.now) }
 {
     let mut i = 0;
     let mut n = 0;

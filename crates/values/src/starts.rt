@@ -3,16 +3,16 @@
 ghost use Rattle.std.specs.Prelude.{◌≡◌, ◌≤◌, length, drop};
 ghost use Rattle.format.specs.Lists.{front, behind};
 ghost use Rattle.format.specs.Bytes.{same};
-ghost use Rattle.format.specs.Words.{isGap, notGap, first_word};
+ghost use Rattle.format.specs.Words.{is_gap, not_gap, first_word};
 ghost use Rattle.format.specs.Calls.{over};
-ghost use Rattle.values.specs.Value.{valueFrom};
+ghost use Rattle.values.specs.Value.{value_from};
 
 use super::stretches::{Stretch, pass};
 use super::{Decoded, value_byte};
 
 // Is the word that the value from i on begins with this one?
 pub fn word_here(s: &[u8], i: usize, word: &[u8]) -> bool
-    ensures { result ≡ same word.now (front notGap (valueFrom (drop i s.now))) }
+    ensures { result ≡ same word.now (front not_gap (value_from (drop i s.now))) }
 {
     let mut at = i;
     let mut n = 0;
@@ -38,14 +38,14 @@ pub fn word_here(s: &[u8], i: usize, word: &[u8]) -> bool
 // The place in a value, which begins where s does, of its first word: the place behind the gaps
 // before it.
 pub fn word_start(s: &[u8]) -> usize
-    ensures { valueFrom (drop result s.now) ≡ behind isGap (valueFrom s.now) }
+    ensures { value_from (drop result s.now) ≡ behind is_gap (value_from s.now) }
 {
     pass(s, 0, Stretch::Gaps)
 }
 
 // Is the first word of the value that begins where s does this one?
 pub fn word_is(s: &[u8], word: &[u8]) -> bool
-    ensures { result ≡ same word.now (first_word (valueFrom s.now)) }
+    ensures { result ≡ same word.now (first_word (value_from s.now)) }
 {
     let i = pass(s, 0, Stretch::Gaps);
     word_here(s, i, word)
@@ -53,7 +53,7 @@ pub fn word_is(s: &[u8], word: &[u8]) -> bool
 
 // The length of the word that the value from i on begins with.
 pub fn word_len(s: &[u8], i: usize) -> usize
-    ensures { result ≡ length (front notGap (valueFrom (drop i s.now))) }
+    ensures { result ≡ length (front not_gap (value_from (drop i s.now))) }
 {
     let mut at = i;
     let mut n = 0;
@@ -72,8 +72,8 @@ pub fn word_len(s: &[u8], i: usize) -> usize
 
 // That word put into out, which holds it; bytes behind it stay.
 pub fn copy_word(s: &[u8], i: usize, out: &mut [u8])
-    requires { length (front notGap (valueFrom (drop i s.now))) ≤ length out.old }
-    ensures { out.new ≡ over (front notGap (valueFrom (drop i s.now))) out.old }
+    requires { length (front not_gap (value_from (drop i s.now))) ≤ length out.old }
+    ensures { out.new ≡ over (front not_gap (value_from (drop i s.now))) out.old }
 {
     let mut at = i;
     let mut n = 0;

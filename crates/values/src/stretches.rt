@@ -1,9 +1,9 @@
 // Stretches of a value that are passed over.
 ghost use Rattle.std.specs.Prelude.{◌≡◌, ◌≤◌, length, drop};
 ghost use Rattle.format.specs.Lists.{behind};
-ghost use Rattle.format.specs.Types.{beforeComment};
-ghost use Rattle.values.specs.Value.{valueFrom};
-ghost use Rattle.values.specs.Stretches.{isWordByte, notParen, passes};
+ghost use Rattle.format.specs.Types.{before_comment};
+ghost use Rattle.values.specs.Value.{value_from};
+ghost use Rattle.values.specs.Stretches.{is_word_byte, not_paren, passes};
 
 use super::{Decoded, value_byte};
 
@@ -20,7 +20,7 @@ pub enum Stretch {
 
 // Can a byte stand in a name or a symbol? Gaps, commas and parentheses cannot.
 pub fn is_word_byte(b: u8) -> bool
-    ensures { result ≡ isWordByte b }
+    ensures { result ≡ is_word_byte b }
 {
     if b',' < b {
         return true;
@@ -30,7 +30,7 @@ pub fn is_word_byte(b: u8) -> bool
 
 // Can it stand before a comment, in the word that a type's text begins with?
 fn is_head_byte(b: u8) -> bool
-    ensures { result ≡ beforeComment b }
+    ensures { result ≡ before_comment b }
 {
     if words::is_gap(b) {
         return false;
@@ -40,7 +40,7 @@ fn is_head_byte(b: u8) -> bool
 
 // Can it stand within a comment?
 fn is_comment_byte(b: u8) -> bool
-    ensures { result ≡ notParen b }
+    ensures { result ≡ not_paren b }
 {
     if b == b'(' {
         return false;
@@ -64,7 +64,7 @@ fn passes_byte(stretch: Stretch, b: u8) -> bool
 // Where the stretch has been passed that the value from i on begins with.
 pub fn pass(s: &[u8], i: usize, stretch: Stretch) -> usize
     requires { i ≤ length s.now }
-    ensures { (valueFrom (drop result s.now) ≡ behind (passes stretch) (valueFrom (drop i s.now))) × (i ≤ result) × (result ≤ length s.now) }
+    ensures { (value_from (drop result s.now) ≡ behind (passes stretch) (value_from (drop i s.now))) × (i ≤ result) × (result ≤ length s.now) }
 {
     let mut at = i;
     loop {

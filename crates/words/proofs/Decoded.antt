@@ -6,7 +6,7 @@ use lib.ListN.{length, take, drop, length-append, length-drop}
 use lib.Seq.{take_at, drop-append-le}
 use Rattle.format.specs.Bytes.{Bytes}
 use Rattle.format.specs.Calls.{over}
-use Rattle.format.specs.Words.{afterWord}
+use Rattle.format.specs.Words.{after_word}
 
 module _ (v out x : Bytes) (n : ℕ) (e : n ≡ length v) (q : x ≡ over v out) where
   pub decoded-all : take n x ≡ v
@@ -21,8 +21,8 @@ module _ (v out x : Bytes) (n : ℕ) (e : n ≡ length v) (q : x ≡ over v out)
       ∙ ap (take (n - a)) (drop-append-le a v (drop (length v) out) (omega arith))
       ∙ take_at (drop a v) (drop (length v) out) (n - a) (omega (arith, length-drop a v))
 
-  pub decoded-after : (a : ℕ) → a ≤ n → drop a (take n x) ≡ afterWord (take n x) → take (n - a) (drop a x) ≡ afterWord v
-  decoded-after a h g = decoded-part a h ∙ subst (λ (y : Bytes). drop a y ≡ afterWord y) decoded-all g
+  pub decoded-after : (a : ℕ) → a ≤ n → drop a (take n x) ≡ after_word (take n x) → take (n - a) (drop a x) ≡ after_word v
+  decoded-after a h g = decoded-part a h ∙ subst (λ (y : Bytes). drop a y ≡ after_word y) decoded-all g
 
   -- the scratch keeps its length
   pub scratch-length : length v ≤ length out → length x ≡ length out

@@ -11,12 +11,12 @@ use lib.ListN.{length, take, drop, get_or, drop_of_length-le, length-drop}
 use lib.Seq.{drop-drop}
 use Rattle.format.specs.Bytes.{Bytes, pick, all}
 use Rattle.format.specs.Lists.{front, behind}
-use Rattle.format.specs.Words.{isGap, notGap, first_word, afterWord, words}
+use Rattle.format.specs.Words.{is_gap, not_gap, first_word, after_word, words}
 use Rattle.format.proofs.Parts.{words-skip, words-cut}
 use Rattle.lines.specs.Line.{run}
 use Rattle.lines.proofs.Cuts.{at-cons, rest}
 use Rattle.lines.proofs.Heads.{run_more}
-use Rattle.words.specs.Spans.{span, nextWord}
+use Rattle.words.specs.Spans.{span, next_word}
 use Rattle.words.specs.declared.Word.{Word}
 
 -- a run is within its text
@@ -72,25 +72,25 @@ pub run_ends : (p : ℕ → Bool) (s : Bytes) → run p s < length s → p (get_
 run_ends p s h = behind-fails p s (get_or s (run p s) 0) (drop (run p s + 1) s) (at-cons s (run p s) h)
 
 -- gaps at the front do not matter, and a word at the front
-words-from-run : (s : Bytes) → words s ≡ words (drop (run isGap s) s)
-words-from-run s = words-skip s ∙ ap words (behind-run isGap s)
+words-from-run : (s : Bytes) → words s ≡ words (drop (run is_gap s) s)
+words-from-run s = words-skip s ∙ ap words (behind-run is_gap s)
 
-words-run : (c : ℕ) (s : Bytes) → isGap c ≡ false → words (c ∷ s) ≡ take (run notGap (c ∷ s)) (c ∷ s) ∷ words (drop (run notGap (c ∷ s)) (c ∷ s))
+words-run : (c : ℕ) (s : Bytes) → is_gap c ≡ false → words (c ∷ s) ≡ take (run not_gap (c ∷ s)) (c ∷ s) ∷ words (drop (run not_gap (c ∷ s)) (c ∷ s))
 unfolding run
 words-run c s e = words-cut c s e ∙ rw (e, front-run, behind-run)
 
 -- what the word that is found tells: the words, the first word, the text behind it, and where it stands
-abbrev pub wordsBy : Bytes → Word → List Bytes
-wordsBy s (Word.At a e) = span a e s ∷ words (span e (length s) s)
-wordsBy s Word.Nothing = []
+abbrev pub words_by : Bytes → Word → List Bytes
+words_by s (Word.At a e) = span a e s ∷ words (span e (length s) s)
+words_by s Word.Nothing = []
 
-abbrev pub firstBy : Bytes → Word → Bytes
-firstBy s (Word.At a e) = span a e s
-firstBy s Word.Nothing = []
+abbrev pub first_by : Bytes → Word → Bytes
+first_by s (Word.At a e) = span a e s
+first_by s Word.Nothing = []
 
-abbrev pub afterBy : Bytes → Word → Bytes
-afterBy s (Word.At a e) = span e (length s) s
-afterBy s Word.Nothing = []
+abbrev pub after_by : Bytes → Word → Bytes
+after_by s (Word.At a e) = span e (length s) s
+after_by s Word.Nothing = []
 
 abbrev pub Within : Bytes → Word → Type 0
 Within s (Word.At a e) = (a < e) × (e ≤ length s)
@@ -99,64 +99,64 @@ Within s Word.Nothing = Unit {0}
 -- All four by one lemma: a property of every word that begins at a byte that is no gap, or of the end.
 module _ (s : Bytes) where
   abbrev first : ℕ
-  first = run isGap s
+  first = run is_gap s
 
   abbrev past : ℕ
-  past = first + run notGap (drop first s)
+  past = first + run not_gap (drop first s)
 
-  by_word : (P : Word → Type 0) → (first < length s → isGap (get_or s first 0) ≡ false → P (Word.At first past)) → (length s ≤ first → P Word.Nothing) → P (nextWord s)
-  unfolding nextWord
+  by_word : (P : Word → Type 0) → (first < length s → is_gap (get_or s first 0) ≡ false → P (Word.At first past)) → (length s ≤ first → P Word.Nothing) → P (next_word s)
+  unfolding next_word
   by_word P f g = go (ltb first (length s)) refl
     where
       go : (t : Bool) → ltb first (length s) ≡ t → P (pick t (Word.At first past) Word.Nothing)
       go true e =
           let h : first < length s = ltb-true first (length s) e in
-          f h (run_ends isGap s h)
+          f h (run_ends is_gap s h)
       go false e = g (ltb-false first (length s) e)
 
   -- the word, and what is behind it
-  word-here : take (run notGap (drop first s)) (drop first s) ≡ span first past s
+  word-here : take (run not_gap (drop first s)) (drop first s) ≡ span first past s
   word-here = rw add-sub_cancel_left
 
-  text-behind : drop (run notGap (drop first s)) (drop first s) ≡ span past (length s) s
+  text-behind : drop (run not_gap (drop first s)) (drop first s) ≡ span past (length s) s
   text-behind = rw (drop-drop, rest)
 
-  cut_at : first < length s → isGap (get_or s first 0) ≡ false → words (drop first s) ≡ span first past s ∷ words (span past (length s) s)
+  cut_at : first < length s → is_gap (get_or s first 0) ≡ false → words (drop first s) ≡ span first past s ∷ words (span past (length s) s)
   cut_at h q = rw (← word-here, ← text-behind) (rw (at-cons s first h) (words-run (get_or s first 0) (drop (first + 1) s) q))
 
-  pub words-at : words s ≡ wordsBy s (nextWord s)
+  pub words-at : words s ≡ words_by s (next_word s)
   words-at =
-      by_word (λ (w : Word). words s ≡ wordsBy s w)
+      by_word (λ (w : Word). words s ≡ words_by s w)
       (λ h q. words-from-run s ∙ cut_at h q)
       (λ h. words-from-run s ∙ rw (drop_of_length-le s h))
 
-  pub first-at : first_word s ≡ firstBy s (nextWord s)
+  pub first-at : first_word s ≡ first_by s (next_word s)
   first-at =
-      by_word (λ (w : Word). first_word s ≡ firstBy s w)
-      (λ h q. ap (front notGap) (behind-run isGap s) ∙ front-run notGap (drop first s) ∙ word-here)
+      by_word (λ (w : Word). first_word s ≡ first_by s w)
+      (λ h q. ap (front not_gap) (behind-run is_gap s) ∙ front-run not_gap (drop first s) ∙ word-here)
       (λ h. rw (behind-run, drop_of_length-le s h))
 
-  pub after-at : afterWord s ≡ afterBy s (nextWord s)
+  pub after-at : after_word s ≡ after_by s (next_word s)
   after-at =
-      by_word (λ (w : Word). afterWord s ≡ afterBy s w)
-      (λ h q. ap (behind notGap) (behind-run isGap s) ∙ behind-run notGap (drop first s) ∙ text-behind)
-      (λ h. ap (behind notGap) (behind-run isGap s ∙ drop_of_length-le s h))
+      by_word (λ (w : Word). after_word s ≡ after_by s w)
+      (λ h q. ap (behind not_gap) (behind-run is_gap s) ∙ behind-run not_gap (drop first s) ∙ text-behind)
+      (λ h. ap (behind not_gap) (behind-run is_gap s ∙ drop_of_length-le s h))
 
-  pub word-within : Within s (nextWord s)
+  pub word-within : Within s (next_word s)
   word-within =
       by_word (Within s)
-      (λ h q. (omega (arith, run_more notGap s first h (rw q)), omega (arith, run-le notGap (drop first s), length-drop first s)))
+      (λ h q. (omega (arith, run_more not_gap s first h (rw q)), omega (arith, run-le not_gap (drop first s), length-drop first s)))
       (λ h. tt)
 
 -- the same of a word r that the code found
-pub found : (s : Bytes) {r : Word} {a e : ℕ} → r ≡ nextWord s → r ≡ Word.At a e → (a < e) × (e ≤ length s) × (words s ≡ span a e s ∷ words (span e (length s) s))
+pub found : (s : Bytes) {r : Word} {a e : ℕ} → r ≡ next_word s → r ≡ Word.At a e → (a < e) × (e ≤ length s) × (words s ≡ span a e s ∷ words (span e (length s) s))
 found s {a = a} {e = e} p q =
-    let w : nextWord s ≡ Word.At a e = sym p ∙ q in
+    let w : next_word s ≡ Word.At a e = sym p ∙ q in
     let l : Within s (Word.At a e) = subst (Within s) w (word-within s) in
-    (l.0, l.1, words-at s ∙ ap (wordsBy s) w)
+    (l.0, l.1, words-at s ∙ ap (words_by s) w)
 
-pub not_found : (s : Bytes) {r : Word} → r ≡ nextWord s → r ≡ Word.Nothing → words s ≡ []
-not_found s p q = words-at s ∙ ap (wordsBy s) (sym p ∙ q)
+pub not_found : (s : Bytes) {r : Word} → r ≡ next_word s → r ≡ Word.Nothing → words s ≡ []
+not_found s p q = words-at s ∙ ap (words_by s) (sym p ∙ q)
 
 -- a byte that is not 0 stands in its text
 pub byte_inside : (s : Bytes) (i : ℕ) → 0 < get_or s i 0 → i < length s
@@ -165,5 +165,5 @@ byte_inside (c ∷ s) zero h = omega arith
 byte_inside (c ∷ s) (suc i) h = omega (arith, byte_inside s i h)
 
 -- the first word of a text, by its ends: the text from a on begins with it
-pub first-span : (s : Bytes) (a e : ℕ) → a ≡ run isGap s → e ≡ run notGap (span a (length s) s) → take e (span a (length s) s) ≡ first_word s
-first-span s a e p q = ap (λ (k : ℕ). take k (span a (length s) s)) q ∙ sym (front-run notGap (span a (length s) s)) ∙ ap (front notGap) (rest s a ∙ ap (λ (k : ℕ). drop k s) p ∙ sym (behind-run isGap s))
+pub first-span : (s : Bytes) (a e : ℕ) → a ≡ run is_gap s → e ≡ run not_gap (span a (length s) s) → take e (span a (length s) s) ≡ first_word s
+first-span s a e p q = ap (λ (k : ℕ). take k (span a (length s) s)) q ∙ sym (front-run not_gap (span a (length s) s)) ∙ ap (front not_gap) (rest s a ∙ ap (λ (k : ℕ). drop k s) p ∙ sym (behind-run is_gap s))

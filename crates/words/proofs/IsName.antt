@@ -6,22 +6,22 @@ use mathlib.Core.Path.{◌≡◌, refl}
 use mathlib.Core.Bool.{false, ◌&&◌}
 use mathlib.Core.List.{[], ◌∷◌}
 use lib.ListN.{length, drop, get_or}
-use Rattle.format.specs.Bytes.{Bytes, isLetter, all}
-use Rattle.format.specs.Lines.{isFirst, isLater, isName}
-use Rattle.format.specs.Words.{isTypeName}
+use Rattle.format.specs.Bytes.{Bytes, is_letter, all}
+use Rattle.format.specs.Lines.{is_first, is_later, is_name}
+use Rattle.format.specs.Words.{is_type_name}
 
-pub name_by : (s : Bytes) → 0 < length s → isName s ≡ isFirst (get_or s 0 0) && all isLater (drop 1 s)
+pub name_by : (s : Bytes) → 0 < length s → is_name s ≡ is_first (get_or s 0 0) && all is_later (drop 1 s)
 name_by [] h = absurd (not-suc-le-zero h)
 name_by (c ∷ s) h = refl
 
-pub name-not-empty : (s : Bytes) → length s ≡ 0 → isName s ≡ false
+pub name-not-empty : (s : Bytes) → length s ≡ 0 → is_name s ≡ false
 name-not-empty [] h = refl
 name-not-empty (c ∷ s) h = absurd (omega arith)
 
-pub type-name-by : (s : Bytes) → 0 < length s → isTypeName s ≡ isLetter (get_or s 0 0) && all isLater (drop 1 s)
+pub type-name-by : (s : Bytes) → 0 < length s → is_type_name s ≡ is_letter (get_or s 0 0) && all is_later (drop 1 s)
 type-name-by [] h = absurd (not-suc-le-zero h)
 type-name-by (c ∷ s) h = refl
 
-pub type-name-not-empty : (s : Bytes) → length s ≡ 0 → isTypeName s ≡ false
+pub type-name-not-empty : (s : Bytes) → length s ≡ 0 → is_type_name s ≡ false
 type-name-not-empty [] h = refl
 type-name-not-empty (c ∷ s) h = absurd (omega arith)

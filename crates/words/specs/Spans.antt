@@ -1,7 +1,7 @@
 -- Where words stand in a text.
 use Rattle.std.specs.Prelude.{ℕ, ◌+◌, ◌-◌, Bool, not, eqb, ltb, length, take, drop}
 use Rattle.format.specs.Bytes.{Bytes, pick}
-use Rattle.format.specs.Words.{isGap, notGap}
+use Rattle.format.specs.Words.{is_gap, not_gap}
 use Rattle.lines.specs.Line.{run}
 use Rattle.words.specs.declared.Word.{Word}
 
@@ -10,12 +10,12 @@ abbrev pub span : ℕ → ℕ → Bytes → Bytes
 span a e s = take (e - a) (drop a s)
 
 -- is a byte another than d
-abbrev pub notByte : ℕ → ℕ → Bool
-notByte d c = not (eqb c d)
+abbrev pub not_byte : ℕ → ℕ → Bool
+not_byte d c = not (eqb c d)
 
-abbrev pub wordFrom : Bytes → ℕ → Word
-wordFrom s a = pick (ltb a (length s)) (Word.At a (a + run notGap (drop a s))) Word.Nothing
+abbrev pub word_from : Bytes → ℕ → Word
+word_from s a = pick (ltb a (length s)) (Word.At a (a + run not_gap (drop a s))) Word.Nothing
 
 -- where the first word of a text stands
-unfoldable pub nextWord : Bytes → Word
-nextWord s = wordFrom s (run isGap s)
+unfoldable pub next_word : Bytes → Word
+next_word s = word_from s (run is_gap s)

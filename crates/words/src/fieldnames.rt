@@ -1,6 +1,6 @@
 // The names of a descriptor's fields, numbered.
 ghost use Rattle.std.specs.Prelude.{◌≡◌};
-ghost use Rattle.words.specs.RuleNames.{place_in, ruleNames};
+ghost use Rattle.words.specs.RuleNames.{place_in, rule_names};
 
 use super::fixed::word_place;
 
@@ -40,7 +40,7 @@ impl Rule {
 
 // The number of a name.
 pub fn rule_of(name: &[u8]) -> usize
-    ensures { result ≡ place_in name.now ruleNames }
+    ensures { result ≡ place_in name.now rule_names }
 {
     word_place(
         name,

@@ -1,10 +1,10 @@
 // Words, names and trimming, over decoded text.
 ghost use Rattle.std.specs.Prelude.{◌≡◌, true, false, ◌≤◌, length};
-ghost use Rattle.format.specs.Bytes.{classTable, all};
-ghost use Rattle.format.specs.Lines.{isLater, isName};
-ghost use Rattle.format.specs.Words.{isGap, notGap, trim, isTypeName};
+ghost use Rattle.format.specs.Bytes.{class_table, all};
+ghost use Rattle.format.specs.Lines.{is_later, is_name};
+ghost use Rattle.format.specs.Words.{is_gap, not_gap, trim, is_type_name};
 ghost use Rattle.lines.specs.Line.{run};
-ghost use Rattle.words.specs.Spans.{span, notByte, nextWord};
+ghost use Rattle.words.specs.Spans.{span, not_byte, next_word};
 
 use format::Class;
 
@@ -16,7 +16,7 @@ pub use fixed::{is_among, word_place};
 
 // Is this byte a blank or a newline?
 pub fn is_gap(b: u8) -> bool
-    ensures { result ≡ isGap b }
+    ensures { result ≡ is_gap b }
 {
     if b == b' ' {
         return true;
@@ -26,7 +26,7 @@ pub fn is_gap(b: u8) -> bool
 
 // The end of the blanks and newlines that a text begins with.
 pub fn gap_end(s: &[u8]) -> usize
-    ensures { result ≡ run isGap s.now }
+    ensures { result ≡ run is_gap s.now }
 {
     let mut e = 0;
     while e < s.len() {
@@ -41,7 +41,7 @@ pub fn gap_end(s: &[u8]) -> usize
 
 // The end of the word that a text begins with.
 pub fn word_end(s: &[u8]) -> usize
-    ensures { result ≡ run notGap s.now }
+    ensures { result ≡ run not_gap s.now }
 {
     let mut e = 0;
     while e < s.len() {
@@ -61,7 +61,7 @@ pub enum Word {
 
 // The first word of a text.
 pub fn next_word(s: &[u8]) -> Word
-    ensures { result ≡ nextWord s.now }
+    ensures { result ≡ next_word s.now }
 {
     let start = gap_end(s);
     if start < s.len() {
@@ -74,7 +74,7 @@ pub fn next_word(s: &[u8]) -> Word
 
 // The end of the part of a text before its first byte d.
 pub fn part_end(s: &[u8], d: u8) -> usize
-    ensures { result ≡ run (notByte d) s.now }
+    ensures { result ≡ run (not_byte d) s.now }
 {
     let mut e = 0;
     while e < s.len() {
@@ -111,8 +111,8 @@ pub fn trimmed(s: &[u8]) -> Span
 
 // Do all bytes of a text go on a name?
 fn later_bytes(table: &[u8; 256], s: &[u8]) -> bool
-    requires { table.now ≡ classTable }
-    ensures { result ≡ all isLater s.now }
+    requires { table.now ≡ class_table }
+    ensures { result ≡ all is_later s.now }
 {
     let mut i = 0;
     while i < s.len() {
@@ -127,7 +127,7 @@ fn later_bytes(table: &[u8; 256], s: &[u8]) -> bool
 
 // Is this text a name?
 pub fn is_name(s: &[u8]) -> bool
-    ensures { result ≡ isName s.now }
+    ensures { result ≡ is_name s.now }
 {
     let table = format::classes();
     if s.len() == 0 {
@@ -142,7 +142,7 @@ pub fn is_name(s: &[u8]) -> bool
 
 // Is this text a type name?
 pub fn is_type_name(s: &[u8]) -> bool
-    ensures { result ≡ isTypeName s.now }
+    ensures { result ≡ is_type_name s.now }
 {
     let table = format::classes();
     if s.len() == 0 {

@@ -10,7 +10,7 @@ use lib.ListN.{length, take, drop, get_or, set, length-append, length-drop, leng
 use lib.Seq.{sets, sets-eq, length-sets, take_all, drop-drop}
 use borrow.Author.Tests.{eq-eqb, ne_eqb}
 use borrow.Rule.Slice.PartMut.{put_mid, mid_of, post_of}
-use Rattle.format.specs.Bytes.{Bytes, isNewline, pick}
+use Rattle.format.specs.Bytes.{Bytes, is_newline, pick}
 use Rattle.format.specs.Written.{indent, written}
 use Rattle.format.specs.Calls.{over}
 use Rattle.lines.proofs.Cuts.{at-cons}
@@ -33,7 +33,7 @@ module _ (v : Bytes) (i : ℕ) where
 -- it has at most three bytes for each byte of the value
 pub indent-length : (v : Bytes) → length (indent v) ≤ 3 * length v
 indent-length [] = omega arith
-indent-length (c ∷ v) = go (isNewline c) (indent-length v)
+indent-length (c ∷ v) = go (is_newline c) (indent-length v)
   where
     go : (t : Bool) → length (indent v) ≤ 3 * length v → length (c ∷ pick t (43 ∷ 32 ∷ indent v) (indent v)) ≤ 3 * suc (length v)
     go true h = omega arith

@@ -1,11 +1,11 @@
 // Legal names and values, and the text of a field.
 ghost use Rattle.std.specs.Prelude.{◌≡◌, false, ◌+◌, ◌≤◌, length};
 ghost use Rattle.std.proofs.lemmas.List.Edits.{sets};
-ghost use Rattle.format.specs.Bytes.{classTable};
-ghost use Rattle.format.specs.Limits.{fileBytes};
-ghost use Rattle.format.specs.Written.{indent, written, isLegalName, isLegalValue};
+ghost use Rattle.format.specs.Bytes.{class_table};
+ghost use Rattle.format.specs.Limits.{file_bytes};
+ghost use Rattle.format.specs.Written.{indent, written, is_legal_name, is_legal_value};
 ghost use Rattle.format.specs.Calls.{over};
-ghost use Rattle.writing.specs.Value.{isPlainFrom};
+ghost use Rattle.writing.specs.Value.{is_plain_from};
 
 use format::{Class, Record};
 
@@ -15,7 +15,7 @@ pub use moves::{move_down, move_up};
 
 // Is it a name of at most 64 bytes that does not begin with `%`?
 pub fn is_legal_name(s: &[u8]) -> bool
-    ensures { result ≡ isLegalName s.now }
+    ensures { result ≡ is_legal_name s.now }
 {
     let table = format::classes();
     if s.len() > Record::NAME {
@@ -33,8 +33,8 @@ pub fn is_legal_name(s: &[u8]) -> bool
 
 // Are all bytes allowed, with no backslash before a newline or at the end?
 fn is_plain(table: &[u8; 256], s: &[u8]) -> bool
-    requires { table.now ≡ classTable }
-    ensures { result ≡ isPlainFrom false s.now }
+    requires { table.now ≡ class_table }
+    ensures { result ≡ is_plain_from false s.now }
 {
     let mut i = 0;
     let mut slash = false;
@@ -57,7 +57,7 @@ fn is_plain(table: &[u8; 256], s: &[u8]) -> bool
 
 // Is it a value of at most 4,096 bytes that can be written?
 pub fn is_legal_value(s: &[u8]) -> bool
-    ensures { result ≡ isLegalValue s.now }
+    ensures { result ≡ is_legal_value s.now }
 {
     let table = format::classes();
     if s.len() > Record::VALUE {
@@ -68,7 +68,7 @@ pub fn is_legal_value(s: &[u8]) -> bool
 
 // The length of a value's text: a newline takes two bytes more.
 fn value_text_len(value: &[u8]) -> usize
-    requires { length value.now ≤ fileBytes }
+    requires { length value.now ≤ file_bytes }
     ensures { result ≡ length (indent value.now) }
 {
     let mut i = 0;
@@ -86,7 +86,7 @@ fn value_text_len(value: &[u8]) -> usize
 
 // The length of a field's text.
 pub fn written_len(name: &[u8], value: &[u8]) -> usize
-    requires { (length name.now ≤ fileBytes) × (length value.now ≤ fileBytes) }
+    requires { (length name.now ≤ file_bytes) × (length value.now ≤ file_bytes) }
     ensures { result ≡ length (written name.now value.now) }
 {
     name.len() + value_text_len(value) + 3

@@ -5,7 +5,7 @@ use native.Mathlib.Omega.{arith}
 use mathlib.Core.Path.{◌≡◌, refl}
 use lib.ListN.{length, length-set}
 use Rattle.format.specs.Bytes.{text}
-use Rattle.records.specs.Named.{valuesFrom}
+use Rattle.records.specs.Named.{values_from}
 use Rattle.records.proofs.Readings.{part-readable}
 use Rattle.records.proofs.Named.{value-told}
 use Rattle.typedefs.proofs.Placing.{Passed, passed_start, passed-inside, passed-more}
@@ -22,7 +22,7 @@ use Rattle.typedefs.proofs.end_of.Reads as end-of-reads
 use Rattle.typedefs.proofs.read_typedef.Reads as read-typedef-reads
 
 abbrev invariant-loop : tie.invariant-loop
-invariant-loop d names defs scratch₀ rows₀ texts₀ i₀ count₀ t17 scratch rows texts i count = Passed d (text "%type") count i × (count ≤ length (valuesFrom d (text "%type") 0)) × (length scratch ≡ length scratch₀) × (length rows ≡ 32) × (length texts ≡ 32) × Filled d rows texts count
+invariant-loop d names defs scratch₀ rows₀ texts₀ i₀ count₀ t17 scratch rows texts i count = Passed d (text "%type") count i × (count ≤ length (values_from d (text "%type") 0)) × (length scratch ≡ length scratch₀) × (length rows ≡ 32) × (length texts ≡ 32) × Filled d rows texts count
 
 abbrev decreases-loop : tie.decreases-loop
 decreases-loop d names defs scratch₀ rows₀ texts₀ i₀ count₀ t17 scratch rows texts i count = length d - i

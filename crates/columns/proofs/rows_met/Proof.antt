@@ -3,7 +3,7 @@ use borrow.Author.Rules.{rules}
 use Prim.Native.Nat.{◌-◌, ◌≤◌}
 use native.Mathlib.Omega.{arith}
 use mathlib.Core.Path.{◌≡◌, refl, sym, ◌∙◌}
-use Rattle.columns.specs.Rows.{rowsAsk}
+use Rattle.columns.specs.Rows.{rows_ask}
 use Rattle.columns.proofs.Rows.{rows_end, row-passed, row-met, row-fails, row-said}
 use Rattle.columns.proofs.rows_met.Statement.{statement}
 use Rattle.columns.proofs.rows_met.Tie as tie
@@ -14,7 +14,7 @@ use Rattle.columns.proofs.readings.shape_met.Reads as shape-met-reads
 use Rattle.terms.proofs.has.Reads as has-reads
 
 abbrev invariant-loop : tie.invariant-loop
-invariant-loop found tags v x kinds texts from next k₀ k = (from ≤ k) × (k ≤ next) × (rowsAsk kinds from found tags v from (next - from) ≡ rowsAsk kinds from found tags v k (next - k))
+invariant-loop found tags v x kinds texts from next k₀ k = (from ≤ k) × (k ≤ next) × (rows_ask kinds from found tags v from (next - from) ≡ rows_ask kinds from found tags v k (next - k))
 
 abbrev decreases-loop : tie.decreases-loop
 decreases-loop found tags v x kinds texts from next k₀ k = next - k

@@ -4,7 +4,7 @@ use mathlib.Core.Path.{subst}
 use lib.ListN.{take}
 use Rattle.format.specs.Bytes.{Bytes}
 use Rattle.format.specs.Words.{trim}
-use Rattle.terms.specs.Entries.{termsOf}
+use Rattle.terms.specs.Entries.{terms_of}
 use Rattle.terms.proofs.Search.{none_found}
 use Rattle.enums.proofs.Rows.{finds}
 use Rattle.enums.specs.Rows.{Found}
@@ -25,7 +25,7 @@ returns c =
     let w : Bytes = trim at-args.v.now in
     let entries = at-args.entries.now in
     let n = at-args.symbols.table.count in
-    finds d at-args.texts.now at-args.symbols.from w at-args.symbols.next (termsOf d (take n entries)) at_pre.short (at_pre.terms w) 0 (none_found d w entries n at-if1.true)
+    finds d at-args.texts.now at-args.symbols.from w at-args.symbols.next (terms_of d (take n entries)) at_pre.short (at_pre.terms w) 0 (none_found d w entries n at-if1.true)
 
 trimmed-requires : tie.Need-trimmed-requires
 trimmed-requires c κs = search rules

@@ -2,9 +2,9 @@
 use Prim.Native.Nat.{◌-◌}
 use native.Mathlib.Omega.{arith}
 use mathlib.Core.Path.{sym, ap, ◌∙◌}
-use Rattle.values.specs.Value.{valueFrom}
+use Rattle.values.specs.Value.{value_from}
 use Rattle.words.proofs.Decoded.{decoded-all, decoded-length}
-use Rattle.columns.specs.Meets.{rowsMet}
+use Rattle.columns.specs.Meets.{rows_met}
 use Rattle.columns.proofs.Rows.{all_asked}
 use Rattle.columns.proofs.Tags.{none-met}
 use borrow.Author.Rules.{rules}
@@ -22,7 +22,7 @@ returns c =
     let at-args = c.before.before.before.before.before.args in
     let at_pre = c.before.before.before.before.before.requires in
     let at-if1 = c.if1 in
-    sym (none-met at-args.d.now at-args.tags at-args.typed.symbols.from (at-args.typed.symbols.next - at-args.typed.symbols.from) (valueFrom at-args.s.now) (omega (arith, at_pre.0.symbols-are.begins, at_pre.0.within, at_pre.0.kinds-are.few)) at-if1.true)
+    sym (none-met at-args.d.now at-args.tags at-args.typed.symbols.from (at-args.typed.symbols.next - at-args.typed.symbols.from) (value_from at-args.s.now) (omega (arith, at_pre.0.symbols-are.begins, at_pre.0.within, at_pre.0.kinds-are.few)) at-if1.true)
 
 copy-value-requires : tie.Need-copy-value-requires
 copy-value-requires c κs =
@@ -36,7 +36,7 @@ slice-aggregate-int-in : tie.Need-slice-aggregate-int-in
 slice-aggregate-int-in c =
     let at-args = c.before.before.before.before.before.before.before.before.before.before.args in
     let at-copy-value = c.before.before.before.copy-value in
-    decoded-length (valueFrom at-args.s.now) at-args.scratch.now _ at-copy-value.result at-copy-value.ensures.0 at-copy-value.ensures.1
+    decoded-length (value_from at-args.s.now) at-args.scratch.now _ at-copy-value.result at-copy-value.ensures.0 at-copy-value.ensures.1
 
 int-in-requires : tie.Need-int-in-requires
 int-in-requires c κs = search rules
@@ -51,7 +51,7 @@ slice-aggregate-texts-with-2 : tie.Need-slice-aggregate-texts-with-2
 slice-aggregate-texts-with-2 c =
     let at-args = c.before.before.before.before.before.before.before.before.before.before.before.before.before.before.before.before.args in
     let at-copy-value = c.before.before.before.before.before.before.before.before.before.copy-value in
-    decoded-length (valueFrom at-args.s.now) at-args.scratch.now _ at-copy-value.result at-copy-value.ensures.0 at-copy-value.ensures.1
+    decoded-length (value_from at-args.s.now) at-args.scratch.now _ at-copy-value.result at-copy-value.ensures.0 at-copy-value.ensures.1
 
 texts-with-requires : tie.Need-texts-with-requires
 texts-with-requires c κs =
@@ -65,7 +65,7 @@ slice-aggregate-rows-met : tie.Need-slice-aggregate-rows-met
 slice-aggregate-rows-met c =
     let at-args = c.before.before.before.before.before.before.before.before.before.before.before.before.before.before.before.before.before.before.args in
     let at-copy-value = c.before.before.before.before.before.before.before.before.before.before.before.copy-value in
-    decoded-length (valueFrom at-args.s.now) at-args.scratch.now _ at-copy-value.result at-copy-value.ensures.0 at-copy-value.ensures.1
+    decoded-length (value_from at-args.s.now) at-args.scratch.now _ at-copy-value.result at-copy-value.ensures.0 at-copy-value.ensures.1
 
 rows-met-requires : tie.Need-rows-met-requires
 rows-met-requires c κs =
@@ -88,7 +88,7 @@ returns-2 c =
     let z = at_pre.0 in
     at-rows-met.ensures
     ∙ all_asked at-args.d.now at-args.typed.kinds z.kinds-are at-args.typed.symbols.from at-args.typed.symbols.next at-texts-with.result at-args.tags _ z.within at-texts-with.ensures z.symbols-are.begins
-    ∙ ap (rowsMet at-args.d.now at-args.tags at-args.typed.symbols.from (at-args.typed.symbols.next - at-args.typed.symbols.from)) (decoded-all (valueFrom at-args.s.now) at-args.scratch.now _ at-copy-value.result at-copy-value.ensures.0 at-copy-value.ensures.1)
+    ∙ ap (rows_met at-args.d.now at-args.tags at-args.typed.symbols.from (at-args.typed.symbols.next - at-args.typed.symbols.from)) (decoded-all (value_from at-args.s.now) at-args.scratch.now _ at-copy-value.result at-copy-value.ensures.0 at-copy-value.ensures.1)
 
 pub value-met-spec : {M : Type 1} → statement M
 value-met-spec =

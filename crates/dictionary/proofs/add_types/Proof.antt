@@ -4,16 +4,16 @@ use Prim.Native.Nat.{◌+◌, ◌-◌, ◌≤◌}
 use native.Mathlib.Omega.{arith}
 use mathlib.Core.Path.{◌≡◌, refl, ◌∙◌}
 use lib.ListN.{length, drop, length-map}
-use Rattle.format.specs.Rules.{typedNames}
-use Rattle.values.specs.Value.{valueFrom}
-use Rattle.terms.specs.Sets.{termOf}
+use Rattle.format.specs.Rules.{typed_names}
+use Rattle.values.specs.Value.{value_from}
+use Rattle.terms.specs.Sets.{term_of}
 use Rattle.format.specs.Bytes.{text}
-use Rattle.records.specs.Named.{valuesFrom}
+use Rattle.records.specs.Named.{values_from}
 use Rattle.records.proofs.Readings.{part-readable}
 use Rattle.records.proofs.Named.{value-told}
 use Rattle.values.proofs.Tests.{dec-lt}
 use Rattle.terms.specs.Adding.{Adding}
-use Rattle.dictionary.specs.Terms.{rowTerms}
+use Rattle.dictionary.specs.Terms.{row_terms}
 use Rattle.terms.proofs.Adding.{adding-start}
 use Rattle.typedefs.proofs.Placing.{Passed, passed-inside, passed-more}
 use Rattle.dictionary.proofs.Typing.{row-names, row_fits, rows_more, row-none, rows_few}
@@ -26,7 +26,7 @@ use Rattle.dictionary.proofs.pass_types.Reads as pass-types-reads
 use Rattle.records.proofs.next_named.Reads as next-named-reads
 
 abbrev invariant-loop : tie.invariant-loop
-invariant-loop d from entries₀ n k₀ row₀ i₀ t12 entries k row i = (from ≤ row) × (row ≤ length (valuesFrom d (text "%type") 0)) × Passed d (text "%type") row i × (k ≤ length entries) × (length entries ≡ length entries₀) × (row ≡ from → k ≡ n) × Adding d entries₀ n (rowTerms from (drop from (valuesFrom d (text "%type") 0))) (rowTerms row (drop row (valuesFrom d (text "%type") 0))) entries k
+invariant-loop d from entries₀ n k₀ row₀ i₀ t12 entries k row i = (from ≤ row) × (row ≤ length (values_from d (text "%type") 0)) × Passed d (text "%type") row i × (k ≤ length entries) × (length entries ≡ length entries₀) × (row ≡ from → k ≡ n) × Adding d entries₀ n (row_terms from (drop from (values_from d (text "%type") 0))) (row_terms row (drop row (values_from d (text "%type") 0))) entries k
 
 abbrev decreases-loop : tie.decreases-loop
 decreases-loop d from entries₀ n k₀ row₀ i₀ t12 entries k row i = length d - i
@@ -41,7 +41,7 @@ loop-holds c =
     let at_pre = c.before.before.before.requires in
     let at-pass-types = c.pass-types in
     let at-args = c.before.before.before.args in
-    (omega arith, at_pre.1.0, record { inside = at-pass-types.ensures.0; readable = at-pass-types.ensures.1; values = at-pass-types.ensures.2 }, at_pre.1.1, refl, λ e. refl, adding-start at-args.d.now at-args.entries.now at-args.n (rowTerms at-args.from (drop at-args.from (valuesFrom at-args.d.now (text "%type") 0))))
+    (omega arith, at_pre.1.0, record { inside = at-pass-types.ensures.0; readable = at-pass-types.ensures.1; values = at-pass-types.ensures.2 }, at_pre.1.1, refl, λ e. refl, adding-start at-args.d.now at-args.entries.now at-args.n (row_terms at-args.from (drop at-args.from (values_from at-args.d.now (text "%type") 0))))
 
 sub-next-named : tie.Need-overflow-sub-next-named invariant-loop decreases-loop
 sub-next-named c = search rules
@@ -176,7 +176,7 @@ loop-again c =
     let b = passed-inside at-args.d.now (text "%type") at-loop.row at-loop.i at-loop.invariant.2 _ _ h in
     let z = at-if1.false in
     let y = at-loop.invariant.3 in
-    (omega (arith, at-loop.invariant.0), omega (arith, b), passed-more at-args.d.now (text "%type") at-loop.row at-loop.i at-loop.invariant.2 _ _ h, omega (arith, a.count, a.long, length-map (typedNames (valueFrom (drop (at-loop.i + g.1.0) at-args.d.now))) (termOf at-loop.row)), a.long ∙ at-loop.invariant.4, (λ e. absurd (omega (arith, at-loop.invariant.0))), rows_more at-args.d.now at-loop.row at-loop.i _ _ at-loop.invariant.2 h at_pre.0 at-args.from at-args.entries.now at-args.n at-loop.entries at-loop.k _ _ at-loop.invariant.6 a)
+    (omega (arith, at-loop.invariant.0), omega (arith, b), passed-more at-args.d.now (text "%type") at-loop.row at-loop.i at-loop.invariant.2 _ _ h, omega (arith, a.count, a.long, length-map (typed_names (value_from (drop (at-loop.i + g.1.0) at-args.d.now))) (term_of at-loop.row)), a.long ∙ at-loop.invariant.4, (λ e. absurd (omega (arith, at-loop.invariant.0))), rows_more at-args.d.now at-loop.row at-loop.i _ _ at-loop.invariant.2 h at_pre.0 at-args.from at-args.entries.now at-args.n at-loop.entries at-loop.k _ _ at-loop.invariant.6 a)
 
 pub add-types-spec : {M : Type 1} → statement M
 add-types-spec =

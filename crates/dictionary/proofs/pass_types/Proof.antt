@@ -5,7 +5,7 @@ use native.Mathlib.Omega.{arith}
 use mathlib.Core.Path.{◌≡◌, ap, ◌∙◌}
 use lib.ListN.{drop}
 use Rattle.format.specs.Bytes.{text}
-use Rattle.records.specs.Named.{valuesFrom}
+use Rattle.records.specs.Named.{values_from}
 use Rattle.records.proofs.Readings.{part-readable}
 use Rattle.records.proofs.Named.{value-told}
 use Rattle.typedefs.proofs.Placing.{Passed, passed_start, passed-more}
@@ -94,7 +94,7 @@ returns-2 c =
     let at-args = c.before.before.before.args in
     let at-loop-test = c.loop-test in
     let e : at-loop.row ≡ at-args.count = omega (arith, at-loop.invariant.0, at-loop-test.false) in
-    (at-loop.invariant.1.inside, at-loop.invariant.1.readable, at-loop.invariant.1.values ∙ ap (λ (j : ℕ). drop j (valuesFrom at-args.d.now (text "%type") 0)) e)
+    (at-loop.invariant.1.inside, at-loop.invariant.1.readable, at-loop.invariant.1.values ∙ ap (λ (j : ℕ). drop j (values_from at-args.d.now (text "%type") 0)) e)
 
 pub pass-types-spec : {M : Type 1} → statement M
 pass-types-spec =

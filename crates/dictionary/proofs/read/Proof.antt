@@ -3,8 +3,8 @@ use native.Mathlib.Omega.{arith}
 use mathlib.Core.Path.{refl, sym}
 use lib.ListN.{drop, length-append, length-drop}
 use lib.Seq.{length-take-le}
-use Rattle.format.specs.Numbers.{intBounds}
-use Rattle.records.specs.Walk.{recordIn}
+use Rattle.format.specs.Numbers.{int_bounds}
+use Rattle.records.specs.Walk.{record_in}
 use Rattle.dictionary.proofs.Listing.{lists-names}
 use Rattle.dictionary.proofs.Typing.{all-shaped}
 use Rattle.dictionary.proofs.Counting.{lists-few}
@@ -22,7 +22,7 @@ add-lists-requires c κs =
     let at_pre = c.before.before.before.requires in
     let at-args = c.before.before.before.args in
     let h = at_pre.0 in
-    (((h.reads, h.short), (omega (arith, lists-few at-args.d.now h, at_pre.1.1), lists-names intBounds (recordIn at-args.d.now) (all-shaped at-args.d.now h))))
+    (((h.reads, h.short), (omega (arith, lists-few at-args.d.now h, at_pre.1.1), lists-names int_bounds (record_in at-args.d.now) (all-shaped at-args.d.now h))))
 
 add-types-requires : tie.Need-add-types-requires
 add-types-requires c κs =

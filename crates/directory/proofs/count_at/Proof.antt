@@ -35,15 +35,15 @@ use denote.Triple.Walked.{says, Stays, stay_none_slice, stay_none, walk_of, Goes
 use denote.Exit.{yes}
 use denote.Signature.{plain}
 use Rattle.format.specs.Calls.{answered}
-use Rattle.format.specs.Directory.{countAtAnswer}
+use Rattle.format.specs.Directory.{count_at_answer}
 use Rattle.format.specs.declared.Answer.{Answer}
 use Rattle.format.specs.declared.Entry.{Entry}
 use Rattle.format.specs.contracts.Entry as T
 use Rattle.format.proofs.Entry.TheLaws as T'
 use Rattle.format.specs.contracts.Answer as F
 use Rattle.format.proofs.Answer.TheLaws as F'
-use Rattle.directory.specs.Blocks.{noEntry}
-use Rattle.directory.proofs.Walking.{envOf, alloc_all, free_all, number, meets}
+use Rattle.directory.specs.Blocks.{no_entry}
+use Rattle.directory.proofs.Walking.{env_of, alloc_all, free_all, number, meets}
 use Rattle.directory.proofs.Rows.{scaled, count-there, count_past}
 use Rattle.directory.specs.contracts.count_at.Key.{name as #directory·count-at}
 use Rattle.directory.specs.contracts.count_at as fun
@@ -64,7 +64,7 @@ module _ {M : Type 1} {𝓤 : Ura M} (𝓛 : Logic 𝓤) (mem : Memory → SProp
   x = (record { ref_ptr = (b, o); now = es }, (i, tt))
 
   abbrev entry : Entry
-  entry = get_or es i noEntry
+  entry = get_or es i no_entry
 
   abbrev vals : Vals fun.signature (κ, tt)
   vals = (slice_val (b, o) (length es) ∷ [], (vint w64 i ∷ [], tt))
@@ -72,7 +72,7 @@ module _ {M : Type 1} {𝓤 : Ura M} (𝓛 : Logic 𝓤) (mem : Memory → SProp
   abbrev Post : Val → SProp 𝓤
   Post = (walk_of 𝓛 fun.ended stayed (fun.clauses 𝓛 mem run)).post (((κ, tt), (q, tt), tt, x, vals), tt)
 
-  exits : (r : Answer) → Is F.the_row r (F'.lowered r ∷ []) → i < 2 ^ 64 → answered r ≡ countAtAnswer es i → ent 𝓤 (⋆ 𝓛 (‵ (flft κ q) ∷ ‵ ((ShrSlice (named 0) κ T.the_row).own_val x.0 vals.0) ∷ [])) (Post (F'.lowered r))
+  exits : (r : Answer) → Is F.the_row r (F'.lowered r ∷ []) → i < 2 ^ 64 → answered r ≡ count_at_answer es i → ent 𝓤 (⋆ 𝓛 (‵ (flft κ q) ∷ ‵ ((ShrSlice (named 0) κ T.the_row).own_val x.0 vals.0) ∷ [])) (Post (F'.lowered r))
   exits r made fits e =
       qed 𝓛 (‵ (flft κ q) ∷ ‵ ((ShrSlice (named 0) κ T.the_row).own_val x.0 vals.0) ∷ []) ∵
       suffices ! _ (ends_at 𝓛 fun.ended stayed (fun.clauses 𝓛 mem run) (((κ, tt), (q, tt), tt, x, vals), tt) (F'.lowered r) r (tt, (tt, tt)) (tt, (tt, tt))) $ says ! e $
@@ -97,17 +97,17 @@ module _ {M : Type 1} {𝓤 : Ura M} (𝓛 : Logic 𝓤) (mem : Memory → SProp
         rewrite ! 2 (λ (p : ℕ). ‵ (fat full_share ty_ptr (l 7) 0 (vptr b p))) (sym (place_is 24 o i)) refl $
         move ! (19 ∷ []) $ fsplit ! $ move ! (1 ∷ []) $ fsplit ! $ move ! (1 ∷ 21 ∷ []) $
         looks_slice ! tt T.the_row (Is T.the_row) (shows 𝓛 T.the_row) (LL.vals T.the_type T'.the_laws) (LL.tells T.the_type T'.the_laws) (LL.copy T.the_type T'.the_copy 𝓛) es b o (λ q'.
-        elem_out ! T.the_row (Is T.the_row) (shows 𝓛 T.the_row) (LL.vals T.the_type T'.the_laws) (LL.tells T.the_type T'.the_laws) q' es i noEntry b o within (λ g.
+        elem_out ! T.the_row (Is T.the_row) (shows 𝓛 T.the_row) (LL.vals T.the_type T'.the_laws) (LL.tells T.the_type T'.the_laws) q' es i no_entry b o within (λ g.
         let count_fits : entry.count < 2 ^ 64 = (LL.owed T.the_type T'.the_laws entry (LL.vals T.the_type T'.the_laws entry) g).1.0.1 in
         let made : Is F.the_row (Answer.Value entry.count) (F'.lowered (Answer.Value entry.count) ∷ []) = Le.owes F.the_type F'.the_laws (Answer.Value entry.count) ((refl, count_fits), tt) in
         let typed = ((Le.lawful F.the_type F'.the_laws 𝓛 tt).typed (Answer.Value entry.count) (F'.lowered (Answer.Value entry.count) ∷ []) made).0 in
         -- [the entry; what it owns; the others; the open borrow; the borrow; the name's; the slice's fact; _8; …]
         assigns ! (of_opd ! (load ! (from ! (hop ! (look ! 9 refl) (fld ! refl (stop !)))) (look_in ! 0 (sub ! 1 refl (whole !))))) (from ! (stop !)) (init ! 7 refl (tt, record { fits = count_fits })) $
-        elem_back ! T.the_row q' es i noEntry (LL.vals T.the_type T'.the_laws entry) b o within $ shuts_slice ! tt T.the_row q' es b o $
+        elem_back ! T.the_row q' es i no_entry (LL.vals T.the_type T'.the_laws entry) b o within $ shuts_slice ! tt T.the_row q' es b o $
         -- [the token; the borrow; the name's; the slice's fact; _8; …]
         move ! (2 ∷ 1 ∷ []) $ fjoin ! $ move ! (2 ∷ 0 ∷ []) $ fjoin ! $
         assigns_last ! (agg ! (and_then ! (lit ! tt) (and_then ! (load ! (from ! (stop !)) (look ! 2 refl)) (no_more !)))) (from ! (stop !)) (init ! 8 refl typed) $
-        exec ! 𝓣.C 𝓣.Λ (envOf (code.function).locals l) body.t-4 (at_ret (envOf (code.function).locals l) Post) $
+        exec ! 𝓣.C 𝓣.Λ (env_of (code.function).locals l) body.t-4 (at_ret (env_of (code.function).locals l) Post) $
         assigns ! (of_opd ! (load ! (from ! (stop !)) (look ! 8 refl))) (from ! (stop !)) (init ! 18 refl typed) $
         returns ! (look ! 18 refl) $ free_all ! 2 (just _ ∷ just _ ∷ just _ ∷ just _ ∷ just _ ∷ just _ ∷ just _ ∷ just _ ∷ just _ ∷ []) refl $
         move ! (1 ∷ 0 ∷ []) $ by ! (exits (Answer.Value entry.count) made fits (count-there es i within)))))
@@ -115,7 +115,7 @@ module _ {M : Type 1} {𝓤 : Ura M} (𝓛 : Logic 𝓤) (mem : Memory → SProp
         let made : Is F.the_row (Answer.Refused 21) (F'.lowered (Answer.Refused 21) ∷ []) = Le.owes F.the_type F'.the_laws (Answer.Refused 21) ((refl, lit< tt), tt) in
         let typed = ((Le.lawful F.the_type F'.the_laws 𝓛 tt).typed (Answer.Refused 21) (F'.lowered (Answer.Refused 21) ∷ []) made).0 in
         assigns_last ! (agg ! (and_then ! (lit ! tt) (and_then ! (lit ! tt) (no_more !)))) (from ! (stop !)) (init ! 6 refl typed) $
-        exec ! 𝓣.C 𝓣.Λ (envOf (code.function).locals l) body.t-4 (at_ret (envOf (code.function).locals l) Post) $
+        exec ! 𝓣.C 𝓣.Λ (env_of (code.function).locals l) body.t-4 (at_ret (env_of (code.function).locals l) Post) $
         assigns ! (of_opd ! (load ! (from ! (stop !)) (look ! 6 refl))) (from ! (stop !)) (init ! 16 refl typed) $
         returns ! (look ! 16 refl) $ free_all ! 0 (just _ ∷ just _ ∷ just _ ∷ just _ ∷ just _ ∷ just _ ∷ none ∷ none ∷ none ∷ []) refl $
         by ! (exits (Answer.Refused 21) made fits (count_past es i (nltb→le i (length es) past)))))

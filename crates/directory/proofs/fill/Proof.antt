@@ -36,7 +36,7 @@ use denote.Triple.Walked.{says, Stays, gave_slice, stay_none, stay_none_slice, w
 use denote.Exit.{yes}
 use denote.Signature.{plain}
 use Rattle.format.specs.Bytes.{Bytes}
-use Rattle.format.specs.Calls.{answered, valueOr}
+use Rattle.format.specs.Calls.{answered, value_or}
 use Rattle.format.specs.declared.Answer.{Answer}
 use Rattle.format.specs.declared.Entry.{Entry}
 use Rattle.format.specs.contracts.Entry as T
@@ -46,7 +46,7 @@ use Rattle.format.specs.contracts.Answer.value_or as value-or
 use Rattle.format.proofs.Answer.value_or.Symbol as value-or-def
 use Rattle.format.proofs.Answer.value_or.Symbol.{name as #value-or}
 use Rattle.format.proofs.Answer.value_or.Met as value-or-thm
-use Rattle.directory.specs.Rows.{countedIn, filled, Fillable}
+use Rattle.directory.specs.Rows.{counted_in, filled, Fillable}
 use Rattle.directory.proofs.Rows.{fillable, fill_done}
 use Rattle.directory.proofs.Walking.{type_at, alloc_all, free_all, number, twice, returned, number-typed, number_is, unit-typed, meets}
 use Rattle.directory.proofs.Filling.{Fill, to_fill, fill-asks}
@@ -118,8 +118,8 @@ module _ {M : Type 1} {𝓤 : Ura M} (𝓛 : Logic 𝓤) (mem : Memory → SProp
   abbrev to-value : Answer → Val → (ValueOr 𝓛 mem run).Ghost
   to-value r w = ((tt, tt, tt, (r, (0, tt)), (w ∷ [], (vint w64 0 ∷ [], tt))), tt)
 
-  can : (n : ℕ) (r : Answer) → answered r ≡ countedIn buf used (length old) → n ≡ valueOr 0 (answered r) → Fillable buf used n (length old)
-  can n r er en = fillable buf used (length old) n (en ∙ ap (valueOr 0) er)
+  can : (n : ℕ) (r : Answer) → answered r ≡ counted_in buf used (length old) → n ≡ value_or 0 (answered r) → Fillable buf used n (length old)
+  can n r er en = fillable buf used (length old) n (en ∙ ap (value_or 0) er)
 
   count-asks : ent 𝓤 (sep 𝓤 (A.lft κ q) (sem 𝓛 OwnB)) ((Count 𝓛 mem run).pre to-count)
   count-asks = qed 𝓛 (‵ (flft κ q) ∷ ‵ OwnB ∷ []) ∵ nothing ! $ move ! (1 ∷ 0 ∷ []) $ join ! $
@@ -128,7 +128,7 @@ module _ {M : Type 1} {𝓤 : Ura M} (𝓛 : Logic 𝓤) (mem : Memory → SProp
   value-asks : (r : Answer) (w : Val) → ent 𝓤 (sem 𝓛 ((F.the_row).own_val r (w ∷ []))) ((ValueOr 𝓛 mem run).pre (to-value r w))
   value-asks r w = qed 𝓛 (‵ ((F.the_row).own_val r (w ∷ [])) ∷ []) ∵ nothing ! $ number ! 0 (lit< tt) $ fjoin ! $ move ! (1 ∷ 0 ∷ []) $ fjoin ! $ nothing ! $ join ! $ frame ! $ done !
 
-  exits : (r : Answer) (w : Val) (n : ℕ) (new : List Entry) → Is F.the_row r (w ∷ []) → answered r ≡ countedIn buf used (length old) → n ≡ valueOr 0 (answered r) → new ≡ filled buf used old n → length new ≡ length old
+  exits : (r : Answer) (w : Val) (n : ℕ) (new : List Entry) → Is F.the_row r (w ∷ []) → answered r ≡ counted_in buf used (length old) → n ≡ value_or 0 (answered r) → new ≡ filled buf used old n → length new ≡ length old
       → ent 𝓤 (⋆ 𝓛 ((‵ (flft κ' q') ⊛ (‵ (flft κ q) ⊛ ‵ ftrue)) ∷ ‵ (finally T.the_row e.name new) ∷ ‵ OwnB ∷ [])) (Post w)
   exits r w n new made er en es l =
       qed 𝓛 ((‵ (flft κ' q') ⊛ (‵ (flft κ q) ⊛ ‵ ftrue)) ∷ ‵ (finally T.the_row e.name new) ∷ ‵ OwnB ∷ []) ∵
@@ -149,13 +149,13 @@ module _ {M : Type 1} {𝓤 : Ura M} (𝓛 : Logic 𝓤) (mem : Memory → SProp
         move ! (22 ∷ []) $ twice ! (named 0) κ u8 f (v ∷ []) $ twice ! (named 0) κ u8 f (v ∷ []) $ move ! (23 ∷ 0 ∷ []) $ use2 𝓛 (raw ((Count 𝓛 mem run).pre to-count)) count-asks $
         -- [what set_count asks; buf; buf; _9; …; the list's token; the list]
         calls_at ! (fm_of 𝓤 H 𝓛.laws 𝓣) (Count 𝓛 mem run) known-count to-count (and_then ! (load ! (from ! (stop !)) (look ! 19 refl)) (and_then ! (load ! (from ! (stop !)) (look ! 17 refl)) (and_then ! (load ! (from ! (stop !)) (look ! 9 refl)) (no_more !)))) (λ w.
-        returned ! tt count.ended (count.clauses 𝓛 mem run) to-count w (λ r ws. answered r ≡ countedIn buf used (length old)) (λ r ws. id⊢ 𝓤 _) (λ r ws er. move ! (2 ∷ []) $ drop ! $
+        returned ! tt count.ended (count.clauses 𝓛 mem run) to-count w (λ r ws. answered r ≡ counted_in buf used (length old)) (λ r ws. id⊢ 𝓤 _) (λ r ws er. move ! (2 ∷ []) $ drop ! $
         peeks ! F.the_row (Is F.the_row) (shows 𝓛 F.the_row) r (w ∷ []) (λ made.
         let typed = ((Le.lawful F.the_type F'.the_laws 𝓛 tt).typed r (w ∷ []) made).0 in
         -- [the answer; buf's token; buf; buf; _9; …; the list's token; the list]
         land ! (from ! (stop !)) (init ! 14 refl typed) $ use1 𝓛 (raw ((ValueOr 𝓛 mem run).pre (to-value r w))) (value-asks r w) $
         calls_at ! (fm_of 𝓤 H 𝓛.laws 𝓣) (ValueOr 𝓛 mem run) known-value (to-value r w) (and_then ! (load ! (from ! (stop !)) (look ! 14 refl)) (and_then ! (lit ! tt) (no_more !))) (λ u.
-        returned ! tt value-or.ended (value-or.clauses 𝓛 mem run) (to-value r w) u (λ n ws. n ≡ valueOr 0 (answered r)) (λ n ws. id⊢ 𝓤 _) (λ n ws en. move ! (2 ∷ []) $ drop ! $
+        returned ! tt value-or.ended (value-or.clauses 𝓛 mem run) (to-value r w) u (λ n ws. n ≡ value_or 0 (answered r)) (λ n ws. id⊢ 𝓤 _) (λ n ws en. move ! (2 ∷ []) $ drop ! $
         peeks ! usize (Is usize) (shows 𝓛 usize) n (u ∷ []) (λ is.
         -- [the number; nothing; buf's token; buf; buf; _9; …; the list's token; the list]
         land ! (from ! (stop !)) (init ! 13 refl (number-typed n u is)) $ rewrite ! 13 (λ (y : Val). ‵ (fat full_share (τ 5) (l 5) 0 y)) (number_is n u is) refl $

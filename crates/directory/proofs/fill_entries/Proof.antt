@@ -53,7 +53,7 @@ use Rattle.format.specs.contracts.Entry as T
 use Rattle.format.proofs.Entry.TheLaws as T'
 use Rattle.directory.specs.Rows.{entry_of, start_of, filled, Fillable}
 use Rattle.directory.proofs.Rows.{scaled, length-filled}
-use Rattle.directory.proofs.Walking.{type_at, envOf, after, stack, alloc_all, free_all, number, twice, returned, meets}
+use Rattle.directory.proofs.Walking.{type_at, env_of, after, stack, alloc_all, free_all, number, twice, returned, meets}
 use Rattle.directory.specs.contracts.core.entry_at as callee
 use Rattle.directory.proofs.core.entry_at.Symbol as callee-def
 use Rattle.directory.proofs.core.entry_at.Symbol.{name as #entry-at}
@@ -146,7 +146,7 @@ module _ {M : Type 1} {𝓤 : Ura M} (𝓛 : Logic 𝓤) (mem : Memory → SProp
 
   module _ (𝓣 : Tables 𝓤 H) (known : Triple 𝓤 (𝓣.C #entry-at) (Callee 𝓛 mem run)) (l : ℕ → ℕ) where
     abbrev En : Env 𝓤 H
-    En = envOf (code.function).locals l
+    En = env_of (code.function).locals l
 
     -- [the list's name; its borrow; its token; buf's token; buf; _10; …; _0; …]
     abbrev At : Turn → List (Item 𝓤)

@@ -6,12 +6,12 @@ use lib.ListN.{length}
 use lib.Seq.{length-take-le}
 use Rattle.format.specs.Bytes.{Bytes}
 use Rattle.format.proofs.Dense.{dense}
-use Rattle.records.specs.Walk.{recordIn}
+use Rattle.records.specs.Walk.{record_in}
 use Rattle.records.proofs.Readings.{readable-ended}
-use Rattle.requests.specs.Pairs.{pairsAt}
+use Rattle.requests.specs.Pairs.{pairs_at}
 use Rattle.dictionary.specs.Known.{Described}
 use Rattle.dictionary.proofs.Dense.{dense-described}
-use Rattle.drafts.specs.Drafts.{toFill}
+use Rattle.drafts.specs.Drafts.{to_fill}
 use Rattle.drafts.proofs.Asking.{dense-filled}
 use borrow.Author.Rules.{rules}
 use Rattle.drafts.proofs.count_by.Statement.{statement}
@@ -61,8 +61,8 @@ returns c =
     let at-put-dense = c.before.before.before.before.put-dense in
     let at_pre = c.before.before.before.before.before.before.before.before.before.before.before.requires in
     let d : Bytes = at-args.d.now in
-    let new = pairsAt at-args.req.now at-args.from in
-    at-count-to-fill.ensures ∙ ap (λ (x : Bytes). length (toFill (recordIn x) new)) at-put-dense.ensures.2 ∙ ap length (dense-filled d at_pre.0.0 new)
+    let new = pairs_at at-args.req.now at-args.from in
+    at-count-to-fill.ensures ∙ ap (λ (x : Bytes). length (to_fill (record_in x) new)) at-put-dense.ensures.2 ∙ ap length (dense-filled d at_pre.0.0 new)
 
 count-to-fill-requires-2 : tie.Need-count-to-fill-requires-2
 count-to-fill-requires-2 c κs = search rules

@@ -2,7 +2,7 @@
 use borrow.Author.Rules.{rules}
 use mathlib.Core.Path.{◌≡◌, sym, ◌∙◌}
 use Rattle.format.specs.Rules.{listed}
-use Rattle.records.specs.Walk.{recordIn}
+use Rattle.records.specs.Walk.{record_in}
 use Rattle.drafts.proofs.Giving.{counted}
 use borrow.Author.Rules.{rules}
 use Rattle.drafts.proofs.count_missing.Statement.{statement}
@@ -22,7 +22,7 @@ missing-requires : tie.Need-missing-requires
 missing-requires c κs =
     let at-args = c.before.before.before.before.args in
     let at_pre = c.before.before.before.before.requires in
-    (counted at-args.d.now (listed at-args.name.now (recordIn at-args.d.now)) at-args.l at_pre.2).0
+    (counted at-args.d.now (listed at-args.name.now (record_in at-args.d.now)) at-args.l at_pre.2).0
 
 widened-requires : tie.Need-widened-requires
 widened-requires c κs = search rules
@@ -34,7 +34,7 @@ returns c =
     let at-missing = c.before.missing in
     let at-firsts = c.before.before.firsts in
     let at-widened = c.widened in
-    (counted at-args.d.now (listed at-args.name.now (recordIn at-args.d.now)) at-args.l at_pre.2).1 at-args.given at-missing.result at-firsts.result at-widened.result at-missing.ensures at-firsts.ensures at-widened.ensures
+    (counted at-args.d.now (listed at-args.name.now (record_in at-args.d.now)) at-args.l at_pre.2).1 at-args.given at-missing.result at-firsts.result at-widened.result at-missing.ensures at-firsts.ensures at-widened.ensures
 
 pub count-missing-spec : {M : Type 1} → statement M
 count-missing-spec = tie.close (tie.spec firsts-requires missing-requires widened-requires returns)

@@ -5,10 +5,10 @@ use mathlib.Core.Path.{◌≡◌, sym, ◌∙◌}
 use mathlib.Core.Bool.{not}
 use Rattle.format.specs.Bytes.{Bytes, among}
 use Rattle.format.specs.Rules.{mandatory, key}
-use Rattle.records.specs.Walk.{recordIn}
-use Rattle.requests.specs.Pairs.{pairsAt}
+use Rattle.records.specs.Walk.{record_in}
+use Rattle.requests.specs.Pairs.{pairs_at}
 use Rattle.dictionary.proofs.Granted.{mandatory-lists}
-use Rattle.drafts.specs.Drafts.{isGiven}
+use Rattle.drafts.specs.Drafts.{is_given}
 use Rattle.drafts.proofs.Listing.{key-lists}
 use Rattle.drafts.proofs.Giving.{parts-few, toFill-parts}
 use borrow.Author.Rules.{rules}
@@ -37,17 +37,17 @@ add-result c =
     let at-mandatory-missing = c.before.before.before.before.mandatory-missing in
     let at-key-missing = c.before.key-missing in
     let at_pre = c.before.before.before.before.before.before.before.before.requires in
-    let rules = recordIn at-args.d.now in
-    let new = pairsAt at-args.req.now at-args.from in
-    omega (arith, at-mandatory-missing.ensures, at-key-missing.ensures, parts-few (λ (n : Bytes). not (isGiven rules new n)) (λ (n : Bytes). not (among n (mandatory rules))) (mandatory rules) (key rules) (mandatory-lists at-args.d.now at_pre.0).few (key-lists at-args.d.now at_pre.0).few)
+    let rules = record_in at-args.d.now in
+    let new = pairs_at at-args.req.now at-args.from in
+    omega (arith, at-mandatory-missing.ensures, at-key-missing.ensures, parts-few (λ (n : Bytes). not (is_given rules new n)) (λ (n : Bytes). not (among n (mandatory rules))) (mandatory rules) (key rules) (mandatory-lists at-args.d.now at_pre.0).few (key-lists at-args.d.now at_pre.0).few)
 
 returns : tie.Need-returns
 returns c =
     let at-args = c.before.before.before.before.before.before.before.before.args in
     let at-mandatory-missing = c.before.before.before.before.mandatory-missing in
     let at-key-missing = c.before.key-missing in
-    let rules = recordIn at-args.d.now in
-    let new = pairsAt at-args.req.now at-args.from in
+    let rules = record_in at-args.d.now in
+    let new = pairs_at at-args.req.now at-args.from in
     omega (arith, at-mandatory-missing.ensures, at-key-missing.ensures, toFill-parts rules new)
 
 pub count-to-fill-spec : {M : Type 1} → statement M

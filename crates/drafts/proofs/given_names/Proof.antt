@@ -1,10 +1,10 @@
 -- `drafts::given_names` meets its contract: the words of the `%auto` lists are given, then the names of the pairs.
 use borrow.Author.Rules.{rules}
 use mathlib.Core.List.{[]}
-use Rattle.format.specs.Numbering.{pairNames}
+use Rattle.format.specs.Numbering.{pair_names}
 use Rattle.format.specs.Rules.{auto}
-use Rattle.records.specs.Walk.{recordIn}
-use Rattle.requests.specs.Pairs.{pairsAt}
+use Rattle.records.specs.Walk.{record_in}
+use Rattle.requests.specs.Pairs.{pairs_at}
 use Rattle.dictionary.proofs.Present.{present-none}
 use Rattle.drafts.specs.Giving.{onto}
 use borrow.Author.Rules.{rules}
@@ -32,7 +32,7 @@ returns c =
     let at-give-pairs = c.give-pairs in
     let at-args = c.before.before.before.before.before.before.before.before.before.args in
     let at-give-list = c.before.before.before.give-list in
-    λ ws i. at-give-pairs.ensures ws (onto [] (auto (recordIn at-args.d.now))) i (at-give-list.ensures ws [] i (present-none ws))
+    λ ws i. at-give-pairs.ensures ws (onto [] (auto (record_in at-args.d.now))) i (at-give-list.ensures ws [] i (present-none ws))
 
 pub given-names-spec : {M : Type 1} → statement M
 given-names-spec =

@@ -4,8 +4,8 @@ use native.Mathlib.Omega.{arith}
 use mathlib.Core.Path.{◌∙◌}
 use Rattle.format.specs.Numbering.{firsts}
 use Rattle.format.specs.Rules.{mandatory, key}
-use Rattle.records.specs.Walk.{recordIn}
-use Rattle.requests.specs.Pairs.{pairsAt}
+use Rattle.records.specs.Walk.{record_in}
+use Rattle.requests.specs.Pairs.{pairs_at}
 use Rattle.drafts.specs.Giving.{onto}
 use Rattle.drafts.proofs.Listing.{key-lists}
 use Rattle.drafts.proofs.Giving.{names, key_left}
@@ -40,7 +40,7 @@ give-list-requires c κs =
     let at-list = c.before.before.before.before.before.before.list in
     let at_pre = c.before.before.before.before.before.before.before.before.before.before.before.requires in
     let at-scratch = c.before.before.before.scratch in
-    ((key (recordIn at-args.d.now), at-list.ensures), (at_pre.0.0, omega (arith, at-scratch.given, at_pre.0.1)))
+    ((key (record_in at-args.d.now), at-list.ensures), (at_pre.0.0, omega (arith, at-scratch.given, at_pre.0.1)))
 
 slice-aggregate-count-missing : tie.Need-slice-aggregate-count-missing
 slice-aggregate-count-missing c = search rules
@@ -62,8 +62,8 @@ returns c =
     let at-give-list = c.before.before.before.before.give-list in
     let at-list = c.before.before.before.before.before.before.before.before.before.before.before.list in
     let at-given-names = c.before.before.before.before.before.before.before.before.before.given-names in
-    let rules = recordIn at-args.d.now in
-    let new = pairsAt at-args.req.now at-args.from in
+    let rules = record_in at-args.d.now in
+    let new = pairs_at at-args.req.now at-args.from in
     at-count-missing.ensures (onto (names rules new) (mandatory rules)) (at-give-list.ensures (key rules) (names rules new) at-list.ensures (at-given-names.ensures (key rules) at-list.ensures)) ∙ key_left rules new (firsts (key rules))
 
 pub key-missing-spec : {M : Type 1} → statement M

@@ -3,8 +3,8 @@ use borrow.Author.Rules.{rules}
 use mathlib.Core.Path.{◌∙◌}
 use Rattle.format.specs.Numbering.{firsts}
 use Rattle.format.specs.Rules.{mandatory}
-use Rattle.records.specs.Walk.{recordIn}
-use Rattle.requests.specs.Pairs.{pairsAt}
+use Rattle.records.specs.Walk.{record_in}
+use Rattle.requests.specs.Pairs.{pairs_at}
 use Rattle.dictionary.proofs.Granted.{mandatory-lists}
 use Rattle.drafts.proofs.Giving.{names, mandatory-left}
 use borrow.Author.Rules.{rules}
@@ -47,8 +47,8 @@ returns c =
     let at-count-missing = c.count-missing in
     let at-given-names = c.before.before.before.before.given-names in
     let at-list = c.before.before.before.before.before.before.list in
-    let rules = recordIn at-args.d.now in
-    let new = pairsAt at-args.req.now at-args.from in
+    let rules = record_in at-args.d.now in
+    let new = pairs_at at-args.req.now at-args.from in
     at-count-missing.ensures (names rules new) (at-given-names.ensures (mandatory rules) at-list.ensures) ∙ mandatory-left rules new (firsts (mandatory rules))
 
 pub mandatory-missing-spec : {M : Type 1} → statement M

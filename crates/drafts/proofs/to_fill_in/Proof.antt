@@ -4,11 +4,11 @@ use mathlib.Core.Path.{sym, ap, ◌∙◌, subst}
 use lib.ListN.{length}
 use Rattle.format.specs.Bytes.{Bytes}
 use Rattle.format.specs.Pieces.{read_of}
-use Rattle.format.specs.Sets.{setsOf}
+use Rattle.format.specs.Sets.{sets_of}
 use Rattle.format.specs.Calls.{Answer}
 use Rattle.records.proofs.Members.{head-told}
 use Rattle.requests.specs.Fields.{bytes_of}
-use Rattle.requests.specs.Pairs.{pairsAt}
+use Rattle.requests.specs.Pairs.{pairs_at}
 use Rattle.requests.specs.Kinds.{Inside}
 use Rattle.requests.proofs.Filling.{request-found, request-missed, insert-inside, request-bytes}
 use Rattle.drafts.proofs.Asking.{draft-fault, draft-other, draft-insert, draft-missing, head-described, head-filled}
@@ -35,7 +35,7 @@ returns c =
     let at-args = c.before.before.before.before.before.before.args in
     let at-request-of = c.before.before.request-of in
     let at-enum-told = c.enum_told in
-    draft-fault (setsOf (read_of at-args.s.now)) at-args.req.now (request-missed at-args.req.now at-request-of.result at-request-of.ensures.0 at-enum-told.given.1)
+    draft-fault (sets_of (read_of at-args.s.now)) at-args.req.now (request-missed at-args.req.now at-request-of.result at-request-of.ensures.0 at-enum-told.given.1)
 
 enum-known-edit : tie.Need-enum-known-edit
 enum-known-edit c = search rules
@@ -49,7 +49,7 @@ returns-2 c =
     let at-r = c.before.before.before.r in
     let at-request-of = c.before.before.before.before.before.request-of in
     let at-match2 = c.before.match2 in
-    draft-other (setsOf (read_of at-args.s.now)) at-args.req.now at-r.given.0.0 (request-found at-args.req.now at-request-of.result at-r.given.0.0 at-request-of.ensures.0 at-r.given.1) at-match2.keys2
+    draft-other (sets_of (read_of at-args.s.now)) at-args.req.now at-r.given.0.0 (request-found at-args.req.now at-request-of.result at-r.given.0.0 at-request-of.ensures.0 at-r.given.1) at-match2.keys2
 
 sub-find-head : tie.Need-overflow-sub-find-head
 sub-find-head c =
@@ -93,9 +93,9 @@ returns-3 c =
     let s : Bytes = at-args.s.now in
     let req : Bytes = at-args.req.now in
     let n : Bytes = bytes_of req at-r.given.0.0.set in
-    let new = pairsAt req at-edit.given.0.0 in
-    draft-missing (setsOf (read_of s)) (record { set = n; new = new }) (head-told s n at-find-head.result at_pre.0.0 at-find-head.ensures at-enum-told3.given.1)
-    ∙ draft-insert (setsOf (read_of s)) req at-r.given.0.0 (request-found req at-request-of.result at-r.given.0.0 at-request-of.ensures.0 at-r.given.1) at-edit.given.0.0 at-edit.given.1
+    let new = pairs_at req at-edit.given.0.0 in
+    draft-missing (sets_of (read_of s)) (record { set = n; new = new }) (head-told s n at-find-head.result at_pre.0.0 at-find-head.ensures at-enum-told3.given.1)
+    ∙ draft-insert (sets_of (read_of s)) req at-r.given.0.0 (request-found req at-request-of.result at-r.given.0.0 at-request-of.ensures.0 at-r.given.1) at-edit.given.0.0 at-edit.given.1
 
 sub-count-by : tie.Need-overflow-sub-count-by
 sub-count-by c =
@@ -158,8 +158,8 @@ returns-4 c =
     let n : Bytes = bytes_of req at-r.given.0.0.set in
     let t = head-told s n at-find-head.result at_pre.0.0 at-find-head.ensures at_f.given.1 in
     ap Answer.value at-count-by.ensures
-    ∙ head-filled s n at_f.given.0.0 t (pairsAt req at-edit.given.0.0)
-    ∙ draft-insert (setsOf (read_of s)) req at-r.given.0.0 (request-found req at-request-of.result at-r.given.0.0 at-request-of.ensures.0 at-r.given.1) at-edit.given.0.0 at-edit.given.1
+    ∙ head-filled s n at_f.given.0.0 t (pairs_at req at-edit.given.0.0)
+    ∙ draft-insert (sets_of (read_of s)) req at-r.given.0.0 (request-found req at-request-of.result at-r.given.0.0 at-request-of.ensures.0 at-r.given.1) at-edit.given.0.0 at-edit.given.1
 
 pub to-fill-in-spec : {M : Type 1} → statement M
 to-fill-in-spec =

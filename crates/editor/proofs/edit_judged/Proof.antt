@@ -1,7 +1,7 @@
 -- `editor::edit_judged` meets its contract: the file's own number, or the edit of one that passes.
 use native.Mathlib.Omega.{arith}
 use mathlib.Core.Path.{sym}
-use Rattle.format.specs.Calls.{checkAnswer}
+use Rattle.format.specs.Calls.{check_answer}
 use Rattle.format.proofs.Answers.{answer-file}
 use borrow.Author.Rules.{rules}
 use Rattle.editor.proofs.edit_judged.Statement.{statement}
@@ -12,7 +12,7 @@ use Rattle.editor.proofs.plan.Reads as plan-reads
 use Rattle.editor.proofs.settle.Reads as settle-reads
 
 returns : tie.Need-returns
-unfolding checkAnswer
+unfolding check_answer
 returns c =
     let at-args = c.before.before.before.before.args in
     let at-if1 = c.if1 in

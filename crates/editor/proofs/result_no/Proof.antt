@@ -2,7 +2,7 @@
 use native.Mathlib.Omega.{arith}
 use mathlib.Core.Path.{ap, ◌∙◌}
 use lib.ListN.{length}
-use Rattle.format.proofs.Judging.{textNo}
+use Rattle.format.proofs.Judging.{text_no}
 use Rattle.editor.proofs.Making.{copied-sound, copied-made, copied-judged}
 use borrow.Author.Rules.{rules}
 use Rattle.editor.proofs.result_no.Statement.{statement}
@@ -40,7 +40,7 @@ returns c =
     let at-args = c.before.before.before.before.before.before.before.before.before.before.before.before.before.before.before.before.args in
     let at-put-bytes = c.before.before.before.before.before.before.before.before.before.before.put-bytes in
     let at-carry-out = c.before.before.before.before.before.before.carry-out in
-    at-judge-spent.ensures ∙ ap textNo (copied-judged at-args.s.now _ at-put-bytes.new.0 at-args.req.now at-args.added.now at-args.x at-put-bytes.ensures at-carry-out.result at-carry-out.new.1.0 at-carry-out.ensures.0 at-carry-out.ensures.1)
+    at-judge-spent.ensures ∙ ap text_no (copied-judged at-args.s.now _ at-put-bytes.new.0 at-args.req.now at-args.added.now at-args.x at-put-bytes.ensures at-carry-out.result at-carry-out.new.1.0 at-carry-out.ensures.0 at-carry-out.ensures.1)
 
 pub result-no-spec : {M : Type 1} → statement M
 result-no-spec =

@@ -2,8 +2,8 @@
 use native.Mathlib.Omega.{arith}
 use mathlib.Core.Path.{sym, ◌∙◌, subst}
 use lib.ListN.{length, take}
-use Rattle.format.specs.Calls.{checkAnswer}
-use Rattle.edits.specs.Splices.{madeBy}
+use Rattle.format.specs.Calls.{check_answer}
+use Rattle.edits.specs.Splices.{made_by}
 use Rattle.editor.specs.Plans.{Planned}
 use Rattle.records.proofs.Checked.{checked}
 use Rattle.editor.proofs.Editing.{number-zero, plan-refused, plan-over, plan-sound, plan-fails, plan-done}
@@ -20,7 +20,7 @@ enum-known-plan : tie.Need-enum-known-plan
 enum-known-plan c = search rules
 
 returns : tie.Need-returns
-unfolding checkAnswer
+unfolding check_answer
 returns c =
     let at-args = c.before.before.before.before.before.before.before.args in
     let at-plan = c.before.plan in
@@ -35,7 +35,7 @@ over-no-requires : tie.Need-over-no-requires
 over-no-requires c κs = search rules
 
 returns-2 : tie.Need-returns-2
-unfolding checkAnswer
+unfolding check_answer
 returns-2 c =
     let at-args = c.before.before.before.before.before.before.before.before.args in
     let at-plan2 = c.before.before.plan2 in
@@ -48,21 +48,21 @@ enum-known-plan-3 : tie.Need-enum-known-plan-3
 enum-known-plan-3 c = search rules
 
 slice-reshare-prefix-edit-no : tie.Need-slice-reshare-prefix-edit-no
-unfolding checkAnswer
+unfolding check_answer
 slice-reshare-prefix-edit-no c =
     let at-args = c.before.before.before.before.before.before.before.args in
     let at_pre = c.before.before.before.before.before.before.before.requires in
     (checked at-args.buf.now at-args.used at_pre.0.0).fits
 
 slice-aggregate-edit-no : tie.Need-slice-aggregate-edit-no
-unfolding checkAnswer
+unfolding check_answer
 slice-aggregate-edit-no c =
     let at-args = c.before.before.before.before.before.before.before.before.args in
     let at_pre = c.before.before.before.before.before.before.before.before.requires in
     sym (checked at-args.buf.now at-args.used at_pre.0.0).long
 
 edit-no-requires : tie.Need-edit-no-requires
-unfolding checkAnswer
+unfolding check_answer
 edit-no-requires c κs =
     let at-args = c.before.before.before.before.before.before.before.before.before.args in
     let at-plan3 = c.before.before.before.plan3 in
@@ -77,7 +77,7 @@ same-length-2 : tie.Need-same-length-2
 same-length-2 c = search rules
 
 returns-3 : tie.Need-returns-3
-unfolding checkAnswer
+unfolding check_answer
 returns-3 c =
     let at-args = c.before.before.before.before.before.before.before.before.before.before.before.before.before.args in
     let at-plan3 = c.before.before.before.before.before.before.before.plan3 in
@@ -88,7 +88,7 @@ returns-3 c =
     plan-fails at-args.buf.now at-args.used at_pre.0.0 at-args.req.now at-args.added.now at-plan3.given.0.0 p at-edit-no.result at-if1.true at-edit-no.ensures
 
 carry-out-requires : tie.Need-carry-out-requires
-unfolding checkAnswer
+unfolding check_answer
 carry-out-requires c κs =
     let at-args = c.before.before.before.before.before.before.before.before.before.before.before.before.before.before.args in
     let at-plan3 = c.before.before.before.before.before.before.before.before.plan3 in
@@ -96,7 +96,7 @@ carry-out-requires c κs =
     let at-edit-no = c.before.before.before.before.edit-no in
     let at-if1 = c.before.if1 in
     let p = subst (Planned (take at-args.used at-args.buf.now) at-args.req.now at-args.added.now) at-plan3.given.1 at_pre.0.1 in
-    (((checked at-args.buf.now at-args.used at_pre.0.0).fits, plan-sound at-args.buf.now at-args.used at_pre.0.0 at-args.req.now at-args.added.now at-plan3.given.0.0 p), number-zero (length at-args.buf.now) (madeBy (take at-args.used at-args.buf.now) at-args.req.now at-args.added.now at-plan3.given.0.0) (sym at-edit-no.ensures ∙ at-if1.false))
+    (((checked at-args.buf.now at-args.used at_pre.0.0).fits, plan-sound at-args.buf.now at-args.used at_pre.0.0 at-args.req.now at-args.added.now at-plan3.given.0.0 p), number-zero (length at-args.buf.now) (made_by (take at-args.used at-args.buf.now) at-args.req.now at-args.added.now at-plan3.given.0.0) (sym at-edit-no.ensures ∙ at-if1.false))
 
 same-length-3 : tie.Need-same-length-3
 same-length-3 c = search rules
@@ -105,7 +105,7 @@ same-length-4 : tie.Need-same-length-4
 same-length-4 c = search rules
 
 returns-4 : tie.Need-returns-4
-unfolding checkAnswer
+unfolding check_answer
 returns-4 c =
     let at-args = c.before.before.before.before.before.before.before.before.before.before.before.before.before.before.before.before.before.args in
     let at-plan3 = c.before.before.before.before.before.before.before.before.before.before.before.plan3 in

@@ -5,11 +5,11 @@ use native.Mathlib.Omega.{arith}
 use mathlib.Core.Path.{◌≡◌, refl, sym, ◌∙◌}
 use lib.ListN.{length, get_or, length-map}
 use Rattle.values.proofs.Tests.{dec-lt}
-use Rattle.terms.specs.Sets.{termOf}
+use Rattle.terms.specs.Sets.{term_of}
 use Rattle.terms.specs.Adding.{Adding}
 use Rattle.terms.proofs.Adding.{adding-start}
-use Rattle.enums.specs.Enums.{enumIn}
-use Rattle.enums.specs.Rows.{rowsLeft}
+use Rattle.enums.specs.Enums.{enum_in}
+use Rattle.enums.specs.Rows.{rows_left}
 use Rattle.enums.proofs.Few.{symbols-few}
 use Rattle.enums.proofs.Rows.{first-is, first-later, first-none, row-skip, row_more}
 use Rattle.enums.proofs.add_rows.Statement.{statement}
@@ -20,7 +20,7 @@ use Rattle.enums.proofs.add_symbols.Reads as add-symbols-reads
 use Rattle.enums.proofs.leader.Reads as leader-reads
 
 abbrev invariant-loop : tie.invariant-loop
-invariant-loop d texts from to entries₀ n₀ row₀ entries n row = (from ≤ row) × (row ≤ to) × (n ≤ length entries) × (length entries ≡ length entries₀) × (row ≡ from → n ≡ 0) × Adding d entries₀ 0 (rowsLeft d texts from to from) (rowsLeft d texts from to row) entries n
+invariant-loop d texts from to entries₀ n₀ row₀ entries n row = (from ≤ row) × (row ≤ to) × (n ≤ length entries) × (length entries ≡ length entries₀) × (row ≡ from → n ≡ 0) × Adding d entries₀ 0 (rows_left d texts from to from) (rows_left d texts from to row) entries n
 
 abbrev decreases-loop : tie.decreases-loop
 decreases-loop d texts from to entries₀ n₀ row₀ entries n row = to - row
@@ -29,7 +29,7 @@ loop-holds : tie.Need-loop-init invariant-loop decreases-loop
 loop-holds c =
     let at_pre = c.before.before.before.requires in
     let at-args = c.before.before.before.args in
-    (omega arith, at_pre.0.1, omega arith, refl, λ e. refl, adding-start at-args.d.now at-args.entries.now 0 (rowsLeft at-args.d.now at-args.texts.now at-args.from at-args.to at-args.from))
+    (omega arith, at_pre.0.1, omega arith, refl, λ e. refl, adding-start at-args.d.now at-args.entries.now 0 (rows_left at-args.d.now at-args.texts.now at-args.from at-args.to at-args.from))
 
 mul-v : tie.Need-overflow-mul-v invariant-loop decreases-loop
 mul-v c =
@@ -123,7 +123,7 @@ loop-again c =
     let y = at-loop.invariant.2 in
     let z = at-if3.false in
     let a = at-add-symbols.ensures in
-    (omega (arith, at-loop.invariant.0), omega (arith, at-loop-test.true), omega (arith, a.count, a.long, length-map (enumIn at-args.d.now (get_or at-args.texts.now at-loop.row 0)) (termOf at-loop.row)), a.long ∙ at-loop.invariant.3, (λ e. absurd (omega (arith, at-loop.invariant.0))), row_more at-args.d.now at-args.texts.now at-args.from at-args.to at-loop.row at-loop-test.true at-args.entries.now at-loop.entries at-loop.n at-loop.invariant.5 (first-is at-args.texts.now at-args.from at-loop.row at-if1.true (sym at-leader.ensures.0 ∙ at-if2.true)) _ _ a)
+    (omega (arith, at-loop.invariant.0), omega (arith, at-loop-test.true), omega (arith, a.count, a.long, length-map (enum_in at-args.d.now (get_or at-args.texts.now at-loop.row 0)) (term_of at-loop.row)), a.long ∙ at-loop.invariant.3, (λ e. absurd (omega (arith, at-loop.invariant.0))), row_more at-args.d.now at-args.texts.now at-args.from at-args.to at-loop.row at-loop-test.true at-args.entries.now at-loop.entries at-loop.n at-loop.invariant.5 (first-is at-args.texts.now at-args.from at-loop.row at-if1.true (sym at-leader.ensures.0 ∙ at-if2.true)) _ _ a)
 
 add-row-2 : tie.Need-overflow-add-row-2 invariant-loop decreases-loop
 add-row-2 c =

@@ -4,7 +4,7 @@ use Prim.Native.Nat.{ℕ, ◌+◌, ◌-◌, ◌≤◌}
 use native.Mathlib.Omega.{arith}
 use mathlib.Core.Path.{◌≡◌, ap}
 use lib.ListN.{get_or, drop}
-use Rattle.enums.specs.Rows.{place_of, leaderOf}
+use Rattle.enums.specs.Rows.{place_of, leader_of}
 use Rattle.enums.proofs.Rows.{leader-start, place_here, place-on}
 use Rattle.enums.proofs.leader.Statement.{statement}
 use Rattle.enums.proofs.leader.Tie as tie
@@ -12,7 +12,7 @@ use Rattle.enums.proofs.leader.Reads as reads
 use Rattle.enums.proofs.leader.Lts as lts
 
 abbrev invariant-loop : tie.invariant-loop
-invariant-loop texts from row i₀ i = (from ≤ i) × (i ≤ row) × (leaderOf texts from row ≡ i + place_of (get_or texts row 0) (drop i texts))
+invariant-loop texts from row i₀ i = (from ≤ i) × (i ≤ row) × (leader_of texts from row ≡ i + place_of (get_or texts row 0) (drop i texts))
 
 abbrev decreases-loop : tie.decreases-loop
 decreases-loop texts from row i₀ i = row - i

@@ -1,8 +1,8 @@
 -- `enums::symbols_start` meets its contract: the name, the gaps and the word `enum` are passed one after the other.
 use mathlib.Core.Path.{ap, ◌∙◌}
 use Rattle.format.specs.Lists.{behind}
-use Rattle.format.specs.Words.{isGap, notGap}
-use Rattle.format.specs.Types.{beforeComment}
+use Rattle.format.specs.Words.{is_gap, not_gap}
+use Rattle.format.specs.Types.{before_comment}
 use Rattle.enums.proofs.Reading.{starts}
 use Rattle.enums.proofs.symbols_start.Statement.{statement}
 use Rattle.enums.proofs.symbols_start.Tie as tie
@@ -38,7 +38,7 @@ returns c =
     let at-pass3 = c.before.pass3 in
     let at-pass2 = c.before.before.pass2 in
     let at-pass = c.before.before.before.pass in
-    starts at-args.d.now at-args.v at-pass4.result at_pre.1 (at-pass4.ensures.0 ∙ ap (behind beforeComment) (at-pass3.ensures.0 ∙ ap (behind isGap) (at-pass2.ensures.0 ∙ ap (behind notGap) at-pass.ensures.0))) at-pass4.ensures.2
+    starts at-args.d.now at-args.v at-pass4.result at_pre.1 (at-pass4.ensures.0 ∙ ap (behind before_comment) (at-pass3.ensures.0 ∙ ap (behind is_gap) (at-pass2.ensures.0 ∙ ap (behind not_gap) at-pass.ensures.0))) at-pass4.ensures.2
 
 pub symbols-start-spec : {M : Type 1} → statement M
 symbols-start-spec =

@@ -5,7 +5,7 @@ use native.Mathlib.Omega.{arith}
 use mathlib.Core.Path.{◌≡◌, refl}
 use mathlib.Core.Bool.{◌&&◌}
 use lib.ListN.{length, drop}
-use Rattle.format.specs.Bytes.{isAllowed, all}
+use Rattle.format.specs.Bytes.{is_allowed, all}
 use Rattle.integrity.proofs.Staging.{allowed-on, allowed-end}
 use Rattle.integrity.proofs.all_allowed.Statement.{statement}
 use Rattle.integrity.proofs.all_allowed.Tie as tie
@@ -14,7 +14,7 @@ use Rattle.integrity.proofs.all_allowed.Lts as lts
 use Rattle.integrity.proofs.is_allowed.Reads as is-allowed-reads
 
 abbrev invariant-loop : tie.invariant-loop
-invariant-loop s i₀ ok₀ i ok = (i ≤ length s) × (all isAllowed s ≡ (ok && all isAllowed (drop i s)))
+invariant-loop s i₀ ok₀ i ok = (i ≤ length s) × (all is_allowed s ≡ (ok && all is_allowed (drop i s)))
 
 abbrev decreases-loop : tie.decreases-loop
 decreases-loop s i₀ ok₀ i ok = length s - i

@@ -7,8 +7,8 @@ use borrow.Author.Tests.{not-true, not-false}
 use lib.Dec.{leb}
 use lib.ListN.{length, take}
 use lib.Seq.{length-take-le}
-use Rattle.format.specs.Limits.{fileBytes}
-use Rattle.format.proofs.Judging.{textNo}
+use Rattle.format.specs.Limits.{file_bytes}
+use Rattle.format.proofs.Judging.{text_no}
 use Rattle.integrity.proofs.Staging.{used-no, used-text, used-inside}
 use borrow.Author.Rules.{rules}
 use Rattle.integrity.proofs.check_with.Statement.{statement}
@@ -31,7 +31,7 @@ returns c =
     let at-fits2 = c.before.fits2 in
     let at_new = c.before.before.new in
     let at-if1 = c.if1 in
-    used-no at-args.buf.now at-args.used (sym (at-fits2.ensures ∙ ap (λ (n : ℕ). leb n (length at-args.buf.now) && leb n fileBytes) at_new.ensures) ∙ not-true _ at-if1.true)
+    used-no at-args.buf.now at-args.used (sym (at-fits2.ensures ∙ ap (λ (n : ℕ). leb n (length at-args.buf.now) && leb n file_bytes) at_new.ensures) ∙ not-true _ at-if1.true)
 
 sub-judge-kept : tie.Need-overflow-sub-judge-kept
 sub-judge-kept c = search rules
@@ -45,7 +45,7 @@ part-judge-kept-end c =
     let at-fits2 = c.before.fits2 in
     let at_new = c.before.before.new in
     let at-if1 = c.if1 in
-    let u = used-inside at-args.buf.now at-args.used (sym (at-fits2.ensures ∙ ap (λ (n : ℕ). leb n (length at-args.buf.now) && leb n fileBytes) at_new.ensures) ∙ not-false _ at-if1.false) in omega (arith, u.0)
+    let u = used-inside at-args.buf.now at-args.used (sym (at-fits2.ensures ∙ ap (λ (n : ℕ). leb n (length at-args.buf.now) && leb n file_bytes) at_new.ensures) ∙ not-false _ at-if1.false) in omega (arith, u.0)
 
 judge-kept-requires : tie.Need-judge-kept-requires
 judge-kept-requires c κs =
@@ -54,7 +54,7 @@ judge-kept-requires c κs =
     let at_new = c.before.before.before.before.new in
     let at-if1 = c.before.before.if1 in
     let at_pre = c.before.before.before.before.before.before.before.requires in
-    let u = used-inside at-args.buf.now at-args.used (sym (at-fits2.ensures ∙ ap (λ (n : ℕ). leb n (length at-args.buf.now) && leb n fileBytes) at_new.ensures) ∙ not-false _ at-if1.false) in ((omega (arith, u.1, length-take-le (at-args.used - 0) at-args.buf.now (omega (arith, u.0))), at_pre))
+    let u = used-inside at-args.buf.now at-args.used (sym (at-fits2.ensures ∙ ap (λ (n : ℕ). leb n (length at-args.buf.now) && leb n file_bytes) at_new.ensures) ∙ not-false _ at-if1.false) in ((omega (arith, u.1, length-take-le (at-args.used - 0) at-args.buf.now (omega (arith, u.0))), at_pre))
 
 same_length : tie.Need-same-length
 same_length c = search rules
@@ -66,7 +66,7 @@ returns-2 c =
     let at-fits2 = c.before.before.before.before.before.before.fits2 in
     let at_new = c.before.before.before.before.before.before.before.new in
     let at-if1 = c.before.before.before.before.before.if1 in
-    let t : take (at-args.used - 0) at-args.buf.now ≡ take at-args.used at-args.buf.now = ap (λ (n : ℕ). take n at-args.buf.now) (let e : at-args.used - 0 ≡ at-args.used = omega arith in e) in at-judge-kept.ensures ∙ ap textNo t ∙ used-text at-args.buf.now at-args.used (sym (at-fits2.ensures ∙ ap (λ (n : ℕ). leb n (length at-args.buf.now) && leb n fileBytes) at_new.ensures) ∙ not-false _ at-if1.false)
+    let t : take (at-args.used - 0) at-args.buf.now ≡ take at-args.used at-args.buf.now = ap (λ (n : ℕ). take n at-args.buf.now) (let e : at-args.used - 0 ≡ at-args.used = omega arith in e) in at-judge-kept.ensures ∙ ap text_no t ∙ used-text at-args.buf.now at-args.used (sym (at-fits2.ensures ∙ ap (λ (n : ℕ). leb n (length at-args.buf.now) && leb n file_bytes) at_new.ensures) ∙ not-false _ at-if1.false)
 
 pub check-with-spec : {M : Type 1} → statement M
 check-with-spec =

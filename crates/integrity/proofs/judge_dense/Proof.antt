@@ -5,10 +5,10 @@ use mathlib.Core.Bool.{true, ◌&&◌}
 use borrow.Author.Tests.{not-true, not-false}
 use lib.ListN.{length, take}
 use lib.Seq.{length-take-le}
-use Rattle.format.specs.Bytes.{Bytes, isAllowed, all}
-use Rattle.format.specs.Lines.{isEnded}
+use Rattle.format.specs.Bytes.{Bytes, is_allowed, all}
+use Rattle.format.specs.Lines.{is_ended}
 use Rattle.format.proofs.Dense.{dense-text}
-use Rattle.format.proofs.Judging.{textNo}
+use Rattle.format.proofs.Judging.{text_no}
 use Rattle.integrity.proofs.Staging.{text-no, text-ended, lines-no}
 use Rattle.integrity.proofs.Densing.{number-dense}
 use borrow.Author.Rules.{rules}
@@ -90,7 +90,7 @@ judge-lines-requires c κs =
     let at-args = c.before.before.before.before.before.before.before.before.before.before.before.before.args in
     let at-is-text = c.before.before.before.before.before.before.before.before.before.is-text in
     let at-if1 = c.before.before.before.before.before.before.before.before.if1 in
-    ((subst (λ (s : Bytes). (all isAllowed s && isEnded s) ≡ true) (sym at-make-dense.ensures.2) (dense-text (take at-args.used at-args.text.now) (sym at-is-text.ensures ∙ not-false _ at-if1.false)), omega (arith, at-make-dense.ensures.0, at-make-dense.ensures.1 ∙ sym (ap length at-make-dense.ensures.2), at_pre.1)))
+    ((subst (λ (s : Bytes). (all is_allowed s && is_ended s) ≡ true) (sym at-make-dense.ensures.2) (dense-text (take at-args.used at-args.text.now) (sym at-is-text.ensures ∙ not-false _ at-if1.false)), omega (arith, at-make-dense.ensures.0, at-make-dense.ensures.1 ∙ sym (ap length at-make-dense.ensures.2), at_pre.1)))
 
 same-length-3 : tie.Need-same-length-3
 same-length-3 c = search rules
@@ -104,7 +104,7 @@ returns-3 c =
     let at-if1 = c.before.before.before.before.before.before.before.before.before.if1 in
     let at-is-readable = c.before.before.before.before.before.before.before.is-readable in
     let at-if2 = c.before.before.before.before.before.before.if2 in
-    at-judge-lines.ensures ∙ ap textNo at-make-dense.ensures.2 ∙ number-dense (take at-args.used at-args.text.now) (sym at-is-text.ensures ∙ not-false _ at-if1.false) (sym at-is-readable.ensures ∙ not-false _ at-if2.false)
+    at-judge-lines.ensures ∙ ap text_no at-make-dense.ensures.2 ∙ number-dense (take at-args.used at-args.text.now) (sym at-is-text.ensures ∙ not-false _ at-if1.false) (sym at-is-readable.ensures ∙ not-false _ at-if2.false)
 
 pub judge-dense-spec : {M : Type 1} → statement M
 judge-dense-spec =

@@ -3,7 +3,7 @@ use mathlib.Core.Path.{refl, ap, ◌∙◌}
 use lib.ListN.{length, take, drop}
 use lib.Seq.{take_at}
 use Rattle.format.specs.Bytes.{Bytes}
-use Rattle.format.proofs.Judging.{textNo}
+use Rattle.format.proofs.Judging.{text_no}
 use borrow.Author.Rules.{rules}
 use Rattle.integrity.proofs.judge_kept.Statement.{statement}
 use Rattle.integrity.proofs.judge_kept.Tie as tie
@@ -31,7 +31,7 @@ returns c =
     let at-judge-dense = c.before.before.judge-dense in
     let at-args = c.before.before.before.before.before.before.before.before.before.before.before.before.args in
     let at-put-bytes = c.before.before.before.before.before.before.put-bytes in
-    at-judge-dense.ensures ∙ ap (λ (t : Bytes). textNo (take (length at-args.s.now) t)) at-put-bytes.ensures ∙ ap textNo (take_at at-args.s.now (drop (length at-args.s.now) at-args.copy.now) (length at-args.s.now) refl)
+    at-judge-dense.ensures ∙ ap (λ (t : Bytes). text_no (take (length at-args.s.now) t)) at-put-bytes.ensures ∙ ap text_no (take_at at-args.s.now (drop (length at-args.s.now) at-args.copy.now) (length at-args.s.now) refl)
 
 judge-requires : tie.Need-judge-requires
 judge-requires c κs = search rules

@@ -6,10 +6,10 @@ use mathlib.Core.Path.{sym, ap, ◌∙◌}
 use mathlib.Core.Bool.{Bool, ◌&&◌}
 use lib.ListN.{length}
 use Rattle.format.specs.Bytes.{text}
-use Rattle.format.specs.Numbers.{intBounds}
-use Rattle.format.specs.Rules.{autosCounted}
+use Rattle.format.specs.Numbers.{int_bounds}
+use Rattle.format.specs.Rules.{autos_counted}
 use Rattle.format.proofs.Limits.{rules-few}
-use Rattle.records.specs.Walk.{recordIn}
+use Rattle.records.specs.Walk.{record_in}
 use Rattle.integrity.proofs.Granting.{defined-part}
 use Rattle.integrity.proofs.Holding.{values-fit}
 use Rattle.integrity.proofs.typed_well.Statement.{statement}
@@ -24,7 +24,7 @@ types-well-requires c κs =
     let at-args = c.before.before.before.args in
     let at_pre = c.before.before.before.requires in
     let m = length at-args.scratch.now in
-    let d = recordIn at-args.d.now in
+    let d = record_in at-args.d.now in
     let f = at_pre.0.0 in
     ((f.reads, at_pre.0.1), (((rules-few d f.few).typedefs-few, values-fit m at_pre.1 (text "%typedef") d f.fits), values-fit m at_pre.1 (text "%type") d f.fits))
 
@@ -36,8 +36,8 @@ returns c =
     let at-args = c.before.before.before.before.before.before.before.args in
     let at-types-well = c.before.before.before.types-well in
     let at-if1 = c.if1 in
-    let d = recordIn at-args.d.now in
-    sym (ap (λ (b : Bool). b && autosCounted intBounds d) (sym at-types-well.ensures ∙ not-true at-types-well.result at-if1.true))
+    let d = record_in at-args.d.now in
+    sym (ap (λ (b : Bool). b && autos_counted int_bounds d) (sym at-types-well.ensures ∙ not-true at-types-well.result at-if1.true))
 
 autos-counted-requires : tie.Need-autos-counted-requires
 autos-counted-requires c κs =
@@ -57,9 +57,9 @@ returns-2 c =
     let at-types-well = c.before.before.before.before.before.before.before.types-well in
     let at-if1 = c.before.before.before.before.if1 in
     let at-autos-counted = c.before.before.autos-counted in
-    let d = recordIn at-args.d.now in
+    let d = record_in at-args.d.now in
     at-autos-counted.ensures
-    ∙ sym (ap (λ (b : Bool). b && autosCounted intBounds d) (sym at-types-well.ensures ∙ not-false at-types-well.result at-if1.false))
+    ∙ sym (ap (λ (b : Bool). b && autos_counted int_bounds d) (sym at-types-well.ensures ∙ not-false at-types-well.result at-if1.false))
 
 pub typed-well-spec : {M : Type 1} → statement M
 typed-well-spec =

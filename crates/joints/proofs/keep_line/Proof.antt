@@ -3,7 +3,7 @@ use Prim.Native.Nat.{◌+◌, ◌-◌}
 use mathlib.Core.Path.{sym, ◌∙◌}
 use lib.ListN.{drop}
 use lib.Seq.{paste}
-use Rattle.format.proofs.Dense.{isJoint}
+use Rattle.format.proofs.Dense.{is_joint}
 use Rattle.words.specs.Spans.{span}
 use Rattle.joints.proofs.Joints.{joint-stays, line-moves}
 use borrow.Author.Rules.{rules}
@@ -40,7 +40,7 @@ returns c =
     let at-args = c.before.before.before.before.before.before.args in
     let at-same-bytes = c.before.same_bytes in
     let at-if1 = c.if1 in
-    joint-stays (isJoint (span at-args.from (at-args.end - 1) at-args.text.now)) at-args.to (at-args.to + (at-args.end - at-args.from)) at-args.text.now (paste at-args.text.now at-args.to (drop at-args.from at-args.text.now) (at-args.end - at-args.from)) (sym at-same-bytes.ensures ∙ at-if1.true)
+    joint-stays (is_joint (span at-args.from (at-args.end - 1) at-args.text.now)) at-args.to (at-args.to + (at-args.end - at-args.from)) at-args.text.now (paste at-args.text.now at-args.to (drop at-args.from at-args.text.now) (at-args.end - at-args.from)) (sym at-same-bytes.ensures ∙ at-if1.true)
 
 sub-size : tie.Need-overflow-sub-size
 sub-size c = search rules
@@ -60,7 +60,7 @@ returns-2 c =
     let at-same-bytes = c.before.before.before.before.before.same_bytes in
     let at-if1 = c.before.before.before.before.if1 in
     let at-move-down = c.before.before.move_down in
-    let k = line-moves (isJoint (span at-args.from (at-args.end - 1) at-args.text.now)) at-args.to (at-args.to + (at-args.end - at-args.from)) at-args.text.now (paste at-args.text.now at-args.to (drop at-args.from at-args.text.now) (at-args.end - at-args.from)) (sym at-same-bytes.ensures ∙ at-if1.false) in (k.0, at-move-down.ensures ∙ k.1)
+    let k = line-moves (is_joint (span at-args.from (at-args.end - 1) at-args.text.now)) at-args.to (at-args.to + (at-args.end - at-args.from)) at-args.text.now (paste at-args.text.now at-args.to (drop at-args.from at-args.text.now) (at-args.end - at-args.from)) (sym at-same-bytes.ensures ∙ at-if1.false) in (k.0, at-move-down.ensures ∙ k.1)
 
 pub keep-line-spec : {M : Type 1} → statement M
 keep-line-spec =

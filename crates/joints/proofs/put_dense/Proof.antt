@@ -5,7 +5,7 @@ use mathlib.Core.Bool.{true}
 use lib.ListN.{length, take, drop}
 use lib.Seq.{take-append_seam}
 use Rattle.format.specs.Bytes.{Bytes}
-use Rattle.format.specs.Lines.{isEnded}
+use Rattle.format.specs.Lines.{is_ended}
 use Rattle.format.proofs.Dense.{dense}
 use borrow.Author.Rules.{rules}
 use Rattle.joints.proofs.put_dense.Statement.{statement}
@@ -25,7 +25,7 @@ make-dense-requires c κs =
     let at-put-bytes = c.before.before.before.put-bytes in
     let s : Bytes = at-args.s.now in
     let t : take (length s) at-put-bytes.new.0 ≡ s = ap (take (length s)) at-put-bytes.ensures ∙ take-append_seam s (drop (length s) at-args.out.now) in
-    (omega (arith, at_pre.0), subst (λ (x : Bytes). isEnded x ≡ true) (sym t) at_pre.1)
+    (omega (arith, at_pre.0), subst (λ (x : Bytes). is_ended x ≡ true) (sym t) at_pre.1)
 
 same_length : tie.Need-same-length
 same_length c = search rules

@@ -4,8 +4,8 @@ use Prim.Native.Nat.{◌/◌}
 use mathlib.Core.Bool.{Bool, ◌&&◌}
 use borrow.Author.Tests.{eq-eqb, ne_eqb}
 use Rattle.format.specs.Bytes.{same}
-use Rattle.keys.specs.Marks.{markAt}
-use Rattle.keys.specs.Order.{valueIn}
+use Rattle.keys.specs.Marks.{mark_at}
+use Rattle.keys.specs.Order.{value_in}
 use Rattle.keys.proofs.Prints.{value-part}
 use borrow.Author.Rules.{rules}
 use Rattle.keys.proofs.alike.Statement.{statement}
@@ -21,7 +21,7 @@ returns c =
     let at-if1 = c.if1 in
     let x = at-args.x in
     let y = at-args.y in
-    sym (ap (λ (b : Bool). b && same (valueIn (markAt at-args.s.now x)) (valueIn (markAt at-args.s.now y))) (ne_eqb (x / 65536) (y / 65536) at-if1.true))
+    sym (ap (λ (b : Bool). b && same (value_in (mark_at at-args.s.now x)) (value_in (mark_at at-args.s.now y))) (ne_eqb (x / 65536) (y / 65536) at-if1.true))
 
 place-requires : tie.Need-place-requires
 place-requires c κs = search rules
@@ -60,7 +60,7 @@ returns-2 c =
     let x = at-args.x in
     let y = at-args.y in
     let s = at-args.s.now in
-    at-are-equal.ensures ∙ ap₂ same (value-part s at_place.result x at_place.ensures) (value-part s at-place2.result y at-place2.ensures) ∙ sym (ap (λ (b : Bool). b && same (valueIn (markAt s x)) (valueIn (markAt s y))) (eq-eqb (x / 65536) (y / 65536) at-if1.false))
+    at-are-equal.ensures ∙ ap₂ same (value-part s at_place.result x at_place.ensures) (value-part s at-place2.result y at-place2.ensures) ∙ sym (ap (λ (b : Bool). b && same (value_in (mark_at s x)) (value_in (mark_at s y))) (eq-eqb (x / 65536) (y / 65536) at-if1.false))
 
 pub alike_spec : {M : Type 1} → statement M
 alike_spec =

@@ -1,9 +1,9 @@
 -- `keys::compare_entries` meets its contract: the numbers decide, else the values.
 use native.Mathlib.Omega.{arith}
 use mathlib.Core.Path.{sym, ap, ap₂, ◌∙◌}
-use Rattle.values.specs.Likeness.{likenessOf}
+use Rattle.values.specs.Likeness.{likeness_of}
 use Rattle.sorting.specs.Order.{order_of}
-use Rattle.keys.specs.Marks.{markAt}
+use Rattle.keys.specs.Marks.{mark_at}
 use Rattle.keys.proofs.Prints.{value-part}
 use Rattle.keys.proofs.Order.{ranked-lt, ranked-gt, ranked-on}
 use borrow.Author.Rules.{rules}
@@ -19,13 +19,13 @@ returns : tie.Need-returns
 returns c =
     let at-args = c.before.before.args in
     let at_pre = c.before.before.requires in
-    sym (ranked-lt (markAt at-args.s.now at-args.x) (markAt at-args.s.now at-args.y) (omega arith))
+    sym (ranked-lt (mark_at at-args.s.now at-args.x) (mark_at at-args.s.now at-args.y) (omega arith))
 
 returns-2 : tie.Need-returns-2
 returns-2 c =
     let at-args = c.before.before.before.args in
     let at_pre = c.before.before.before.requires in
-    sym (ranked-gt (markAt at-args.s.now at-args.x) (markAt at-args.s.now at-args.y) (omega arith))
+    sym (ranked-gt (mark_at at-args.s.now at-args.x) (mark_at at-args.s.now at-args.y) (omega arith))
 
 place-requires : tie.Need-place-requires
 place-requires c κs = search rules
@@ -66,8 +66,8 @@ returns-3 c =
     let at-compare = c.before.compare in
     let at_pre = c.before.before.before.before.before.before.before.before.before.requires in
     let s = at-args.s.now in
-    let e = ap₂ likenessOf (value-part s at_place.result at-args.x at_place.ensures) (value-part s at-place2.result at-args.y at-place2.ensures) in
-    at-order-of.ensures ∙ ap order_of (at-compare.ensures ∙ e) ∙ sym (ranked-on (markAt s at-args.x) (markAt s at-args.y) (omega arith))
+    let e = ap₂ likeness_of (value-part s at_place.result at-args.x at_place.ensures) (value-part s at-place2.result at-args.y at-place2.ensures) in
+    at-order-of.ensures ∙ ap order_of (at-compare.ensures ∙ e) ∙ sym (ranked-on (mark_at s at-args.x) (mark_at s at-args.y) (omega arith))
 
 pub compare-entries-spec : {M : Type 1} → statement M
 compare-entries-spec =

@@ -2,7 +2,7 @@
 use mathlib.Core.Path.{sym, subst, ◌∙◌}
 use Rattle.format.specs.Rules.{distinct}
 use Rattle.sorting.specs.declared.Compared.{Compared}
-use Rattle.keys.specs.Marks.{markAt, marksOf}
+use Rattle.keys.specs.Marks.{mark_at, marks_of}
 use Rattle.keys.specs.Order.{Tells}
 use Rattle.keys.proofs.Moves.{moved-distinct, moved_inside}
 use borrow.Author.Rules.{rules}
@@ -49,8 +49,8 @@ returns c =
     let at-sort = c.before.before.before.before.before.before.sort in
     let at-enum-told = c.enum_told in
     let at-neighbours = c.before.before.neighbours in
-    let d = distinct (marksOf at-args.s.now at-sort.new.1.0) in
-    sym (subst (λ (r : Compared). Tells r d) at-enum-told.given.1 at-neighbours.ensures) ∙ moved-distinct (markAt at-args.s.now) at-sort.ensures
+    let d = distinct (marks_of at-args.s.now at-sort.new.1.0) in
+    sym (subst (λ (r : Compared). Tells r d) at-enum-told.given.1 at-neighbours.ensures) ∙ moved-distinct (mark_at at-args.s.now) at-sort.ensures
 
 same-length-2 : tie.Need-same-length-2
 same-length-2 c = search rules
@@ -61,8 +61,8 @@ returns-2 c =
     let at-sort = c.before.before.before.before.before.before.sort in
     let at-enum-told2 = c.enum-told2 in
     let at-neighbours = c.before.before.neighbours in
-    let d = distinct (marksOf at-args.s.now at-sort.new.1.0) in
-    sym (subst (λ (r : Compared). Tells r d) at-enum-told2.given.1 at-neighbours.ensures) ∙ moved-distinct (markAt at-args.s.now) at-sort.ensures
+    let d = distinct (marks_of at-args.s.now at-sort.new.1.0) in
+    sym (subst (λ (r : Compared). Tells r d) at-enum-told2.given.1 at-neighbours.ensures) ∙ moved-distinct (mark_at at-args.s.now) at-sort.ensures
 
 same-length-3 : tie.Need-same-length-3
 same-length-3 c = search rules
@@ -72,7 +72,7 @@ returns-3 c =
     let at-distinct-pairs = c.distinct-pairs in
     let at-args = c.before.before.before.before.before.before.before.before.before.before.before.before.args in
     let at-sort = c.before.before.before.before.before.before.before.before.sort in
-    at-distinct-pairs.ensures ∙ moved-distinct (markAt at-args.s.now) at-sort.ensures
+    at-distinct-pairs.ensures ∙ moved-distinct (mark_at at-args.s.now) at-sort.ensures
 
 pub distinct-entries-spec : {M : Type 1} → statement M
 distinct-entries-spec =

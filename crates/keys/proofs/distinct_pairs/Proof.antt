@@ -6,7 +6,7 @@ use mathlib.Core.Path.{◌≡◌, refl, sym, ◌∙◌}
 use lib.ListN.{length, drop, drop_of_length-le}
 use Rattle.format.specs.Rules.{distinct}
 use Rattle.lines.proofs.Cuts.{rest}
-use Rattle.keys.specs.Marks.{marksOf}
+use Rattle.keys.specs.Marks.{marks_of}
 use Rattle.keys.proofs.Prints.{inside-rest}
 use Rattle.keys.proofs.Pairs.{distinct-hit, distinct-miss}
 use Rattle.keys.proofs.distinct_pairs.Statement.{statement}
@@ -16,7 +16,7 @@ use Rattle.keys.proofs.distinct_pairs.Lts as lts
 use Rattle.keys.proofs.mark_among.Reads as mark-among-reads
 
 abbrev invariant-loop : tie.invariant-loop
-invariant-loop s entries i₀ i = (i ≤ length entries) × (distinct (marksOf s (drop i entries)) ≡ distinct (marksOf s entries))
+invariant-loop s entries i₀ i = (i ≤ length entries) × (distinct (marks_of s (drop i entries)) ≡ distinct (marks_of s entries))
 
 abbrev decreases-loop : tie.decreases-loop
 decreases-loop s entries i₀ i = length entries - i

@@ -3,10 +3,10 @@ use Prim.Native.Nat.{ℕ, ◌/◌}
 use native.Mathlib.Omega.{arith}
 use mathlib.Core.Path.{◌≡◌, ap, ◌∙◌}
 use lib.ListN.{drop}
-use Rattle.values.specs.Value.{valueFrom}
+use Rattle.values.specs.Value.{value_from}
 use Rattle.sorting.specs.Texts.{mixed}
 use Rattle.sorting.proofs.Texts.{text-whole}
-use Rattle.keys.specs.Keys.{printOf}
+use Rattle.keys.specs.Keys.{print_of}
 use borrow.Author.Rules.{rules}
 use Rattle.keys.proofs.entry.Statement.{statement}
 use Rattle.keys.proofs.entry.Tie as tie
@@ -31,13 +31,13 @@ add-result : tie.Need-overflow-add-result
 add-result c = search rules
 
 returns : tie.Need-returns
-unfolding printOf
+unfolding print_of
 returns c =
     let at-narrow2 = c.narrow2 in
     let at-args = c.before.before.before.before.args in
     let at-mix = c.before.before.mix in
     let at-narrow = c.before.narrow in
-    let p : at-narrow.result / 65536 ≡ printOf (valueFrom (drop at-args.at at-args.s.now)) = ap (λ (z : ℕ). z / 65536) (at-narrow.ensures ∙ at-mix.ensures.0 ∙ ap (mixed 2166136261) (text-whole at-args.s.now at-args.at)) in
+    let p : at-narrow.result / 65536 ≡ print_of (value_from (drop at-args.at at-args.s.now)) = ap (λ (z : ℕ). z / 65536) (at-narrow.ensures ∙ at-mix.ensures.0 ∙ ap (mixed 2166136261) (text-whole at-args.s.now at-args.at)) in
     let q = at-narrow2.ensures in
     omega arith
 

@@ -5,7 +5,7 @@ use native.Mathlib.Omega.{arith}
 use mathlib.Core.Path.{◌≡◌, refl, sym, ◌∙◌}
 use lib.ListN.{length, drop, drop_of_length-le}
 use Rattle.format.specs.Bytes.{among}
-use Rattle.keys.specs.Marks.{markAt, marksOf}
+use Rattle.keys.specs.Marks.{mark_at, marks_of}
 use Rattle.keys.proofs.Pairs.{among-hit, among-miss}
 use Rattle.keys.proofs.mark_among.Statement.{statement}
 use Rattle.keys.proofs.mark_among.Tie as tie
@@ -14,7 +14,7 @@ use Rattle.keys.proofs.mark_among.Lts as lts
 use Rattle.keys.proofs.alike.Reads as alike-reads
 
 abbrev invariant-loop : tie.invariant-loop
-invariant-loop s x entries i₀ i = (i ≤ length entries) × (among (markAt s x) (marksOf s (drop i entries)) ≡ among (markAt s x) (marksOf s entries))
+invariant-loop s x entries i₀ i = (i ≤ length entries) × (among (mark_at s x) (marks_of s (drop i entries)) ≡ among (mark_at s x) (marks_of s entries))
 
 abbrev decreases-loop : tie.decreases-loop
 decreases-loop s x entries i₀ i = length entries - i
@@ -42,7 +42,7 @@ returns c =
     let at-loop-test = c.before.before.before.loop-test in
     let at-alike = c.before.alike in
     let at-if1 = c.if1 in
-    sym (among-hit at-args.s.now at-args.entries.now at-loop.i at-loop-test.true (markAt at-args.s.now at-args.x) (sym at-alike.ensures ∙ at-if1.true)) ∙ at-loop.invariant.1
+    sym (among-hit at-args.s.now at-args.entries.now at-loop.i at-loop-test.true (mark_at at-args.s.now at-args.x) (sym at-alike.ensures ∙ at-if1.true)) ∙ at-loop.invariant.1
 
 add-i : tie.Need-overflow-add-i invariant-loop decreases-loop
 add-i c = search rules
@@ -57,7 +57,7 @@ loop-again c =
     let at-loop = c.before.before.before.before.loop in
     let at-alike = c.before.alike in
     let at-if1 = c.if1 in
-    (omega (arith, at-loop-test.true), sym (among-miss at-args.s.now at-args.entries.now at-loop.i at-loop-test.true (markAt at-args.s.now at-args.x) (sym at-alike.ensures ∙ at-if1.false)) ∙ at-loop.invariant.1)
+    (omega (arith, at-loop-test.true), sym (among-miss at-args.s.now at-args.entries.now at-loop.i at-loop-test.true (mark_at at-args.s.now at-args.x) (sym at-alike.ensures ∙ at-if1.false)) ∙ at-loop.invariant.1)
 
 returns-2 : tie.Need-returns-2 invariant-loop decreases-loop
 returns-2 c =

@@ -5,8 +5,8 @@ use native.Mathlib.Omega.{arith}
 use mathlib.Core.Path.{sym, ◌∙◌}
 use borrow.Author.Count.{below_more}
 use lib.ListN.{length, get_or}
-use Rattle.keys.specs.Marks.{markAt}
-use Rattle.keys.specs.Order.{valueIn}
+use Rattle.keys.specs.Marks.{mark_at}
+use Rattle.keys.specs.Order.{value_in}
 use Rattle.keys.proofs.Order.{ranked-same}
 use Rattle.keys.proofs.Apart.{Rising, rising-distinct, twins-distinct}
 use Rattle.keys.proofs.neighbours.Statement.{statement}
@@ -16,7 +16,7 @@ use Rattle.keys.proofs.neighbours.Lts as lts
 use Rattle.keys.proofs.compare_entries.Reads as compare-entries-reads
 
 abbrev invariant-loop : tie.invariant-loop
-invariant-loop s entries i₀ i = (1 ≤ i) × Rising (markAt s) i entries
+invariant-loop s entries i₀ i = (1 ≤ i) × Rising (mark_at s) i entries
 
 abbrev decreases-loop : tie.decreases-loop
 decreases-loop s entries i₀ i = length entries - i
@@ -59,7 +59,7 @@ returns c =
     let s = at-args.s.now in
     let l = at-args.entries.now in
     let i = at-loop.i in
-    twins-distinct (markAt s) l i at-loop-test.true at-loop.invariant.0 (ranked-same (get_or l (i - 1) 0 / 65536) (get_or l i 0 / 65536) (valueIn (markAt s (get_or l (i - 1) 0))) (valueIn (markAt s (get_or l i 0))) (sym at-compare-entries.ensures ∙ at-enum-told.given.1))
+    twins-distinct (mark_at s) l i at-loop-test.true at-loop.invariant.0 (ranked-same (get_or l (i - 1) 0 / 65536) (get_or l i 0 / 65536) (value_in (mark_at s (get_or l (i - 1) 0))) (value_in (mark_at s (get_or l i 0))) (sym at-compare-entries.ensures ∙ at-enum-told.given.1))
 
 enum-told-2 : tie.Need-enum-told-2 invariant-loop decreases-loop
 enum-told-2 c = search rules
@@ -87,7 +87,7 @@ returns-3 : tie.Need-returns-3 invariant-loop decreases-loop
 returns-3 c =
     let at-args = c.before.before.before.before.args in
     let at-loop = c.before.loop in
-    rising-distinct (markAt at-args.s.now) at-args.entries.now (λ q h. at-loop.invariant.1 q (omega arith))
+    rising-distinct (mark_at at-args.s.now) at-args.entries.now (λ q h. at-loop.invariant.1 q (omega arith))
 
 pub neighbours-spec : {M : Type 1} → statement M
 neighbours-spec =

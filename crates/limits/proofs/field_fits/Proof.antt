@@ -3,7 +3,7 @@ use Prim.Native.Nat.{◌+◌}
 use mathlib.Core.Path.{ap, ◌∙◌}
 use mathlib.Core.Bool.{Bool, ◌&&◌}
 use lib.Dec.{leb}
-use Rattle.format.specs.Limits.{recordFields, nameBytes, valueBytes}
+use Rattle.format.specs.Limits.{record_fields, name_bytes, value_bytes}
 use Rattle.format.specs.declared.Record.{Record}
 use borrow.Author.Rules.{rules}
 use Rattle.limits.proofs.field_fits.Statement.{statement}
@@ -33,8 +33,8 @@ returns c =
     let at-args = c.before.before.before.before.args in
     let at-value-bound = c.before.before.value-bound in
     at-fits2.ensures
-    ∙ ap (λ (r : Record). leb r.fields recordFields && leb r.name nameBytes && leb r.value valueBytes) at_new.ensures
-    ∙ ap (λ (b : Bool). leb (at-args.fields + 1) recordFields && leb at-args.name nameBytes && b) at-value-bound.ensures
+    ∙ ap (λ (r : Record). leb r.fields record_fields && leb r.name name_bytes && leb r.value value_bytes) at_new.ensures
+    ∙ ap (λ (b : Bool). leb (at-args.fields + 1) record_fields && leb at-args.name name_bytes && b) at-value-bound.ensures
 
 pub field-fits-spec : {M : Type 1} → statement M
 field-fits-spec = tie.close (tie.spec value-bound-requires add-new new-requires fits-requires returns)

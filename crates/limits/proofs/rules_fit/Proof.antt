@@ -9,13 +9,13 @@ use lib.ListN.{length, drop}
 use Rattle.format.specs.Pieces.{read_of}
 use Rattle.format.specs.Records.{fields_of}
 use Rattle.format.specs.declared.Descriptor.{Descriptor}
-use Rattle.records.specs.Places.{isReadable}
-use Rattle.records.specs.Fields.{fieldsFrom, fieldBetween}
+use Rattle.records.specs.Places.{is_readable}
+use Rattle.records.specs.Fields.{fields_from, field_between}
 use Rattle.limits.specs.Counts.{total}
 use Rattle.records.proofs.Readings.{part-readable}
 use Rattle.records.proofs.NextFields.{next-told}
 use Rattle.words.proofs.Spans.{span-length}
-use Rattle.limits.proofs.Tallies.{counts-path, countFrom, fitsCounts, noCounts, rules-counts, count-end, count-on}
+use Rattle.limits.proofs.Tallies.{counts-path, count_from, fits_counts, no_counts, rules-counts, count-end, count-on}
 use Rattle.limits.proofs.rules_fit.Statement.{statement}
 use Rattle.limits.proofs.rules_fit.Tie as tie
 use Rattle.limits.proofs.rules_fit.Reads as reads
@@ -26,7 +26,7 @@ use Rattle.limits.proofs.counted.Reads as counted-reads
 use Rattle.records.proofs.next_field.Reads as next-field-reads
 
 abbrev invariant-loop : tie.invariant-loop
-invariant-loop d i₀ c₀ i c = (i ≤ length d) × (isReadable (drop i d) ≡ true) × (total c ≤ 2 * i) × (countFrom noCounts (fields_of (read_of d)) ≡ countFrom c (fieldsFrom d i))
+invariant-loop d i₀ c₀ i c = (i ≤ length d) × (is_readable (drop i d) ≡ true) × (total c ≤ 2 * i) × (count_from no_counts (fields_of (read_of d)) ≡ count_from c (fields_from d i))
 
 abbrev decreases-loop : tie.decreases-loop
 decreases-loop d i₀ c₀ i c = length d - i
@@ -40,7 +40,7 @@ loop-holds c =
     let at_pre = c.before.before.requires in
     let at-args = c.before.before.args in
     let e = at_new.ensures in
-    (omega arith, at_pre.0, omega (arith, e.0, e.1, e.2, e.3, e.4, e.5, e.6, e.7), ap (λ (x : Descriptor). countFrom x (fields_of (read_of at-args.d.now))) (counts-path noCounts at_new.result (sym e.0) (sym e.1) (sym e.2) (sym e.3) (sym e.4) (sym e.5) (sym e.6) (sym e.7)))
+    (omega arith, at_pre.0, omega (arith, e.0, e.1, e.2, e.3, e.4, e.5, e.6, e.7), ap (λ (x : Descriptor). count_from x (fields_of (read_of at-args.d.now))) (counts-path no_counts at_new.result (sym e.0) (sym e.1) (sym e.2) (sym e.3) (sym e.4) (sym e.5) (sym e.6) (sym e.7)))
 
 sub-next-field : tie.Need-overflow-sub-next-field invariant-loop decreases-loop
 sub-next-field c = search rules
@@ -73,7 +73,7 @@ returns c =
     let at-loop = c.before.before.before.before.before.loop in
     let at-next-field = c.before.before.before.next_field in
     let at-enum-told = c.before.enum_told in
-    at-fits2.ensures ∙ sym (rules-counts (fields_of (read_of at-args.d.now)) ∙ ap fitsCounts (at-loop.invariant.3 ∙ ap (countFrom at-loop.c) (next-told at-args.d.now at-loop.i at-next-field.result at-next-field.ensures at-enum-told.given.1) ∙ count-end at-loop.c))
+    at-fits2.ensures ∙ sym (rules-counts (fields_of (read_of at-args.d.now)) ∙ ap fits_counts (at-loop.invariant.3 ∙ ap (count_from at-loop.c) (next-told at-args.d.now at-loop.i at-next-field.result at-next-field.ensures at-enum-told.given.1) ∙ count-end at-loop.c))
 
 add-counted : tie.Need-overflow-add-counted invariant-loop decreases-loop
 add-counted c =
@@ -203,8 +203,8 @@ loop-again c =
     let g = at_n.given in
     let f = next-told at-args.d.now at-loop.i at-next-field.result at-next-field.ensures at_n.given.1 in
     let i = at-loop.i in
-    let rest = fieldsFrom at-args.d.now (i + g.0.1.1.1.0) in
-    (f.inside, f.readable, omega (arith, at-loop.invariant.2, at-counted.ensures.1, span-length at-args.d.now _ _ f.value-inside f.inside, f.begins, f.moves, f.value-behind), at-loop.invariant.3 ∙ ap (countFrom at-loop.c) f.fields ∙ count-on at-loop.c (fieldBetween at-args.d.now (i + g.0.0) (i + g.0.1.0) (i + g.0.1.1.0) (i + g.0.1.1.1.0)) rest ∙ ap (λ (x : Descriptor). countFrom x rest) (sym at-counted.ensures.0))
+    let rest = fields_from at-args.d.now (i + g.0.1.1.1.0) in
+    (f.inside, f.readable, omega (arith, at-loop.invariant.2, at-counted.ensures.1, span-length at-args.d.now _ _ f.value-inside f.inside, f.begins, f.moves, f.value-behind), at-loop.invariant.3 ∙ ap (count_from at-loop.c) f.fields ∙ count-on at-loop.c (field_between at-args.d.now (i + g.0.0) (i + g.0.1.0) (i + g.0.1.1.0) (i + g.0.1.1.1.0)) rest ∙ ap (λ (x : Descriptor). count_from x rest) (sym at-counted.ensures.0))
 
 pub rules-fit-spec : {M : Type 1} → statement M
 rules-fit-spec =

@@ -8,12 +8,12 @@ use mathlib.Core.Bool.{Bool, ◌&&◌}
 use lib.ListN.{get_or}
 use Rattle.format.specs.Bytes.{all}
 use Rattle.format.specs.Pieces.{read_of}
-use Rattle.format.specs.Questions.{fitsRules}
+use Rattle.format.specs.Questions.{fits_rules}
 use Rattle.format.proofs.Records.{records}
 use Rattle.format.proofs.Walking.{heads}
 use Rattle.words.proofs.Spans.{span-length}
-use Rattle.records.specs.Heads.{HeadParts, rowFrom}
-use Rattle.records.proofs.Cuts.{recordsFrom}
+use Rattle.records.specs.Heads.{HeadParts, row_from}
+use Rattle.records.proofs.Cuts.{records_from}
 use Rattle.records.proofs.Rows.{row-heads}
 use Rattle.limits.proofs.rules_held.Statement.{statement}
 use Rattle.limits.proofs.rules_held.Tie as tie
@@ -22,7 +22,7 @@ use Rattle.limits.proofs.rules_held.Lts as lts
 use Rattle.limits.proofs.rules_fit.Reads as rules-fit-reads
 
 abbrev invariant-loop : tie.invariant-loop
-invariant-loop s starts ends count k₀ k = (h : HeadParts s starts ends count) × (k ≤ count) × (all fitsRules (heads (records (read_of s))) ≡ all fitsRules (heads (recordsFrom s (rowFrom h.0 k))))
+invariant-loop s starts ends count k₀ k = (h : HeadParts s starts ends count) × (k ≤ count) × (all fits_rules (heads (records (read_of s))) ≡ all fits_rules (heads (records_from s (row_from h.0 k))))
 
 abbrev decreases-loop : tie.decreases-loop
 decreases-loop s starts ends count k₀ k = count - k
@@ -83,7 +83,7 @@ returns c =
     let at-args = c.before.before.before.before.before.before.before.before.before.before.args in
     let at-rules-fit = c.before.rules-fit in
     let at-if1 = c.if1 in
-    sym (at-loop.invariant.2 ∙ ap (all fitsRules) (row-heads at-loop.invariant.0.1 at-loop.k at-loop-test.true) ∙ ap (λ (b : Bool). b && all fitsRules (heads (recordsFrom at-args.s.now (rowFrom at-loop.invariant.0.0 (at-loop.k + 1))))) (sym at-rules-fit.ensures ∙ not-true at-rules-fit.result at-if1.true))
+    sym (at-loop.invariant.2 ∙ ap (all fits_rules) (row-heads at-loop.invariant.0.1 at-loop.k at-loop-test.true) ∙ ap (λ (b : Bool). b && all fits_rules (heads (records_from at-args.s.now (row_from at-loop.invariant.0.0 (at-loop.k + 1))))) (sym at-rules-fit.ensures ∙ not-true at-rules-fit.result at-if1.true))
 
 add-k : tie.Need-overflow-add-k invariant-loop decreases-loop
 add-k c = search rules
@@ -98,14 +98,14 @@ loop-again c =
     let at-args = c.before.before.before.before.before.before.before.before.before.before.args in
     let at-rules-fit = c.before.rules-fit in
     let at-if1 = c.if1 in
-    (at-loop.invariant.0, omega (arith, at-loop-test.true), at-loop.invariant.2 ∙ ap (all fitsRules) (row-heads at-loop.invariant.0.1 at-loop.k at-loop-test.true) ∙ ap (λ (b : Bool). b && all fitsRules (heads (recordsFrom at-args.s.now (rowFrom at-loop.invariant.0.0 (at-loop.k + 1))))) (sym at-rules-fit.ensures ∙ not-false at-rules-fit.result at-if1.false))
+    (at-loop.invariant.0, omega (arith, at-loop-test.true), at-loop.invariant.2 ∙ ap (all fits_rules) (row-heads at-loop.invariant.0.1 at-loop.k at-loop-test.true) ∙ ap (λ (b : Bool). b && all fits_rules (heads (records_from at-args.s.now (row_from at-loop.invariant.0.0 (at-loop.k + 1))))) (sym at-rules-fit.ensures ∙ not-false at-rules-fit.result at-if1.false))
 
 returns-2 : tie.Need-returns-2 invariant-loop decreases-loop
 returns-2 c =
     let at-loop = c.before.loop in
     let at-args = c.before.before.before.before.before.args in
     let at-loop-test = c.loop-test in
-    let e : at-loop.k ≡ at-args.count = omega (arith, at-loop.invariant.1, at-loop-test.false) in sym (at-loop.invariant.2 ∙ ap (all fitsRules) (ap (λ (j : ℕ). heads (recordsFrom at-args.s.now (rowFrom at-loop.invariant.0.0 j))) e ∙ at-loop.invariant.0.1.last))
+    let e : at-loop.k ≡ at-args.count = omega (arith, at-loop.invariant.1, at-loop-test.false) in sym (at-loop.invariant.2 ∙ ap (all fits_rules) (ap (λ (j : ℕ). heads (records_from at-args.s.now (row_from at-loop.invariant.0.0 j))) e ∙ at-loop.invariant.0.1.last))
 
 pub rules-held-spec : {M : Type 1} → statement M
 rules-held-spec =

@@ -2,7 +2,7 @@
 use mathlib.Core.Path.{ap}
 use lib.Dec.{leb}
 use Prim.Native.Nat.{ℕ}
-use Rattle.format.specs.Limits.{valueBytes}
+use Rattle.format.specs.Limits.{value_bytes}
 use Rattle.limits.proofs.Fits.{value-within}
 use borrow.Author.Rules.{rules}
 use Rattle.limits.proofs.value_bound.Statement.{statement}
@@ -23,7 +23,7 @@ value-len-requires c κs = search rules
 returns-2 : tie.Need-returns-2
 returns-2 c =
     let at-value-len = c.value_len in
-    ap (λ (k : ℕ). leb k valueBytes) at-value-len.ensures
+    ap (λ (k : ℕ). leb k value_bytes) at-value-len.ensures
 
 pub value-bound-spec : {M : Type 1} → statement M
 value-bound-spec = tie.close (tie.spec returns value-len-requires returns-2)

@@ -9,10 +9,10 @@ use mathlib.Core.Bool.{true}
 use lib.Dec.{leb, eqb}
 use lib.ListN.{length, take, drop}
 use Rattle.format.specs.Bytes.{text, same}
-use Rattle.format.specs.Limits.{recordFields, nameBytes, valueBytes}
-use Rattle.values.specs.Value.{valueFrom}
+use Rattle.format.specs.Limits.{record_fields, name_bytes, value_bytes}
+use Rattle.values.specs.Value.{value_from}
 use Rattle.lines.proofs.Cuts.{rest, ended-drop}
-use Rattle.records.specs.Places.{isReadable}
+use Rattle.records.specs.Places.{is_readable}
 use Rattle.records.proofs.Looks.{looks}
 use Rattle.records.proofs.Steps.{steps}
 use Rattle.limits.specs.declared.Open.{Open}
@@ -32,7 +32,7 @@ use Rattle.limits.proofs.with_field.Reads as with-field-reads
 use Rattle.lines.proofs.next_piece.Reads as next-piece-reads
 
 abbrev invariant-loop : tie.invariant-loop
-invariant-loop table s starts₀ ends₀ afters₀ i₀ o₀ count₀ once₀ starts ends afters i o count once = (i ≤ length s) × (isReadable s ≡ isReadable (drop i s)) × (o.fields ≤ recordFields) × (o.recs ≤ o.fields) × (count ≤ i) × (length starts ≡ length starts₀) × (length ends ≡ length ends₀) × (length afters ≡ length afters₀) × (isReadable s ≡ true → Walked s i o count once starts ends afters)
+invariant-loop table s starts₀ ends₀ afters₀ i₀ o₀ count₀ once₀ starts ends afters i o count once = (i ≤ length s) × (is_readable s ≡ is_readable (drop i s)) × (o.fields ≤ record_fields) × (o.recs ≤ o.fields) × (count ≤ i) × (length starts ≡ length starts₀) × (length ends ≡ length ends₀) × (length afters ≡ length afters₀) × (is_readable s ≡ true → Walked s i o count once starts ends afters)
 
 abbrev decreases-loop : tie.decreases-loop
 decreases-loop table s starts₀ ends₀ afters₀ i₀ o₀ count₀ once₀ starts ends afters i o count once = length s - i
@@ -257,7 +257,7 @@ loop-again-2 c =
     let at-field-fits = c.before.before.before.field-fits in
     let at-if1 = c.before.before.if1 in
     let p = (looks at-args.s.now at-loop.i at-next-piece.result at_pre.1.0.0 at-next-piece.ensures at-n2.given.1) in let g = at-n2.given.0 in let e = at-with-field.ensures in
-    let few = field-few at-loop.o.fields (leb g.0 nameBytes) (leb (length (valueFrom (take ((at-loop.i + g.1.1.0) - (at-loop.i + g.1.0)) (drop (at-loop.i + g.1.0) at-args.s.now)))) valueBytes) at-field-fits.result at-field-fits.ensures (not-false at-field-fits.result at-if1.false) in
+    let few = field-few at-loop.o.fields (leb g.0 name_bytes) (leb (length (value_from (take ((at-loop.i + g.1.1.0) - (at-loop.i + g.1.0)) (drop (at-loop.i + g.1.0) at-args.s.now)))) value_bytes) at-field-fits.result at-field-fits.ensures (not-false at-field-fits.result at-if1.false) in
     (p.2, at-loop.invariant.1 ∙ p.0, omega (arith, ap (λ (x : Open). x.fields) e, few), omega (arith, ap (λ (x : Open). x.fields) e, ap (λ (x : Open). x.recs) e, at-loop.invariant.3, one-most (same (text "%rec") (take ((at-loop.i + g.0) - at-loop.i) (drop at-loop.i at-args.s.now)))), omega (arith, at-loop.invariant.4), at-loop.invariant.5, at-loop.invariant.6, at-loop.invariant.7, λ r. walked-field (at-loop.invariant.8 r) g.0 g.1.0 g.1.1.0 (steps at-args.s.now at-loop.i at-next-piece.result (sym at-loop.invariant.1 ∙ r) at-next-piece.ensures at-n2.given.1) at-field-fits.result at-field-fits.ensures (not-false at-field-fits.result at-if1.false) at-with-field.result e)
 
 enum-known-n-3 : tie.Need-enum-known-n-3 invariant-loop decreases-loop

@@ -4,7 +4,7 @@ use native.Mathlib.Omega.{arith}
 use mathlib.Core.Path.{◌≡◌, sym, ap, ◌∙◌}
 use mathlib.Core.Bool.{Bool, true, false, ◌||◌, or-true, or-false}
 use Rattle.format.specs.Bytes.{text, pick, same}
-use Rattle.format.specs.Lines.{isSpecial}
+use Rattle.format.specs.Lines.{is_special}
 use Rattle.limits.proofs.Opens.{plain-name}
 use borrow.Author.Rules.{rules}
 use Rattle.limits.proofs.with_field.Statement.{statement}
@@ -42,7 +42,7 @@ returns c =
     let at-one-if = c.before.one-if in
     let at-is-rec = c.before.before.before.is-rec in
     let at-first-place = c.before.before.before.before.before.before.first-place in
-    let special : true ≡ (at-args.o.special || isSpecial at-args.name.now) = sym (ap (λ (b : Bool). at-args.o.special || b) (sym at-is-special.ensures ∙ at-if1.true) ∙ or-true at-args.o.special) in
+    let special : true ≡ (at-args.o.special || is_special at-args.name.now) = sym (ap (λ (b : Bool). at-args.o.special || b) (sym at-is-special.ensures ∙ at-if1.true) ∙ or-true at-args.o.special) in
     let recs : at-args.o.recs + at-one-if.result ≡ at-args.o.recs + pick (same (text "%rec") at-args.name.now) 1 0 = ap (λ (k : ℕ). at-args.o.recs + k) (at-one-if.ensures.0 ∙ ap (λ (b : Bool). pick {A = ℕ} b 1 0) at-is-rec.ensures) in
     (λ j. record { fields = at-args.o.fields + 1; special = special j; recs = recs j; start = at-first-place.ensures j; end = at-args.end })
 
@@ -55,8 +55,8 @@ returns-2 c =
     let at-is-special = c.before.before.is_special in
     let at-if1 = c.before.if1 in
     let at-first-place = c.before.before.before.first-place in
-    let plain : isSpecial at-args.name.now ≡ false = sym at-is-special.ensures ∙ at-if1.false in
-    let special : at-args.o.special ≡ (at-args.o.special || isSpecial at-args.name.now) = sym (ap (λ (b : Bool). at-args.o.special || b) plain ∙ or-false at-args.o.special) in
+    let plain : is_special at-args.name.now ≡ false = sym at-is-special.ensures ∙ at-if1.false in
+    let special : at-args.o.special ≡ (at-args.o.special || is_special at-args.name.now) = sym (ap (λ (b : Bool). at-args.o.special || b) plain ∙ or-false at-args.o.special) in
     let recs : at-args.o.recs ≡ at-args.o.recs + pick (same (text "%rec") at-args.name.now) 1 0 = omega (arith, ap (λ (b : Bool). pick {A = ℕ} b 1 0) (plain-name at-args.name.now plain)) in
     (λ j. record { fields = at-args.o.fields + 1; special = special j; recs = recs j; start = at-first-place.ensures j; end = at-args.end })
 

@@ -5,9 +5,9 @@ use Prim.Native.Nat.{◌≤◌, ◌<◌, ◌-◌}
 use native.Mathlib.Omega.{arith}
 use borrow.Author.Tests.{eq-eqb, ne_eqb}
 use lib.ListN.{length, drop, get_or, drop_of_length-le}
-use Rattle.format.specs.Bytes.{isBlank, all}
+use Rattle.format.specs.Bytes.{is_blank, all}
 use Rattle.format.proofs.Table.{newline-class, blank-class}
-use Rattle.lines.specs.Line.{lineLen, firstLine}
+use Rattle.lines.specs.Line.{line_len, first_line}
 use Rattle.lines.proofs.Cuts.{at-cons}
 use Rattle.lines.proofs.blank_line.Statement.{statement}
 use Rattle.lines.proofs.blank_line.Tie as tie
@@ -16,7 +16,7 @@ use Rattle.lines.proofs.blank_line.Lts as lts
 use Rattle.format.proofs.class_of.Reads as class-of-reads
 
 abbrev invariant-loop : tie.invariant-loop
-invariant-loop table s i₀ i = (i ≤ length s) × (all isBlank (firstLine s) ≡ all isBlank (firstLine (drop i s)))
+invariant-loop table s i₀ i = (i ≤ length s) × (all is_blank (first_line s) ≡ all is_blank (first_line (drop i s)))
 
 abbrev decreases-loop : tie.decreases-loop
 decreases-loop table s i₀ i = length s - i
@@ -31,7 +31,7 @@ class-of-requires : tie.Need-class-of-requires invariant-loop decreases-loop
 class-of-requires c κs = search rules
 
 returns : tie.Need-returns invariant-loop decreases-loop
-unfolding lineLen
+unfolding line_len
 returns c =
     let s = c.before.before.before.before.before.before.args.s.now in
     let at-loop = c.before.before.before.before.loop in
@@ -42,7 +42,7 @@ returns c =
     let small : get_or s at-loop.i 0 < 256 = omega (arith, at-shared-slice-known.given at-loop.i) in rw (at-loop.invariant.1, at-cons s at-loop.i at-loop-test.true, newline-class (get_or s at-loop.i 0) small, ← at-class-of.ensures, eq-eqb _ _ at-if1.true)
 
 returns-2 : tie.Need-returns-2 invariant-loop decreases-loop
-unfolding lineLen
+unfolding line_len
 returns-2 c =
     let s = c.before.before.before.before.before.before.before.args.s.now in
     let at-loop = c.before.before.before.before.before.loop in
@@ -60,7 +60,7 @@ loop-less : tie.Need-loop-smaller invariant-loop decreases-loop
 loop-less c = search rules
 
 loop-again : tie.Need-loop-preserved invariant-loop decreases-loop
-unfolding lineLen
+unfolding line_len
 loop-again c =
     let s = c.before.before.before.before.before.before.before.args.s.now in
     let at-loop = c.before.before.before.before.before.loop in
@@ -72,7 +72,7 @@ loop-again c =
     let small : get_or s at-loop.i 0 < 256 = omega (arith, at-shared-slice-known.given at-loop.i) in (omega arith, rw (at-loop.invariant.1, at-cons s at-loop.i at-loop-test.true, newline-class (get_or s at-loop.i 0) small, ← at-class-of.ensures, ne_eqb _ _ at-if1.false, blank-class (get_or s at-loop.i 0) small, ← at-class-of.ensures, eq-eqb _ _ at-if2.false))
 
 returns-3 : tie.Need-returns-3 invariant-loop decreases-loop
-unfolding lineLen
+unfolding line_len
 returns-3 c =
     let at-loop = c.before.loop in
     let s = c.before.before.before.args.s.now in

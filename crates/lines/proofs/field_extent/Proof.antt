@@ -7,7 +7,7 @@ use borrow.Author.Tests.{ne_eqb, not-true, not-false}
 use lib.Dec.{eqb}
 use lib.ListN.{length, drop, get_or}
 use Rattle.format.specs.Lines.{lines}
-use Rattle.lines.specs.Piece.{extentOf}
+use Rattle.lines.specs.Piece.{extent_of}
 use Rattle.lines.proofs.Cuts.{line-le, line-inside, line-at-inside}
 use Rattle.lines.proofs.Extents.{extent-step, extent-end, extent-plus, extent-past, extent-from, newline-before}
 use Rattle.lines.proofs.field_extent.Statement.{statement}
@@ -17,7 +17,7 @@ use Rattle.lines.proofs.field_extent.Lts as lts
 use Rattle.lines.proofs.line_end.Reads as line-end-reads
 
 abbrev invariant-loop : tie.invariant-loop
-invariant-loop s at i₀ i = (i < length s) × (0 < i) × (get_or s (i - 1) 0 ≡ 92 → ⊥) × (extentOf true 0 (lines s) ≡ extentOf true i (lines (drop i s)))
+invariant-loop s at i₀ i = (i < length s) × (0 < i) × (get_or s (i - 1) 0 ≡ 92 → ⊥) × (extent_of true 0 (lines s) ≡ extent_of true i (lines (drop i s)))
 
 abbrev decreases-loop : tie.decreases-loop
 decreases-loop s at i₀ i = length s - i

@@ -4,7 +4,7 @@ use Prim.Native.Nat.{◌<◌, ◌+◌, ◌-◌}
 use native.Mathlib.Omega.{arith}
 use mathlib.Core.Path.{◌≡◌, refl}
 use lib.ListN.{length, drop}
-use Rattle.lines.specs.Line.{lineLen}
+use Rattle.lines.specs.Line.{line_len}
 use Rattle.lines.proofs.Cuts.{line-more, line-stop, line-at-inside}
 use Rattle.lines.proofs.line_end.Statement.{statement}
 use Rattle.lines.proofs.line_end.Tie as tie
@@ -12,7 +12,7 @@ use Rattle.lines.proofs.line_end.Reads as reads
 use Rattle.lines.proofs.line_end.Lts as lts
 
 abbrev invariant-loop : tie.invariant-loop
-invariant-loop s i at₀ at = (at < length s) × (i + lineLen (drop i s) ≡ at + lineLen (drop at s))
+invariant-loop s i at₀ at = (at < length s) × (i + line_len (drop i s) ≡ at + line_len (drop at s))
 
 abbrev decreases-loop : tie.decreases-loop
 decreases-loop s i at₀ at = length s - at

@@ -4,7 +4,7 @@ use mathlib.Core.Path.{◌≡◌}
 use Prim.Native.Nat.{◌≤◌, ◌+◌, ◌-◌}
 use native.Mathlib.Omega.{arith}
 use lib.ListN.{length, drop}
-use Rattle.lines.specs.Line.{lineLen}
+use Rattle.lines.specs.Line.{line_len}
 use Rattle.lines.proofs.Cuts.{line-more, line-stop, line-end}
 use Rattle.lines.proofs.line_len.Statement.{statement}
 use Rattle.lines.proofs.line_len.Tie as tie
@@ -12,7 +12,7 @@ use Rattle.lines.proofs.line_len.Reads as reads
 use Rattle.lines.proofs.line_len.Lts as lts
 
 abbrev invariant-loop : tie.invariant-loop
-invariant-loop s i₀ i = (i ≤ length s) × (lineLen s ≡ i + lineLen (drop i s))
+invariant-loop s i₀ i = (i ≤ length s) × (line_len s ≡ i + line_len (drop i s))
 
 abbrev decreases-loop : tie.decreases-loop
 decreases-loop s i₀ i = length s - i

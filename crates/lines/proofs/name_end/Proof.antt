@@ -4,8 +4,8 @@ use Prim.Native.Nat.{◌<◌, ◌+◌, ◌-◌}
 use native.Mathlib.Omega.{arith}
 use mathlib.Core.Path.{◌≡◌, sym, ◌∙◌}
 use lib.ListN.{length, drop}
-use Rattle.format.specs.Lines.{isLater}
-use Rattle.lines.specs.Line.{run, nameLen}
+use Rattle.format.specs.Lines.{is_later}
+use Rattle.lines.specs.Line.{run, name_len}
 use Rattle.lines.proofs.Heads.{run_more, run-stop, name-some, name-inside}
 use Rattle.lines.proofs.name_end.Statement.{statement}
 use Rattle.lines.proofs.name_end.Tie as tie
@@ -14,7 +14,7 @@ use Rattle.lines.proofs.name_end.Lts as lts
 use Rattle.format.proofs.is_later.Reads as is-later-reads
 
 abbrev invariant-loop : tie.invariant-loop
-invariant-loop table s i₀ i = (i < length s) × (nameLen s ≡ i + run isLater (drop i s))
+invariant-loop table s i₀ i = (i < length s) × (name_len s ≡ i + run is_later (drop i s))
 
 abbrev decreases-loop : tie.decreases-loop
 decreases-loop table s i₀ i = length s - i
@@ -44,7 +44,7 @@ loop-again c =
     let at-is-later = c.before.is_later in
     let at-if1 = c.if1 in
     let at_pre = c.before.before.before.before.before.requires in
-    let m = run_more isLater at-args.s.now at-loop.i at-loop.invariant.0 (sym at-is-later.ensures ∙ at-if1.true) in
+    let m = run_more is_later at-args.s.now at-loop.i at-loop.invariant.0 (sym at-is-later.ensures ∙ at-if1.true) in
     (omega (arith, m, name-inside at-args.s.now at_pre.1.0 at_pre.1.1), omega (arith, m))
 
 returns : tie.Need-returns invariant-loop decreases-loop
@@ -53,7 +53,7 @@ returns c =
     let at-loop = c.before.before.before.loop in
     let at-is-later = c.before.is_later in
     let at-if1 = c.if1 in
-    omega (arith, run-stop isLater at-args.s.now at-loop.i at-loop.invariant.0 (sym at-is-later.ensures ∙ at-if1.false))
+    omega (arith, run-stop is_later at-args.s.now at-loop.i at-loop.invariant.0 (sym at-is-later.ensures ∙ at-if1.false))
 
 pub name-end-spec : {M : Type 1} → statement M
 name-end-spec =

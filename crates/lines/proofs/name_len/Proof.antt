@@ -4,8 +4,8 @@ use mathlib.Core.Path.{◌≡◌, sym, ◌∙◌}
 use Prim.Native.Nat.{◌≤◌, ◌+◌, ◌-◌}
 use native.Mathlib.Omega.{arith}
 use lib.ListN.{length, drop}
-use Rattle.format.specs.Lines.{isLater}
-use Rattle.lines.specs.Line.{run, nameLen}
+use Rattle.format.specs.Lines.{is_later}
+use Rattle.lines.specs.Line.{run, name_len}
 use Rattle.lines.proofs.Heads.{run_more, run-stop, run_end, name-first, name-none, name-empty}
 use Rattle.lines.proofs.name_len.Statement.{statement}
 use Rattle.lines.proofs.name_len.Tie as tie
@@ -15,7 +15,7 @@ use Rattle.format.proofs.is_first.Reads as is-first-reads
 use Rattle.format.proofs.is_later.Reads as is-later-reads
 
 abbrev invariant-loop : tie.invariant-loop
-invariant-loop table s i₀ i = (i ≤ length s) × (nameLen s ≡ i + run isLater (drop i s))
+invariant-loop table s i₀ i = (i ≤ length s) × (name_len s ≡ i + run is_later (drop i s))
 
 abbrev decreases-loop : tie.decreases-loop
 decreases-loop table s i₀ i = length s - i
@@ -58,7 +58,7 @@ loop-again c =
     let at-loop-test = c.before.before.before.loop-test in
     let at-is-later = c.before.is_later in
     let at-if3 = c.if3 in
-    omega (arith, run_more isLater s at-loop.i at-loop-test.true (sym at-is-later.ensures ∙ at-if3.true))
+    omega (arith, run_more is_later s at-loop.i at-loop-test.true (sym at-is-later.ensures ∙ at-if3.true))
 
 returns-2 : tie.Need-returns-2 invariant-loop decreases-loop
 returns-2 c =
@@ -67,14 +67,14 @@ returns-2 c =
     let at-loop-test = c.before.before.before.loop-test in
     let at-is-later = c.before.is_later in
     let at-if3 = c.if3 in
-    omega (arith, run-stop isLater s at-loop.i at-loop-test.true (sym at-is-later.ensures ∙ at-if3.false))
+    omega (arith, run-stop is_later s at-loop.i at-loop-test.true (sym at-is-later.ensures ∙ at-if3.false))
 
 returns-3 : tie.Need-returns-3 invariant-loop decreases-loop
 returns-3 c =
     let s = c.before.before.before.before.before.before.before.args.s.now in
     let at-loop = c.before.loop in
     let at-loop-test = c.loop-test in
-    omega (arith, run_end isLater s at-loop.i at-loop-test.false)
+    omega (arith, run_end is_later s at-loop.i at-loop-test.false)
 
 returns-4 : tie.Need-returns-4 invariant-loop decreases-loop
 returns-4 c =

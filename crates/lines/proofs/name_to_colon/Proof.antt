@@ -4,8 +4,8 @@ use Prim.Native.Nat.{◌<◌, ◌+◌, ◌-◌}
 use native.Mathlib.Omega.{arith}
 use mathlib.Core.Path.{◌≡◌, sym}
 use lib.ListN.{length, drop}
-use Rattle.format.specs.Lines.{isLater}
-use Rattle.lines.specs.Line.{run, nameLen}
+use Rattle.format.specs.Lines.{is_later}
+use Rattle.lines.specs.Line.{run, name_len}
 use Rattle.lines.proofs.Heads.{name-some, name-inside, colon-more, colon-stop}
 use Rattle.lines.proofs.name_to_colon.Statement.{statement}
 use Rattle.lines.proofs.name_to_colon.Tie as tie
@@ -13,7 +13,7 @@ use Rattle.lines.proofs.name_to_colon.Reads as reads
 use Rattle.lines.proofs.name_to_colon.Lts as lts
 
 abbrev invariant-loop : tie.invariant-loop
-invariant-loop s i₀ i = (i < length s) × (nameLen s ≡ i + run isLater (drop i s))
+invariant-loop s i₀ i = (i < length s) × (name_len s ≡ i + run is_later (drop i s))
 
 abbrev decreases-loop : tie.decreases-loop
 decreases-loop s i₀ i = length s - i

@@ -5,7 +5,7 @@ use mathlib.Core.Path.{◌≡◌, sym}
 use borrow.Author.Tests.{eq-eqb, ne_eqb}
 use lib.ListN.{drop}
 use Rattle.format.specs.Bytes.{Bytes}
-use Rattle.lines.specs.Line.{lineLen}
+use Rattle.lines.specs.Line.{line_len}
 use Rattle.lines.proofs.Cuts.{line-inside}
 use Rattle.lines.proofs.Nexts.{next-end, next-newline}
 use Rattle.lines.proofs.Faultless.{next_low, high-named}
@@ -18,7 +18,7 @@ use Rattle.lines.proofs.line_end.Reads as line-end-reads
 use Rattle.lines.proofs.read_field.Reads as read-field-reads
 
 -- the place of the first newline is the line's length
-at-newline : (s : Bytes) (n : ℕ) → n ≡ 0 + lineLen (drop 0 s) → lineLen s ≡ n
+at-newline : (s : Bytes) (n : ℕ) → n ≡ 0 + line_len (drop 0 s) → line_len s ≡ n
 at-newline s n e = omega (arith, e)
 
 returns : tie.Need-returns

@@ -5,9 +5,9 @@ use mathlib.Core.Path.{◌≡◌, sym, ap, ◌∙◌, subst}
 use mathlib.Core.Bool.{true}
 use lib.ListN.{take}
 use Rattle.format.specs.Bytes.{Bytes}
-use Rattle.records.specs.Places.{isReadable}
+use Rattle.records.specs.Places.{is_readable}
 use Rattle.records.proofs.Checked.{answer-checked}
-use Rattle.lookup.specs.Answers.{nameIn}
+use Rattle.lookup.specs.Answers.{name_in}
 use Rattle.lookup.proofs.Buffers.{name-refused, name-text}
 use borrow.Author.Rules.{rules}
 use Rattle.lookup.proofs.set_name.Statement.{statement}
@@ -45,7 +45,7 @@ name-in-requires c κs =
     let at-args = c.before.before.before.before.before.before.args in
     let at-if1 = c.before.before.if1 in
     let at-check = c.before.before.before.check in
-    let t : take (at-args.used - 0) at-args.buf.now ≡ take at-args.used at-args.buf.now = ap (λ (n : ℕ). take n at-args.buf.now) (let e : at-args.used - 0 ≡ at-args.used = omega arith in e) in (subst (λ (x : Bytes). isReadable x ≡ true) (sym t) (answer-checked at-args.buf.now at-args.used at-check.result at-check.ensures at-if1.false).readable)
+    let t : take (at-args.used - 0) at-args.buf.now ≡ take at-args.used at-args.buf.now = ap (λ (n : ℕ). take n at-args.buf.now) (let e : at-args.used - 0 ≡ at-args.used = omega arith in e) in (subst (λ (x : Bytes). is_readable x ≡ true) (sym t) (answer-checked at-args.buf.now at-args.used at-check.result at-check.ensures at-if1.false).readable)
 
 same_length : tie.Need-same-length
 same_length c = search rules
@@ -56,7 +56,7 @@ returns-2 c =
     let at-if1 = c.before.before.before.before.before.if1 in
     let at-check = c.before.before.before.before.before.before.check in
     let at-name-in = c.before.before.name_in in
-    let t : take (at-args.used - 0) at-args.buf.now ≡ take at-args.used at-args.buf.now = ap (λ (n : ℕ). take n at-args.buf.now) (let e : at-args.used - 0 ≡ at-args.used = omega arith in e) in sym (name-text at-args.buf.now at-args.used (sym at-if1.false ∙ at-check.ensures) at-args.k at-args.out.now) ∙ ap (λ (x : Bytes). nameIn x at-args.k at-args.out.now) (sym t) ∙ at-name-in.ensures
+    let t : take (at-args.used - 0) at-args.buf.now ≡ take at-args.used at-args.buf.now = ap (λ (n : ℕ). take n at-args.buf.now) (let e : at-args.used - 0 ≡ at-args.used = omega arith in e) in sym (name-text at-args.buf.now at-args.used (sym at-if1.false ∙ at-check.ensures) at-args.k at-args.out.now) ∙ ap (λ (x : Bytes). name_in x at-args.k at-args.out.now) (sym t) ∙ at-name-in.ensures
 
 pub set-name-spec : {M : Type 1} → statement M
 set-name-spec =

@@ -4,11 +4,11 @@ use mathlib.Core.Path.{subst}
 use mathlib.Core.List.{List}
 use mathlib.Core.Option.{Option}
 use Rattle.format.specs.Written.{Pair}
-use Rattle.format.specs.Numbering.{pairNames}
+use Rattle.format.specs.Numbering.{pair_names}
 use Rattle.format.specs.Rules.{auto}
-use Rattle.records.specs.Walk.{recordIn}
-use Rattle.requests.specs.Pairs.{pairsAt}
-use Rattle.numbering.specs.Adding.{pairBy, unadded, stepAll, AddedAs}
+use Rattle.records.specs.Walk.{record_in}
+use Rattle.requests.specs.Pairs.{pairs_at}
+use Rattle.numbering.specs.Adding.{pair_by, unadded, step_all, AddedAs}
 use Rattle.numbering.proofs.Stepping.{step-passed}
 use Rattle.numbering.proofs.Completing.{added_is, limits-are}
 use borrow.Author.Rules.{rules}
@@ -45,7 +45,7 @@ add-lists-requires c κs =
     let at-args = c.before.before.before.before.before.before.before.before.before.before.args in
     let at-mark-pairs = c.before.before.mark-pairs in
     let b = at-bounds-of.ensures in
-    (at_pre.0.1, ((at_pre.0.0, omega (arith, at-scratch2.given), at_pre.0.2), ((b.floor-room, b.limit-room, limits-are at-args.d.now at-args.part.now at-bounds-of.result.floors at-bounds-of.result.limits at-bounds-of.ensures.floors at-bounds-of.ensures.limits), (pairNames (pairsAt at-args.req.now at-args.from), at-mark-pairs.ensures))))
+    (at_pre.0.1, ((at_pre.0.0, omega (arith, at-scratch2.given), at_pre.0.2), ((b.floor-room, b.limit-room, limits-are at-args.d.now at-args.part.now at-bounds-of.result.floors at-bounds-of.result.limits at-bounds-of.ensures.floors at-bounds-of.ensures.limits), (pair_names (pairs_at at-args.req.now at-args.from), at-mark-pairs.ensures))))
 
 told-requires : tie.Need-told-requires
 told-requires c κs = search rules
@@ -62,12 +62,12 @@ returns c =
     let at-mark-pairs = c.before.before.before.before.before.before.before.mark-pairs in
     let at_pre = c.before.before.before.before.before.before.before.before.before.before.before.before.before.before.before.requires in
     let at_out = c.before.before.out in
-    let ws = auto (recordIn at-args.d.now) in
-    let f = pairBy ws at-bounds-of.result.floors at-bounds-of.result.limits in
-    let new = pairsAt at-args.req.now at-args.from in
-    let s = stepAll f (unadded (pairNames new)) ws in
+    let ws = auto (record_in at-args.d.now) in
+    let f = pair_by ws at-bounds-of.result.floors at-bounds-of.result.limits in
+    let new = pairs_at at-args.req.now at-args.from in
+    let s = step_all f (unadded (pair_names new)) ws in
     subst (λ (x : Option (List Pair)). AddedAs x at-add-lists.new.1.1.1.1.1.0 at_told.result) (added_is at-args.d.now at-args.part.now at-bounds-of.result.floors at-bounds-of.result.limits at-bounds-of.ensures.floors at-bounds-of.ensures.limits new)
-    (at_told.ensures ws s at-add-lists.new.1.1.1.1.1.0 (at-add-lists.ensures (pairNames new) at-mark-pairs.ensures) (omega (arith, step-passed f (unadded (pairNames new)) ws, at_pre.0.1.few)) (omega (arith, at_out.given, at_pre.0.2)))
+    (at_told.ensures ws s at-add-lists.new.1.1.1.1.1.0 (at-add-lists.ensures (pair_names new) at-mark-pairs.ensures) (omega (arith, step-passed f (unadded (pair_names new)) ws, at_pre.0.1.few)) (omega (arith, at_out.given, at_pre.0.2)))
 
 pub add-listed-spec : {M : Type 1} → statement M
 add-listed-spec =

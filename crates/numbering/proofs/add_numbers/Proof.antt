@@ -6,7 +6,7 @@ use Rattle.format.specs.Bytes.{text}
 use Rattle.format.specs.Pieces.{read_of}
 use Rattle.format.proofs.Records.{records}
 use Rattle.records.specs.Named.{NamedNext}
-use Rattle.requests.specs.Pairs.{pairsAt}
+use Rattle.requests.specs.Pairs.{pairs_at}
 use Rattle.dictionary.proofs.Granted.{auto-lists}
 use Rattle.numbering.proofs.Completing.{none-added}
 use borrow.Author.Rules.{rules}
@@ -37,7 +37,7 @@ returns c =
     let at-args = c.before.before.before.before.before.before.before.before.args in
     let at-enum-told2 = c.enum-told2 in
     let at-next-named = c.before.before.next-named in
-    ([], (none-added at-args.d.now (records (read_of at-args.part.now)) (pairsAt at-args.req.now at-args.from) (subst (NamedNext at-args.d.now (text "%auto") 0) at-enum-told2.given.1 at-next-named.ensures).value, record { len_is = refl; inside = omega arith; text = refl; short = refl }))
+    ([], (none-added at-args.d.now (records (read_of at-args.part.now)) (pairs_at at-args.req.now at-args.from) (subst (NamedNext at-args.d.now (text "%auto") 0) at-enum-told2.given.1 at-next-named.ensures).value, record { len_is = refl; inside = omega arith; text = refl; short = refl }))
 
 slice-aggregate-list : tie.Need-slice-aggregate-list
 slice-aggregate-list c = search rules

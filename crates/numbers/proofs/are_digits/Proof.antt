@@ -6,7 +6,7 @@ use native.Mathlib.Omega.{arith}
 use borrow.Author.Tests.{lt-ltb, le-ltb}
 use lib.ListN.{length, drop, drop_of_length-le}
 use Rattle.format.specs.Bytes.{all}
-use Rattle.format.specs.Numbers.{areDigits, isDigitOf}
+use Rattle.format.specs.Numbers.{are_digits, is_digit_of}
 use Rattle.lines.proofs.Cuts.{at-cons}
 use Rattle.numbers.proofs.Reading.{digits-some, digits-none}
 use Rattle.numbers.proofs.are_digits.Statement.{statement}
@@ -16,7 +16,7 @@ use Rattle.numbers.proofs.are_digits.Lts as lts
 use Rattle.numbers.proofs.digit_of.Reads as digit-of-reads
 
 abbrev invariant-loop : tie.invariant-loop
-invariant-loop s base i₀ i = (i ≤ length s) × (areDigits base s ≡ all (isDigitOf base) (drop i s))
+invariant-loop s base i₀ i = (i ≤ length s) × (are_digits base s ≡ all (is_digit_of base) (drop i s))
 
 abbrev decreases-loop : tie.decreases-loop
 decreases-loop s base i₀ i = length s - i

@@ -1,7 +1,7 @@
 -- `numbers::int_within` meets its contract.
 use mathlib.Core.Path.{sym, ap, ◌∙◌}
 use Rattle.format.specs.Numbers.{plus, minus}
-use Rattle.numbers.specs.Meaning.{naturalAnswer, boundsIn}
+use Rattle.numbers.specs.Meaning.{natural_answer, bounds_in}
 use Rattle.numbers.proofs.Reading.{signed, int-minus, int-plus}
 use borrow.Author.Rules.{rules}
 use Rattle.numbers.proofs.int_within.Statement.{statement}
@@ -39,7 +39,7 @@ returns c =
     let at-if1 = c.before.before.before.before.if1 in
     let at-unsigned-of = c.before.before.before.Unsigned-of in
     let at-m = c.before.m in
-    sym (int-minus (boundsIn at-args.ends) at-args.s.now (sym at_byte.ensures ∙ at-if1.true) ∙ ap (signed minus) (sym at-unsigned-of.ensures ∙ ap naturalAnswer at-m.given.1))
+    sym (int-minus (bounds_in at-args.ends) at-args.s.now (sym at_byte.ensures ∙ at-if1.true) ∙ ap (signed minus) (sym at-unsigned-of.ensures ∙ ap natural_answer at-m.given.1))
 
 returns-2 : tie.Need-returns-2
 returns-2 c =
@@ -48,7 +48,7 @@ returns-2 c =
     let at-if1 = c.before.before.before.if1 in
     let at-unsigned-of = c.before.before.Unsigned-of in
     let at-enum-told = c.enum_told in
-    sym (int-minus (boundsIn at-args.ends) at-args.s.now (sym at_byte.ensures ∙ at-if1.true) ∙ ap (signed minus) (sym at-unsigned-of.ensures ∙ ap naturalAnswer at-enum-told.given.1))
+    sym (int-minus (bounds_in at-args.ends) at-args.s.now (sym at_byte.ensures ∙ at-if1.true) ∙ ap (signed minus) (sym at-unsigned-of.ensures ∙ ap natural_answer at-enum-told.given.1))
 
 returns-3 : tie.Need-returns-3
 returns-3 c =
@@ -57,7 +57,7 @@ returns-3 c =
     let at_byte = c.before.before.before.before.before.byte in
     let at-unsigned-of2 = c.before.before.before.unsigned-of2 in
     let at-m2 = c.before.m2 in
-    sym (int-plus (boundsIn at-args.ends) at-args.s.now (λ e. at-if1.false (at_byte.ensures ∙ e)) ∙ ap (signed plus) (sym at-unsigned-of2.ensures ∙ ap naturalAnswer at-m2.given.1))
+    sym (int-plus (bounds_in at-args.ends) at-args.s.now (λ e. at-if1.false (at_byte.ensures ∙ e)) ∙ ap (signed plus) (sym at-unsigned-of2.ensures ∙ ap natural_answer at-m2.given.1))
 
 returns-4 : tie.Need-returns-4
 returns-4 c =
@@ -66,7 +66,7 @@ returns-4 c =
     let at_byte = c.before.before.before.before.byte in
     let at-unsigned-of2 = c.before.before.unsigned-of2 in
     let at-enum-told2 = c.enum-told2 in
-    sym (int-plus (boundsIn at-args.ends) at-args.s.now (λ e. at-if1.false (at_byte.ensures ∙ e)) ∙ ap (signed plus) (sym at-unsigned-of2.ensures ∙ ap naturalAnswer at-enum-told2.given.1))
+    sym (int-plus (bounds_in at-args.ends) at-args.s.now (λ e. at-if1.false (at_byte.ensures ∙ e)) ∙ ap (signed plus) (sym at-unsigned-of2.ensures ∙ ap natural_answer at-enum-told2.given.1))
 
 pub int-within-spec : {M : Type 1} → statement M
 int-within-spec =

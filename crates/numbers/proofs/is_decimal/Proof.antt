@@ -4,7 +4,7 @@ use Prim.Native.Nat.{◌+◌}
 use native.Mathlib.Omega.{arith}
 use lib.Seq.{length-take-le}
 use Rattle.lines.proofs.Cuts.{rest}
-use Rattle.words.specs.Spans.{notByte}
+use Rattle.words.specs.Spans.{not_byte}
 use Rattle.words.proofs.Finding.{run-le}
 use Rattle.numbers.proofs.Decimals.{decimal-dotted, decimal-plain, decimal-not}
 use borrow.Author.Rules.{rules}
@@ -22,7 +22,7 @@ slice-aggregate-are-digits : tie.Need-slice-aggregate-are-digits
 slice-aggregate-are-digits c =
     let at-part-end = c.before.part-end in
     let at-args = c.before.before.before.args in
-    sym (length-take-le at-part-end.result at-args.s.now (omega (arith, at-part-end.ensures, run-le (notByte 46) at-args.s.now)))
+    sym (length-take-le at-part-end.result at-args.s.now (omega (arith, at-part-end.ensures, run-le (not_byte 46) at-args.s.now)))
 
 are-digits-requires : tie.Need-are-digits-requires
 are-digits-requires c κs = search rules

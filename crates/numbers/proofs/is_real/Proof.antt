@@ -3,7 +3,7 @@ use mathlib.Core.Path.{sym, ap, ◌∙◌}
 use mathlib.Core.Bool.{false}
 use native.Mathlib.Omega.{arith}
 use Rattle.format.specs.Bytes.{Bytes, is_some}
-use Rattle.format.specs.Numbers.{decimalIn}
+use Rattle.format.specs.Numbers.{decimal_in}
 use Rattle.lines.proofs.Cuts.{rest}
 use Rattle.words.proofs.Finding.{byte_inside}
 use Rattle.numbers.proofs.Decimals.{real-minus, real-plain}
@@ -48,7 +48,7 @@ returns c =
     let at_byte = c.before.before.before.byte in
     let at-if1 = c.before.before.if1 in
     let s = at-args.s.now in
-    at-is-decimal.ensures ∙ (ap (λ (t : Bytes). is_some (decimalIn false t)) (rest s 1) ∙ sym (real-minus s (sym at_byte.ensures ∙ at-if1.true)))
+    at-is-decimal.ensures ∙ (ap (λ (t : Bytes). is_some (decimal_in false t)) (rest s 1) ∙ sym (real-minus s (sym at_byte.ensures ∙ at-if1.true)))
 
 returns-2 : tie.Need-returns-2
 returns-2 c =

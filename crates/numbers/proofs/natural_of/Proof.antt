@@ -5,8 +5,8 @@ use Prim.Native.Nat.{◌≤◌, ◌<◌, ◌+◌, ◌-◌, ◌*◌}
 use native.Mathlib.Omega.{arith}
 use lib.ListN.{length, drop, get_or, length-drop}
 use Rattle.format.specs.Numbers.{digit, natural}
-use Rattle.numbers.specs.Meaning.{upToLimit}
-use Rattle.numbers.proofs.Reading.{naturalOn, natural-start, natural-empty, natural-over, natural-end, natural-bad, natural-more, product-fits, product-passes}
+use Rattle.numbers.specs.Meaning.{up_to_limit}
+use Rattle.numbers.proofs.Reading.{natural_on, natural-start, natural-empty, natural-over, natural-end, natural-bad, natural-more, product-fits, product-passes}
 use Rattle.numbers.proofs.natural_of.Statement.{statement}
 use Rattle.numbers.proofs.natural_of.Tie as tie
 use Rattle.numbers.proofs.natural_of.Reads as reads
@@ -14,7 +14,7 @@ use Rattle.numbers.proofs.natural_of.Lts as lts
 use Rattle.numbers.proofs.digit_of.Reads as digit-of-reads
 
 abbrev invariant-loop : tie.invariant-loop
-invariant-loop s from base limit most i₀ m₀ i m = (i ≤ length s) × (m ≤ limit) × (upToLimit limit (natural base (drop from s)) ≡ naturalOn limit base m (drop i s))
+invariant-loop s from base limit most i₀ m₀ i m = (i ≤ length s) × (m ≤ limit) × (up_to_limit limit (natural base (drop from s)) ≡ natural_on limit base m (drop i s))
 
 abbrev decreases-loop : tie.decreases-loop
 decreases-loop s from base limit most i₀ m₀ i m = length s - i

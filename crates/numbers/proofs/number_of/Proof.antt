@@ -2,8 +2,8 @@
 use mathlib.Core.Path.{sym, ap, ◌∙◌}
 use borrow.Author.Tests.{eq-eqb, ne_eqb}
 use Rattle.format.specs.Lists.{onward}
-use Rattle.format.specs.Numbers.{notBelow0}
-use Rattle.numbers.specs.Meaning.{intIn, intAnswer}
+use Rattle.format.specs.Numbers.{not_below0}
+use Rattle.numbers.specs.Meaning.{int_in, int_answer}
 use Rattle.numbers.specs.declared.Whole.{Whole}
 use borrow.Author.Rules.{rules}
 use Rattle.numbers.proofs.number_of.Statement.{statement}
@@ -25,7 +25,7 @@ returns : tie.Need-returns
 returns c =
     let at-int-of = c.before.before.Int-of in
     let at-enum-told = c.enum_told in
-    sym (ap (onward notBelow0) (sym at-int-of.ensures ∙ ap intAnswer at-enum-told.given.1))
+    sym (ap (onward not_below0) (sym at-int-of.ensures ∙ ap int_answer at-enum-told.given.1))
 
 enum-known-w : tie.Need-enum-known-w
 enum-known-w c = search rules
@@ -38,7 +38,7 @@ returns-2 c =
     let at-int-of = c.before.before.before.before.before.before.Int-of in
     let at_x = c.before.before.before.before.x in
     let at-w = c.before.w in
-    sym (ap (onward notBelow0) (sym at-int-of.ensures ∙ ap intAnswer at_x.given.1) ∙ ap (λ (u : Whole). notBelow0 (intIn u)) at-w.given.1)
+    sym (ap (onward not_below0) (sym at-int-of.ensures ∙ ap int_answer at_x.given.1) ∙ ap (λ (u : Whole). not_below0 (int_in u)) at-w.given.1)
 
 returns-3 : tie.Need-returns-3
 returns-3 c =
@@ -46,7 +46,7 @@ returns-3 c =
     let at_x = c.before.before.before.before.before.x in
     let at-w2 = c.before.before.w2 in
     let at-if1 = c.if1 in
-    sym (ap (onward notBelow0) (sym at-int-of.ensures ∙ ap intAnswer at_x.given.1) ∙ (ap (λ (u : Whole). notBelow0 (intIn u)) at-w2.given.1 ∙ rw (eq-eqb _ _ at-if1.true)))
+    sym (ap (onward not_below0) (sym at-int-of.ensures ∙ ap int_answer at_x.given.1) ∙ (ap (λ (u : Whole). not_below0 (int_in u)) at-w2.given.1 ∙ rw (eq-eqb _ _ at-if1.true)))
 
 returns-4 : tie.Need-returns-4
 returns-4 c =
@@ -54,7 +54,7 @@ returns-4 c =
     let at_x = c.before.before.before.before.before.x in
     let at-w2 = c.before.before.w2 in
     let at-if1 = c.if1 in
-    sym (ap (onward notBelow0) (sym at-int-of.ensures ∙ ap intAnswer at_x.given.1) ∙ (ap (λ (u : Whole). notBelow0 (intIn u)) at-w2.given.1 ∙ rw (ne_eqb _ _ at-if1.false)))
+    sym (ap (onward not_below0) (sym at-int-of.ensures ∙ ap int_answer at_x.given.1) ∙ (ap (λ (u : Whole). not_below0 (int_in u)) at-w2.given.1 ∙ rw (ne_eqb _ _ at-if1.false)))
 
 pub number-of-spec : {M : Type 1} → statement M
 number-of-spec =

@@ -35,8 +35,8 @@ use denote.Triple.Table.{entered, cited}
 use denote.Triple.Walked.{says, Stays, gave_ref, stay_none, stay_none_slice, walk_of, Goes-gave_ref, Goes-none, Goes-none_slice, ends_at}
 use denote.Exit.{yes}
 use denote.Signature.{plain}
-use Rattle.format.specs.Calls.{answered, number_in, valueOr}
-use Rattle.format.specs.Directory.{countAtAnswer}
+use Rattle.format.specs.Calls.{answered, number_in, value_or}
+use Rattle.format.specs.Directory.{count_at_answer}
 use Rattle.format.specs.declared.Answer.{Answer}
 use Rattle.format.specs.declared.Entry.{Entry}
 use Rattle.format.specs.contracts.Entry as T
@@ -95,12 +95,12 @@ module _ {M : Type 1} {𝓤 : Ura M} (𝓛 : Logic 𝓤) (mem : Memory → SProp
   asks : ent 𝓤 (sep 𝓤 (A.lft κ q) (sem 𝓛 OwnE)) ((Callee 𝓛 mem run).pre to)
   asks = qed 𝓛 (‵ (flft κ q) ∷ ‵ OwnE ∷ []) ∵ nothing ! $ move ! (1 ∷ 0 ∷ []) $ join ! $ nothing ! $ number ! i fits $ fjoin ! $ move ! (2 ∷ 0 ∷ []) $ fjoin ! $ move ! (1 ∷ 0 ∷ []) $ join ! $ frame ! $ done !
 
-  exits : (r : Answer) (m : ℕ) (u : Val) (k : ℕ) → Is usize m (u ∷ []) → (m ≡ valueOr 0 (answered r)) × (k ≡ number_in (answered r)) → answered r ≡ countAtAnswer e.now i
+  exits : (r : Answer) (m : ℕ) (u : Val) (k : ℕ) → Is usize m (u ∷ []) → (m ≡ value_or 0 (answered r)) × (k ≡ number_in (answered r)) → answered r ≡ count_at_answer e.now i
       → ent 𝓤 (⋆ 𝓛 ((‵ (flft κ q) ⊛ ‵ ftrue) ∷ (‵ (flft κ₁ q₁) ⊛ ‵ ftrue) ∷ ‵ (fres n.name (u32.coded.code k)) ∷ ‵ OwnE ∷ [])) (Post u)
   exits r m u k is told counted =
       qed 𝓛 ((‵ (flft κ q) ⊛ ‵ ftrue) ∷ (‵ (flft κ₁ q₁) ⊛ ‵ ftrue) ∷ ‵ (fres n.name (u32.coded.code k)) ∷ ‵ OwnE ∷ []) ∵
       suffices ! _ (ends_at 𝓛 fun.ended stayed (fun.clauses 𝓛 mem run) (((κ, (κ₁, tt)), (q, (q₁, tt)), tt, x, vals), tt) u m (tt, (tt, (k, tt))) (tt, (tt, (tt, tt)))) $
-      says ! (told.0 ∙ ap (valueOr 0) counted, told.1 ∙ ap number_in counted) $
+      says ! (told.0 ∙ ap (value_or 0) counted, told.1 ∙ ap number_in counted) $
       split ! $ move ! (0 ∷ 2 ∷ []) $ join ! $ frame ! $ move ! (1 ∷ 0 ∷ []) $ fjoin ! $ number ! i fits $ fjoin ! $ move ! (1 ∷ 0 ∷ []) $ fjoin ! $ frame ! $ owned ! usize (Is usize) (uint_Makes 𝓛 w64) m (u ∷ []) is $ done !
 
   module _ (𝓣 : Tables 𝓤 H) (known : Triple 𝓤 (𝓣.C #count-at) (Callee 𝓛 mem run)) (known-tell : Triple 𝓤 (𝓣.C #tell) (Tell 𝓛 mem run)) where
@@ -114,14 +114,14 @@ module _ {M : Type 1} {𝓤 : Ura M} (𝓛 : Logic 𝓤) (mem : Memory → SProp
         -- [_5; …; _0; …; the list's token; number's token; the list; number]
         move ! (14 ∷ []) $ twice ! (named 0) κ T.the_row e (s ∷ []) $ move ! (14 ∷ 0 ∷ []) $ use2 𝓛 (raw ((Callee 𝓛 mem run).pre to)) asks $
         calls_at ! (fm_of 𝓤 H 𝓛.laws 𝓣) (Callee 𝓛 mem run) known to (and_then ! (load ! (from ! (stop !)) (look ! 10 refl)) (and_then ! (load ! (from ! (stop !)) (look ! 8 refl)) (no_more !))) (λ w.
-        returned ! tt callee.ended (callee.clauses 𝓛 mem run) to w (λ r ws. answered r ≡ countAtAnswer e.now i) (λ r ws. id⊢ 𝓤 _) (λ r ws counted.
+        returned ! tt callee.ended (callee.clauses 𝓛 mem run) to w (λ r ws. answered r ≡ count_at_answer e.now i) (λ r ws. id⊢ 𝓤 _) (λ r ws counted.
         facts ! F.the_row (Is F.the_row) (shows 𝓛 F.the_row) r (w ∷ []) (λ made.
         land ! (from ! (stop !)) (init ! 5 refl ((Le.lawful F.the_type F'.the_laws 𝓛 tt).typed r (w ∷ []) made).0) $
         -- [the list's token; …; the list; _5; …; number's token; number]
         assigns ! (addr ! (from ! (hop ! (look ! 7 refl) (stop !)))) (from ! (stop !)) (init ! 3 refl (tt, tt)) $
         move ! (15 ∷ 16 ∷ []) $ use2 𝓛 (raw ((Tell 𝓛 mem run).pre (to-tell 𝓛 mem run κ₁ q₁ n 0 r w))) (tell-asks 𝓛 mem run κ₁ q₁ n 0 r w (lit< tt) made) $
         calls_at ! (fm_of 𝓤 H 𝓛.laws 𝓣) (Tell 𝓛 mem run) known-tell (to-tell 𝓛 mem run κ₁ q₁ n 0 r w) (and_then ! (load ! (from ! (stop !)) (look ! 6 refl)) (and_then ! (lit ! tt) (and_then ! (load ! (from ! (stop !)) (look ! 4 refl)) (no_more !)))) (λ u.
-        returned ! tt tell.ended (tell.clauses 𝓛 mem run) (to-tell 𝓛 mem run κ₁ q₁ n 0 r w) u (λ m ks. (m ≡ valueOr 0 (answered r)) × (ks.1.1.0 ≡ number_in (answered r))) (λ m ks. id⊢ 𝓤 _) (λ m ks told.
+        returned ! tt tell.ended (tell.clauses 𝓛 mem run) (to-tell 𝓛 mem run κ₁ q₁ n 0 r w) u (λ m ks. (m ≡ value_or 0 (answered r)) × (ks.1.1.0 ≡ number_in (answered r))) (λ m ks. id⊢ 𝓤 _) (λ m ks told.
         facts ! usize (Is usize) (shows 𝓛 usize) m (u ∷ []) (λ is. land ! (from ! (stop !)) (init ! 15 refl (number-typed m u is)) $ move ! (1 ∷ []) $ fsplit ! $ drop ! $ fsplit ! $ drop ! $ fsplit ! $
         -- [number's last value; …; its token; the list's token; …; the list; _5; …]
         returns ! (look ! 16 refl) $ free_all ! 6 (just _ ∷ just _ ∷ just _ ∷ just _ ∷ just _ ∷ just _ ∷ []) refl $

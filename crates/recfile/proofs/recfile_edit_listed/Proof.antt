@@ -36,8 +36,8 @@ use denote.Triple.Walked.{says, Stays, gave_ref, gave_slice, stay_none, stay_non
 use denote.Exit.{yes}
 use denote.Signature.{plain}
 use Rattle.format.specs.Bytes.{Bytes}
-use Rattle.format.specs.Calls.{answered, number_in, valueOr}
-use Rattle.format.specs.Directory.{keptAnswer}
+use Rattle.format.specs.Calls.{answered, number_in, value_or}
+use Rattle.format.specs.Directory.{kept_answer}
 use Rattle.format.specs.declared.Answer.{Answer}
 use Rattle.format.specs.declared.Entry.{Entry}
 use Rattle.format.specs.contracts.Entry as T
@@ -109,13 +109,13 @@ module _ {M : Type 1} {𝓤 : Ura M} (𝓛 : Logic 𝓤) (mem : Memory → SProp
   asks = qed 𝓛 ((‵ (flft κ q) ⊛ (‵ (flft κ₁ q₁) ⊛ (‵ (flft κ₂ q₂) ⊛ ‵ ftrue))) ∷ ‵ OwnB ∷ ‵ OwnQ ∷ ‵ OwnE ∷ []) ∵
       nothing ! $ move ! (4 ∷ 0 ∷ []) $ fjoin ! $ move ! (3 ∷ 0 ∷ []) $ fjoin ! $ number ! used used-fits $ fjoin ! $ move ! (2 ∷ 0 ∷ []) $ fjoin ! $ move ! (1 ∷ 0 ∷ []) $ join ! $ frame ! $ done !
 
-  exits : (r : Answer) (m : ℕ) (u : Val) (k : ℕ) (out : Bytes) (new : List Entry) → Is usize m (u ∷ []) → (m ≡ valueOr used (answered r)) × (k ≡ number_in (answered r))
-      → record { result = answered r; out = out; entries = new } ≡ keptAnswer f.now used g.now e.now → length out ≡ length f.now → length new ≡ length e.now
+  exits : (r : Answer) (m : ℕ) (u : Val) (k : ℕ) (out : Bytes) (new : List Entry) → Is usize m (u ∷ []) → (m ≡ value_or used (answered r)) × (k ≡ number_in (answered r))
+      → record { result = answered r; out = out; entries = new } ≡ kept_answer f.now used g.now e.now → length out ≡ length f.now → length new ≡ length e.now
       → ent 𝓤 (⋆ 𝓛 ((‵ (flft κ q) ⊛ (‵ (flft κ₁ q₁) ⊛ (‵ (flft κ₂ q₂) ⊛ ‵ ftrue))) ∷ (‵ (flft κ₃ q₃) ⊛ ‵ ftrue) ∷ ‵ (finally u8 f.name out) ∷ ‵ OwnQ ∷ ‵ (finally T.the_row e.name new) ∷ ‵ (fres n.name (u32.coded.code k)) ∷ [])) (Post u)
   exits r m u k out new is told edited same-buf same =
       qed 𝓛 ((‵ (flft κ q) ⊛ (‵ (flft κ₁ q₁) ⊛ (‵ (flft κ₂ q₂) ⊛ ‵ ftrue))) ∷ (‵ (flft κ₃ q₃) ⊛ ‵ ftrue) ∷ ‵ (finally u8 f.name out) ∷ ‵ OwnQ ∷ ‵ (finally T.the_row e.name new) ∷ ‵ (fres n.name (u32.coded.code k)) ∷ []) ∵
       suffices ! _ (ends_at 𝓛 fun.ended stayed (fun.clauses 𝓛 mem run) (((κ, (κ₁, (κ₂, (κ₃, tt)))), (q, (q₁, (q₂, (q₃, tt)))), tt, x, vals), tt) u m (out, (tt, (tt, (new, (k, tt))))) (same-buf, (tt, (tt, (same, (tt, tt)))))) $
-      says ! (kept-told r used m k told.0 told.1 out new (keptAnswer f.now used g.now e.now) edited) $
+      says ! (kept-told r used m k told.0 told.1 out new (kept_answer f.now used g.now e.now) edited) $
       split ! $ move ! (1 ∷ []) $ split ! $ move ! (1 ∷ []) $ split ! $ move ! (0 ∷ 4 ∷ []) $ join ! $ move ! (2 ∷ 0 ∷ []) $ join ! $ move ! (2 ∷ 0 ∷ []) $ join ! $ frame ! $
       move ! (4 ∷ 0 ∷ []) $ fjoin ! $ move ! (3 ∷ 0 ∷ []) $ fjoin ! $ move ! (2 ∷ 0 ∷ []) $ fjoin ! $ number ! used used-fits $ fjoin ! $ move ! (1 ∷ 0 ∷ []) $ fjoin ! $ frame ! $ owned ! usize (Is usize) (uint_Makes 𝓛 w64) m (u ∷ []) is $ done !
 
@@ -137,7 +137,7 @@ module _ {M : Type 1} {𝓤 : Ura M} (𝓛 : Logic 𝓤) (mem : Memory → SProp
         move ! (27 ∷ []) $ twice ! (named 1) κ₁ u8 g (w ∷ []) $ move ! (26 ∷ 28 ∷ 0 ∷ 29 ∷ []) $ group ! 4 $ use1 𝓛 (raw ((Callee 𝓛 mem run).pre to)) asks $
         calls_at ! (fm_of 𝓤 H 𝓛.laws 𝓣) (Callee 𝓛 mem run) known to
         (and_then ! (load ! (from ! (stop !)) (look ! 8 refl)) (and_then ! (load ! (from ! (stop !)) (look ! 20 refl)) (and_then ! (load ! (from ! (stop !)) (look ! 18 refl)) (and_then ! (load ! (from ! (stop !)) (look ! 4 refl)) (no_more !))))) (λ t.
-        returned ! tt callee.ended (callee.clauses 𝓛 mem run) to t (λ r ws. record { result = answered r; out = ws.0; entries = ws.1.1.1.0 } ≡ keptAnswer f.now used g.now e.now) (λ r ws. id⊢ 𝓤 _) (λ r ws edited.
+        returned ! tt callee.ended (callee.clauses 𝓛 mem run) to t (λ r ws. record { result = answered r; out = ws.0; entries = ws.1.1.1.0 } ≡ kept_answer f.now used g.now e.now) (λ r ws. id⊢ 𝓤 _) (λ r ws edited.
         facts ! F.the_row (Is F.the_row) (shows 𝓛 F.the_row) r (t ∷ []) (λ made.
         land ! (from ! (stop !)) (init ! 13 refl ((Le.lawful F.the_type F'.the_laws 𝓛 tt).typed r (t ∷ []) made).0) $
         move ! (1 ∷ []) $ fsplit ! $ fsplit ! $ move ! (1 ∷ []) $ feq_l ! (λ same-buf. move ! (1 ∷ []) $ fsplit ! $ drop ! $ fsplit ! $ drop ! $ fsplit ! $ fsplit ! $ move ! (1 ∷ []) $ feq_l ! (λ same.
@@ -145,7 +145,7 @@ module _ {M : Type 1} {𝓤 : Ura M} (𝓛 : Logic 𝓤) (mem : Memory → SProp
         assigns ! (addr ! (from ! (hop ! (look ! 17 refl) (stop !)))) (from ! (stop !)) (init ! 5 refl (tt, tt)) $
         move ! (29 ∷ 30 ∷ []) $ use2 𝓛 (raw ((Tell 𝓛 mem run).pre (to-tell 𝓛 mem run κ₃ q₃ n used r t))) (tell-asks 𝓛 mem run κ₃ q₃ n used r t used-fits made) $
         calls_at ! (fm_of 𝓤 H 𝓛.laws 𝓣) (Tell 𝓛 mem run) known-tell (to-tell 𝓛 mem run κ₃ q₃ n used r t) (and_then ! (load ! (from ! (stop !)) (look ! 16 refl)) (and_then ! (load ! (from ! (stop !)) (look ! 24 refl)) (and_then ! (load ! (from ! (stop !)) (look ! 6 refl)) (no_more !)))) (λ u.
-        returned ! tt tell.ended (tell.clauses 𝓛 mem run) (to-tell 𝓛 mem run κ₃ q₃ n used r t) u (λ m ks. (m ≡ valueOr used (answered r)) × (ks.1.1.0 ≡ number_in (answered r))) (λ m ks. id⊢ 𝓤 _) (λ m ks told.
+        returned ! tt tell.ended (tell.clauses 𝓛 mem run) (to-tell 𝓛 mem run κ₃ q₃ n used r t) u (λ m ks. (m ≡ value_or used (answered r)) × (ks.1.1.0 ≡ number_in (answered r))) (λ m ks. id⊢ 𝓤 _) (λ m ks told.
         facts ! usize (Is usize) (shows 𝓛 usize) m (u ∷ []) (λ is. land ! (from ! (stop !)) (init ! 29 refl (number-typed m u is)) $ move ! (1 ∷ []) $ fsplit ! $ drop ! $ fsplit ! $ drop ! $ fsplit ! $
         -- [number's last value; …; its token; the list's last entries; …; buf's last bytes; the three tokens; request; _11; …]
         returns ! (look ! 30 refl) $ free_all ! 8 (just _ ∷ just _ ∷ just _ ∷ just _ ∷ just _ ∷ just _ ∷ just _ ∷ just _ ∷ just _ ∷ just _ ∷ just _ ∷ just _ ∷ []) refl $

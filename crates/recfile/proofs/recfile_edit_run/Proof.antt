@@ -1,6 +1,6 @@
 -- `recfile_edit_run` meets its contract: what C is told of the run's answer.
 use Rattle.recfile.proofs.Telling.{numbered-told}
-use Rattle.format.specs.Runs.{runAnswer}
+use Rattle.format.specs.Runs.{run_answer}
 use borrow.Author.Rules.{rules}
 use Rattle.recfile.proofs.recfile_edit_run.Statement.{statement}
 use Rattle.recfile.proofs.recfile_edit_run.Tie as tie
@@ -26,7 +26,7 @@ returns c =
     let at-edit-run = c.before.before.before.before.before.before.edit-run in
     let at-args = c.before.before.before.before.before.before.before.before.before.before.before.before.args in
     let at-tell = c.tell in
-    numbered-told at-edit-run.result at-args.used at-tell.result at-tell.new.1.1.0 at-tell.ensures.0 at-tell.ensures.1 at-edit-run.new.0 at-edit-run.new.1.1.1.0 (runAnswer at-args.buf.now at-args.used at-args.run.now at-args.answers.now) at-edit-run.ensures
+    numbered-told at-edit-run.result at-args.used at-tell.result at-tell.new.1.1.0 at-tell.ensures.0 at-tell.ensures.1 at-edit-run.new.0 at-edit-run.new.1.1.1.0 (run_answer at-args.buf.now at-args.used at-args.run.now at-args.answers.now) at-edit-run.ensures
 
 pub recfile-edit-run-spec : {M : Type 1} → statement M
 recfile-edit-run-spec =

@@ -36,8 +36,8 @@ use denote.Triple.Table.{entered, cited}
 use denote.Triple.Walked.{says, Stays, gave_ref, gave_slice, stay_none, stay_none_slice, walk_of, Goes-gave_ref, Goes-gave_slice, Goes-none, Goes-none_slice, ends_at}
 use denote.Exit.{yes}
 use denote.Signature.{plain}
-use Rattle.format.specs.Calls.{answered, number_in, valueOr}
-use Rattle.format.specs.Directory.{fillAnswer}
+use Rattle.format.specs.Calls.{answered, number_in, value_or}
+use Rattle.format.specs.Directory.{fill_answer}
 use Rattle.format.specs.declared.Answer.{Answer}
 use Rattle.format.specs.declared.Entry.{Entry}
 use Rattle.format.specs.contracts.Entry as T
@@ -103,12 +103,12 @@ module _ {M : Type 1} {𝓤 : Ura M} (𝓛 : Logic 𝓤) (mem : Memory → SProp
   asks = qed 𝓛 (‵ (flft κ q) ∷ ‵ (flft κ₁ q₁) ∷ ‵ OwnB ∷ ‵ OwnE ∷ []) ∵ nothing ! $ move ! (2 ∷ 0 ∷ []) $ join ! $ move ! (1 ∷ 0 ∷ []) $ join ! $
       nothing ! $ move ! (3 ∷ 0 ∷ []) $ fjoin ! $ number ! used used-fits $ fjoin ! $ move ! (2 ∷ 0 ∷ []) $ fjoin ! $ move ! (1 ∷ 0 ∷ []) $ join ! $ frame ! $ done !
 
-  exits : (r : Answer) (m : ℕ) (u : Val) (k : ℕ) (new : List Entry) → Is usize m (u ∷ []) → (m ≡ valueOr 0 (answered r)) × (k ≡ number_in (answered r)) → record { result = answered r; entries = new } ≡ fillAnswer f.now used e.now → length new ≡ length e.now
+  exits : (r : Answer) (m : ℕ) (u : Val) (k : ℕ) (new : List Entry) → Is usize m (u ∷ []) → (m ≡ value_or 0 (answered r)) × (k ≡ number_in (answered r)) → record { result = answered r; entries = new } ≡ fill_answer f.now used e.now → length new ≡ length e.now
       → ent 𝓤 (⋆ 𝓛 ((‵ (flft κ q) ⊛ (‵ (flft κ₁ q₁) ⊛ ‵ ftrue)) ∷ (‵ (flft κ₂ q₂) ⊛ ‵ ftrue) ∷ ‵ (finally T.the_row e.name new) ∷ ‵ (fres n.name (u32.coded.code k)) ∷ ‵ OwnB ∷ [])) (Post u)
   exits r m u k new is told filled same =
       qed 𝓛 ((‵ (flft κ q) ⊛ (‵ (flft κ₁ q₁) ⊛ ‵ ftrue)) ∷ (‵ (flft κ₂ q₂) ⊛ ‵ ftrue) ∷ ‵ (finally T.the_row e.name new) ∷ ‵ (fres n.name (u32.coded.code k)) ∷ ‵ OwnB ∷ []) ∵
       suffices ! _ (ends_at 𝓛 fun.ended stayed (fun.clauses 𝓛 mem run) (((κ, (κ₁, (κ₂, tt))), (q, (q₁, (q₂, tt))), tt, x, vals), tt) u m (tt, (tt, (new, (k, tt)))) (tt, (tt, (same, (tt, tt))))) $
-      says ! (listed-told r 0 m k told.0 told.1 new (fillAnswer f.now used e.now) filled) $
+      says ! (listed-told r 0 m k told.0 told.1 new (fill_answer f.now used e.now) filled) $
       split ! $ move ! (1 ∷ []) $ split ! $ move ! (0 ∷ 3 ∷ []) $ join ! $ move ! (2 ∷ 0 ∷ []) $ join ! $ frame ! $
       move ! (2 ∷ 0 ∷ []) $ fjoin ! $ move ! (1 ∷ 0 ∷ []) $ fjoin ! $ number ! used used-fits $ fjoin ! $ move ! (1 ∷ 0 ∷ []) $ fjoin ! $ frame ! $ owned ! usize (Is usize) (uint_Makes 𝓛 w64) m (u ∷ []) is $ done !
 
@@ -125,7 +125,7 @@ module _ {M : Type 1} {𝓤 : Ura M} (𝓛 : Logic 𝓤) (mem : Memory → SProp
         -- [_8; …; _0; …; number's token; …; the list's token; buf's token; buf; the list; number]
         move ! (22 ∷ []) $ twice ! (named 0) κ u8 f (v ∷ []) $ move ! (23 ∷ 22 ∷ 0 ∷ 24 ∷ []) $ group ! 4 $ use1 𝓛 (raw ((Callee 𝓛 mem run).pre to)) asks $
         calls_at ! (fm_of 𝓤 H 𝓛.laws 𝓣) (Callee 𝓛 mem run) known to (and_then ! (load ! (from ! (stop !)) (look ! 16 refl)) (and_then ! (load ! (from ! (stop !)) (look ! 14 refl)) (and_then ! (load ! (from ! (stop !)) (look ! 4 refl)) (no_more !)))) (λ w.
-        returned ! tt callee.ended (callee.clauses 𝓛 mem run) to w (λ r ws. record { result = answered r; entries = ws.1.1.0 } ≡ fillAnswer f.now used e.now) (λ r ws. id⊢ 𝓤 _) (λ r ws filled.
+        returned ! tt callee.ended (callee.clauses 𝓛 mem run) to w (λ r ws. record { result = answered r; entries = ws.1.1.0 } ≡ fill_answer f.now used e.now) (λ r ws. id⊢ 𝓤 _) (λ r ws filled.
         facts ! F.the_row (Is F.the_row) (shows 𝓛 F.the_row) r (w ∷ []) (λ made.
         land ! (from ! (stop !)) (init ! 9 refl ((Le.lawful F.the_type F'.the_laws 𝓛 tt).typed r (w ∷ []) made).0) $
         move ! (1 ∷ []) $ fsplit ! $ drop ! $ fsplit ! $ drop ! $ fsplit ! $ fsplit ! $ move ! (1 ∷ []) $ feq_l ! (λ same.
@@ -133,7 +133,7 @@ module _ {M : Type 1} {𝓤 : Ura M} (𝓛 : Logic 𝓤) (mem : Memory → SProp
         assigns ! (addr ! (from ! (hop ! (look ! 12 refl) (stop !)))) (from ! (stop !)) (init ! 4 refl (tt, tt)) $
         move ! (22 ∷ 24 ∷ []) $ use2 𝓛 (raw ((Tell 𝓛 mem run).pre (to-tell 𝓛 mem run κ₂ q₂ n 0 r w))) (tell-asks 𝓛 mem run κ₂ q₂ n 0 r w (lit< tt) made) $
         calls_at ! (fm_of 𝓤 H 𝓛.laws 𝓣) (Tell 𝓛 mem run) known-tell (to-tell 𝓛 mem run κ₂ q₂ n 0 r w) (and_then ! (load ! (from ! (stop !)) (look ! 11 refl)) (and_then ! (lit ! tt) (and_then ! (load ! (from ! (stop !)) (look ! 5 refl)) (no_more !)))) (λ u.
-        returned ! tt tell.ended (tell.clauses 𝓛 mem run) (to-tell 𝓛 mem run κ₂ q₂ n 0 r w) u (λ m ks. (m ≡ valueOr 0 (answered r)) × (ks.1.1.0 ≡ number_in (answered r))) (λ m ks. id⊢ 𝓤 _) (λ m ks told.
+        returned ! tt tell.ended (tell.clauses 𝓛 mem run) (to-tell 𝓛 mem run κ₂ q₂ n 0 r w) u (λ m ks. (m ≡ value_or 0 (answered r)) × (ks.1.1.0 ≡ number_in (answered r))) (λ m ks. id⊢ 𝓤 _) (λ m ks told.
         facts ! usize (Is usize) (shows 𝓛 usize) m (u ∷ []) (λ is. land ! (from ! (stop !)) (init ! 22 refl (number-typed m u is)) $ move ! (1 ∷ []) $ fsplit ! $ drop ! $ fsplit ! $ drop ! $ fsplit ! $
         -- [number's last value; …; its token; the list's last entries; …; the two tokens; buf; _8; …]
         returns ! (look ! 23 refl) $ free_all ! 7 (just _ ∷ just _ ∷ just _ ∷ just _ ∷ just _ ∷ just _ ∷ just _ ∷ just _ ∷ just _ ∷ []) refl $

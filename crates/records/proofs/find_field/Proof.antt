@@ -6,7 +6,7 @@ use native.Mathlib.Omega.{arith}
 use mathlib.Core.Path.{◌≡◌, sym, ◌∙◌}
 use mathlib.Core.Bool.{true}
 use lib.ListN.{length, drop}
-use Rattle.records.specs.Places.{isReadable, fieldPlace}
+use Rattle.records.specs.Places.{is_readable, field_place}
 use Rattle.records.specs.Named.{occurrence}
 use Rattle.records.proofs.Readings.{part-readable}
 use Rattle.records.proofs.Fields.{field-read}
@@ -18,7 +18,7 @@ use Rattle.records.proofs.find_field.Lts as lts
 use Rattle.records.proofs.next_named.Reads as next-named-reads
 
 abbrev invariant-loop : tie.invariant-loop
-invariant-loop s name o i₀ left₀ i left = (i ≤ length s) × (isReadable (drop i s) ≡ true) × (fieldPlace name s o ≡ occurrence s name i left)
+invariant-loop s name o i₀ left₀ i left = (i ≤ length s) × (is_readable (drop i s) ≡ true) × (field_place name s o ≡ occurrence s name i left)
 
 abbrev decreases-loop : tie.decreases-loop
 decreases-loop s name o i₀ left₀ i left = length s - i

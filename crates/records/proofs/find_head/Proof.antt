@@ -7,7 +7,7 @@ use mathlib.Core.Path.{◌≡◌, sym, ap, ◌∙◌}
 use mathlib.Core.Logic.{⊎_elim}
 use mathlib.Core.Bool.{true}
 use lib.ListN.{length, drop}
-use Rattle.records.specs.Places.{isReadable, places_of, descriptorHead, headPlace}
+use Rattle.records.specs.Places.{is_readable, places_of, descriptor_head, head_place}
 use Rattle.records.proofs.Readings.{part-readable, reads-readable}
 use Rattle.records.proofs.Searches.{places_at, places-all, meets, head-default, head-named, head-end, head-member, head-here, head-other}
 use Rattle.records.proofs.find_head.Statement.{statement}
@@ -18,7 +18,7 @@ use Rattle.records.proofs.next_record.Reads as next-record-reads
 use Rattle.records.proofs.opens_set.Reads as opens-set-reads
 
 abbrev invariant-loop : tie.invariant-loop
-invariant-loop s name i₀ i = (i ≤ length s) × (isReadable (drop i s) ≡ true) × (headPlace name (places_of s) ≡ descriptorHead name (places_at s i))
+invariant-loop s name i₀ i = (i ≤ length s) × (is_readable (drop i s) ≡ true) × (head_place name (places_of s) ≡ descriptor_head name (places_at s i))
 
 abbrev decreases-loop : tie.decreases-loop
 decreases-loop s name i₀ i = length s - i
@@ -34,7 +34,7 @@ loop-holds c =
     let at_pre = c.before.before.before.requires in
     let at-args = c.before.before.before.args in
     let at-if1 = c.if1 in
-    (omega arith, at_pre, head-named at-args.name.now (places_of at-args.s.now) at-if1.false ∙ ap (descriptorHead at-args.name.now) (places-all at-args.s.now))
+    (omega arith, at_pre, head-named at-args.name.now (places_of at-args.s.now) at-if1.false ∙ ap (descriptor_head at-args.name.now) (places-all at-args.s.now))
 
 sub-next-record : tie.Need-overflow-sub-next-record invariant-loop decreases-loop
 sub-next-record c = search rules

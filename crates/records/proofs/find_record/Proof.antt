@@ -6,7 +6,7 @@ use native.Mathlib.Omega.{arith}
 use mathlib.Core.Path.{◌≡◌, sym, ap, ◌∙◌}
 use mathlib.Core.Bool.{true}
 use lib.ListN.{length, drop}
-use Rattle.records.specs.Places.{isReadable, places_of, recordPlace}
+use Rattle.records.specs.Places.{is_readable, places_of, record_place}
 use Rattle.records.proofs.Readings.{part-readable}
 use Rattle.records.proofs.Searches.{places_at, places-all, meets, record-end, record-stops, record-here, record-later}
 use Rattle.records.proofs.find_record.Statement.{statement}
@@ -16,7 +16,7 @@ use Rattle.records.proofs.find_record.Lts as lts
 use Rattle.records.proofs.next_record.Reads as next-record-reads
 
 abbrev invariant-loop : tie.invariant-loop
-invariant-loop s k i₀ left₀ i left = (i ≤ length s) × (isReadable (drop i s) ≡ true) × (recordPlace (places_of s) k ≡ recordPlace (places_at s i) left)
+invariant-loop s k i₀ left₀ i left = (i ≤ length s) × (is_readable (drop i s) ≡ true) × (record_place (places_of s) k ≡ record_place (places_at s i) left)
 
 abbrev decreases-loop : tie.decreases-loop
 decreases-loop s k i₀ left₀ i left = length s - i
@@ -25,7 +25,7 @@ loop-holds : tie.Need-loop-init invariant-loop decreases-loop
 loop-holds c =
     let at_pre = c.before.requires in
     let at-args = c.before.args in
-    (omega arith, at_pre, ap (λ ps. recordPlace ps at-args.k) (places-all at-args.s.now))
+    (omega arith, at_pre, ap (λ ps. record_place ps at-args.k) (places-all at-args.s.now))
 
 sub-next-record : tie.Need-overflow-sub-next-record invariant-loop decreases-loop
 sub-next-record c = search rules

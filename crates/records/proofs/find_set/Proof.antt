@@ -1,6 +1,6 @@
 -- `records::find_set` meets its contract: the set behind the head that is found.
 use mathlib.Core.Path.{sym, ap, ◌∙◌}
-use Rattle.records.specs.Sets.{setFound, setPlace}
+use Rattle.records.specs.Sets.{set_found, set_place}
 use Rattle.records.specs.declared.FoundSet.{FoundSet}
 use Rattle.records.proofs.Members.{head-told}
 use borrow.Author.Rules.{rules}
@@ -29,21 +29,21 @@ enum_told : tie.Need-enum-told
 enum_told c = search rules
 
 returns : tie.Need-returns
-unfolding setPlace
+unfolding set_place
 returns c =
     let at-set-behind = c.set-behind in
     let at-args = c.before.before.before.before.before.before.before.args in
     let at-h = c.before.before.h in
     let at-find-head = c.before.before.before.before.find-Head in
-    ap FoundSet.At at-set-behind.ensures ∙ ap (setFound at-args.s.now) (sym at-h.given.1 ∙ at-find-head.ensures)
+    ap FoundSet.At at-set-behind.ensures ∙ ap (set_found at-args.s.now) (sym at-h.given.1 ∙ at-find-head.ensures)
 
 returns-2 : tie.Need-returns-2
-unfolding setPlace
+unfolding set_place
 returns-2 c =
     let at-args = c.before.before.before.before.before.args in
     let at-enum-told = c.enum_told in
     let at-find-head = c.before.before.find-Head in
-    ap (setFound at-args.s.now) (sym at-enum-told.given.1 ∙ at-find-head.ensures)
+    ap (set_found at-args.s.now) (sym at-enum-told.given.1 ∙ at-find-head.ensures)
 
 pub find-set-spec : {M : Type 1} → statement M
 find-set-spec =

@@ -7,9 +7,9 @@ use mathlib.Core.Path.{◌≡◌, refl, sym, ◌∙◌}
 use mathlib.Core.Bool.{true}
 use lib.ListN.{length, drop}
 use borrow.Author.Tests.{eq-eqb, ne_eqb}
-use Rattle.format.specs.Lines.{isEnded}
+use Rattle.format.specs.Lines.{is_ended}
 use Rattle.lines.proofs.Cuts.{rest, ended-drop}
-use Rattle.records.specs.Places.{isReadable}
+use Rattle.records.specs.Places.{is_readable}
 use Rattle.records.proofs.Looks.{last-ended, empty-readable, open-unreadable, looks}
 use Rattle.records.proofs.is_readable.Statement.{statement}
 use Rattle.records.proofs.is_readable.Tie as tie
@@ -19,7 +19,7 @@ use Rattle.lines.proofs.next_piece.Reads as next-piece-reads
 use Rattle.format.proofs.classes.Reads as classes-reads
 
 abbrev invariant-loop : tie.invariant-loop
-invariant-loop s table len i₀ i = (i ≤ length s) × (isEnded s ≡ true) × (isReadable s ≡ isReadable (drop i s))
+invariant-loop s table len i₀ i = (i ≤ length s) × (is_ended s ≡ true) × (is_readable s ≡ is_readable (drop i s))
 
 abbrev decreases-loop : tie.decreases-loop
 decreases-loop s table len i₀ i = length s - i

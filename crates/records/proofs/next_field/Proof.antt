@@ -6,7 +6,7 @@ use native.Mathlib.Omega.{arith}
 use mathlib.Core.Path.{◌≡◌, ◌∙◌}
 use mathlib.Core.Bool.{true}
 use lib.ListN.{length, drop}
-use Rattle.records.specs.Places.{isReadable}
+use Rattle.records.specs.Places.{is_readable}
 use Rattle.records.specs.Fields.{Fieldless}
 use Rattle.records.proofs.Readings.{part-ended}
 use Rattle.records.proofs.Walks.{blank-loose, comment-loose}
@@ -19,7 +19,7 @@ use Rattle.records.proofs.next_field.Lts as lts
 use Rattle.lines.proofs.read_piece.Reads as read-piece-reads
 
 abbrev invariant-loop : tie.invariant-loop
-invariant-loop s i₀ i = (i ≤ length s) × (isReadable (drop i s) ≡ true) × Fieldless s 0 i
+invariant-loop s i₀ i = (i ≤ length s) × (is_readable (drop i s) ≡ true) × Fieldless s 0 i
 
 abbrev decreases-loop : tie.decreases-loop
 decreases-loop s i₀ i = length s - i

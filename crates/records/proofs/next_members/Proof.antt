@@ -6,8 +6,8 @@ use native.Mathlib.Omega.{arith}
 use mathlib.Core.Path.{◌≡◌, ap, sym, ◌∙◌}
 use mathlib.Core.Bool.{true}
 use lib.ListN.{length, drop}
-use Rattle.records.specs.Places.{isReadable, places_of, countBefore}
-use Rattle.records.specs.Sets.{setEnd}
+use Rattle.records.specs.Places.{is_readable, places_of, count_before}
+use Rattle.records.specs.Sets.{set_end}
 use Rattle.records.proofs.Readings.{part-readable}
 use Rattle.records.proofs.Searches.{places_at, places-all, meets, count-end, count-stops, count-more}
 use Rattle.records.proofs.SetEnds.{end-nothing, end-stops, end_later}
@@ -18,7 +18,7 @@ use Rattle.records.proofs.next_members.Lts as lts
 use Rattle.records.proofs.next_record.Reads as next-record-reads
 
 abbrev invariant-loop : tie.invariant-loop
-invariant-loop s end₀ count₀ end count = (end ≤ length s) × (isReadable (drop end s) ≡ true) × (count ≤ end) × (countBefore (places_of s) ≡ count + countBefore (places_at s end)) × (setEnd 0 (places_of s) ≡ setEnd end (places_at s end))
+invariant-loop s end₀ count₀ end count = (end ≤ length s) × (is_readable (drop end s) ≡ true) × (count ≤ end) × (count_before (places_of s) ≡ count + count_before (places_at s end)) × (set_end 0 (places_of s) ≡ set_end end (places_at s end))
 
 abbrev decreases-loop : tie.decreases-loop
 decreases-loop s end₀ count₀ end count = length s - end
@@ -27,7 +27,7 @@ loop-holds : tie.Need-loop-init invariant-loop decreases-loop
 loop-holds c =
     let at_pre = c.before.requires in
     let at-args = c.before.args in
-    (omega arith, at_pre, omega arith, omega (arith, ap countBefore (places-all at-args.s.now)), ap (setEnd 0) (places-all at-args.s.now))
+    (omega arith, at_pre, omega arith, omega (arith, ap count_before (places-all at-args.s.now)), ap (set_end 0) (places-all at-args.s.now))
 
 sub-next-record : tie.Need-overflow-sub-next-record invariant-loop decreases-loop
 sub-next-record c = search rules
@@ -57,8 +57,8 @@ returns c =
     let at-next-record = c.before.before.next-record in
     let at-enum-told = c.enum_told in
     let m = meets at-args.s.now at-loop.end at-next-record.result at-loop.invariant.0 at-loop.invariant.1 at-next-record.ensures at-enum-told.given.1 in
-    let n : at-loop.count ≡ countBefore (places_of at-args.s.now) = omega (arith, at-loop.invariant.3, count-end at-args.s.now at-loop.end m) in
-    let e : at-loop.end ≡ setEnd 0 (places_of at-args.s.now) = sym (at-loop.invariant.4 ∙ end-nothing at-args.s.now at-loop.end m) in
+    let n : at-loop.count ≡ count_before (places_of at-args.s.now) = omega (arith, at-loop.invariant.3, count-end at-args.s.now at-loop.end m) in
+    let e : at-loop.end ≡ set_end 0 (places_of at-args.s.now) = sym (at-loop.invariant.4 ∙ end-nothing at-args.s.now at-loop.end m) in
     λ i. record { count = n i; end = e i }
 
 returns-2 : tie.Need-returns-2 invariant-loop decreases-loop
@@ -69,8 +69,8 @@ returns-2 c =
     let at-r = c.before.before.r in
     let at-if1 = c.if1 in
     let m = meets at-args.s.now at-loop.end at-next-record.result at-loop.invariant.0 at-loop.invariant.1 at-next-record.ensures at-r.given.1 in
-    let n : at-loop.count ≡ countBefore (places_of at-args.s.now) = omega (arith, at-loop.invariant.3, count-stops at-args.s.now at-loop.end at-r.given.0.0 m at-if1.true) in
-    let e : at-loop.end ≡ setEnd 0 (places_of at-args.s.now) = sym (at-loop.invariant.4 ∙ end-stops at-args.s.now at-loop.end at-r.given.0.0 m at-if1.true) in
+    let n : at-loop.count ≡ count_before (places_of at-args.s.now) = omega (arith, at-loop.invariant.3, count-stops at-args.s.now at-loop.end at-r.given.0.0 m at-if1.true) in
+    let e : at-loop.end ≡ set_end 0 (places_of at-args.s.now) = sym (at-loop.invariant.4 ∙ end-stops at-args.s.now at-loop.end at-r.given.0.0 m at-if1.true) in
     λ i. record { count = n i; end = e i }
 
 add-count : tie.Need-overflow-add-count invariant-loop decreases-loop

@@ -6,7 +6,7 @@ use native.Mathlib.Omega.{arith}
 use mathlib.Core.Path.{◌≡◌, sym, ◌∙◌}
 use mathlib.Core.Bool.{true}
 use lib.ListN.{length, drop}
-use Rattle.records.specs.Places.{isReadable}
+use Rattle.records.specs.Places.{is_readable}
 use Rattle.records.proofs.Readings.{part-readable}
 use Rattle.records.proofs.NextFields.{next-told}
 use Rattle.records.proofs.Named.{Unnamed, unnamed-none, unnamed-on, named-missing, named_here}
@@ -18,7 +18,7 @@ use Rattle.lines.proofs.same_bytes.Reads as same-bytes-reads
 use Rattle.records.proofs.next_field.Reads as next-field-reads
 
 abbrev invariant-loop : tie.invariant-loop
-invariant-loop s name i₀ i = (i ≤ length s) × (isReadable (drop i s) ≡ true) × Unnamed s name i
+invariant-loop s name i₀ i = (i ≤ length s) × (is_readable (drop i s) ≡ true) × Unnamed s name i
 
 abbrev decreases-loop : tie.decreases-loop
 decreases-loop s name i₀ i = length s - i

@@ -6,8 +6,8 @@ use native.Mathlib.Omega.{arith}
 use mathlib.Core.Path.{◌≡◌, ap, sym, ◌∙◌}
 use mathlib.Core.Bool.{true}
 use lib.ListN.{length, drop}
-use Rattle.records.specs.Places.{isReadable, places_of}
-use Rattle.records.specs.Sets.{firstSet}
+use Rattle.records.specs.Places.{is_readable, places_of}
+use Rattle.records.specs.Sets.{first_set}
 use Rattle.records.proofs.Readings.{part-readable}
 use Rattle.records.proofs.Searches.{places_at, places-all, meets}
 use Rattle.records.proofs.Sets.{members-inside, set-none, set_here, set-later}
@@ -19,7 +19,7 @@ use Rattle.records.proofs.next_members.Reads as next-members-reads
 use Rattle.records.proofs.next_record.Reads as next-record-reads
 
 abbrev invariant-loop : tie.invariant-loop
-invariant-loop s i₀ i = (i ≤ length s) × (isReadable (drop i s) ≡ true) × (firstSet (places_of s) ≡ firstSet (places_at s i))
+invariant-loop s i₀ i = (i ≤ length s) × (is_readable (drop i s) ≡ true) × (first_set (places_of s) ≡ first_set (places_at s i))
 
 abbrev decreases-loop : tie.decreases-loop
 decreases-loop s i₀ i = length s - i
@@ -28,7 +28,7 @@ loop-holds : tie.Need-loop-init invariant-loop decreases-loop
 loop-holds c =
     let at_pre = c.before.requires in
     let at-args = c.before.args in
-    (omega arith, at_pre, ap firstSet (places-all at-args.s.now))
+    (omega arith, at_pre, ap first_set (places-all at-args.s.now))
 
 sub-next-record : tie.Need-overflow-sub-next-record invariant-loop decreases-loop
 sub-next-record c = search rules

@@ -7,7 +7,7 @@ use mathlib.Core.Path.{◌≡◌, refl, sym, ◌∙◌}
 use mathlib.Core.Bool.{true}
 use lib.ListN.{length, drop}
 use Rattle.format.specs.Pieces.{read_of}
-use Rattle.records.specs.Places.{isReadable}
+use Rattle.records.specs.Places.{is_readable}
 use Rattle.records.specs.Walk.{run_from}
 use Rattle.records.proofs.Readings.{part-ended}
 use Rattle.records.proofs.Steps.{part-formed, steps, run_none, run-blank, run-comment, run-field}
@@ -19,7 +19,7 @@ use Rattle.lines.proofs.read_piece.Reads as read-piece-reads
 use Rattle.records.proofs.is_rec.Reads as is-rec-reads
 
 abbrev invariant-loop : tie.invariant-loop
-invariant-loop s described end₀ i₀ descriptor₀ end i descriptor = (i ≤ length s) × (isReadable (drop i s) ≡ true) × (run_from 0 0 described (read_of s) ≡ run_from i end descriptor (read_of (drop i s)))
+invariant-loop s described end₀ i₀ descriptor₀ end i descriptor = (i ≤ length s) × (is_readable (drop i s) ≡ true) × (run_from 0 0 described (read_of s) ≡ run_from i end descriptor (read_of (drop i s)))
 
 abbrev decreases-loop : tie.decreases-loop
 decreases-loop s described end₀ i₀ descriptor₀ end i descriptor = length s - i

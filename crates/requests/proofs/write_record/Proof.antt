@@ -3,10 +3,10 @@ use Prim.Native.Nat.{ℕ}
 use native.Mathlib.Omega.{arith}
 use mathlib.Core.Path.{sym, ap, ◌∙◌}
 use lib.ListN.{length}
-use Rattle.format.specs.Written.{writtenAll}
-use Rattle.requests.specs.Pairs.{pairsAt}
+use Rattle.format.specs.Written.{written_all}
+use Rattle.requests.specs.Pairs.{pairs_at}
 use Rattle.requests.proofs.Weighing.{asked-fits}
-use Rattle.requests.proofs.Filling.{filledAs, filled-refused, filled-written, write-fault, write-other, write-insert, request-found, request-missed, insert-inside, request-bytes}
+use Rattle.requests.proofs.Filling.{filled_as, filled-refused, filled-written, write-fault, write-other, write-insert, request-found, request-missed, insert-inside, request-bytes}
 use borrow.Author.Rules.{rules}
 use Rattle.requests.proofs.write_record.Statement.{statement}
 use Rattle.requests.proofs.write_record.Tie as tie
@@ -62,7 +62,7 @@ returns-3 c =
     let at-if1 = c.if1 in
     let at-q = c.before.before.before.before.before.before.q in
     let at-request-of = c.before.before.before.before.before.before.before.before.request-of in
-    filled-refused at-write-no.result (writtenAll (pairsAt at-args.req.now at-edit.given.0.0)) at-args.out.now at-if1.true ∙ ap (λ (n : ℕ). filledAs n (writtenAll (pairsAt at-args.req.now at-edit.given.0.0)) at-args.out.now) at-write-no.ensures ∙ write-insert at-args.req.now at-args.out.now at-q.given.0.0 (request-found at-args.req.now at-request-of.result at-q.given.0.0 at-request-of.ensures.0 at-q.given.1) at-edit.given.0.0 at-edit.given.1
+    filled-refused at-write-no.result (written_all (pairs_at at-args.req.now at-edit.given.0.0)) at-args.out.now at-if1.true ∙ ap (λ (n : ℕ). filled_as n (written_all (pairs_at at-args.req.now at-edit.given.0.0)) at-args.out.now) at-write-no.ensures ∙ write-insert at-args.req.now at-args.out.now at-q.given.0.0 (request-found at-args.req.now at-request-of.result at-q.given.0.0 at-request-of.ensures.0 at-q.given.1) at-edit.given.0.0 at-edit.given.1
 
 put-pairs-requires : tie.Need-put-pairs-requires
 put-pairs-requires c κs =
@@ -72,7 +72,7 @@ put-pairs-requires c κs =
     let at-edit = c.before.before.before.before.edit in
     let at-write-no = c.before.before.write-no in
     let at-if1 = c.before.if1 in
-    let h = insert-inside at-args.req.now at-request-of.result at-q.given.0.0 at-edit.given.0.0 at-request-of.ensures.1 at-q.given.1 at-edit.given.1 in (h.1, asked-fits (pairsAt at-args.req.now at-edit.given.0.0) (length at-args.out.now) (sym at-write-no.ensures ∙ at-if1.false))
+    let h = insert-inside at-args.req.now at-request-of.result at-q.given.0.0 at-edit.given.0.0 at-request-of.ensures.1 at-q.given.1 at-edit.given.1 in (h.1, asked-fits (pairs_at at-args.req.now at-edit.given.0.0) (length at-args.out.now) (sym at-write-no.ensures ∙ at-if1.false))
 
 same_length : tie.Need-same-length
 same_length c = search rules
@@ -86,7 +86,7 @@ returns-4 c =
     let at-if1 = c.before.before.before.before.if1 in
     let at-q = c.before.before.before.before.before.before.before.before.before.before.q in
     let at-request-of = c.before.before.before.before.before.before.before.before.before.before.before.before.request-of in
-    filled-written at-write-no.result at-put-pairs.result (writtenAll (pairsAt at-args.req.now at-edit.given.0.0)) at-args.out.now at-put-pairs.new.1.1.0 at-put-pairs.ensures.0 at-put-pairs.ensures.1 at-if1.false ∙ ap (λ (n : ℕ). filledAs n (writtenAll (pairsAt at-args.req.now at-edit.given.0.0)) at-args.out.now) at-write-no.ensures ∙ write-insert at-args.req.now at-args.out.now at-q.given.0.0 (request-found at-args.req.now at-request-of.result at-q.given.0.0 at-request-of.ensures.0 at-q.given.1) at-edit.given.0.0 at-edit.given.1
+    filled-written at-write-no.result at-put-pairs.result (written_all (pairs_at at-args.req.now at-edit.given.0.0)) at-args.out.now at-put-pairs.new.1.1.0 at-put-pairs.ensures.0 at-put-pairs.ensures.1 at-if1.false ∙ ap (λ (n : ℕ). filled_as n (written_all (pairs_at at-args.req.now at-edit.given.0.0)) at-args.out.now) at-write-no.ensures ∙ write-insert at-args.req.now at-args.out.now at-q.given.0.0 (request-found at-args.req.now at-request-of.result at-q.given.0.0 at-request-of.ensures.0 at-q.given.1) at-edit.given.0.0 at-edit.given.1
 
 pub write-record-spec : {M : Type 1} → statement M
 write-record-spec =

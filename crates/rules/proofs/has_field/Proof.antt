@@ -8,7 +8,7 @@ use lib.Dec.{eqb}
 use lib.ListN.{length}
 use borrow.Author.Tests.{ne_eqb}
 use Rattle.format.specs.Bytes.{Bytes}
-use Rattle.records.specs.Named.{valuesFrom, NamedNext}
+use Rattle.records.specs.Named.{values_from, NamedNext}
 use Rattle.rules.proofs.has_field.Statement.{statement}
 use Rattle.rules.proofs.has_field.Tie as tie
 use Rattle.rules.proofs.has_field.Reads as reads
@@ -32,7 +32,7 @@ returns c =
     let at-next-named = c.before.before.next-named in
     let at-enum-told = c.enum_told in
     let h = (subst (NamedNext at-args.d.now at-args.name.now 0) at-enum-told.given.1 at-next-named.ensures).value in
-    sym (ap not (ne_eqb (length (valuesFrom at-args.d.now at-args.name.now 0)) 0 (λ z. omega (arith, ap length h.values))))
+    sym (ap not (ne_eqb (length (values_from at-args.d.now at-args.name.now 0)) 0 (λ z. omega (arith, ap length h.values))))
 
 returns-2 : tie.Need-returns-2
 returns-2 c =

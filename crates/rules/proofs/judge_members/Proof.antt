@@ -4,8 +4,8 @@ use Prim.Native.Nat.{ℕ}
 use mathlib.Core.Path.{◌≡◌, sym, ◌∙◌, subst}
 use mathlib.Core.Bool.{true}
 use Rattle.format.specs.Bytes.{all}
-use Rattle.records.specs.Walk.{recordIn}
-use Rattle.rules.specs.Members.{fitsIn}
+use Rattle.records.specs.Walk.{record_in}
+use Rattle.rules.specs.Members.{fits_in}
 use Rattle.rules.proofs.Granted.{key-there}
 use Rattle.rules.proofs.judge_members.Statement.{statement}
 use Rattle.rules.proofs.judge_members.Tie as tie
@@ -42,7 +42,7 @@ judge-records-requires c κs =
     let at-args = c.before.before.before.before.before.before.before.before.before.before.before.before.before.before.args in
     let at-has-field2 = c.before.before.has-field2 in
     let at-scratch = c.before.before.before.before.before.before.before.scratch in
-    ((record { described = at_pre.0; kinds-are = at_read.ensures; limited-is = at-has-field.ensures; keyed-is = key-there at-args.d.now at_pre.0 at-has-field2.result at-has-field2.ensures }, ((at_pre.1.0.0, at_pre.1.0.1, subst (λ (n : ℕ). all (fitsIn n) (recordIn at-args.part.now) ≡ true) (sym at-scratch.given) at_pre.1.0.2), at_pre.1.1.1)))
+    ((record { described = at_pre.0; kinds-are = at_read.ensures; limited-is = at-has-field.ensures; keyed-is = key-there at-args.d.now at_pre.0 at-has-field2.result at-has-field2.ensures }, ((at_pre.1.0.0, at_pre.1.0.1, subst (λ (n : ℕ). all (fits_in n) (record_in at-args.part.now) ≡ true) (sym at-scratch.given) at_pre.1.0.2), at_pre.1.1.1)))
 
 same_length : tie.Need-same-length
 same_length c =

@@ -9,8 +9,8 @@ use Rattle.format.specs.Bytes.{all}
 use Rattle.format.specs.Pieces.{read_of}
 use Rattle.format.proofs.Least.{least}
 use Rattle.format.proofs.Records.{records}
-use Rattle.records.specs.Walk.{recordIn}
-use Rattle.rules.specs.Members.{fitsIn, partNo}
+use Rattle.records.specs.Walk.{record_in}
+use Rattle.rules.specs.Members.{fits_in, part_no}
 use Rattle.rules.proofs.Chunks.{chunk-more, chunk-last, part-all}
 use Rattle.rules.proofs.judge_records.Statement.{statement}
 use Rattle.rules.proofs.judge_records.Tie as tie
@@ -21,7 +21,7 @@ use Rattle.rules.proofs.questions.lesser.Reads as lesser-reads
 
 abbrev invariant-loop : tie.invariant-loop
 invariant-loop d b part scratch₀ entries₀ count from₀ worst₀ scratch entries from worst =
-    (length scratch ≡ length scratch₀) × (length entries ≡ length entries₀) × (from ≤ b.kinds.count) × (least worst (partNo d from (b.kinds.count - from) (records (read_of part))) ≡ partNo d 0 b.kinds.count (records (read_of part)))
+    (length scratch ≡ length scratch₀) × (length entries ≡ length entries₀) × (from ≤ b.kinds.count) × (least worst (part_no d from (b.kinds.count - from) (records (read_of part))) ≡ part_no d 0 b.kinds.count (records (read_of part)))
 
 abbrev decreases-loop : tie.decreases-loop
 decreases-loop d b part scratch₀ entries₀ count from₀ worst₀ scratch entries from worst =
@@ -30,14 +30,14 @@ decreases-loop d b part scratch₀ entries₀ count from₀ worst₀ scratch ent
 loop-holds : tie.Need-loop-init invariant-loop decreases-loop
 loop-holds c =
     let at-args = c.before.before.before.before.before.args in
-    (refl, refl, omega arith, ap (λ (j : ℕ). partNo at-args.d.now 0 j (records (read_of at-args.part.now))) (let e : at-args.b.kinds.count - 0 ≡ at-args.b.kinds.count = omega arith in e))
+    (refl, refl, omega arith, ap (λ (j : ℕ). part_no at-args.d.now 0 j (records (read_of at-args.part.now))) (let e : at-args.b.kinds.count - 0 ≡ at-args.b.kinds.count = omega arith in e))
 
 judge-rows-requires : tie.Need-judge-rows-requires invariant-loop decreases-loop
 judge-rows-requires c κs =
     let at_pre = c.before.before.before.before.before.before.before.before.requires in
     let at-loop = c.before.before.loop in
     let at-args = c.before.before.before.before.before.before.before.before.args in
-    (((at_pre.0, at-loop.invariant.2), ((at_pre.1.0.0, at_pre.1.0.1, subst (λ (n : ℕ). all (fitsIn n) (recordIn at-args.part.now) ≡ true) (sym at-loop.invariant.0) at_pre.1.0.2), omega (arith, at-loop.invariant.1, at_pre.1.1))))
+    (((at_pre.0, at-loop.invariant.2), ((at_pre.1.0.0, at_pre.1.0.1, subst (λ (n : ℕ). all (fits_in n) (record_in at-args.part.now) ≡ true) (sym at-loop.invariant.0) at_pre.1.0.2), omega (arith, at-loop.invariant.1, at_pre.1.1))))
 
 lesser-requires : tie.Need-lesser-requires invariant-loop decreases-loop
 lesser-requires c κs = search rules

@@ -6,7 +6,7 @@ use lib.ListN.{length}
 use borrow.Rule.Slice.PartMut.{mid_len}
 use Rattle.format.specs.Pieces.{read_of}
 use Rattle.format.proofs.Records.{records}
-use Rattle.rules.specs.Tables.{symbolsAt, entriesEnd}
+use Rattle.rules.specs.Tables.{symbols_at, entries_end}
 use Rattle.rules.proofs.Rulebooks.{next-few, texts-to, rulebook, chunked}
 use borrow.Author.Rules.{rules}
 use Rattle.rules.proofs.judge_rows.Statement.{statement}
@@ -45,7 +45,7 @@ read-requires-2 c κs =
     let d = at-args.d.now in
     let few = next-few d at-args.b at_pre.0.0 at-args.from at_read.new.1.1.0 at_read.new.1.1.1.0 at_read.result at_read.ensures.0 at_read.ensures.1 in
     let to = texts-to d at-args.b at_pre.0.0 at-args.from at_read.new.1.1.0 at_read.new.1.1.1.0 at_read.result at_read.ensures.0 at_read.ensures.1 in
-    let long = mid_len symbolsAt entriesEnd at_read.new.1.1.0 at_read.ensures.0.entries-long in
+    let long = mid_len symbols_at entries_end at_read.new.1.1.0 at_read.ensures.0.entries-long in
     ((at_pre.0.0.described.short, omega (arith, at_read.ensures.1, at_read.ensures.0.names-are.begins), few.1, omega (arith, few.1, at_pre.0.0.kinds-are.texts-long)), (to, omega (arith, long)))
 
 slice-aggregate-judge-part : tie.Need-slice-aggregate-judge-part
@@ -60,7 +60,7 @@ judge-part-requires c κs =
     let d = at-args.d.now in
     let l = at_read.new.1.1.0 in
     let sets = at_read.new.1.1.1.0 in
-    let long : length at-read2.new.1.1.1.1.0 ≡ entriesEnd - symbolsAt = at-read2.auto.1.1.1.1.0 ∙ mid_len symbolsAt entriesEnd l at_read.ensures.0.entries-long in
+    let long : length at-read2.new.1.1.1.1.0 ≡ entries_end - symbols_at = at-read2.auto.1.1.1.1.0 ∙ mid_len symbols_at entries_end l at_read.ensures.0.entries-long in
     (rulebook d at-args.b at_pre.0.0 at-args.from l sets at_read.result at_read.ensures.0 at_read.ensures.1 at-read2.new.1.1.1.1.0 long at-read2.result at-read2.ensures.0 at-read2.ensures.1, at_pre.1.0)
 
 same_length : tie.Need-same-length
@@ -79,7 +79,7 @@ returns c =
     let d = at-args.d.now in
     let l = at_read.new.1.1.0 in
     let sets = at_read.new.1.1.1.0 in
-    let long : length at-read2.new.1.1.1.1.0 ≡ entriesEnd - symbolsAt = at-read2.auto.1.1.1.1.0 ∙ mid_len symbolsAt entriesEnd l at_read.ensures.0.entries-long in
+    let long : length at-read2.new.1.1.1.1.0 ≡ entries_end - symbols_at = at-read2.auto.1.1.1.1.0 ∙ mid_len symbols_at entries_end l at_read.ensures.0.entries-long in
     chunked d at-args.b at_pre.0.0 at-args.from l sets at_read.result at_read.ensures.0 at_read.ensures.1 at-read2.new.1.1.1.1.0 long at-read2.result at-read2.ensures.0 at-read2.ensures.1 (records (read_of at-args.part.now)) _ refl at-judge-part.ensures.0 at-judge-part.ensures.1
 
 pub judge-rows-spec : {M : Type 1} → statement M

@@ -4,7 +4,7 @@ use native.Mathlib.Omega.{arith}
 use lib.ListN.{length}
 use Rattle.format.specs.Pieces.{read_of}
 use Rattle.format.proofs.Records.{records}
-use Rattle.records.specs.Walk.{recordIn}
+use Rattle.records.specs.Walk.{record_in}
 use Rattle.rules.proofs.Granted.{described-by, values-fit}
 use Rattle.rules.proofs.Keys.{have-keys}
 use Rattle.rules.proofs.Whole.{set-stops, set-whole}
@@ -32,7 +32,7 @@ returns c =
     let at-args = c.before.before.before.before.before.before.before.before.before.before.before.before.before.args in
     let at-judge-members = c.before.before.before.before.before.before.judge-members in
     let at-if1 = c.if1 in
-    set-stops (recordIn at-args.d.now) (records (read_of at-args.part.now)) at-judge-members.result.number at-judge-members.ensures.number_is at-if1.true
+    set-stops (record_in at-args.d.now) (records (read_of at-args.part.now)) at-judge-members.result.number at-judge-members.ensures.number_is at-if1.true
 
 judge-whole-requires : tie.Need-judge-whole-requires
 judge-whole-requires c κs =
@@ -42,7 +42,7 @@ judge-whole-requires c κs =
     let at-if1 = c.before.before.if1 in
     let at-scratch = c.before.before.before.before.before.before.before.scratch in
     let at-entries = c.before.before.before.before.before.entries in
-    (((at_pre.0.0, at_pre.0.1, at-judge-members.ensures.count-is), ((at_pre.1.0.0, at_pre.1.0.1, have-keys (recordIn at-args.d.now) (records (read_of at-args.part.now)) at-judge-members.result.number at-judge-members.ensures.number_is at-if1.false), (omega (arith, at-scratch.given, at_pre.1.1.0), omega (arith, at-entries.given, at_pre.1.1.1)))))
+    (((at_pre.0.0, at_pre.0.1, at-judge-members.ensures.count-is), ((at_pre.1.0.0, at_pre.1.0.1, have-keys (record_in at-args.d.now) (records (read_of at-args.part.now)) at-judge-members.result.number at-judge-members.ensures.number_is at-if1.false), (omega (arith, at-scratch.given, at_pre.1.1.0), omega (arith, at-entries.given, at_pre.1.1.1)))))
 
 same-length-3 : tie.Need-same-length-3
 same-length-3 c = search rules
@@ -56,7 +56,7 @@ returns-2 c =
     let at-judge-members = c.before.before.before.before.before.before.before.before.before.before.before.before.before.judge-members in
     let at-if1 = c.before.before.before.before.before.before.before.if1 in
     let at-judge-whole = c.before.before.before.before.judge-whole in
-    set-whole (recordIn at-args.d.now) (records (read_of at-args.part.now)) at-judge-members.result.number at-judge-members.ensures.number_is at-if1.false at-judge-whole.result at-judge-whole.ensures
+    set-whole (record_in at-args.d.now) (records (read_of at-args.part.now)) at-judge-members.result.number at-judge-members.ensures.number_is at-if1.false at-judge-whole.result at-judge-whole.ensures
 
 pub judge-set-spec : {M : Type 1} → statement M
 judge-set-spec =

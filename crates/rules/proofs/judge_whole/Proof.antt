@@ -4,7 +4,7 @@ use mathlib.Core.Path.{◌∙◌}
 use borrow.Author.Tests.{not-true, not-false}
 use Rattle.format.specs.Pieces.{read_of}
 use Rattle.format.proofs.Records.{records}
-use Rattle.records.specs.Walk.{recordIn}
+use Rattle.records.specs.Walk.{record_in}
 use Rattle.rules.proofs.Granted.{described-by}
 use Rattle.rules.proofs.Keys.{singular-part}
 use Rattle.rules.proofs.Whole.{keys-stop, size-stop, singular-stop, whole-passes}
@@ -33,7 +33,7 @@ returns c =
     let at-args = c.before.before.before.before.before.before.before.before.before.before.before.before.args in
     let at-keys-apart = c.before.before.before.before.before.keys-apart in
     let at-if1 = c.if1 in
-    keys-stop (recordIn at-args.d.now) (records (read_of at-args.part.now)) at-keys-apart.result at-keys-apart.ensures (not-true at-keys-apart.result at-if1.true)
+    keys-stop (record_in at-args.d.now) (records (read_of at-args.part.now)) at-keys-apart.result at-keys-apart.ensures (not-true at-keys-apart.result at-if1.true)
 
 size-met-requires : tie.Need-size-met-requires
 size-met-requires c κs =
@@ -55,7 +55,7 @@ returns-2 c =
     let at_pre = c.before.before.before.before.before.before.before.before.before.before.before.before.before.before.before.before.before.requires in
     let at-size-met = c.before.before.before.size-met in
     let at-if2 = c.if2 in
-    size-stop (recordIn at-args.d.now) (records (read_of at-args.part.now)) at-keys-apart.result at-keys-apart.ensures (not-false at-keys-apart.result at-if1.false) at-args.count at_pre.0.2 at-size-met.result at-size-met.ensures.0 (not-true at-size-met.result at-if2.true)
+    size-stop (record_in at-args.d.now) (records (read_of at-args.part.now)) at-keys-apart.result at-keys-apart.ensures (not-false at-keys-apart.result at-if1.false) at-args.count at_pre.0.2 at-size-met.result at-size-met.ensures.0 (not-true at-size-met.result at-if2.true)
 
 values-apart-requires : tie.Need-values-apart-requires
 values-apart-requires c κs =
@@ -80,7 +80,7 @@ returns-3 c =
     let at-if2 = c.before.before.before.before.before.if2 in
     let at-values-apart = c.before.before.before.values-apart in
     let at-if3 = c.if3 in
-    singular-stop (recordIn at-args.d.now) (records (read_of at-args.part.now)) at-keys-apart.result at-keys-apart.ensures (not-false at-keys-apart.result at-if1.false) at-args.count at_pre.0.2 at-size-met.result at-size-met.ensures.0 (not-false at-size-met.result at-if2.false) at-values-apart.result (at-values-apart.ensures ∙ singular-part (recordIn at-args.d.now) at-args.part.now) (not-true at-values-apart.result at-if3.true)
+    singular-stop (record_in at-args.d.now) (records (read_of at-args.part.now)) at-keys-apart.result at-keys-apart.ensures (not-false at-keys-apart.result at-if1.false) at-args.count at_pre.0.2 at-size-met.result at-size-met.ensures.0 (not-false at-size-met.result at-if2.false) at-values-apart.result (at-values-apart.ensures ∙ singular-part (record_in at-args.d.now) at-args.part.now) (not-true at-values-apart.result at-if3.true)
 
 same-length-7 : tie.Need-same-length-7
 same-length-7 c = search rules
@@ -98,7 +98,7 @@ returns-4 c =
     let at-if2 = c.before.before.before.before.before.if2 in
     let at-values-apart = c.before.before.before.values-apart in
     let at-if3 = c.if3 in
-    whole-passes (recordIn at-args.d.now) (records (read_of at-args.part.now)) at-keys-apart.result at-keys-apart.ensures (not-false at-keys-apart.result at-if1.false) at-args.count at_pre.0.2 at-size-met.result at-size-met.ensures.0 (not-false at-size-met.result at-if2.false) at-values-apart.result (at-values-apart.ensures ∙ singular-part (recordIn at-args.d.now) at-args.part.now) (not-false at-values-apart.result at-if3.false)
+    whole-passes (record_in at-args.d.now) (records (read_of at-args.part.now)) at-keys-apart.result at-keys-apart.ensures (not-false at-keys-apart.result at-if1.false) at-args.count at_pre.0.2 at-size-met.result at-size-met.ensures.0 (not-false at-size-met.result at-if2.false) at-values-apart.result (at-values-apart.ensures ∙ singular-part (record_in at-args.d.now) at-args.part.now) (not-false at-values-apart.result at-if3.false)
 
 pub judge-whole-spec : {M : Type 1} → statement M
 judge-whole-spec =

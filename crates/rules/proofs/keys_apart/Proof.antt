@@ -6,7 +6,7 @@ use mathlib.Core.Path.{ap, subst}
 use mathlib.Core.List.{List, []}
 use lib.ListN.{length, get_or}
 use Rattle.format.specs.Bytes.{Bytes, text}
-use Rattle.values.specs.Value.{valueFrom}
+use Rattle.values.specs.Value.{value_from}
 use Rattle.words.specs.Spans.{span}
 use Rattle.words.proofs.Decoded.{decoded-all, decoded-length, decoded-inside}
 use Rattle.words.proofs.Finding.{found, not_found}
@@ -86,15 +86,15 @@ slice-reshare-prefix-next-word c =
     let h = (subst (NamedNext at-args.d.now (text "%key") 0) at-v.given.1 at-next-named.ensures).value in
     let f = fits-at at-args.d.now (described-by at-args.d.now at_pre.0.0 at_pre.0.1) (text "%key") 0 in
     let g = at-v.given.0 in
-    let fit : length (valueFrom (span g.1.0 g.1.1.0 at-args.d.now)) ≤ length at-args.scratch.now = omega (arith, f, ap (λ (vs : List Bytes). length (get_or vs 0 [])) h.values, at_pre.1.1.0) in
-    decoded-inside (valueFrom (span g.1.0 g.1.1.0 at-args.d.now)) at-args.scratch.now _ at-copy-value.result at-copy-value.ensures.0 at-copy-value.ensures.1 fit
+    let fit : length (value_from (span g.1.0 g.1.1.0 at-args.d.now)) ≤ length at-args.scratch.now = omega (arith, f, ap (λ (vs : List Bytes). length (get_or vs 0 [])) h.values, at_pre.1.1.0) in
+    decoded-inside (value_from (span g.1.0 g.1.1.0 at-args.d.now)) at-args.scratch.now _ at-copy-value.result at-copy-value.ensures.0 at-copy-value.ensures.1 fit
 
 slice-aggregate-next-word : tie.Need-slice-aggregate-next-word
 slice-aggregate-next-word c =
     let at-v = c.before.before.before.before.before.before.before.v in
     let at-args = c.before.before.before.before.before.before.before.before.before.before.before.before.before.before.before.args in
     let at-copy-value = c.before.before.before.copy-value in
-    let g = at-v.given.0 in decoded-length (valueFrom (span g.1.0 g.1.1.0 at-args.d.now)) at-args.scratch.now _ at-copy-value.result at-copy-value.ensures.0 at-copy-value.ensures.1
+    let g = at-v.given.0 in decoded-length (value_from (span g.1.0 g.1.1.0 at-args.d.now)) at-args.scratch.now _ at-copy-value.result at-copy-value.ensures.0 at-copy-value.ensures.1
 
 next-word-requires : tie.Need-next-word-requires
 next-word-requires c κs = search rules
@@ -119,7 +119,7 @@ returns-2 c =
     let at-enum-told2 = c.enum-told2 in
     let h = (subst (NamedNext at-args.d.now (text "%key") 0) at-v.given.1 at-next-named.ensures).value in
     let g = at-v.given.0 in
-    let q = decoded-all (valueFrom (span g.1.0 g.1.1.0 at-args.d.now)) at-args.scratch.now _ at-copy-value.result at-copy-value.ensures.0 at-copy-value.ensures.1 in
+    let q = decoded-all (value_from (span g.1.0 g.1.1.0 at-args.d.now)) at-args.scratch.now _ at-copy-value.result at-copy-value.ensures.0 at-copy-value.ensures.1 in
     no_word at-args.d.now at-args.part.now g.1.0 g.1.1.0 h _ q (key-once-named at-args.d.now at_pre.0.0) (not_found _ at-next-word.ensures at-enum-told2.given.1)
 
 sub-keys-distinct : tie.Need-overflow-sub-keys-distinct
@@ -146,9 +146,9 @@ part-keys-distinct-end c =
     let h = (subst (NamedNext at-args.d.now (text "%key") 0) at-v.given.1 at-next-named.ensures).value in
     let f = fits-at at-args.d.now (described-by at-args.d.now at_pre.0.0 at_pre.0.1) (text "%key") 0 in
     let g = at-v.given.0 in
-    let fit : length (valueFrom (span g.1.0 g.1.1.0 at-args.d.now)) ≤ length at-args.scratch.now = omega (arith, f, ap (λ (vs : List Bytes). length (get_or vs 0 [])) h.values, at_pre.1.1.0) in
-    let inside = decoded-inside (valueFrom (span g.1.0 g.1.1.0 at-args.d.now)) at-args.scratch.now _ at-copy-value.result at-copy-value.ensures.0 at-copy-value.ensures.1 fit in
-    let long = decoded-length (valueFrom (span g.1.0 g.1.1.0 at-args.d.now)) at-args.scratch.now _ at-copy-value.result at-copy-value.ensures.0 at-copy-value.ensures.1 in
+    let fit : length (value_from (span g.1.0 g.1.1.0 at-args.d.now)) ≤ length at-args.scratch.now = omega (arith, f, ap (λ (vs : List Bytes). length (get_or vs 0 [])) h.values, at_pre.1.1.0) in
+    let inside = decoded-inside (value_from (span g.1.0 g.1.1.0 at-args.d.now)) at-args.scratch.now _ at-copy-value.result at-copy-value.ensures.0 at-copy-value.ensures.1 fit in
+    let long = decoded-length (value_from (span g.1.0 g.1.1.0 at-args.d.now)) at-args.scratch.now _ at-copy-value.result at-copy-value.ensures.0 at-copy-value.ensures.1 in
     let q = found _ at-next-word.ensures at-w.given.1 in
     omega (arith, q.1, inside, long)
 
@@ -164,8 +164,8 @@ keys-distinct-requires c κs =
     let h = (subst (NamedNext at-args.d.now (text "%key") 0) at-v.given.1 at-next-named.ensures).value in
     let g = at-v.given.0 in
     let x = at-w.given.0 in
-    let u = decoded-all (valueFrom (span g.1.0 g.1.1.0 at-args.d.now)) at-args.scratch.now _ at-copy-value.result at-copy-value.ensures.0 at-copy-value.ensures.1 in
-    let long = decoded-length (valueFrom (span g.1.0 g.1.1.0 at-args.d.now)) at-args.scratch.now _ at-copy-value.result at-copy-value.ensures.0 at-copy-value.ensures.1 in
+    let u = decoded-all (value_from (span g.1.0 g.1.1.0 at-args.d.now)) at-args.scratch.now _ at-copy-value.result at-copy-value.ensures.0 at-copy-value.ensures.1 in
+    let long = decoded-length (value_from (span g.1.0 g.1.1.0 at-args.d.now)) at-args.scratch.now _ at-copy-value.result at-copy-value.ensures.0 at-copy-value.ensures.1 in
     let q = found _ at-next-word.ensures at-w.given.1 in
     let here = word-span _ at-copy-value.result x.0 x.1.0 (omega (arith, q.1, long)) q.2 in
     let room = key-room at-args.d.now at-args.part.now g.1.0 g.1.1.0 h _ u _ _ here (key-few at-args.d.now (described-by at-args.d.now at_pre.0.0 at_pre.0.1)) at_pre.1.0.0 at_pre.1.0.1 at_pre.1.0.2 in
@@ -190,8 +190,8 @@ returns-3 c =
     let h = (subst (NamedNext at-args.d.now (text "%key") 0) at-v.given.1 at-next-named.ensures).value in
     let g = at-v.given.0 in
     let x = at-w.given.0 in
-    let u = decoded-all (valueFrom (span g.1.0 g.1.1.0 at-args.d.now)) at-args.scratch.now _ at-copy-value.result at-copy-value.ensures.0 at-copy-value.ensures.1 in
-    let long = decoded-length (valueFrom (span g.1.0 g.1.1.0 at-args.d.now)) at-args.scratch.now _ at-copy-value.result at-copy-value.ensures.0 at-copy-value.ensures.1 in
+    let u = decoded-all (value_from (span g.1.0 g.1.1.0 at-args.d.now)) at-args.scratch.now _ at-copy-value.result at-copy-value.ensures.0 at-copy-value.ensures.1 in
+    let long = decoded-length (value_from (span g.1.0 g.1.1.0 at-args.d.now)) at-args.scratch.now _ at-copy-value.result at-copy-value.ensures.0 at-copy-value.ensures.1 in
     let q = found _ at-next-word.ensures at-w.given.1 in
     let here = word-span _ at-copy-value.result x.0 x.1.0 (omega (arith, q.1, long)) q.2 in
     key-values at-args.d.now at-args.part.now g.1.0 g.1.1.0 h _ u _ _ here (key-few at-args.d.now (described-by at-args.d.now at_pre.0.0 at_pre.0.1)) at-keys-distinct.result at-keys-distinct.ensures

@@ -5,13 +5,13 @@ use mathlib.Core.Path.{◌≡◌, sym, ap, ◌∙◌, subst}
 use mathlib.Core.Bool.{true}
 use lib.ListN.{length, take}
 use Rattle.format.specs.Bytes.{Bytes}
-use Rattle.format.specs.Limits.{fileBytes}
+use Rattle.format.specs.Limits.{file_bytes}
 use Rattle.format.specs.Pieces.{read_of}
-use Rattle.format.specs.Sets.{setsOf}
+use Rattle.format.specs.Sets.{sets_of}
 use Rattle.format.proofs.Passing.{SetsPass}
-use Rattle.records.specs.Places.{isReadable}
+use Rattle.records.specs.Places.{is_readable}
 use Rattle.records.proofs.Checked.{answer-checked}
-use Rattle.selection.specs.Found.{findIn}
+use Rattle.selection.specs.Found.{find_in}
 use Rattle.selection.proofs.Calling.{find-refused, find-text}
 use borrow.Author.Rules.{rules}
 use Rattle.selection.proofs.find.Statement.{statement}
@@ -49,7 +49,7 @@ find-in-requires c κs =
     let at-args = c.before.before.before.before.before.before.before.before.args in
     let at-check = c.before.before.before.check in
     let at-if1 = c.before.before.if1 in
-    let e : take (at-args.used - 0) at-args.buf.now ≡ take at-args.used at-args.buf.now = ap (λ (n : ℕ). take n at-args.buf.now) (let z : at-args.used - 0 ≡ at-args.used = omega arith in z) in let k = answer-checked at-args.buf.now at-args.used at-check.result at-check.ensures at-if1.false in subst (λ (x : Bytes). (isReadable x ≡ true) × (length x ≤ fileBytes) × SetsPass (setsOf (read_of x))) (sym e) (k.readable, k.short, k.passes)
+    let e : take (at-args.used - 0) at-args.buf.now ≡ take at-args.used at-args.buf.now = ap (λ (n : ℕ). take n at-args.buf.now) (let z : at-args.used - 0 ≡ at-args.used = omega arith in z) in let k = answer-checked at-args.buf.now at-args.used at-check.result at-check.ensures at-if1.false in subst (λ (x : Bytes). (is_readable x ≡ true) × (length x ≤ file_bytes) × SetsPass (sets_of (read_of x))) (sym e) (k.readable, k.short, k.passes)
 
 same_length : tie.Need-same-length
 same_length c = search rules
@@ -60,7 +60,7 @@ returns-2 c =
     let at-check = c.before.before.before.before.before.before.check in
     let at-if1 = c.before.before.before.before.before.if1 in
     let at-find-in = c.before.before.find-in in
-    let e : take (at-args.used - 0) at-args.buf.now ≡ take at-args.used at-args.buf.now = ap (λ (n : ℕ). take n at-args.buf.now) (let z : at-args.used - 0 ≡ at-args.used = omega arith in z) in let k = answer-checked at-args.buf.now at-args.used at-check.result at-check.ensures at-if1.false in sym (find-text at-args.buf.now at-args.used at-args.set.now at-args.expression.now at-args.list.now at-check.result at-check.ensures at-if1.false) ∙ ap (λ (x : Bytes). findIn x at-args.set.now at-args.expression.now at-args.list.now) (sym e) ∙ at-find-in.ensures
+    let e : take (at-args.used - 0) at-args.buf.now ≡ take at-args.used at-args.buf.now = ap (λ (n : ℕ). take n at-args.buf.now) (let z : at-args.used - 0 ≡ at-args.used = omega arith in z) in let k = answer-checked at-args.buf.now at-args.used at-check.result at-check.ensures at-if1.false in sym (find-text at-args.buf.now at-args.used at-args.set.now at-args.expression.now at-args.list.now at-check.result at-check.ensures at-if1.false) ∙ ap (λ (x : Bytes). find_in x at-args.set.now at-args.expression.now at-args.list.now) (sym e) ∙ at-find-in.ensures
 
 pub find_spec : {M : Type 1} → statement M
 find_spec =

@@ -3,7 +3,7 @@ use Prim.Native.Nat.{ℕ, ◌/◌}
 use native.Mathlib.Omega.{arith}
 use mathlib.Core.Path.{◌≡◌, ap, ◌∙◌}
 use lib.ListN.{drop}
-use Rattle.values.specs.Value.{valueFrom}
+use Rattle.values.specs.Value.{value_from}
 use Rattle.sorting.specs.Texts.{mixed}
 use Rattle.sorting.proofs.Texts.{text-whole}
 use Rattle.singulars.specs.Marks.{rank_of}
@@ -47,7 +47,7 @@ returns c =
     let at-mix = c.before.before.before.mix in
     let at-narrow2 = c.before.narrow2 in
     let at-narrow3 = c.narrow3 in
-    let p : at-narrow.result / 4194304 ≡ mixed 2166136261 (valueFrom (drop at-args.at at-args.s.now)) / 4194304 = ap (λ (z : ℕ). z / 4194304) (at-narrow.ensures ∙ at-mix.ensures.0 ∙ ap (mixed 2166136261) (text-whole at-args.s.now at-args.at)) in
+    let p : at-narrow.result / 4194304 ≡ mixed 2166136261 (value_from (drop at-args.at at-args.s.now)) / 4194304 = ap (λ (z : ℕ). z / 4194304) (at-narrow.ensures ∙ at-mix.ensures.0 ∙ ap (mixed 2166136261) (text-whole at-args.s.now at-args.at)) in
     omega (arith, p, at-narrow2.ensures, at-narrow3.ensures)
 
 pub entry_spec : {M : Type 1} → statement M

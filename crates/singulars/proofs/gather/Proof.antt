@@ -5,7 +5,7 @@ use native.Mathlib.Omega.{arith}
 use mathlib.Core.Path.{◌≡◌, refl, ◌∙◌}
 use lib.ListN.{length, length-set}
 use Rattle.format.specs.Rules.{singular}
-use Rattle.records.specs.Walk.{recordIn}
+use Rattle.records.specs.Walk.{record_in}
 use Rattle.records.proofs.Readings.{part-readable}
 use Rattle.records.proofs.NextFields.{next-told}
 use Rattle.singulars.proofs.Gathering.{Enters, enters-start, enters-end, enters-skip, enters-full, enters-more}
@@ -18,7 +18,7 @@ use Rattle.singulars.proofs.entry.Reads as entry-reads
 use Rattle.dictionary.proofs.wordsets.place_in.Reads as place-in-reads
 
 abbrev invariant-loop : tie.invariant-loop
-invariant-loop d s entries₀ words sets w count i₀ n₀ entries i n = (length entries ≡ length entries₀) × (n ≤ i) × Enters (singular (recordIn d)) s entries n i
+invariant-loop d s entries₀ words sets w count i₀ n₀ entries i n = (length entries ≡ length entries₀) × (n ≤ i) × Enters (singular (record_in d)) s entries n i
 
 abbrev decreases-loop : tie.decreases-loop
 decreases-loop d s entries₀ words sets w count i₀ n₀ entries i n = length s - i
@@ -27,7 +27,7 @@ loop-holds : tie.Need-loop-init invariant-loop decreases-loop
 loop-holds c =
     let at-args = c.before.before.before.before.before.before.args in
     let at_pre = c.before.before.before.before.before.before.requires in
-    (refl, omega arith, enters-start (singular (recordIn at-args.d.now)) at-args.s.now at-args.entries.now at_pre.1.0)
+    (refl, omega arith, enters-start (singular (record_in at-args.d.now)) at-args.s.now at-args.entries.now at_pre.1.0)
 
 sub-next-field : tie.Need-overflow-sub-next-field invariant-loop decreases-loop
 sub-next-field c = search rules
@@ -61,7 +61,7 @@ returns c =
     let at-loop = c.before.before.before.before.loop in
     let at-next-field = c.before.before.next_field in
     let at-enum-told = c.enum_told in
-    enters-end (singular (recordIn at-args.d.now)) at-args.s.now at-loop.entries at-loop.n at-loop.i at-loop.invariant.2 (next-told at-args.s.now at-loop.i at-next-field.result at-next-field.ensures at-enum-told.given.1)
+    enters-end (singular (record_in at-args.d.now)) at-args.s.now at-loop.entries at-loop.n at-loop.i at-loop.invariant.2 (next-told at-args.s.now at-loop.i at-next-field.result at-next-field.ensures at-enum-told.given.1)
 
 slice-aggregate-place-in : tie.Need-slice-aggregate-place-in invariant-loop decreases-loop
 slice-aggregate-place-in c = search rules
@@ -120,7 +120,7 @@ place-in-requires : tie.Need-place-in-requires invariant-loop decreases-loop
 place-in-requires c κs =
     let at-args = c.before.before.before.before.before.before.before.before.before.before.before.before.before.before.before.args in
     let at_pre = c.before.before.before.before.before.before.before.before.before.before.before.before.before.before.before.requires in
-    (singular (recordIn at-args.d.now), at_pre.0)
+    (singular (record_in at-args.d.now), at_pre.0)
 
 same-length-2 : tie.Need-same-length-2 invariant-loop decreases-loop
 same-length-2 c =
@@ -138,7 +138,7 @@ returns-2 c =
     let at_pre = c.before.before.before.before.before.before.before.before.before.before.before.before.before.before.before.before.before.before.requires in
     let at-if2 = c.if2 in
     let h = next-told at-args.s.now at-loop.i at-next-field.result at-next-field.ensures at_f.given.1 in
-    enters-full (singular (recordIn at-args.d.now)) at-args.s.now at-loop.entries at-loop.n at-loop.i at-loop.invariant.2 _ _ _ _ h at-place-in.result (at-place-in.ensures (singular (recordIn at-args.d.now)) at_pre.0) (omega (arith, at-if1.true, at_pre.0.count)) (omega (arith, at-if2.true))
+    enters-full (singular (record_in at-args.d.now)) at-args.s.now at-loop.entries at-loop.n at-loop.i at-loop.invariant.2 _ _ _ _ h at-place-in.result (at-place-in.ensures (singular (record_in at-args.d.now)) at_pre.0) (omega (arith, at-if1.true, at_pre.0.count)) (omega (arith, at-if2.true))
 
 add-entry : tie.Need-overflow-add-entry invariant-loop decreases-loop
 add-entry c =
@@ -209,7 +209,7 @@ loop-again c =
     let at_pre = c.before.before.before.before.before.before.before.before.before.before.before.before.before.before.before.before.before.before.before.requires in
     let at-if2 = c.before.if2 in
     let h = next-told at-args.s.now at-loop.i at-next-field.result at-next-field.ensures at_f.given.1 in
-    (length-set at-loop.entries at-loop.n at_entry_lem.result ∙ at-loop.invariant.0, omega (arith, at-loop.invariant.1, h.moves, h.begins), enters-more (singular (recordIn at-args.d.now)) at-args.s.now at-loop.entries at-loop.n at-loop.i at-loop.invariant.2 _ _ _ _ h at-place-in.result (at-place-in.ensures (singular (recordIn at-args.d.now)) at_pre.0) (omega (arith, at-if1.true, at_pre.0.count)) (omega (arith, at-if2.false)) at_pre.1.1 at_entry_lem.result at_entry_lem.ensures)
+    (length-set at-loop.entries at-loop.n at_entry_lem.result ∙ at-loop.invariant.0, omega (arith, at-loop.invariant.1, h.moves, h.begins), enters-more (singular (record_in at-args.d.now)) at-args.s.now at-loop.entries at-loop.n at-loop.i at-loop.invariant.2 _ _ _ _ h at-place-in.result (at-place-in.ensures (singular (record_in at-args.d.now)) at_pre.0) (omega (arith, at-if1.true, at_pre.0.count)) (omega (arith, at-if2.false)) at_pre.1.1 at_entry_lem.result at_entry_lem.ensures)
 
 add-i-2 : tie.Need-overflow-add-i-2 invariant-loop decreases-loop
 add-i-2 c =
@@ -240,7 +240,7 @@ loop-again-2 c =
     let at-if1 = c.if1 in
     let at_pre = c.before.before.before.before.before.before.before.before.before.before.before.before.before.before.before.before.before.requires in
     let h = next-told at-args.s.now at-loop.i at-next-field.result at-next-field.ensures at_f.given.1 in
-    (at-loop.invariant.0, omega (arith, at-loop.invariant.1, h.moves, h.begins), enters-skip (singular (recordIn at-args.d.now)) at-args.s.now at-loop.entries at-loop.n at-loop.i at-loop.invariant.2 _ _ _ _ h at-place-in.result (at-place-in.ensures (singular (recordIn at-args.d.now)) at_pre.0) (omega (arith, at-if1.false, at_pre.0.count)))
+    (at-loop.invariant.0, omega (arith, at-loop.invariant.1, h.moves, h.begins), enters-skip (singular (record_in at-args.d.now)) at-args.s.now at-loop.entries at-loop.n at-loop.i at-loop.invariant.2 _ _ _ _ h at-place-in.result (at-place-in.ensures (singular (record_in at-args.d.now)) at_pre.0) (omega (arith, at-if1.false, at_pre.0.count)))
 
 pub gather-spec : {M : Type 1} → statement M
 gather-spec =

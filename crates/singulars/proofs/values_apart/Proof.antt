@@ -3,7 +3,7 @@ use native.Mathlib.Omega.{arith}
 use mathlib.Core.Path.{sym, ap, ◌∙◌, subst}
 use Rattle.format.specs.Bytes.{text}
 use Rattle.format.specs.Rules.{singular, distinct}
-use Rattle.records.specs.Walk.{recordIn}
+use Rattle.records.specs.Walk.{record_in}
 use Rattle.records.specs.Named.{NamedNext}
 use Rattle.singulars.specs.Gathered.{GatheredAs}
 use Rattle.singulars.specs.declared.Gathered.{Gathered}
@@ -62,7 +62,7 @@ distinct-marks-requires c κs =
     let at-args = c.before.before.before.before.before.before.before.before.before.before.before.before.before.before.before.before.before.args in
     let at-gather = c.before.before.before.before.before.before.gather in
     let at_g = c.before.before.g in
-    let g = subst (λ (x : Gathered). GatheredAs (singular (recordIn at-args.d.now)) at-args.s.now (recordIn at-args.s.now) at-gather.new.1.1.1.0 x) at_g.given.1 at-gather.ensures in
+    let g = subst (λ (x : Gathered). GatheredAs (singular (record_in at-args.d.now)) at-args.s.now (record_in at-args.s.now) at-gather.new.1.1.1.0 x) at_g.given.1 at-gather.ensures in
     (g.0, g.1)
 
 enum-told-3 : tie.Need-enum-told-3
@@ -77,8 +77,8 @@ returns-2 c =
     let at-gather = c.before.before.before.before.before.before.before.before.before.gather in
     let at_g = c.before.before.before.before.before.g in
     let at-distinct-marks = c.before.before.distinct-marks in
-    let g = subst (λ (x : Gathered). GatheredAs (singular (recordIn at-args.d.now)) at-args.s.now (recordIn at-args.s.now) at-gather.new.1.1.1.0 x) at_g.given.1 at-gather.ensures in
-    at-distinct-marks.ensures ∙ ap distinct g.2 ∙ marks-distinct (singular (recordIn at-args.d.now)) (recordIn at-args.s.now)
+    let g = subst (λ (x : Gathered). GatheredAs (singular (record_in at-args.d.now)) at-args.s.now (record_in at-args.s.now) at-gather.new.1.1.1.0 x) at_g.given.1 at-gather.ensures in
+    at-distinct-marks.ensures ∙ ap distinct g.2 ∙ marks-distinct (singular (record_in at-args.d.now)) (record_in at-args.s.now)
 
 same-length-2 : tie.Need-same-length-2
 same-length-2 c = search rules
@@ -90,8 +90,8 @@ returns-3 c =
     let at-enum-told3 = c.enum-told3 in
     let at_pre = c.before.before.before.before.before.before.before.before.before.before.before.before.before.before.before.requires in
     let at-entries = c.before.before.before.entries in
-    let g = subst (λ (x : Gathered). GatheredAs (singular (recordIn at-args.d.now)) at-args.s.now (recordIn at-args.s.now) at-gather.new.1.1.1.0 x) at-enum-told3.given.1 at-gather.ensures in
-    sym (many-alike (singular (recordIn at-args.d.now)) at-args.s.now at_pre.1.0.0 at_pre.1.0.1 (singular-lists at-args.d.now at_pre.0).few (omega (arith, g, at-entries.given, at_pre.1.1)))
+    let g = subst (λ (x : Gathered). GatheredAs (singular (record_in at-args.d.now)) at-args.s.now (record_in at-args.s.now) at-gather.new.1.1.1.0 x) at-enum-told3.given.1 at-gather.ensures in
+    sym (many-alike (singular (record_in at-args.d.now)) at-args.s.now at_pre.1.0.0 at_pre.1.0.1 (singular-lists at-args.d.now at_pre.0).few (omega (arith, g, at-entries.given, at_pre.1.1)))
 
 pub values-apart-spec : {M : Type 1} → statement M
 values-apart-spec =

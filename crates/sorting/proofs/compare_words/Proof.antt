@@ -5,8 +5,8 @@ use native.Mathlib.Omega.{arith}
 use mathlib.Core.Path.{◌≡◌, refl}
 use mathlib.Core.Bool.{true}
 use lib.ListN.{length}
-use Rattle.sorting.specs.Texts.{textAt}
-use Rattle.sorting.specs.Order.{comparedOf}
+use Rattle.sorting.specs.Texts.{text_at}
+use Rattle.sorting.specs.Order.{compared_of}
 use Rattle.sorting.proofs.Texts.{text-told}
 use Rattle.sorting.proofs.Order.{compared-lt, compared-gt, compared-on}
 use Rattle.sorting.proofs.compare_words.Statement.{statement}
@@ -16,7 +16,7 @@ use Rattle.sorting.proofs.compare_words.Lts as lts
 use Rattle.sorting.proofs.text_byte.Reads as text-byte-reads
 
 abbrev invariant-loop : tie.invariant-loop
-invariant-loop s i j a₀ b₀ a b = comparedOf (textAt true s a) (textAt true s b) ≡ comparedOf (textAt true s i) (textAt true s j)
+invariant-loop s i j a₀ b₀ a b = compared_of (text_at true s a) (text_at true s b) ≡ compared_of (text_at true s i) (text_at true s j)
 
 abbrev decreases-loop : tie.decreases-loop
 decreases-loop s i j a₀ b₀ a b = length s - a
@@ -43,7 +43,7 @@ enum-told-3 : tie.Need-enum-told-3 invariant-loop decreases-loop
 enum-told-3 c = search rules
 
 returns : tie.Need-returns invariant-loop decreases-loop
-unfolding comparedOf
+unfolding compared_of
 returns c =
     let at-args = c.before.before.before.before.before.before.before.before.args in
     let at-loop = c.before.before.before.before.before.before.loop in
@@ -56,7 +56,7 @@ returns c =
     rw (e, f) at at-loop.invariant
 
 returns-2 : tie.Need-returns-2 invariant-loop decreases-loop
-unfolding comparedOf
+unfolding compared_of
 returns-2 c =
     let at-args = c.before.before.before.before.before.before.before.before.args in
     let at-loop = c.before.before.before.before.before.before.loop in
@@ -75,7 +75,7 @@ enum-told-4 : tie.Need-enum-told-4 invariant-loop decreases-loop
 enum-told-4 c = search rules
 
 returns-3 : tie.Need-returns-3 invariant-loop decreases-loop
-unfolding comparedOf
+unfolding compared_of
 returns-3 c =
     let at-args = c.before.before.before.before.before.before.before.before.before.args in
     let at-loop = c.before.before.before.before.before.before.before.loop in

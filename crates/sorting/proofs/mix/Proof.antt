@@ -4,7 +4,7 @@ use Prim.Native.Nat.{◌-◌, ◌<◌}
 use native.Mathlib.Omega.{arith}
 use mathlib.Core.Path.{◌≡◌, refl, sym, ap, ◌∙◌}
 use lib.ListN.{length}
-use Rattle.sorting.specs.Texts.{textAt, mixed}
+use Rattle.sorting.specs.Texts.{text_at, mixed}
 use Rattle.sorting.proofs.Texts.{text-told}
 use Rattle.sorting.proofs.mix.Statement.{statement}
 use Rattle.sorting.proofs.mix.Tie as tie
@@ -14,7 +14,7 @@ use Rattle.sorting.proofs.text_byte.Reads as text-byte-reads
 use Rattle.sorting.proofs.mix_byte.Reads as mix-byte-reads
 
 abbrev invariant-loop : tie.invariant-loop
-invariant-loop s i words h₀ at₀ h at = (mixed h (textAt words s at) ≡ mixed 2166136261 (textAt words s i)) × (h < 4294967296)
+invariant-loop s i words h₀ at₀ h at = (mixed h (text_at words s at) ≡ mixed 2166136261 (text_at words s i)) × (h < 4294967296)
 
 abbrev decreases-loop : tie.decreases-loop
 decreases-loop s i words h₀ at₀ h at = length s - at

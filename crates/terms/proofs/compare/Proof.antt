@@ -3,10 +3,10 @@ use Prim.Native.Nat.{ℕ}
 use native.Mathlib.Omega.{arith}
 use mathlib.Core.Path.{sym, ap, ◌∙◌}
 use mathlib.Core.Bool.{true}
-use Rattle.sorting.specs.Texts.{textAt}
-use Rattle.sorting.specs.Order.{comparedOf}
+use Rattle.sorting.specs.Texts.{text_at}
+use Rattle.sorting.specs.Order.{compared_of}
 use Rattle.sorting.proofs.Order.{compared-lt, compared-gt, compared-on}
-use Rattle.terms.specs.Entries.{printOf, word_at}
+use Rattle.terms.specs.Entries.{print_of, word_at}
 use borrow.Author.Rules.{rules}
 use Rattle.terms.proofs.compare.Statement.{statement}
 use Rattle.terms.proofs.compare.Tie as tie
@@ -21,7 +21,7 @@ returns c =
     let at_pre = c.before.before.before.requires in
     let a = word_at at-args.s.now at-args.x in
     let b = at-args.w.now in
-    sym (compared-lt (printOf a) (printOf b) a b (omega (arith, at_pre.0, at_pre.1)))
+    sym (compared-lt (print_of a) (print_of b) a b (omega (arith, at_pre.0, at_pre.1)))
 
 returns-2 : tie.Need-returns-2
 returns-2 c =
@@ -29,7 +29,7 @@ returns-2 c =
     let at_pre = c.before.before.before.before.requires in
     let a = word_at at-args.s.now at-args.x in
     let b = at-args.w.now in
-    sym (compared-gt (printOf a) (printOf b) a b (omega (arith, at_pre.0, at_pre.1)))
+    sym (compared-gt (print_of a) (print_of b) a b (omega (arith, at_pre.0, at_pre.1)))
 
 place-requires : tie.Need-place-requires
 place-requires c κs = search rules
@@ -45,8 +45,8 @@ returns-3 c =
     let at_pre = c.before.before.before.before.before.before.requires in
     let a = word_at at-args.s.now at-args.x in
     let b = at-args.w.now in
-    at-compare-word.ensures ∙ ap (λ (z : ℕ). comparedOf (textAt true at-args.s.now z) b) at_place.ensures
-    ∙ sym (compared-on (printOf a) (printOf b) a b (omega (arith, at_pre.0, at_pre.1)) (omega (arith, at_pre.0, at_pre.1)))
+    at-compare-word.ensures ∙ ap (λ (z : ℕ). compared_of (text_at true at-args.s.now z) b) at_place.ensures
+    ∙ sym (compared-on (print_of a) (print_of b) a b (omega (arith, at_pre.0, at_pre.1)) (omega (arith, at_pre.0, at_pre.1)))
 
 pub compare-spec : {M : Type 1} → statement M
 compare-spec =

@@ -2,10 +2,10 @@
 use native.Mathlib.Omega.{arith}
 use mathlib.Core.Path.{sym, ◌∙◌}
 use mathlib.Core.Bool.{true}
-use Rattle.sorting.specs.Texts.{textAt}
-use Rattle.sorting.specs.Order.{comparedOf}
+use Rattle.sorting.specs.Texts.{text_at}
+use Rattle.sorting.specs.Order.{compared_of}
 use Rattle.sorting.proofs.Order.{compared-lt, compared-gt, compared-on}
-use Rattle.terms.specs.Entries.{printOf, word_at}
+use Rattle.terms.specs.Entries.{print_of, word_at}
 use borrow.Author.Rules.{rules}
 use Rattle.terms.proofs.compare_entries.Statement.{statement}
 use Rattle.terms.proofs.compare_entries.Tie as tie
@@ -20,7 +20,7 @@ returns c =
     let at_pre = c.before.before.requires in
     let a = word_at at-args.s.now at-args.x in
     let b = word_at at-args.s.now at-args.y in
-    sym (compared-lt (printOf a) (printOf b) a b (omega (arith, at_pre.0, at_pre.1)))
+    sym (compared-lt (print_of a) (print_of b) a b (omega (arith, at_pre.0, at_pre.1)))
 
 returns-2 : tie.Need-returns-2
 returns-2 c =
@@ -28,7 +28,7 @@ returns-2 c =
     let at_pre = c.before.before.before.requires in
     let a = word_at at-args.s.now at-args.x in
     let b = word_at at-args.s.now at-args.y in
-    sym (compared-gt (printOf a) (printOf b) a b (omega (arith, at_pre.0, at_pre.1)))
+    sym (compared-gt (print_of a) (print_of b) a b (omega (arith, at_pre.0, at_pre.1)))
 
 place-requires : tie.Need-place-requires
 place-requires c κs = search rules
@@ -48,8 +48,8 @@ returns-3 c =
     let at_pre = c.before.before.before.before.before.before.requires in
     let a = word_at at-args.s.now at-args.x in
     let b = word_at at-args.s.now at-args.y in
-    at-compare-words.ensures ∙ (λ i. comparedOf (textAt true at-args.s.now (at_place.ensures i)) (textAt true at-args.s.now (at-place2.ensures i)))
-    ∙ sym (compared-on (printOf a) (printOf b) a b (omega (arith, at_pre.0, at_pre.1)) (omega (arith, at_pre.0, at_pre.1)))
+    at-compare-words.ensures ∙ (λ i. compared_of (text_at true at-args.s.now (at_place.ensures i)) (text_at true at-args.s.now (at-place2.ensures i)))
+    ∙ sym (compared-on (print_of a) (print_of b) a b (omega (arith, at_pre.0, at_pre.1)) (omega (arith, at_pre.0, at_pre.1)))
 
 pub compare-entries-spec : {M : Type 1} → statement M
 compare-entries-spec =

@@ -6,8 +6,8 @@ use mathlib.Core.Path.{◌≡◌, refl}
 use mathlib.Core.Bool.{true}
 use lib.ListN.{length, drop, drop_of_length-le}
 use Rattle.lines.proofs.Cuts.{at-cons}
-use Rattle.sorting.specs.Texts.{textAt}
-use Rattle.sorting.specs.Order.{comparedOf}
+use Rattle.sorting.specs.Texts.{text_at}
+use Rattle.sorting.specs.Order.{compared_of}
 use Rattle.sorting.proofs.Texts.{text-told}
 use Rattle.sorting.proofs.Order.{compared-lt, compared-gt, compared-on}
 use Rattle.terms.proofs.compare_word.Statement.{statement}
@@ -17,7 +17,7 @@ use Rattle.terms.proofs.compare_word.Lts as lts
 use Rattle.sorting.proofs.text_byte.Reads as text-byte-reads
 
 abbrev invariant-loop : tie.invariant-loop
-invariant-loop s at w i₀ n₀ i n = (n ≤ length w) × (comparedOf (textAt true s i) (drop n w) ≡ comparedOf (textAt true s at) w)
+invariant-loop s at w i₀ n₀ i n = (n ≤ length w) × (compared_of (text_at true s i) (drop n w) ≡ compared_of (text_at true s at) w)
 
 abbrev decreases-loop : tie.decreases-loop
 decreases-loop s at w i₀ n₀ i n = length s - i
@@ -35,7 +35,7 @@ enum_told : tie.Need-enum-told invariant-loop decreases-loop
 enum_told c = search rules
 
 returns : tie.Need-returns invariant-loop decreases-loop
-unfolding comparedOf
+unfolding compared_of
 returns c =
     let at-args = c.before.before.before.before.before.before.before.args in
     let at-loop = c.before.before.before.before.loop in
@@ -46,7 +46,7 @@ returns c =
     rw (e, at-cons at-args.w.now at-loop.n at-if1.true) at at-loop.invariant.1
 
 returns-2 : tie.Need-returns-2 invariant-loop decreases-loop
-unfolding comparedOf
+unfolding compared_of
 returns-2 c =
     let at-args = c.before.before.before.before.before.before.before.args in
     let at-loop = c.before.before.before.before.loop in
@@ -57,7 +57,7 @@ returns-2 c =
     rw (e, drop_of_length-le at-args.w.now at-if1.false) at at-loop.invariant.1
 
 returns-3 : tie.Need-returns-3 invariant-loop decreases-loop
-unfolding comparedOf
+unfolding compared_of
 returns-3 c =
     let at-args = c.before.before.before.before.before.before.before.before.args in
     let at-loop = c.before.before.before.before.before.loop in

@@ -3,8 +3,8 @@ use Prim.Native.Nat.{ℕ, ◌+◌, ◌*◌, ◌/◌}
 use native.Mathlib.Omega.{arith}
 use mathlib.Core.Path.{◌≡◌, sym, ap, ◌∙◌, subst}
 use mathlib.Core.Bool.{true}
-use Rattle.sorting.specs.Texts.{textAt}
-use Rattle.terms.specs.Entries.{tagUnit, printUnit, printOf, entry_of, termAt, IsEntry}
+use Rattle.sorting.specs.Texts.{text_at}
+use Rattle.terms.specs.Entries.{tag_unit, print_unit, print_of, entry_of, term_at, IsEntry}
 use Rattle.terms.proofs.Prints.{entry-is, entry-term}
 use borrow.Author.Rules.{rules}
 use Rattle.terms.proofs.entry.Statement.{statement}
@@ -36,7 +36,7 @@ add-result-2 : tie.Need-overflow-add-result-2
 add-result-2 c = search rules
 
 returns : tie.Need-returns
-unfolding printOf
+unfolding print_of
 returns c =
     let at-args = c.before.before.before.before.args in
     let at-narrow2 = c.narrow2 in
@@ -46,10 +46,10 @@ returns c =
     let s = at-args.s.now in
     let at = at-args.at in
     let t = at-args.tag in
-    let p : at-narrow.result / printUnit ≡ printOf (textAt true s at) = ap (λ (z : ℕ). z / printUnit) (at-narrow.ensures ∙ at-mix.ensures.0) in
+    let p : at-narrow.result / print_unit ≡ print_of (text_at true s at) = ap (λ (z : ℕ). z / print_unit) (at-narrow.ensures ∙ at-mix.ensures.0) in
     let q = at-narrow2.ensures in
-    let r : at-narrow2.result + tagUnit * t + printUnit * (at-narrow.result / printUnit) ≡ entry_of at t (textAt true s at) = omega arith in
-    (r, subst (IsEntry s) (sym r) (entry-is s at t at_pre.0 at_pre.1), ap (termAt s) r ∙ entry-term s at t at_pre.0 at_pre.1)
+    let r : at-narrow2.result + tag_unit * t + print_unit * (at-narrow.result / print_unit) ≡ entry_of at t (text_at true s at) = omega arith in
+    (r, subst (IsEntry s) (sym r) (entry-is s at t at_pre.0 at_pre.1), ap (term_at s) r ∙ entry-term s at t at_pre.0 at_pre.1)
 
 pub entry_spec : {M : Type 1} → statement M
 entry_spec =

@@ -2,7 +2,7 @@
 use mathlib.Core.Path.{◌≡◌, sym, ◌∙◌}
 use mathlib.Core.Bool.{false≢true}
 use Rattle.format.proofs.Listing.{same_true}
-use Rattle.terms.specs.Sets.{termOf}
+use Rattle.terms.specs.Sets.{term_of}
 use Rattle.terms.specs.Entries.{tag_of, word_at}
 use borrow.Author.Rules.{rules}
 use Rattle.terms.proofs.is_twin.Statement.{statement}
@@ -35,7 +35,7 @@ returns-2 c =
     let s = at-args.s.now in
     let w = same_true (word_at s at-args.x) (word_at s at-args.y) (sym at-same-word.ensures ∙ e) in
     let t : tag_of at-args.x ≡ tag_of at-args.y = sym at_tag.ensures.0 ∙ (at-if1.false ∙ at-tag2.ensures.0) in
-    (λ i. termOf (t i) (w i))
+    (λ i. term_of (t i) (w i))
 
 pub is-twin-spec : {M : Type 1} → statement M
 is-twin-spec =

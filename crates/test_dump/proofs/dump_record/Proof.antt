@@ -5,7 +5,7 @@ use mathlib.Core.Path.{◌≡◌}
 use mathlib.Core.Bool.{true}
 use lib.ListN.{length, drop}
 use native.Mathlib.Omega.{arith}
-use Rattle.records.specs.Places.{isReadable}
+use Rattle.records.specs.Places.{is_readable}
 use Rattle.records.proofs.Readings.{part-readable}
 use Rattle.records.proofs.NextFields.{next-told}
 use Rattle.test_dump.proofs.dump_record.Statement.{statement}
@@ -17,7 +17,7 @@ use Rattle.records.proofs.next_field.Reads as next-field-reads
 use Rattle.test_dump.proofs.dump_value.Reads as dump-value-reads
 
 abbrev invariant-loop : tie.invariant-loop
-invariant-loop s i₀ t8 t9 t10 i = (i ≤ length s) × (isReadable (drop i s) ≡ true)
+invariant-loop s i₀ t8 t9 t10 i = (i ≤ length s) × (is_readable (drop i s) ≡ true)
 
 abbrev decreases-loop : tie.decreases-loop
 decreases-loop s i₀ t8 t9 t10 i = length s - i

@@ -5,7 +5,7 @@ use mathlib.Core.Path.{◌≡◌}
 use mathlib.Core.Bool.{true}
 use lib.ListN.{length, drop}
 use native.Mathlib.Omega.{arith}
-use Rattle.records.specs.Places.{isReadable}
+use Rattle.records.specs.Places.{is_readable}
 use Rattle.records.proofs.Readings.{part-readable, reads-readable}
 use Rattle.records.proofs.Searches.{meets}
 use Rattle.test_dump.proofs.dump_records.Statement.{statement}
@@ -16,7 +16,7 @@ use Rattle.test_dump.proofs.dump_record.Reads as dump-record-reads
 use Rattle.records.proofs.next_record.Reads as next-record-reads
 
 abbrev invariant-loop : tie.invariant-loop
-invariant-loop s i₀ i = (i ≤ length s) × (isReadable (drop i s) ≡ true)
+invariant-loop s i₀ i = (i ≤ length s) × (is_readable (drop i s) ≡ true)
 
 abbrev decreases-loop : tie.decreases-loop
 decreases-loop s i₀ i = length s - i

@@ -1,6 +1,6 @@
 -- `test_replay::total` meets its contract: both sums of an answer fit.
 use mathlib.Core.Path.{sym, ap, ◌∙◌}
-use Rattle.totals.specs.Totals.{Total, totalledBy}
+use Rattle.totals.specs.Totals.{Total, totalled_by}
 use Rattle.totals.proofs.Bits.{seen-held}
 use Rattle.totals.proofs.Totalling.{total-held}
 use borrow.Author.Rules.{rules}
@@ -23,7 +23,7 @@ tell-total-requires c κs =
     let at-total = c.before.before.before.total in
     let at-t = c.before.t in
     let t : Total = record { hundredths = at-t.given.0.0; millionths = at-t.given.0.1.0; number = at-t.given.0.1.1.0 } in
-    let held = total-held at-args.buf.now at-args.used at-args.set.now at-args.name.now t (sym at-total.ensures ∙ ap totalledBy at-t.given.1) in
+    let held = total-held at-args.buf.now at-args.used at-args.set.now at-args.name.now t (sym at-total.ensures ∙ ap totalled_by at-t.given.1) in
     (seen-held t.hundredths held.0, seen-held t.millionths held.1)
 
 enum-known-t-2 : tie.Need-enum-known-t-2

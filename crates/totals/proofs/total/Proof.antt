@@ -5,10 +5,10 @@ use mathlib.Core.Path.{◌≡◌, sym, ap, ◌∙◌, subst}
 use mathlib.Core.Bool.{true}
 use lib.ListN.{length, take}
 use Rattle.format.specs.Bytes.{Bytes}
-use Rattle.format.specs.Limits.{fileBytes}
-use Rattle.records.specs.Places.{isReadable}
+use Rattle.format.specs.Limits.{file_bytes}
+use Rattle.records.specs.Places.{is_readable}
 use Rattle.records.proofs.Checked.{answer-checked}
-use Rattle.totals.specs.Adding.{totalIn}
+use Rattle.totals.specs.Adding.{total_in}
 use Rattle.totals.proofs.Totalling.{total-refused, total-text}
 use borrow.Author.Rules.{rules}
 use Rattle.totals.proofs.total.Statement.{statement}
@@ -48,7 +48,7 @@ total-in-requires c κs =
     let at-if1 = c.before.if1 in
     let k = answer-checked at-args.buf.now at-args.used at-check.result at-check.ensures at-if1.false in
     let t : take (at-args.used - 0) at-args.buf.now ≡ take at-args.used at-args.buf.now = ap (λ (n : ℕ). take n at-args.buf.now) (let e : at-args.used - 0 ≡ at-args.used = omega arith in e) in
-    subst (λ (x : Bytes). (isReadable x ≡ true) × (length x ≤ fileBytes)) (sym t) (k.readable, k.short)
+    subst (λ (x : Bytes). (is_readable x ≡ true) × (length x ≤ file_bytes)) (sym t) (k.readable, k.short)
 
 returns-2 : tie.Need-returns-2
 returns-2 c =
@@ -57,7 +57,7 @@ returns-2 c =
     let at-check = c.before.before.before.check in
     let at-if1 = c.before.before.if1 in
     let t : take (at-args.used - 0) at-args.buf.now ≡ take at-args.used at-args.buf.now = ap (λ (n : ℕ). take n at-args.buf.now) (let e : at-args.used - 0 ≡ at-args.used = omega arith in e) in
-    at-total-in.ensures ∙ ap (λ (x : Bytes). totalIn x at-args.set.now at-args.name.now) t ∙ total-text at-args.buf.now at-args.used at-args.set.now at-args.name.now at-check.result at-check.ensures at-if1.false
+    at-total-in.ensures ∙ ap (λ (x : Bytes). total_in x at-args.set.now at-args.name.now) t ∙ total-text at-args.buf.now at-args.used at-args.set.now at-args.name.now at-check.result at-check.ensures at-if1.false
 
 pub total-spec : {M : Type 1} → statement M
 total-spec =

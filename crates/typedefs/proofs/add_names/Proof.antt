@@ -5,7 +5,7 @@ use native.Mathlib.Omega.{arith}
 use mathlib.Core.Path.{◌≡◌, refl}
 use lib.ListN.{length, length-set}
 use Rattle.format.specs.Bytes.{text}
-use Rattle.records.specs.Named.{valuesFrom}
+use Rattle.records.specs.Named.{values_from}
 use Rattle.records.proofs.Readings.{part-readable}
 use Rattle.records.proofs.Named.{value-told}
 use Rattle.typedefs.proofs.Placing.{Placed, placed-start, placed_end, start-inside, placed-more, passed-inside}
@@ -18,7 +18,7 @@ use Rattle.terms.proofs.entry.Reads as entry-reads
 use Rattle.records.proofs.next_named.Reads as next-named-reads
 
 abbrev invariant-loop : tie.invariant-loop
-invariant-loop d entries₀ rows₀ i₀ count₀ t11 entries rows i count = Placed d entries₀ rows entries count i × (count ≤ length (valuesFrom d (text "%typedef") 0)) × (length entries ≡ length entries₀)
+invariant-loop d entries₀ rows₀ i₀ count₀ t11 entries rows i count = Placed d entries₀ rows entries count i × (count ≤ length (values_from d (text "%typedef") 0)) × (length entries ≡ length entries₀)
 
 abbrev decreases-loop : tie.decreases-loop
 decreases-loop d entries₀ rows₀ i₀ count₀ t11 entries rows i count = length d - i

@@ -7,7 +7,7 @@ use mathlib.Core.Bool.{Bool, ◌&&◌}
 use borrow.Author.Tests.{not-true, not-false}
 use lib.ListN.{drop}
 use Rattle.format.specs.Bytes.{all}
-use Rattle.typedefs.specs.Targets.{targetsIn, leads}
+use Rattle.typedefs.specs.Targets.{targets_in, leads}
 use Rattle.typedefs.proofs.Chains.{targets-length, target_at}
 use Rattle.typedefs.proofs.Good.{ends-done, ends-cut}
 use Rattle.typedefs.proofs.all_end.Statement.{statement}
@@ -17,7 +17,7 @@ use Rattle.typedefs.proofs.all_end.Lts as lts
 use Rattle.typedefs.proofs.target_ends.Reads as target-ends-reads
 
 abbrev invariant-loop : tie.invariant-loop
-invariant-loop targets count i₀ i = (i ≤ count) × (all (leads (targetsIn targets)) (targetsIn targets) ≡ all (leads (targetsIn targets)) (drop i (targetsIn targets)))
+invariant-loop targets count i₀ i = (i ≤ count) × (all (leads (targets_in targets)) (targets_in targets) ≡ all (leads (targets_in targets)) (drop i (targets_in targets)))
 
 abbrev decreases-loop : tie.decreases-loop
 decreases-loop targets count i₀ i = count - i
@@ -48,7 +48,7 @@ returns c =
     let at-loop = c.before.before.before.before.loop in
     let at-loop-test = c.before.before.before.loop-test in
     let at-if1 = c.if1 in
-    let ts = targetsIn at-args.t1 in
+    let ts = targets_in at-args.t1 in
     let e = at-target-ends.ensures ∙ ap (leads ts) (sym (target_at at-args.t1 at_pre at-loop.i _ at-loop-test.true)) in
     sym (at-loop.invariant.1 ∙ ends-cut ts at-loop.i at-target-ends.result (omega (arith, at-loop-test.true, targets-length at-args.t1 at_pre)) e
     ∙ ap (λ (b : Bool). b && all (leads ts) (drop (at-loop.i + 1) ts)) (not-true at-target-ends.result at-if1.true))
@@ -69,7 +69,7 @@ loop-again c =
     let at-loop = c.before.before.before.before.loop in
     let at-loop-test = c.before.before.before.loop-test in
     let at-if1 = c.if1 in
-    let ts = targetsIn at-args.t1 in
+    let ts = targets_in at-args.t1 in
     let e = at-target-ends.ensures ∙ ap (leads ts) (sym (target_at at-args.t1 at_pre at-loop.i _ at-loop-test.true)) in (
       omega arith,
       at-loop.invariant.1 ∙ ends-cut ts at-loop.i at-target-ends.result (omega (arith, at-loop-test.true, targets-length at-args.t1 at_pre)) e
@@ -82,7 +82,7 @@ returns-2 c =
     let at-loop = c.before.loop in
     let at-loop-test = c.loop-test in
     let at_pre = c.before.before.requires in
-    let ts = targetsIn at-args.t1 in
+    let ts = targets_in at-args.t1 in
     sym (at-loop.invariant.1 ∙ ends-done ts at-loop.i (omega (arith, at-loop-test.false, targets-length at-args.t1 at_pre)))
 
 pub all-end-spec : {M : Type 1} → statement M

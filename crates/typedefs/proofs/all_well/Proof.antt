@@ -7,12 +7,12 @@ use mathlib.Core.Bool.{Bool, true, ◌&&◌}
 use borrow.Author.Tests.{not-true, not-false}
 use lib.ListN.{length, drop}
 use Rattle.format.specs.Bytes.{text, all}
-use Rattle.values.specs.Value.{valueFrom}
+use Rattle.values.specs.Value.{value_from}
 use Rattle.words.specs.Spans.{span}
-use Rattle.records.specs.Places.{isReadable}
-use Rattle.records.specs.Named.{valuesFrom}
-use Rattle.typedefs.specs.Walks.{namesFrom, fitFrom}
-use Rattle.typedefs.specs.Targets.{targetsIn, wellBy}
+use Rattle.records.specs.Places.{is_readable}
+use Rattle.records.specs.Named.{values_from}
+use Rattle.typedefs.specs.Walks.{names_from, fit_from}
+use Rattle.typedefs.specs.Targets.{targets_in, well_by}
 use Rattle.records.proofs.Readings.{part-readable}
 use Rattle.records.proofs.Named.{value-told}
 use Rattle.typedefs.proofs.Filling.{fit-here}
@@ -25,7 +25,7 @@ use Rattle.records.proofs.next_named.Reads as next-named-reads
 use Rattle.typedefs.proofs.type_well.Reads as type-well-reads
 
 abbrev invariant-loop : tie.invariant-loop
-invariant-loop d names targets scratch₀ i₀ t10 scratch i = (i ≤ length d) × (isReadable (drop i d) ≡ true) × (length scratch ≡ length scratch₀) × (fitFrom (length scratch₀) d (text "%type") i ≡ true) × (all (wellBy (namesFrom d 0) (targetsIn targets)) (valuesFrom d (text "%type") 0) ≡ all (wellBy (namesFrom d 0) (targetsIn targets)) (valuesFrom d (text "%type") i))
+invariant-loop d names targets scratch₀ i₀ t10 scratch i = (i ≤ length d) × (is_readable (drop i d) ≡ true) × (length scratch ≡ length scratch₀) × (fit_from (length scratch₀) d (text "%type") i ≡ true) × (all (well_by (names_from d 0) (targets_in targets)) (values_from d (text "%type") 0) ≡ all (well_by (names_from d 0) (targets_in targets)) (values_from d (text "%type") i))
 
 abbrev decreases-loop : tie.decreases-loop
 decreases-loop d names targets scratch₀ i₀ t10 scratch i = length d - i
@@ -71,7 +71,7 @@ returns c =
     let at-next-named = c.before.before.next-named in
     let at-enum-told = c.enum_told in
     let h = value-told at-args.d.now (text "%type") at-loop.i at-next-named.result at-next-named.ensures at-enum-told.given.1 in
-    sym (at-loop.invariant.4 ∙ ap (all (wellBy (namesFrom at-args.d.now 0) (targetsIn at-args.targets))) h)
+    sym (at-loop.invariant.4 ∙ ap (all (well_by (names_from at-args.d.now 0) (targets_in at-args.targets))) h)
 
 add-type-well : tie.Need-overflow-add-type-well invariant-loop decreases-loop
 add-type-well c =
@@ -94,7 +94,7 @@ type-well-requires c κs =
     let d = at-args.d.now in
     let g = at-v.given in
     let h = value-told d (text "%type") at-loop.i at-next-named.result at-next-named.ensures g.1 in
-    let f = fit-here (length at-args.scratch.now) (valuesFrom d (text "%type") at-loop.i) (valueFrom (span (at-loop.i + g.0.1.0) (at-loop.i + g.0.1.1.0) d)) (valuesFrom d (text "%type") (at-loop.i + g.0.1.1.0)) at-loop.invariant.3 h.values in
+    let f = fit-here (length at-args.scratch.now) (values_from d (text "%type") at-loop.i) (value_from (span (at-loop.i + g.0.1.0) (at-loop.i + g.0.1.1.0) d)) (values_from d (text "%type") (at-loop.i + g.0.1.1.0)) at-loop.invariant.3 h.values in
     (((at_pre.0.1, at_pre.0.2), (omega (arith, h.value_there), omega (arith, f.0, at-loop.invariant.2, ap length h.ends-itself))))
 
 same-length-2 : tie.Need-same-length-2 invariant-loop decreases-loop
@@ -113,9 +113,9 @@ returns-2 c =
     let at-if1 = c.if1 in
     let d = at-args.d.now in
     let g = at-v.given in
-    let p = wellBy (namesFrom d 0) (targetsIn at-args.targets) in
+    let p = well_by (names_from d 0) (targets_in at-args.targets) in
     let h = value-told d (text "%type") at-loop.i at-next-named.result at-next-named.ensures g.1 in
-    sym (at-loop.invariant.4 ∙ all-cut p d (text "%type") at-loop.i (at-loop.i + g.0.1.0) (at-loop.i + g.0.1.1.0) at-type-well.result h at-type-well.ensures ∙ ap (λ (b : Bool). b && all p (valuesFrom d (text "%type") (at-loop.i + g.0.1.1.0))) (not-true at-type-well.result at-if1.true))
+    sym (at-loop.invariant.4 ∙ all-cut p d (text "%type") at-loop.i (at-loop.i + g.0.1.0) (at-loop.i + g.0.1.1.0) at-type-well.result h at-type-well.ensures ∙ ap (λ (b : Bool). b && all p (values_from d (text "%type") (at-loop.i + g.0.1.1.0))) (not-true at-type-well.result at-if1.true))
 
 add-i : tie.Need-overflow-add-i invariant-loop decreases-loop
 add-i c =
@@ -146,10 +146,10 @@ loop-again c =
     let at-if1 = c.if1 in
     let d = at-args.d.now in
     let g = at-v.given in
-    let p = wellBy (namesFrom d 0) (targetsIn at-args.targets) in
+    let p = well_by (names_from d 0) (targets_in at-args.targets) in
     let h = value-told d (text "%type") at-loop.i at-next-named.result at-next-named.ensures g.1 in
-    let f = fit-here (length at-args.scratch.now) (valuesFrom d (text "%type") at-loop.i) (valueFrom (span (at-loop.i + g.0.1.0) (at-loop.i + g.0.1.1.0) d)) (valuesFrom d (text "%type") (at-loop.i + g.0.1.1.0)) at-loop.invariant.3 h.values in
-    (h.inside, h.readable, omega (arith, at-scratch.given, at-loop.invariant.2), f.1, at-loop.invariant.4 ∙ all-cut p d (text "%type") at-loop.i (at-loop.i + g.0.1.0) (at-loop.i + g.0.1.1.0) at-type-well.result h at-type-well.ensures ∙ ap (λ (b : Bool). b && all p (valuesFrom d (text "%type") (at-loop.i + g.0.1.1.0))) (not-false at-type-well.result at-if1.false))
+    let f = fit-here (length at-args.scratch.now) (values_from d (text "%type") at-loop.i) (value_from (span (at-loop.i + g.0.1.0) (at-loop.i + g.0.1.1.0) d)) (values_from d (text "%type") (at-loop.i + g.0.1.1.0)) at-loop.invariant.3 h.values in
+    (h.inside, h.readable, omega (arith, at-scratch.given, at-loop.invariant.2), f.1, at-loop.invariant.4 ∙ all-cut p d (text "%type") at-loop.i (at-loop.i + g.0.1.0) (at-loop.i + g.0.1.1.0) at-type-well.result h at-type-well.ensures ∙ ap (λ (b : Bool). b && all p (values_from d (text "%type") (at-loop.i + g.0.1.1.0))) (not-false at-type-well.result at-if1.false))
 
 pub all-well-spec : {M : Type 1} → statement M
 all-well-spec =

@@ -1,6 +1,6 @@
 -- `typedefs::end_of` meets its contract.
 use native.Mathlib.Omega.{arith}
-use Rattle.typedefs.proofs.Ending.{end-own, end-open, end-there, end_row}
+use Rattle.typedefs.proofs.Ending.{end-own, end-open, end-there, end_row_lem}
 use borrow.Author.Rules.{rules}
 use Rattle.typedefs.proofs.end_of.Statement.{statement}
 use Rattle.typedefs.proofs.end_of.Tie as tie
@@ -64,7 +64,7 @@ returns-3 c =
     let at_f = c.before.before.f in
     let at_pre = c.before.before.before.before.before.before.before.before.before.requires in
     let l = end-there at-args.t1 at-args.t at-to.given.0.0 at-to.given.1 at-follow.result at-follow.ensures at_f.given.0.0 at_f.given.1 at_pre.0 in
-    end_row at-args.t1 at-args.t at-to.given.0.0 at-to.given.1 at-follow.result at-follow.ensures at_f.given.0.0 _ at_f.given.1 (omega (arith, l, at_pre.0.0, at_pre.1))
+    end_row_lem at-args.t1 at-args.t at-to.given.0.0 at-to.given.1 at-follow.result at-follow.ensures at_f.given.0.0 _ at_f.given.1 (omega (arith, l, at_pre.0.0, at_pre.1))
 
 pub end-of-spec : {M : Type 1} → statement M
 end-of-spec =

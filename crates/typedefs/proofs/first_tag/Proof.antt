@@ -3,7 +3,7 @@ use borrow.Author.Rules.{rules}
 use Prim.Native.Nat.{◌-◌, ◌≤◌}
 use native.Mathlib.Omega.{arith}
 use mathlib.Core.Path.{◌≡◌, refl, sym, ◌∙◌}
-use Rattle.typedefs.specs.Names.{tagFrom}
+use Rattle.typedefs.specs.Names.{tag_from}
 use Rattle.typedefs.proofs.Numbered.{tag-none, tag-here, tag-later}
 use Rattle.typedefs.proofs.first_tag.Statement.{statement}
 use Rattle.typedefs.proofs.first_tag.Tie as tie
@@ -12,7 +12,7 @@ use Rattle.typedefs.proofs.first_tag.Lts as lts
 use Rattle.terms.proofs.has.Reads as has-reads
 
 abbrev invariant-loop : tie.invariant-loop
-invariant-loop set from count k₀ k = (from ≤ k) × (k ≤ count) × (tagFrom set from (count - from) ≡ tagFrom set k (count - k))
+invariant-loop set from count k₀ k = (from ≤ k) × (k ≤ count) × (tag_from set from (count - from) ≡ tag_from set k (count - k))
 
 abbrev decreases-loop : tie.decreases-loop
 decreases-loop set from count k₀ k = count - k

@@ -6,14 +6,14 @@ use mathlib.Core.List.{[]}
 use lib.ListN.{length, drop, get_or}
 use Rattle.format.specs.Bytes.{Bytes}
 use Rattle.format.specs.Words.{first_word}
-use Rattle.values.specs.Value.{valueFrom}
+use Rattle.values.specs.Value.{value_from}
 use Rattle.lines.proofs.Cuts.{rest}
 use Rattle.words.specs.Spans.{span}
 use Rattle.words.proofs.Decoded.{decoded-all, decoded-length, decoded-inside}
-use Rattle.typedefs.specs.Walks.{namesFrom}
-use Rattle.typedefs.specs.Targets.{indexFrom}
+use Rattle.typedefs.specs.Walks.{names_from}
+use Rattle.typedefs.specs.Targets.{index_from}
 use Rattle.typedefs.proofs.Placing.{place-fits, place-name}
-use Rattle.typedefs.proofs.Good.{isMissing, among-index, not-missing}
+use Rattle.typedefs.proofs.Good.{is_missing, among-index, not-missing}
 use borrow.Author.Rules.{rules}
 use borrow.Author.Rules.{rules}
 use Rattle.typedefs.proofs.name_alone.Statement.{statement}
@@ -52,7 +52,7 @@ copy-value-requires : tie.Need-copy-value-requires
 copy-value-requires c κs =
     let at-args = c.before.before.before.before.before.args in
     let at_pre = c.before.before.before.before.before.requires in
-    subst (λ (x : Bytes). length (valueFrom x) ≤ length at-args.scratch.now) (sym (rest at-args.d.now (get_or at-args.names.places at-args.k 0))) (place-fits at-args.d.now at-args.names at_pre.0.0 at-args.k at_pre.0.1 (length at-args.scratch.now) at_pre.1)
+    subst (λ (x : Bytes). length (value_from x) ≤ length at-args.scratch.now) (sym (rest at-args.d.now (get_or at-args.names.places at-args.k 0))) (place-fits at-args.d.now at-args.names at_pre.0.0 at-args.k at_pre.0.1 (length at-args.scratch.now) at_pre.1)
 
 add-first-index : tie.Need-overflow-add-first-index
 add-first-index c =
@@ -65,14 +65,14 @@ slice-reshare-prefix-first-index c =
     let at-copy-value = c.before.before.copy-value in
     let at_pre = c.before.before.before.before.before.before.before.before.requires in
     let p = get_or at-args.names.places at-args.k 0 in
-    decoded-inside (valueFrom (span p (length at-args.d.now) at-args.d.now)) at-args.scratch.now _ at-copy-value.result at-copy-value.ensures.0 at-copy-value.ensures.1 (subst (λ (x : Bytes). length (valueFrom x) ≤ length at-args.scratch.now) (sym (rest at-args.d.now p)) (place-fits at-args.d.now at-args.names at_pre.0.0 at-args.k at_pre.0.1 (length at-args.scratch.now) at_pre.1))
+    decoded-inside (value_from (span p (length at-args.d.now) at-args.d.now)) at-args.scratch.now _ at-copy-value.result at-copy-value.ensures.0 at-copy-value.ensures.1 (subst (λ (x : Bytes). length (value_from x) ≤ length at-args.scratch.now) (sym (rest at-args.d.now p)) (place-fits at-args.d.now at-args.names at_pre.0.0 at-args.k at_pre.0.1 (length at-args.scratch.now) at_pre.1))
 
 slice-aggregate-first-index : tie.Need-slice-aggregate-first-index
 slice-aggregate-first-index c =
     let at-args = c.before.before.before.before.before.before.before.before.before.args in
     let at-copy-value = c.before.before.before.copy-value in
     let p = get_or at-args.names.places at-args.k 0 in
-    decoded-length (valueFrom (span p (length at-args.d.now) at-args.d.now)) at-args.scratch.now _ at-copy-value.result at-copy-value.ensures.0 at-copy-value.ensures.1
+    decoded-length (value_from (span p (length at-args.d.now) at-args.d.now)) at-args.scratch.now _ at-copy-value.result at-copy-value.ensures.0 at-copy-value.ensures.1
 
 first-index-requires : tie.Need-first-index-requires
 first-index-requires c κs =
@@ -94,9 +94,9 @@ returns c =
     let at-first-index = c.before.before.first-index in
     let d = at-args.d.now in
     let p = get_or at-args.names.places at-args.k 0 in
-    let ns = namesFrom d 0 in
-    let q = ap first_word (decoded-all (valueFrom (span p (length d) d)) at-args.scratch.now at-copy-value.new.1.0 at-copy-value.result at-copy-value.ensures.0 at-copy-value.ensures.1 ∙ ap valueFrom (rest d p)) ∙ place-name d at-args.names at_pre.0.0 at-args.k at_pre.0.1 in
-    ap isMissing (sym at-enum-told.given.1 ∙ at-first-index.ensures ∙ ap (λ (u : Bytes). indexFrom (at-args.k + 1) u (drop (at-args.k + 1) ns)) q) ∙ among-index (at-args.k + 1) (get_or ns at-args.k []) (drop (at-args.k + 1) ns)
+    let ns = names_from d 0 in
+    let q = ap first_word (decoded-all (value_from (span p (length d) d)) at-args.scratch.now at-copy-value.new.1.0 at-copy-value.result at-copy-value.ensures.0 at-copy-value.ensures.1 ∙ ap value_from (rest d p)) ∙ place-name d at-args.names at_pre.0.0 at-args.k at_pre.0.1 in
+    ap is_missing (sym at-enum-told.given.1 ∙ at-first-index.ensures ∙ ap (λ (u : Bytes). index_from (at-args.k + 1) u (drop (at-args.k + 1) ns)) q) ∙ among-index (at-args.k + 1) (get_or ns at-args.k []) (drop (at-args.k + 1) ns)
 
 same-length-2 : tie.Need-same-length-2
 same-length-2 c = search rules
@@ -110,9 +110,9 @@ returns-2 c =
     let at-match = c.match in
     let d = at-args.d.now in
     let p = get_or at-args.names.places at-args.k 0 in
-    let ns = namesFrom d 0 in
-    let q = ap first_word (decoded-all (valueFrom (span p (length d) d)) at-args.scratch.now at-copy-value.new.1.0 at-copy-value.result at-copy-value.ensures.0 at-copy-value.ensures.1 ∙ ap valueFrom (rest d p)) ∙ place-name d at-args.names at_pre.0.0 at-args.k at_pre.0.1 in
-    not-missing at-first-index.result at-match.keys2 ∙ ap isMissing (at-first-index.ensures ∙ ap (λ (u : Bytes). indexFrom (at-args.k + 1) u (drop (at-args.k + 1) ns)) q) ∙ among-index (at-args.k + 1) (get_or ns at-args.k []) (drop (at-args.k + 1) ns)
+    let ns = names_from d 0 in
+    let q = ap first_word (decoded-all (value_from (span p (length d) d)) at-args.scratch.now at-copy-value.new.1.0 at-copy-value.result at-copy-value.ensures.0 at-copy-value.ensures.1 ∙ ap value_from (rest d p)) ∙ place-name d at-args.names at_pre.0.0 at-args.k at_pre.0.1 in
+    not-missing at-first-index.result at-match.keys2 ∙ ap is_missing (at-first-index.ensures ∙ ap (λ (u : Bytes). index_from (at-args.k + 1) u (drop (at-args.k + 1) ns)) q) ∙ among-index (at-args.k + 1) (get_or ns at-args.k []) (drop (at-args.k + 1) ns)
 
 pub name-alone-spec : {M : Type 1} → statement M
 name-alone-spec =

@@ -4,7 +4,7 @@ use mathlib.Core.Bool.{Bool, ◌&&◌, not}
 use borrow.Author.Tests.{not-true, not-false}
 use native.Mathlib.Omega.{arith}
 use Rattle.format.specs.Bytes.{among}
-use Rattle.format.specs.Rules.{reserved, isTypedefName}
+use Rattle.format.specs.Rules.{reserved, is_typedef_name}
 use Rattle.words.specs.Spans.{span}
 use Rattle.words.proofs.Finding.{found}
 use Rattle.typedefs.proofs.Good.{first_found, first-none}
@@ -31,7 +31,7 @@ returns c =
     let at-args = c.before.before.before.before.args in
     let at-next-word = c.before.before.next_word in
     let at-enum-told = c.enum_told in
-    sym (ap isTypedefName (first-none at-args.s.now at-next-word.result at-next-word.ensures at-enum-told.given.1))
+    sym (ap is_typedef_name (first-none at-args.s.now at-next-word.result at-next-word.ensures at-enum-told.given.1))
 
 sub-is-type-name : tie.Need-overflow-sub-is-type-name
 sub-is-type-name c =
@@ -68,7 +68,7 @@ returns-2 c =
     let at-if1 = c.if1 in
     let n = span at-w.given.0.0 at-w.given.0.1.0 at-args.s.now in
     let e = first_found at-args.s.now at-next-word.result at-w.given.0.0 at-w.given.0.1.0 at-next-word.ensures at-w.given.1 in
-    sym (ap isTypedefName e ∙ ap (λ (t : Bool). t && not (among n reserved)) (sym at-is-type-name.ensures ∙ not-true at-is-type-name.result at-if1.true))
+    sym (ap is_typedef_name e ∙ ap (λ (t : Bool). t && not (among n reserved)) (sym at-is-type-name.ensures ∙ not-true at-is-type-name.result at-if1.true))
 
 sub-is-reserved : tie.Need-overflow-sub-is-reserved
 sub-is-reserved c =
@@ -104,7 +104,7 @@ returns-3 c =
     let at-if1 = c.before.before.if1 in
     let n = span at-w.given.0.0 at-w.given.0.1.0 at-args.s.now in
     let e = first_found at-args.s.now at-next-word.result at-w.given.0.0 at-w.given.0.1.0 at-next-word.ensures at-w.given.1 in
-    ap not at-is-reserved.ensures ∙ sym (ap isTypedefName e ∙ ap (λ (t : Bool). t && not (among n reserved)) (sym at-is-type-name.ensures ∙ not-false at-is-type-name.result at-if1.false))
+    ap not at-is-reserved.ensures ∙ sym (ap is_typedef_name e ∙ ap (λ (t : Bool). t && not (among n reserved)) (sym at-is-type-name.ensures ∙ not-false at-is-type-name.result at-if1.false))
 
 pub name-good-spec : {M : Type 1} → statement M
 name-good-spec =

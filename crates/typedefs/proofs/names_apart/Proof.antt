@@ -8,8 +8,8 @@ use borrow.Author.Tests.{not-true, not-false}
 use lib.ListN.{length, drop}
 use Rattle.format.specs.Bytes.{text}
 use Rattle.format.specs.Rules.{distinct}
-use Rattle.records.specs.Named.{valuesFrom}
-use Rattle.typedefs.specs.Walks.{namesFrom, fitFrom}
+use Rattle.records.specs.Named.{values_from}
+use Rattle.typedefs.specs.Walks.{names_from, fit_from}
 use Rattle.typedefs.proofs.Good.{words-length, apart-done, apart-cut}
 use Rattle.typedefs.proofs.names_apart.Statement.{statement}
 use Rattle.typedefs.proofs.names_apart.Tie as tie
@@ -18,7 +18,7 @@ use Rattle.typedefs.proofs.names_apart.Lts as lts
 use Rattle.typedefs.proofs.name_alone.Reads as name-alone-reads
 
 abbrev invariant-loop : tie.invariant-loop
-invariant-loop d names scratch₀ count k₀ scratch k = (k ≤ names.count) × (length scratch ≡ length scratch₀) × (distinct (namesFrom d 0) ≡ distinct (drop k (namesFrom d 0)))
+invariant-loop d names scratch₀ count k₀ scratch k = (k ≤ names.count) × (length scratch ≡ length scratch₀) × (distinct (names_from d 0) ≡ distinct (drop k (names_from d 0)))
 
 abbrev decreases-loop : tie.decreases-loop
 decreases-loop d names scratch₀ count k₀ scratch k = names.count - k
@@ -32,7 +32,7 @@ name-alone-requires c κs =
     let at-loop-test = c.before.loop-test in
     let at-args = c.before.before.before.before.before.args in
     let at-loop = c.before.before.loop in
-    ((at_pre.0, at-loop-test.true), ap (λ m. fitFrom m at-args.d.now (text "%typedef") 0) at-loop.invariant.1 ∙ at_pre.1)
+    ((at_pre.0, at-loop-test.true), ap (λ m. fit_from m at-args.d.now (text "%typedef") 0) at-loop.invariant.1 ∙ at_pre.1)
 
 same_length : tie.Need-same-length invariant-loop decreases-loop
 same_length c =
@@ -48,8 +48,8 @@ returns c =
     let at_pre = c.before.before.before.before.before.before.before.before.before.requires in
     let at-loop-test = c.before.before.before.before.before.loop-test in
     let at-if1 = c.if1 in
-    let ns = namesFrom at-args.d.now 0 in
-    sym (at-loop.invariant.2 ∙ apart-cut ns at-loop.k at-name-alone.result (omega (arith, words-length (valuesFrom at-args.d.now (text "%typedef") 0), at_pre.0.values.count, at-loop-test.true)) at-name-alone.ensures ∙ ap (λ (t : Bool). t && distinct (drop (at-loop.k + 1) ns)) (not-true at-name-alone.result at-if1.true))
+    let ns = names_from at-args.d.now 0 in
+    sym (at-loop.invariant.2 ∙ apart-cut ns at-loop.k at-name-alone.result (omega (arith, words-length (values_from at-args.d.now (text "%typedef") 0), at_pre.0.values.count, at-loop-test.true)) at-name-alone.ensures ∙ ap (λ (t : Bool). t && distinct (drop (at-loop.k + 1) ns)) (not-true at-name-alone.result at-if1.true))
 
 add-k : tie.Need-overflow-add-k invariant-loop decreases-loop
 add-k c =
@@ -69,8 +69,8 @@ loop-again c =
     let at-name-alone = c.before.before.before.name-alone in
     let at_pre = c.before.before.before.before.before.before.before.before.before.requires in
     let at-if1 = c.if1 in
-    let ns = namesFrom at-args.d.now 0 in
-    (omega (arith, at-loop-test.true), omega (arith, at-scratch.given, at-loop.invariant.1), at-loop.invariant.2 ∙ apart-cut ns at-loop.k at-name-alone.result (omega (arith, words-length (valuesFrom at-args.d.now (text "%typedef") 0), at_pre.0.values.count, at-loop-test.true)) at-name-alone.ensures ∙ ap (λ (t : Bool). t && distinct (drop (at-loop.k + 1) ns)) (not-false at-name-alone.result at-if1.false))
+    let ns = names_from at-args.d.now 0 in
+    (omega (arith, at-loop-test.true), omega (arith, at-scratch.given, at-loop.invariant.1), at-loop.invariant.2 ∙ apart-cut ns at-loop.k at-name-alone.result (omega (arith, words-length (values_from at-args.d.now (text "%typedef") 0), at_pre.0.values.count, at-loop-test.true)) at-name-alone.ensures ∙ ap (λ (t : Bool). t && distinct (drop (at-loop.k + 1) ns)) (not-false at-name-alone.result at-if1.false))
 
 same-length-2 : tie.Need-same-length-2 invariant-loop decreases-loop
 same-length-2 c =
@@ -83,8 +83,8 @@ returns-2 c =
     let at-loop = c.before.loop in
     let at_pre = c.before.before.before.before.requires in
     let at-loop-test = c.loop-test in
-    let ns = namesFrom at-args.d.now 0 in
-    sym (at-loop.invariant.2 ∙ apart-done ns at-loop.k (omega (arith, words-length (valuesFrom at-args.d.now (text "%typedef") 0), at_pre.0.values.count, at-loop-test.false)))
+    let ns = names_from at-args.d.now 0 in
+    sym (at-loop.invariant.2 ∙ apart-done ns at-loop.k (omega (arith, words-length (values_from at-args.d.now (text "%typedef") 0), at_pre.0.values.count, at-loop-test.false)))
 
 pub names-apart-spec : {M : Type 1} → statement M
 names-apart-spec =

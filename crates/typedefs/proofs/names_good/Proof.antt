@@ -9,13 +9,13 @@ use mathlib.Core.List.{List, map}
 use lib.ListN.{length, drop}
 use Rattle.format.specs.Bytes.{Bytes, text, all}
 use Rattle.format.specs.Words.{first_word}
-use Rattle.format.specs.Rules.{isTypedefName}
-use Rattle.values.specs.Value.{valueFrom}
+use Rattle.format.specs.Rules.{is_typedef_name}
+use Rattle.values.specs.Value.{value_from}
 use Rattle.words.specs.Spans.{span}
 use Rattle.words.proofs.Decoded.{decoded-all, decoded-length, decoded-inside}
-use Rattle.records.specs.Places.{isReadable}
-use Rattle.records.specs.Named.{valuesFrom}
-use Rattle.typedefs.specs.Walks.{namesFrom, fitFrom}
+use Rattle.records.specs.Places.{is_readable}
+use Rattle.records.specs.Named.{values_from}
+use Rattle.typedefs.specs.Walks.{names_from, fit_from}
 use Rattle.records.proofs.Readings.{part-readable}
 use Rattle.records.proofs.Named.{value-told}
 use Rattle.typedefs.proofs.Filling.{fit-here}
@@ -29,7 +29,7 @@ use Rattle.typedefs.proofs.name_good.Reads as name-good-reads
 use Rattle.records.proofs.next_named.Reads as next-named-reads
 
 abbrev invariant-loop : tie.invariant-loop
-invariant-loop d scratch₀ i₀ t9 scratch i = (i ≤ length d) × (isReadable (drop i d) ≡ true) × (length scratch ≡ length scratch₀) × (fitFrom (length scratch₀) d (text "%typedef") i ≡ true) × (all isTypedefName (namesFrom d 0) ≡ all isTypedefName (namesFrom d i))
+invariant-loop d scratch₀ i₀ t9 scratch i = (i ≤ length d) × (is_readable (drop i d) ≡ true) × (length scratch ≡ length scratch₀) × (fit_from (length scratch₀) d (text "%typedef") i ≡ true) × (all is_typedef_name (names_from d 0) ≡ all is_typedef_name (names_from d i))
 
 abbrev decreases-loop : tie.decreases-loop
 decreases-loop d scratch₀ i₀ t9 scratch i = length d - i
@@ -74,7 +74,7 @@ returns c =
     let at-args = c.before.before.before.before.before.before.before.before.args in
     let at-next-named = c.before.before.next-named in
     let at-enum-told = c.enum_told in
-    sym (at-loop.invariant.4 ∙ ap (λ (vs : List Bytes). all isTypedefName (map first_word vs)) (value-told at-args.d.now (text "%typedef") at-loop.i at-next-named.result at-next-named.ensures at-enum-told.given.1))
+    sym (at-loop.invariant.4 ∙ ap (λ (vs : List Bytes). all is_typedef_name (map first_word vs)) (value-told at-args.d.now (text "%typedef") at-loop.i at-next-named.result at-next-named.ensures at-enum-told.given.1))
 
 add-copy-value : tie.Need-overflow-add-copy-value invariant-loop decreases-loop
 add-copy-value c =
@@ -129,7 +129,7 @@ copy-value-requires c κs =
     let at-next-named = c.before.before.before.before.before.next-named in
     let g = at-v.given in
     let h = value-told at-args.d.now (text "%typedef") at-loop.i at-next-named.result at-next-named.ensures g.1 in
-    let f = fit-here (length at-args.scratch.now) (valuesFrom at-args.d.now (text "%typedef") at-loop.i) (valueFrom (span (at-loop.i + g.0.1.0) (at-loop.i + g.0.1.1.0) at-args.d.now)) (valuesFrom at-args.d.now (text "%typedef") (at-loop.i + g.0.1.1.0)) at-loop.invariant.3 h.values in
+    let f = fit-here (length at-args.scratch.now) (values_from at-args.d.now (text "%typedef") at-loop.i) (value_from (span (at-loop.i + g.0.1.0) (at-loop.i + g.0.1.1.0) at-args.d.now)) (values_from at-args.d.now (text "%typedef") (at-loop.i + g.0.1.1.0)) at-loop.invariant.3 h.values in
     omega (arith, f.0, at-loop.invariant.2)
 
 slice-reshare-prefix-name-good : tie.Need-slice-reshare-prefix-name-good invariant-loop decreases-loop
@@ -141,8 +141,8 @@ slice-reshare-prefix-name-good c =
     let at-copy-value = c.before.before.copy-value in
     let g = at-v.given in
     let h = value-told at-args.d.now (text "%typedef") at-loop.i at-next-named.result at-next-named.ensures g.1 in
-    let v = valueFrom (span (at-loop.i + g.0.1.0) (at-loop.i + g.0.1.1.0) at-args.d.now) in
-    let f = fit-here (length at-args.scratch.now) (valuesFrom at-args.d.now (text "%typedef") at-loop.i) v (valuesFrom at-args.d.now (text "%typedef") (at-loop.i + g.0.1.1.0)) at-loop.invariant.3 h.values in
+    let v = value_from (span (at-loop.i + g.0.1.0) (at-loop.i + g.0.1.1.0) at-args.d.now) in
+    let f = fit-here (length at-args.scratch.now) (values_from at-args.d.now (text "%typedef") at-loop.i) v (values_from at-args.d.now (text "%typedef") (at-loop.i + g.0.1.1.0)) at-loop.invariant.3 h.values in
     decoded-inside v at-loop.scratch _ at-copy-value.result at-copy-value.ensures.0 at-copy-value.ensures.1 (omega (arith, f.0, at-loop.invariant.2))
 
 slice-aggregate-name-good : tie.Need-slice-aggregate-name-good invariant-loop decreases-loop
@@ -152,7 +152,7 @@ slice-aggregate-name-good c =
     let at-loop = c.before.before.before.before.before.before.before.before.before.before.before.before.loop in
     let at-copy-value = c.before.before.before.copy-value in
     let g = at-v.given in
-    decoded-length (valueFrom (span (at-loop.i + g.0.1.0) (at-loop.i + g.0.1.1.0) at-args.d.now)) at-loop.scratch _ at-copy-value.result at-copy-value.ensures.0 at-copy-value.ensures.1
+    decoded-length (value_from (span (at-loop.i + g.0.1.0) (at-loop.i + g.0.1.1.0) at-args.d.now)) at-loop.scratch _ at-copy-value.result at-copy-value.ensures.0 at-copy-value.ensures.1
 
 name-good-requires : tie.Need-name-good-requires invariant-loop decreases-loop
 name-good-requires c κs = search rules
@@ -175,9 +175,9 @@ returns-2 c =
     let g = at-v.given in
     let d = at-args.d.now in
     let h = value-told d (text "%typedef") at-loop.i at-next-named.result at-next-named.ensures g.1 in
-    let v = valueFrom (span (at-loop.i + g.0.1.0) (at-loop.i + g.0.1.1.0) d) in
-    let q = at-name-good.ensures ∙ ap (λ (u : Bytes). isTypedefName (first_word u)) (decoded-all v at-loop.scratch _ at-copy-value.result at-copy-value.ensures.0 at-copy-value.ensures.1) in
-    sym (at-loop.invariant.4 ∙ good-cut d at-loop.i (at-loop.i + g.0.1.0) (at-loop.i + g.0.1.1.0) at-name-good.result h q ∙ ap (λ (b : Bool). b && all isTypedefName (namesFrom d (at-loop.i + g.0.1.1.0))) (not-true at-name-good.result at-if1.true))
+    let v = value_from (span (at-loop.i + g.0.1.0) (at-loop.i + g.0.1.1.0) d) in
+    let q = at-name-good.ensures ∙ ap (λ (u : Bytes). is_typedef_name (first_word u)) (decoded-all v at-loop.scratch _ at-copy-value.result at-copy-value.ensures.0 at-copy-value.ensures.1) in
+    sym (at-loop.invariant.4 ∙ good-cut d at-loop.i (at-loop.i + g.0.1.0) (at-loop.i + g.0.1.1.0) at-name-good.result h q ∙ ap (λ (b : Bool). b && all is_typedef_name (names_from d (at-loop.i + g.0.1.1.0))) (not-true at-name-good.result at-if1.true))
 
 add-i : tie.Need-overflow-add-i invariant-loop decreases-loop
 add-i c =
@@ -210,10 +210,10 @@ loop-again c =
     let g = at-v.given in
     let d = at-args.d.now in
     let h = value-told d (text "%typedef") at-loop.i at-next-named.result at-next-named.ensures g.1 in
-    let v = valueFrom (span (at-loop.i + g.0.1.0) (at-loop.i + g.0.1.1.0) d) in
-    let f = fit-here (length at-args.scratch.now) (valuesFrom d (text "%typedef") at-loop.i) v (valuesFrom d (text "%typedef") (at-loop.i + g.0.1.1.0)) at-loop.invariant.3 h.values in
-    let q = at-name-good.ensures ∙ ap (λ (u : Bytes). isTypedefName (first_word u)) (decoded-all v at-loop.scratch _ at-copy-value.result at-copy-value.ensures.0 at-copy-value.ensures.1) in
-    (h.inside, h.readable, omega (arith, at-scratch.given, at-loop.invariant.2), f.1, at-loop.invariant.4 ∙ good-cut d at-loop.i (at-loop.i + g.0.1.0) (at-loop.i + g.0.1.1.0) at-name-good.result h q ∙ ap (λ (b : Bool). b && all isTypedefName (namesFrom d (at-loop.i + g.0.1.1.0))) (not-false at-name-good.result at-if1.false))
+    let v = value_from (span (at-loop.i + g.0.1.0) (at-loop.i + g.0.1.1.0) d) in
+    let f = fit-here (length at-args.scratch.now) (values_from d (text "%typedef") at-loop.i) v (values_from d (text "%typedef") (at-loop.i + g.0.1.1.0)) at-loop.invariant.3 h.values in
+    let q = at-name-good.ensures ∙ ap (λ (u : Bytes). is_typedef_name (first_word u)) (decoded-all v at-loop.scratch _ at-copy-value.result at-copy-value.ensures.0 at-copy-value.ensures.1) in
+    (h.inside, h.readable, omega (arith, at-scratch.given, at-loop.invariant.2), f.1, at-loop.invariant.4 ∙ good-cut d at-loop.i (at-loop.i + g.0.1.0) (at-loop.i + g.0.1.1.0) at-name-good.result h q ∙ ap (λ (b : Bool). b && all is_typedef_name (names_from d (at-loop.i + g.0.1.1.0))) (not-false at-name-good.result at-if1.false))
 
 pub names-good-spec : {M : Type 1} → statement M
 names-good-spec =

@@ -2,7 +2,7 @@
 use native.Mathlib.Omega.{arith}
 use mathlib.Core.Path.{sym, ap, ◌∙◌}
 use Rattle.format.specs.Bytes.{Bytes, all}
-use Rattle.format.specs.Lines.{isName}
+use Rattle.format.specs.Lines.{is_name}
 use Rattle.format.specs.Words.{split}
 use Rattle.words.proofs.Finding.{found}
 use Rattle.typedefs.proofs.Good.{first_found, first-none}
@@ -28,7 +28,7 @@ returns c =
     let at-args = c.before.before.before.before.args in
     let at-next-word = c.before.before.next_word in
     let at-enum-told = c.enum_told in
-    sym (ap (λ (w : Bytes). all isName (split 44 w)) (first-none at-args.s.now at-next-word.result at-next-word.ensures at-enum-told.given.1))
+    sym (ap (λ (w : Bytes). all is_name (split 44 w)) (first-none at-args.s.now at-next-word.result at-next-word.ensures at-enum-told.given.1))
 
 sub-parts-named : tie.Need-overflow-sub-parts-named
 sub-parts-named c =
@@ -65,7 +65,7 @@ returns-2 c =
     let at-args = c.before.before.before.before.before.before.before.args in
     let at-next-word = c.before.before.before.before.before.next_word in
     let at-w = c.before.before.before.w in
-    at-parts-named.ensures ∙ sym (ap (λ (w : Bytes). all isName (split 44 w)) (first_found at-args.s.now at-next-word.result at-w.given.0.0 at-w.given.0.1.0 at-next-word.ensures at-w.given.1))
+    at-parts-named.ensures ∙ sym (ap (λ (w : Bytes). all is_name (split 44 w)) (first_found at-args.s.now at-next-word.result at-w.given.0.0 at-w.given.0.1.0 at-next-word.ensures at-w.given.1))
 
 pub names-well-spec : {M : Type 1} → statement M
 names-well-spec =

@@ -7,9 +7,9 @@ use borrow.Author.Tests.{not-true, not-false}
 use lib.ListN.{length}
 use lib.Seq.{length-take-le}
 use Rattle.format.specs.Bytes.{all}
-use Rattle.format.specs.Lines.{isName}
+use Rattle.format.specs.Lines.{is_name}
 use Rattle.format.specs.Words.{split}
-use Rattle.words.specs.Spans.{notByte}
+use Rattle.words.specs.Spans.{not_byte}
 use Rattle.words.proofs.Finding.{run-le}
 use Rattle.typedefs.proofs.Deciding.{part-bad, part-last, part-more}
 use Rattle.typedefs.proofs.parts_named.Statement.{statement}
@@ -20,7 +20,7 @@ use Rattle.words.proofs.is_name.Reads as is-name-reads
 use Rattle.words.proofs.part_end.Reads as part-end-reads
 
 abbrev invariant-loop : tie.invariant-loop
-invariant-loop s rest₀ rest = (length rest ≤ length s) × (all isName (split 44 s) ≡ all isName (split 44 rest))
+invariant-loop s rest₀ rest = (length rest ≤ length s) × (all is_name (split 44 s) ≡ all is_name (split 44 rest))
 
 abbrev decreases-loop : tie.decreases-loop
 decreases-loop s rest₀ rest = length rest
@@ -35,7 +35,7 @@ slice-aggregate-is-name : tie.Need-slice-aggregate-is-name invariant-loop decrea
 slice-aggregate-is-name c =
     let at-loop = c.before.before.loop in
     let at-part-end = c.before.part-end in
-    sym (length-take-le at-part-end.result at-loop.rest.now (omega (arith, at-part-end.ensures, run-le (notByte 44) at-loop.rest.now)))
+    sym (length-take-le at-part-end.result at-loop.rest.now (omega (arith, at-part-end.ensures, run-le (not_byte 44) at-loop.rest.now)))
 
 is-name-requires : tie.Need-is-name-requires invariant-loop decreases-loop
 is-name-requires c κs =
@@ -64,21 +64,21 @@ add-rest c =
     let at-part-end = c.before.before.before.before.part-end in
     let at-if2 = c.if2 in
     let at-loop = c.before.before.before.before.before.loop in
-    omega (arith, at-part-end.ensures, at-if2.false, run-le (notByte 44) at-loop.rest.now)
+    omega (arith, at-part-end.ensures, at-if2.false, run-le (not_byte 44) at-loop.rest.now)
 
 sub-rest : tie.Need-overflow-sub-rest invariant-loop decreases-loop
 sub-rest c =
     let at-part-end = c.before.before.before.before.part-end in
     let at-if2 = c.if2 in
     let at-loop = c.before.before.before.before.before.loop in
-    omega (arith, at-part-end.ensures, at-if2.false, run-le (notByte 44) at-loop.rest.now)
+    omega (arith, at-part-end.ensures, at-if2.false, run-le (not_byte 44) at-loop.rest.now)
 
 part-rest-start : tie.Need-slice-bounds-rest-start invariant-loop decreases-loop
 part-rest-start c =
     let at-part-end = c.before.before.before.before.part-end in
     let at-if2 = c.if2 in
     let at-loop = c.before.before.before.before.before.loop in
-    omega (arith, at-part-end.ensures, at-if2.false, run-le (notByte 44) at-loop.rest.now)
+    omega (arith, at-part-end.ensures, at-if2.false, run-le (not_byte 44) at-loop.rest.now)
 
 part-rest-end : tie.Need-slice-bounds-rest-end invariant-loop decreases-loop
 part-rest-end c = search rules
@@ -88,7 +88,7 @@ loop-less c =
     let at-part-end = c.before.before.before.before.before.part-end in
     let at-if2 = c.before.if2 in
     let at-loop = c.before.before.before.before.before.before.loop in
-    omega (arith, at-part-end.ensures, at-if2.false, run-le (notByte 44) at-loop.rest.now)
+    omega (arith, at-part-end.ensures, at-if2.false, run-le (not_byte 44) at-loop.rest.now)
 
 loop-again : tie.Need-loop-preserved invariant-loop decreases-loop
 loop-again c =
@@ -97,7 +97,7 @@ loop-again c =
     let at-loop = c.before.before.before.before.before.before.loop in
     let at-is-name = c.before.before.before.is_name in
     let at-if1 = c.before.before.if1 in
-    (omega arith, at-loop.invariant.1 ∙ part-more at-loop.rest.now at-part-end.result at-part-end.ensures (sym at-is-name.ensures ∙ not-false at-is-name.result at-if1.false) (omega (arith, at-part-end.ensures, at-if2.false, run-le (notByte 44) at-loop.rest.now)))
+    (omega arith, at-loop.invariant.1 ∙ part-more at-loop.rest.now at-part-end.result at-part-end.ensures (sym at-is-name.ensures ∙ not-false at-is-name.result at-if1.false) (omega (arith, at-part-end.ensures, at-if2.false, run-le (not_byte 44) at-loop.rest.now)))
 
 pub parts-named-spec : {M : Type 1} → statement M
 parts-named-spec =

@@ -7,9 +7,9 @@ use mathlib.Core.List.{map}
 use lib.ListN.{length, take, length-set}
 use lib.Seq.{take_all}
 use Rattle.format.specs.Bytes.{text}
-use Rattle.records.specs.Named.{valuesFrom}
-use Rattle.typedefs.specs.Walks.{namesFrom}
-use Rattle.typedefs.specs.Targets.{targetIn}
+use Rattle.records.specs.Named.{values_from}
+use Rattle.typedefs.specs.Walks.{names_from}
+use Rattle.typedefs.specs.Targets.{target_in}
 use Rattle.typedefs.specs.Typedefs.{Typed}
 use Rattle.typedefs.specs.declared.Link.{Link}
 use Rattle.typedefs.proofs.Placing.{place-fits}
@@ -22,7 +22,7 @@ use Rattle.typedefs.proofs.read_typedef.Reads as read-typedef-reads
 
 abbrev invariant-loop : tie.invariant-loop
 invariant-loop d names scratch₀ places count rows₀ links₀ k₀ scratch rows links k = (k ≤ names.count) × (length scratch ≡ length scratch₀) × (length rows ≡ 32) × (length links ≡ 32) × Typed d names.places rows k
-    × (map (λ (x : Link). x.to) (take k links) ≡ map (targetIn (namesFrom d 0)) (take k (valuesFrom d (text "%typedef") 0)))
+    × (map (λ (x : Link). x.to) (take k links) ≡ map (target_in (names_from d 0)) (take k (values_from d (text "%typedef") 0)))
 
 abbrev decreases-loop : tie.decreases-loop
 decreases-loop d names scratch₀ places count rows₀ links₀ k₀ scratch rows links k = names.count - k
@@ -92,8 +92,8 @@ loop-again c =
       simp length-set at-loop.invariant.2,
       simp length-set at-loop.invariant.3,
       rows_more d at-args.names.places at-loop.rows at-loop.k at-read-typedef.result (omega (arith, at-loop.invariant.2, h.values.few)) is at-loop.invariant.4,
-      targets-more (targetIn (namesFrom d 0)) (valuesFrom d (text "%typedef") 0) at-loop.links at-loop.k (record { to = at-read-typedef.result.target })
-          (omega (arith, at-loop.invariant.3, h.values.few)) (omega (arith, h.values.count)) (is.target_is ∙ ap (targetIn (namesFrom d 0)) v.1) at-loop.invariant.5,
+      targets-more (target_in (names_from d 0)) (values_from d (text "%typedef") 0) at-loop.links at-loop.k (record { to = at-read-typedef.result.target })
+          (omega (arith, at-loop.invariant.3, h.values.few)) (omega (arith, h.values.count)) (is.target_is ∙ ap (target_in (names_from d 0)) v.1) at-loop.invariant.5,
     )
 
 same_length : tie.Need-same-length invariant-loop decreases-loop
@@ -110,11 +110,11 @@ returns c =
     let h = at_pre.0 in
     let d = at-args.d.now in
     let z : at-loop.k ≡ at-args.names.count = omega (arith, at-loop.invariant.0, at-loop-test.false) in
-    let vs = valuesFrom d (text "%typedef") 0 in
+    let vs = values_from d (text "%typedef") 0 in
     record {
       bounded = (h.values.few, at-loop.invariant.3);
       long = at-loop.invariant.2;
-      targets-are = sym (ap (λ (j : ℕ). map (λ (x : Link). x.to) (take j at-loop.links)) z) ∙ at-loop.invariant.5 ∙ ap (map (targetIn (namesFrom d 0))) (take_all at-loop.k vs (omega (arith, h.values.count)));
+      targets-are = sym (ap (λ (j : ℕ). map (λ (x : Link). x.to) (take j at-loop.links)) z) ∙ at-loop.invariant.5 ∙ ap (map (target_in (names_from d 0))) (take_all at-loop.k vs (omega (arith, h.values.count)));
       row = λ k other l. at-loop.invariant.4 k other (omega (arith, l, z));
     }
 

@@ -1,6 +1,6 @@
 -- `typedefs::target_ends` meets its contract.
 use mathlib.Core.Path.{sym, ap}
-use Rattle.typedefs.specs.Targets.{targetsIn, leads}
+use Rattle.typedefs.specs.Targets.{targets_in, leads}
 use Rattle.typedefs.proofs.Ending.{leads-alias}
 use borrow.Author.Rules.{rules}
 use Rattle.typedefs.proofs.target_ends.Statement.{statement}
@@ -37,7 +37,7 @@ returns : tie.Need-returns
 returns c =
     let at-args = c.before.before.args in
     let at-enum-told = c.enum_told in
-    sym (ap (leads (targetsIn at-args.targets)) at-enum-told.given.1)
+    sym (ap (leads (targets_in at-args.targets)) at-enum-told.given.1)
 
 returns-2 : tie.Need-returns-2
 returns-2 c =
@@ -70,7 +70,7 @@ returns-5 : tie.Need-returns-5
 returns-5 c =
     let at-args = c.before.before.args in
     let at-enum-told5 = c.enum-told5 in
-    sym (ap (leads (targetsIn at-args.targets)) at-enum-told5.given.1)
+    sym (ap (leads (targets_in at-args.targets)) at-enum-told5.given.1)
 
 pub target-ends-spec : {M : Type 1} → statement M
 target-ends-spec =

@@ -2,12 +2,12 @@
 use native.Mathlib.Omega.{arith}
 use mathlib.Core.Path.{sym, ap, ◌∙◌, subst}
 use mathlib.Core.Option.{some}
-use Rattle.typing.specs.Meaning.{typedIn, typeAnswer, SoundType}
+use Rattle.typing.specs.Meaning.{typed_in, type_answer, SoundType}
 use Rattle.typing.specs.declared.Shape.{Shape}
 use Rattle.typing.specs.declared.TypeOf.{TypeOf}
 use Rattle.typing.proofs.Meeting.{sound-shape}
-use Rattle.typedefs.specs.Walks.{namesFrom}
-use Rattle.typedefs.specs.Targets.{targetBy}
+use Rattle.typedefs.specs.Walks.{names_from}
+use Rattle.typedefs.specs.Targets.{target_by}
 use Rattle.typedefs.proofs.Chains.{target-kind}
 use borrow.Author.Rules.{rules}
 use Rattle.typedefs.proofs.target_in.Statement.{statement}
@@ -26,7 +26,7 @@ returns : tie.Need-returns
 returns c =
     let at-args = c.before.before.before.before.args in
     let at-enum-told = c.enum_told in
-    sym (ap (λ (x : TypeOf). targetBy (namesFrom at-args.d.now 0) (typeAnswer at-args.s.now x)) at-enum-told.given.1)
+    sym (ap (λ (x : TypeOf). target_by (names_from at-args.d.now 0) (type_answer at-args.s.now x)) at-enum-told.given.1)
 
 enum-known-k : tie.Need-enum-known-k
 enum-known-k c = search rules
@@ -66,16 +66,16 @@ returns-2 c =
     let at-args = c.before.before.before.before.before.before.before.before.before.before.args in
     let at-t = c.before.before.before.before.before.before.t in
     let at-k = c.before.before.before.k in
-    at-index-from.ensures ∙ sym (ap (λ (x : TypeOf). targetBy (namesFrom at-args.d.now 0) (typeAnswer at-args.s.now x)) at-t.given.1
-    ∙ ap (λ (k : Shape). targetBy (namesFrom at-args.d.now 0) (some (typedIn at-args.s.now k))) at-k.given.1)
+    at-index-from.ensures ∙ sym (ap (λ (x : TypeOf). target_by (names_from at-args.d.now 0) (type_answer at-args.s.now x)) at-t.given.1
+    ∙ ap (λ (k : Shape). target_by (names_from at-args.d.now 0) (some (typed_in at-args.s.now k))) at-k.given.1)
 
 returns-3 : tie.Need-returns-3
 returns-3 c =
     let at-args = c.before.before.before.before.before.before.args in
     let at-t = c.before.before.t in
     let at-match2 = c.match2 in
-    sym (ap (λ (x : TypeOf). targetBy (namesFrom at-args.d.now 0) (typeAnswer at-args.s.now x)) at-t.given.1
-    ∙ target-kind (namesFrom at-args.d.now 0) at-args.s.now at-t.given.0.0 at-match2.keys2)
+    sym (ap (λ (x : TypeOf). target_by (names_from at-args.d.now 0) (type_answer at-args.s.now x)) at-t.given.1
+    ∙ target-kind (names_from at-args.d.now 0) at-args.s.now at-t.given.0.0 at-match2.keys2)
 
 pub target-in-spec : {M : Type 1} → statement M
 target-in-spec =

@@ -8,9 +8,9 @@ use Rattle.format.specs.Pieces.{read_of}
 use Rattle.format.specs.Bytes.{text, all}
 use Rattle.format.specs.Records.{fields_of}
 use Rattle.format.specs.Rules.{distinct}
-use Rattle.records.specs.Named.{valuesFrom}
-use Rattle.typedefs.specs.Walks.{namesFrom, fitFrom}
-use Rattle.typedefs.specs.Targets.{targetIn, leads, wellBy}
+use Rattle.records.specs.Named.{values_from}
+use Rattle.typedefs.specs.Walks.{names_from, fit_from}
+use Rattle.typedefs.specs.Targets.{target_in, leads, well_by}
 use Rattle.typedefs.specs.declared.Target.{Target}
 use Rattle.typedefs.proofs.Defined.{defined-by}
 use Rattle.typedefs.proofs.Deciding.{type-names, not-defined, well-types}
@@ -41,9 +41,9 @@ returns c =
     let at-names-good = c.before.before.before.names-good in
     let at-if1 = c.if1 in
     let d = at-args.d.now in
-    let vs = valuesFrom d (text "%typedef") 0 in
-    let ns = namesFrom d 0 in
-    let ts = map (targetIn ns) vs in
+    let vs = values_from d (text "%typedef") 0 in
+    let ns = names_from d 0 in
+    let ts = map (target_in ns) vs in
     let ends = all (leads ts) ts in
     sym (not-defined (fields_of (read_of d)) (defined-by vs at-names-good.result (distinct ns) ends at-names-good.ensures refl refl ∙ ap (λ (t : Bool). (t && distinct ns) && ends) (not-true at-names-good.result at-if1.true)))
 
@@ -53,7 +53,7 @@ read-names-requires c κs =
     let at-args = c.before.before.before.before.before.before.before.args in
     let at-names-good = c.before.before.before.names-good in
     let at-if1 = c.if1 in
-    ((at_pre.0, (at_pre.1.0.0, type-names (namesFrom at-args.d.now 0) (sym at-names-good.ensures ∙ not-false at-names-good.result at-if1.false))))
+    ((at_pre.0, (at_pre.1.0.0, type-names (names_from at-args.d.now 0) (sym at-names-good.ensures ∙ not-false at-names-good.result at-if1.false))))
 
 names-apart-requires : tie.Need-names-apart-requires
 names-apart-requires c κs =
@@ -61,7 +61,7 @@ names-apart-requires c κs =
     let at-args = c.before.before.before.before.before.before.before.before.before.args in
     let at-scratch = c.before.before.before.before.scratch in
     let at_pre = c.before.before.before.before.before.before.before.before.before.requires in
-    (at-read-names.ensures, ap (λ (m : ℕ). fitFrom m at-args.d.now (text "%typedef") 0) at-scratch.given ∙ at_pre.1.0.1)
+    (at-read-names.ensures, ap (λ (m : ℕ). fit_from m at-args.d.now (text "%typedef") 0) at-scratch.given ∙ at_pre.1.0.1)
 
 same-length-2 : tie.Need-same-length-2
 same-length-2 c =
@@ -77,9 +77,9 @@ returns-2 c =
     let at-if1 = c.before.before.before.before.before.before.if1 in
     let at-if2 = c.if2 in
     let d = at-args.d.now in
-    let vs = valuesFrom d (text "%typedef") 0 in
-    let ns = namesFrom d 0 in
-    let ts = map (targetIn ns) vs in
+    let vs = values_from d (text "%typedef") 0 in
+    let ns = names_from d 0 in
+    let ts = map (target_in ns) vs in
     let ends = all (leads ts) ts in
     sym (not-defined (fields_of (read_of d)) (defined-by vs at-names-good.result at-names-apart.result ends at-names-good.ensures at-names-apart.ensures refl
     ∙ ap (λ (t : Bool). (t && at-names-apart.result) && ends) (not-false at-names-good.result at-if1.false) ∙ ap (λ (t : Bool). (true && t) && ends) (not-true at-names-apart.result at-if2.true)))
@@ -91,7 +91,7 @@ read-typedefs-requires c κs =
     let at-scratch2 = c.before.before.before.scratch2 in
     let at-scratch = c.before.before.before.before.before.before.before.before.before.scratch in
     let at_pre = c.before.before.before.before.before.before.before.before.before.before.before.before.before.before.requires in
-    ((at-read-names.ensures, ap (λ (m : ℕ). fitFrom m at-args.d.now (text "%typedef") 0) (at-scratch2.given ∙ at-scratch.given) ∙ at_pre.1.0.1))
+    ((at-read-names.ensures, ap (λ (m : ℕ). fit_from m at-args.d.now (text "%typedef") 0) (at-scratch2.given ∙ at-scratch.given) ∙ at_pre.1.0.1))
 
 all-end-requires : tie.Need-all-end-requires
 all-end-requires c κs =
@@ -116,7 +116,7 @@ returns-3 c =
     let at-if2 = c.before.before.before.before.before.before.before.if2 in
     let at-if3 = c.if3 in
     let d = at-args.d.now in
-    let vs = valuesFrom d (text "%typedef") 0 in
+    let vs = values_from d (text "%typedef") 0 in
     let e = ap (λ (xs : List Target). all (leads xs) xs) at-read-typedefs.ensures.targets-are in
     sym (not-defined (fields_of (read_of d)) (defined-by vs at-names-good.result at-names-apart.result at-all-end.result at-names-good.ensures at-names-apart.ensures (at-all-end.ensures ∙ e)
     ∙ ap (λ (t : Bool). (t && at-names-apart.result) && at-all-end.result) (not-false at-names-good.result at-if1.false) ∙ ap (λ (t : Bool). (true && t) && at-all-end.result) (not-false at-names-apart.result at-if2.false) ∙ not-true at-all-end.result at-if3.true))
@@ -130,7 +130,7 @@ all-well-requires c κs =
     let at-scratch3 = c.before.before.before.before.before.scratch3 in
     let at-scratch2 = c.before.before.before.before.before.before.before.before.before.before.scratch2 in
     let at-scratch = c.before.before.before.before.before.before.before.before.before.before.before.before.before.before.before.before.scratch in
-    (((at_pre.0.0, at-read-names.ensures, at-read-typedefs.ensures.bounded), ap (λ (m : ℕ). fitFrom m at-args.d.now (text "%type") 0) (at-scratch3.given ∙ at-scratch2.given ∙ at-scratch.given) ∙ at_pre.1.1))
+    (((at_pre.0.0, at-read-names.ensures, at-read-typedefs.ensures.bounded), ap (λ (m : ℕ). fit_from m at-args.d.now (text "%type") 0) (at-scratch3.given ∙ at-scratch2.given ∙ at-scratch.given) ∙ at_pre.1.1))
 
 same-length-4 : tie.Need-same-length-4
 same-length-4 c =
@@ -152,10 +152,10 @@ returns-4 c =
     let at-if2 = c.before.before.before.before.before.before.before.before.before.before.before.if2 in
     let at-if3 = c.before.before.before.before.if3 in
     let d = at-args.d.now in
-    let vs = valuesFrom d (text "%typedef") 0 in
-    let ns = namesFrom d 0 in
+    let vs = values_from d (text "%typedef") 0 in
+    let ns = names_from d 0 in
     let e = ap (λ (xs : List Target). all (leads xs) xs) at-read-typedefs.ensures.targets-are in
-    at-all-well.ensures ∙ ap (λ (xs : List Target). all (wellBy ns xs) (valuesFrom d (text "%type") 0)) at-read-typedefs.ensures.targets-are
+    at-all-well.ensures ∙ ap (λ (xs : List Target). all (well_by ns xs) (values_from d (text "%type") 0)) at-read-typedefs.ensures.targets-are
     ∙ sym (well-types (fields_of (read_of d)) (defined-by vs at-names-good.result at-names-apart.result at-all-end.result at-names-good.ensures at-names-apart.ensures (at-all-end.ensures ∙ e)
     ∙ ap (λ (t : Bool). (t && at-names-apart.result) && at-all-end.result) (not-false at-names-good.result at-if1.false) ∙ ap (λ (t : Bool). (true && t) && at-all-end.result) (not-false at-names-apart.result at-if2.false) ∙ not-false at-all-end.result at-if3.false))
 

@@ -4,7 +4,7 @@ use Prim.Native.Nat.{◌≤◌, ◌-◌}
 use mathlib.Core.Path.{◌≡◌, refl, ◌∙◌}
 use lib.ListN.{drop, get_or}
 use Rattle.values.specs.declared.Decoded.{Decoded}
-use Rattle.values.specs.Value.{valueFrom, Reaches}
+use Rattle.values.specs.Value.{value_from, Reaches}
 use Rattle.values.proofs.Backwards.{reaches-inside, joint-before, high-before, precedes-from, precedes-none}
 use borrow.Author.Rules.{rules}
 use Rattle.values.proofs.byte_before.Statement.{statement}
@@ -14,7 +14,7 @@ use Rattle.values.proofs.byte_before.Lts as lts
 use Rattle.values.proofs.last_byte.Reads as last-byte-reads
 
 abbrev invariant-loop : tie.invariant-loop
-invariant-loop s k at₀ at = (at ≤ k) × Reaches s 0 at × (valueFrom (drop at s) ≡ valueFrom (drop k s))
+invariant-loop s k at₀ at = (at ≤ k) × Reaches s 0 at × (value_from (drop at s) ≡ value_from (drop k s))
 
 abbrev decreases-loop : tie.decreases-loop
 decreases-loop s k at₀ at = at

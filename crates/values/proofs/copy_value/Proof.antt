@@ -8,7 +8,7 @@ use native.Mathlib.Omega.{arith}
 use mathlib.Core.Path.{◌≡◌, refl, ap, ◌∙◌}
 use lib.ListN.{length, drop, length-set}
 use lib.Seq.{sets}
-use Rattle.values.specs.Value.{valueFrom}
+use Rattle.values.specs.Value.{value_from}
 use Rattle.lines.proofs.Over.{over-sets}
 use Rattle.values.proofs.Decoding.{ended, goes_on}
 use Rattle.values.proofs.copy_value.Statement.{statement}
@@ -18,7 +18,7 @@ use Rattle.values.proofs.copy_value.Lts as lts
 use Rattle.values.proofs.value_byte.Reads as value-byte-reads
 
 abbrev invariant-loop : tie.invariant-loop
-invariant-loop s out₀ i₀ n₀ out i n = (length out ≡ length out₀) × (n + length (valueFrom (drop i s)) ≡ length (valueFrom s)) × (sets out n (valueFrom (drop i s)) ≡ sets out₀ 0 (valueFrom s))
+invariant-loop s out₀ i₀ n₀ out i n = (length out ≡ length out₀) × (n + length (value_from (drop i s)) ≡ length (value_from s)) × (sets out n (value_from (drop i s)) ≡ sets out₀ 0 (value_from s))
 
 abbrev decreases-loop : tie.decreases-loop
 decreases-loop s out₀ i₀ n₀ out i n = length s - i
@@ -26,7 +26,7 @@ decreases-loop s out₀ i₀ n₀ out i n = length s - i
 loop-holds : tie.Need-loop-init invariant-loop decreases-loop
 loop-holds c =
     let at-args = c.before.before.args in
-    (refl, zero-add (length (valueFrom at-args.s.now)), refl)
+    (refl, zero-add (length (value_from at-args.s.now)), refl)
 
 value-byte-requires : tie.Need-value-byte-requires invariant-loop decreases-loop
 value-byte-requires c κs = search rules
@@ -48,7 +48,7 @@ returns c =
     let at-enum-told = c.enum_told in
     let at_pre = c.before.before.before.before.before.before.requires in
     let e = ended at-args.s.now at-loop.i at-value-byte.result at-value-byte.ensures at-enum-told.given.1 in
-    (omega (arith, ap length e), rw e at at-loop.invariant.2 ∙ over-sets (valueFrom at-args.s.now) at-args.out.now (at_pre))
+    (omega (arith, ap length e), rw e at at-loop.invariant.2 ∙ over-sets (value_from at-args.s.now) at-args.out.now (at_pre))
 
 slice-write-out : tie.Need-slice-write-out invariant-loop decreases-loop
 slice-write-out c =

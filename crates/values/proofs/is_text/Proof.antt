@@ -6,7 +6,7 @@ use native.Mathlib.Omega.{arith}
 use mathlib.Core.Path.{◌≡◌, refl, sym, ◌∙◌}
 use lib.ListN.{length, drop}
 use Rattle.format.specs.Bytes.{same}
-use Rattle.values.specs.Value.{valueFrom}
+use Rattle.values.specs.Value.{value_from}
 use Rattle.values.proofs.Decoding.{ended, goes_on}
 use Rattle.values.proofs.Words.{same_ended, same_over, same-other, same_byte}
 use Rattle.values.proofs.is_text.Statement.{statement}
@@ -16,7 +16,7 @@ use Rattle.values.proofs.is_text.Lts as lts
 use Rattle.values.proofs.value_byte.Reads as value-byte-reads
 
 abbrev invariant-loop : tie.invariant-loop
-invariant-loop s text at₀ n₀ at n = (n ≤ length text) × (same (drop n text) (valueFrom (drop at s)) ≡ same text (valueFrom s))
+invariant-loop s text at₀ n₀ at n = (n ≤ length text) × (same (drop n text) (value_from (drop at s)) ≡ same text (value_from s))
 
 abbrev decreases-loop : tie.decreases-loop
 decreases-loop s text at₀ n₀ at n = length s - at
@@ -40,7 +40,7 @@ returns c =
     let at-value-byte = c.before.before.value-byte in
     let at-enum-told = c.enum_told in
     let e = ended at-args.s.now at-loop.at at-value-byte.result at-value-byte.ensures at-enum-told.given.1 in
-    sym (same_ended at-args.text.now at-loop.n (valueFrom (drop at-loop.at at-args.s.now)) at-loop.invariant.0 e) ∙ at-loop.invariant.1
+    sym (same_ended at-args.text.now at-loop.n (value_from (drop at-loop.at at-args.s.now)) at-loop.invariant.0 e) ∙ at-loop.invariant.1
 
 returns-2 : tie.Need-returns-2 invariant-loop decreases-loop
 returns-2 c =
@@ -50,7 +50,7 @@ returns-2 c =
     let at-d = c.before.before.d in
     let at-if1 = c.if1 in
     let e = goes_on at-args.s.now at-loop.at at-value-byte.result at-value-byte.ensures at-d.given.1 in
-    sym (same_over at-args.text.now at-loop.n (valueFrom (drop at-loop.at at-args.s.now)) at-d.given.0.0 (valueFrom (drop at-d.given.0.1.0 at-args.s.now)) at-if1.true e.0) ∙ at-loop.invariant.1
+    sym (same_over at-args.text.now at-loop.n (value_from (drop at-loop.at at-args.s.now)) at-d.given.0.0 (value_from (drop at-d.given.0.1.0 at-args.s.now)) at-if1.true e.0) ∙ at-loop.invariant.1
 
 shared-slice-read-if2 : tie.Need-shared-slice-read-if2 invariant-loop decreases-loop
 shared-slice-read-if2 c =
@@ -67,7 +67,7 @@ returns-3 c =
     let at-if1 = c.before.before.if1 in
     let at-if2 = c.if2 in
     let e = goes_on at-args.s.now at-loop.at at-value-byte.result at-value-byte.ensures at-d.given.1 in
-    sym (same-other at-args.text.now at-loop.n (valueFrom (drop at-loop.at at-args.s.now)) at-d.given.0.0 (valueFrom (drop at-d.given.0.1.0 at-args.s.now)) (omega (arith, at-loop.invariant.0, at-if1.false)) e.0 at-if2.true) ∙ at-loop.invariant.1
+    sym (same-other at-args.text.now at-loop.n (value_from (drop at-loop.at at-args.s.now)) at-d.given.0.0 (value_from (drop at-d.given.0.1.0 at-args.s.now)) (omega (arith, at-loop.invariant.0, at-if1.false)) e.0 at-if2.true) ∙ at-loop.invariant.1
 
 add-n : tie.Need-overflow-add-n invariant-loop decreases-loop
 add-n c =
@@ -93,7 +93,7 @@ loop-again c =
     let at-if1 = c.before.before.if1 in
     let at-if2 = c.if2 in
     let e = goes_on at-args.s.now at-loop.at at-value-byte.result at-value-byte.ensures at-d.given.1 in
-    (omega (arith, at-loop.invariant.0, at-if1.false), sym (same_byte at-args.text.now at-loop.n (valueFrom (drop at-loop.at at-args.s.now)) at-d.given.0.0 (valueFrom (drop at-d.given.0.1.0 at-args.s.now)) (omega (arith, at-loop.invariant.0, at-if1.false)) e.0 at-if2.false) ∙ at-loop.invariant.1)
+    (omega (arith, at-loop.invariant.0, at-if1.false), sym (same_byte at-args.text.now at-loop.n (value_from (drop at-loop.at at-args.s.now)) at-d.given.0.0 (value_from (drop at-d.given.0.1.0 at-args.s.now)) (omega (arith, at-loop.invariant.0, at-if1.false)) e.0 at-if2.false) ∙ at-loop.invariant.1)
 
 pub is-text-spec : {M : Type 1} → statement M
 is-text-spec =

@@ -5,7 +5,7 @@ use Prim.Native.Nat.{◌+◌, ◌-◌, ◌≤◌}
 use native.Mathlib.Omega.{arith}
 use mathlib.Core.Path.{◌≡◌, refl, sym, ◌∙◌}
 use lib.ListN.{length, drop}
-use Rattle.values.specs.Value.{valueFrom, Reaches, here, further, joint}
+use Rattle.values.specs.Value.{value_from, Reaches, here, further, joint}
 use Rattle.values.proofs.Decoding.{byte_inside, nothing-at, joined_at, unfolds-from}
 use Rattle.values.proofs.value_byte.Statement.{statement}
 use Rattle.values.proofs.value_byte.Tie as tie
@@ -15,7 +15,7 @@ use Rattle.lines.proofs.byte.Reads as byte-Reads
 use Rattle.values.proofs.plain_byte.Reads as plain-byte-reads
 
 abbrev invariant-loop : tie.invariant-loop
-invariant-loop s i at₀ at = (i ≤ at) × (valueFrom (drop i s) ≡ valueFrom (drop at s)) × Reaches s i at
+invariant-loop s i at₀ at = (i ≤ at) × (value_from (drop i s) ≡ value_from (drop at s)) × Reaches s i at
 
 abbrev decreases-loop : tie.decreases-loop
 decreases-loop s i at₀ at = length s - at

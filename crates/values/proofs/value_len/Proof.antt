@@ -6,7 +6,7 @@ use native.Mathlib.Nat.{zero-add}
 use native.Mathlib.Omega.{arith}
 use mathlib.Core.Path.{◌≡◌, ap}
 use lib.ListN.{length, drop}
-use Rattle.values.specs.Value.{valueFrom}
+use Rattle.values.specs.Value.{value_from}
 use Rattle.values.proofs.Decoding.{ended, goes_on, value-length}
 use Rattle.values.proofs.value_len.Statement.{statement}
 use Rattle.values.proofs.value_len.Tie as tie
@@ -15,7 +15,7 @@ use Rattle.values.proofs.value_len.Lts as lts
 use Rattle.values.proofs.value_byte.Reads as value-byte-reads
 
 abbrev invariant-loop : tie.invariant-loop
-invariant-loop s i₀ n₀ i n = n + length (valueFrom (drop i s)) ≡ length (valueFrom s)
+invariant-loop s i₀ n₀ i n = n + length (value_from (drop i s)) ≡ length (value_from s)
 
 abbrev decreases-loop : tie.decreases-loop
 decreases-loop s i₀ n₀ i n = length s - i
@@ -23,7 +23,7 @@ decreases-loop s i₀ n₀ i n = length s - i
 loop-holds : tie.Need-loop-init invariant-loop decreases-loop
 loop-holds c =
     let at-args = c.before.args in
-    zero-add (length (valueFrom at-args.s.now))
+    zero-add (length (value_from at-args.s.now))
 
 value-byte-requires : tie.Need-value-byte-requires invariant-loop decreases-loop
 value-byte-requires c κs = search rules

@@ -4,7 +4,7 @@ use mathlib.Core.Path.{◌≡◌, sym, ◌∙◌}
 use Prim.Native.Nat.{◌+◌, ◌≤◌, ◌-◌}
 use native.Mathlib.Omega.{arith}
 use lib.ListN.{length, drop}
-use Rattle.format.specs.Words.{isGap}
+use Rattle.format.specs.Words.{is_gap}
 use Rattle.lines.proofs.Heads.{run_more, run-stop, run_end}
 use Rattle.lines.specs.Line.{run}
 use Rattle.words.proofs.gap_end.Statement.{statement}
@@ -14,7 +14,7 @@ use Rattle.words.proofs.gap_end.Lts as lts
 use Rattle.words.proofs.is_gap.Reads as is-gap-reads
 
 abbrev invariant-loop : tie.invariant-loop
-invariant-loop s e₀ e = (e ≤ length s) × (run isGap s ≡ e + run isGap (drop e s))
+invariant-loop s e₀ e = (e ≤ length s) × (run is_gap s ≡ e + run is_gap (drop e s))
 
 abbrev decreases-loop : tie.decreases-loop
 decreases-loop s e₀ e = length s - e
@@ -41,7 +41,7 @@ loop-again c =
     let at-loop-test = c.before.before.before.loop-test in
     let at-is-gap = c.before.is-gap in
     let at-if1 = c.if1 in
-    omega (arith, run_more isGap at-args.s.now at-loop.e at-loop-test.true (sym at-is-gap.ensures ∙ at-if1.true))
+    omega (arith, run_more is_gap at-args.s.now at-loop.e at-loop-test.true (sym at-is-gap.ensures ∙ at-if1.true))
 
 returns : tie.Need-returns invariant-loop decreases-loop
 returns c =
@@ -50,14 +50,14 @@ returns c =
     let at-loop-test = c.before.before.before.loop-test in
     let at-is-gap = c.before.is-gap in
     let at-if1 = c.if1 in
-    omega (arith, run-stop isGap at-args.s.now at-loop.e at-loop-test.true (sym at-is-gap.ensures ∙ at-if1.false))
+    omega (arith, run-stop is_gap at-args.s.now at-loop.e at-loop-test.true (sym at-is-gap.ensures ∙ at-if1.false))
 
 returns-2 : tie.Need-returns-2 invariant-loop decreases-loop
 returns-2 c =
     let at-args = c.before.before.before.args in
     let at-loop = c.before.loop in
     let at-loop-test = c.loop-test in
-    omega (arith, run_end isGap at-args.s.now at-loop.e at-loop-test.false)
+    omega (arith, run_end is_gap at-args.s.now at-loop.e at-loop-test.false)
 
 pub gap-end-spec : {M : Type 1} → statement M
 gap-end-spec =

@@ -5,7 +5,7 @@ use Prim.Native.Nat.{◌≤◌, ◌-◌}
 use native.Mathlib.Omega.{arith}
 use lib.ListN.{length, drop, drop_of_length-le}
 use Rattle.format.specs.Bytes.{all}
-use Rattle.format.specs.Lines.{isLater}
+use Rattle.format.specs.Lines.{is_later}
 use Rattle.lines.proofs.Cuts.{at-cons}
 use Rattle.words.proofs.later_bytes.Statement.{statement}
 use Rattle.words.proofs.later_bytes.Tie as tie
@@ -14,7 +14,7 @@ use Rattle.words.proofs.later_bytes.Lts as lts
 use Rattle.format.proofs.is_later.Reads as is-later-reads
 
 abbrev invariant-loop : tie.invariant-loop
-invariant-loop table s i₀ i = (i ≤ length s) × (all isLater s ≡ all isLater (drop i s))
+invariant-loop table s i₀ i = (i ≤ length s) × (all is_later s ≡ all is_later (drop i s))
 
 abbrev decreases-loop : tie.decreases-loop
 decreases-loop table s i₀ i = length s - i

@@ -2,9 +2,9 @@
 use borrow.Author.Tests.{lt-ltb, le-ltb}
 use native.Mathlib.Omega.{arith}
 use lib.ListN.{length}
-use Rattle.format.specs.Words.{notGap}
+use Rattle.format.specs.Words.{not_gap}
 use Rattle.lines.proofs.Cuts.{rest}
-use Rattle.words.specs.Spans.{span, nextWord}
+use Rattle.words.specs.Spans.{span, next_word}
 use Rattle.words.proofs.Finding.{run-le}
 use borrow.Author.Rules.{rules}
 use Rattle.words.proofs.next_word.Statement.{statement}
@@ -35,10 +35,10 @@ add-end c =
     let at-gap-end = c.before.before.before.gap-end in
     let at-word-end = c.word-end in
     let s = span at-gap-end.result (length at-args.s.now) at-args.s.now in
-    omega (arith, at-word-end.ensures, run-le notGap s)
+    omega (arith, at-word-end.ensures, run-le not_gap s)
 
 returns : tie.Need-returns
-unfolding nextWord
+unfolding next_word
 returns c =
     let at-gap-end = c.before.before.before.gap-end in
     let at-if1 = c.before.before.if1 in
@@ -47,7 +47,7 @@ returns c =
     rw (← at-gap-end.ensures, lt-ltb _ _ at-if1.true, ← rest at-args.s.now at-gap-end.result, ← at-word-end.ensures)
 
 returns-2 : tie.Need-returns-2
-unfolding nextWord
+unfolding next_word
 returns-2 c =
     let at-gap-end = c.before.gap-end in
     let at-if1 = c.if1 in

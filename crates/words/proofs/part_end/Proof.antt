@@ -8,14 +8,14 @@ use native.Mathlib.Omega.{arith}
 use lib.ListN.{length, drop}
 use Rattle.lines.proofs.Heads.{run_more, run-stop, run_end}
 use Rattle.lines.specs.Line.{run}
-use Rattle.words.specs.Spans.{notByte}
+use Rattle.words.specs.Spans.{not_byte}
 use Rattle.words.proofs.part_end.Statement.{statement}
 use Rattle.words.proofs.part_end.Tie as tie
 use Rattle.words.proofs.part_end.Reads as reads
 use Rattle.words.proofs.part_end.Lts as lts
 
 abbrev invariant-loop : tie.invariant-loop
-invariant-loop s d e₀ e = (e ≤ length s) × (run (notByte d) s ≡ e + run (notByte d) (drop e s))
+invariant-loop s d e₀ e = (e ≤ length s) × (run (not_byte d) s ≡ e + run (not_byte d) (drop e s))
 
 abbrev decreases-loop : tie.decreases-loop
 decreases-loop s d e₀ e = length s - e
@@ -32,7 +32,7 @@ returns c =
     let at-loop = c.before.before.before.loop in
     let at-loop-test = c.before.before.loop-test in
     let at-if1 = c.if1 in
-    omega (arith, run-stop (notByte at-args.d) at-args.s.now at-loop.e at-loop-test.true (ap not (eq-eqb _ _ at-if1.true)))
+    omega (arith, run-stop (not_byte at-args.d) at-args.s.now at-loop.e at-loop-test.true (ap not (eq-eqb _ _ at-if1.true)))
 
 add-e : tie.Need-overflow-add-e invariant-loop decreases-loop
 add-e c = search rules
@@ -46,14 +46,14 @@ loop-again c =
     let at-loop = c.before.before.before.loop in
     let at-loop-test = c.before.before.loop-test in
     let at-if1 = c.if1 in
-    omega (arith, run_more (notByte at-args.d) at-args.s.now at-loop.e at-loop-test.true (ap not (ne_eqb _ _ at-if1.false)))
+    omega (arith, run_more (not_byte at-args.d) at-args.s.now at-loop.e at-loop-test.true (ap not (ne_eqb _ _ at-if1.false)))
 
 returns-2 : tie.Need-returns-2 invariant-loop decreases-loop
 returns-2 c =
     let at-args = c.before.before.args in
     let at-loop = c.before.loop in
     let at-loop-test = c.loop-test in
-    omega (arith, run_end (notByte at-args.d) at-args.s.now at-loop.e at-loop-test.false)
+    omega (arith, run_end (not_byte at-args.d) at-args.s.now at-loop.e at-loop-test.false)
 
 pub part-end-spec : {M : Type 1} → statement M
 part-end-spec =

@@ -4,7 +4,7 @@ use mathlib.Core.Path.{◌≡◌, sym, ◌∙◌}
 use Prim.Native.Nat.{◌≤◌, ◌-◌}
 use native.Mathlib.Omega.{arith}
 use lib.ListN.{length}
-use Rattle.format.specs.Words.{isGap, trim}
+use Rattle.format.specs.Words.{is_gap, trim}
 use Rattle.words.specs.Spans.{span}
 use Rattle.words.proofs.Finding.{run-le}
 use Rattle.words.proofs.Trimming.{strip, trim-from, trim-more, trim-stop, strip-empty}
@@ -29,7 +29,7 @@ loop-holds c =
     let at-args = c.before.before.args in
     let at-gap-end = c.gap-end in
     let s = at-args.s.now in
-    (omega (arith, run-le isGap s, at-gap-end.ensures), omega arith, rw at-gap-end.ensures (trim-from s))
+    (omega (arith, run-le is_gap s, at-gap-end.ensures), omega arith, rw at-gap-end.ensures (trim-from s))
 
 sub-is-gap : tie.Need-overflow-sub-is-gap invariant-loop decreases-loop
 sub-is-gap c = search rules

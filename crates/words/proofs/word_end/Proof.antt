@@ -5,7 +5,7 @@ use mathlib.Core.Bool.{not}
 use Prim.Native.Nat.{◌+◌, ◌≤◌, ◌-◌}
 use native.Mathlib.Omega.{arith}
 use lib.ListN.{length, drop}
-use Rattle.format.specs.Words.{notGap}
+use Rattle.format.specs.Words.{not_gap}
 use Rattle.lines.proofs.Heads.{run_more, run-stop, run_end}
 use Rattle.lines.specs.Line.{run}
 use Rattle.words.proofs.word_end.Statement.{statement}
@@ -15,7 +15,7 @@ use Rattle.words.proofs.word_end.Lts as lts
 use Rattle.words.proofs.is_gap.Reads as is-gap-reads
 
 abbrev invariant-loop : tie.invariant-loop
-invariant-loop s e₀ e = (e ≤ length s) × (run notGap s ≡ e + run notGap (drop e s))
+invariant-loop s e₀ e = (e ≤ length s) × (run not_gap s ≡ e + run not_gap (drop e s))
 
 abbrev decreases-loop : tie.decreases-loop
 decreases-loop s e₀ e = length s - e
@@ -36,7 +36,7 @@ returns c =
     let at-loop-test = c.before.before.before.loop-test in
     let at-is-gap = c.before.is-gap in
     let at-if1 = c.if1 in
-    omega (arith, run-stop notGap at-args.s.now at-loop.e at-loop-test.true (ap not (sym at-is-gap.ensures ∙ at-if1.true)))
+    omega (arith, run-stop not_gap at-args.s.now at-loop.e at-loop-test.true (ap not (sym at-is-gap.ensures ∙ at-if1.true)))
 
 add-e : tie.Need-overflow-add-e invariant-loop decreases-loop
 add-e c = search rules
@@ -51,14 +51,14 @@ loop-again c =
     let at-loop-test = c.before.before.before.loop-test in
     let at-is-gap = c.before.is-gap in
     let at-if1 = c.if1 in
-    omega (arith, run_more notGap at-args.s.now at-loop.e at-loop-test.true (ap not (sym at-is-gap.ensures ∙ at-if1.false)))
+    omega (arith, run_more not_gap at-args.s.now at-loop.e at-loop-test.true (ap not (sym at-is-gap.ensures ∙ at-if1.false)))
 
 returns-2 : tie.Need-returns-2 invariant-loop decreases-loop
 returns-2 c =
     let at-args = c.before.before.before.args in
     let at-loop = c.before.loop in
     let at-loop-test = c.loop-test in
-    omega (arith, run_end notGap at-args.s.now at-loop.e at-loop-test.false)
+    omega (arith, run_end not_gap at-args.s.now at-loop.e at-loop-test.false)
 
 pub word-end-spec : {M : Type 1} → statement M
 word-end-spec =

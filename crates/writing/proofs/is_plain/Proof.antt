@@ -8,7 +8,7 @@ use mathlib.Core.Logic.{⊎_elim}
 use lib.ListN.{length, drop, get_or}
 use borrow.Author.Tests.{eq-eqb, ne_eqb}
 use Rattle.format.proofs.Table.{control-class, newline-class}
-use Rattle.writing.specs.Value.{isPlainFrom}
+use Rattle.writing.specs.Value.{is_plain_from}
 use Rattle.writing.proofs.Plain.{plain_step, plain_end}
 use Rattle.writing.proofs.is_plain.Statement.{statement}
 use Rattle.writing.proofs.is_plain.Tie as tie
@@ -17,7 +17,7 @@ use Rattle.writing.proofs.is_plain.Lts as lts
 use Rattle.format.proofs.class_of.Reads as class-of-reads
 
 abbrev invariant-loop : tie.invariant-loop
-invariant-loop table s i₀ slash₀ i slash = (i ≤ length s) × (isPlainFrom false s ≡ isPlainFrom slash (drop i s))
+invariant-loop table s i₀ slash₀ i slash = (i ≤ length s) × (is_plain_from false s ≡ is_plain_from slash (drop i s))
 
 abbrev decreases-loop : tie.decreases-loop
 decreases-loop table s i₀ slash₀ i slash = length s - i

@@ -2,8 +2,8 @@
 use borrow.Author.Rules.{rules}
 use mathlib.Core.Path.{ap, ◌∙◌}
 use Rattle.format.specs.Bytes.{is_some}
-use Rattle.format.specs.Types.{isInRange}
-use Rattle.numbers.specs.Meaning.{intIn}
+use Rattle.format.specs.Types.{is_in_range}
+use Rattle.numbers.specs.Meaning.{int_in}
 use Rattle.columns.proofs.Meeting.{met-shape, apart}
 use Rattle.columns.proofs.readings.shape_met.Statement.{statement}
 use Rattle.columns.proofs.readings.shape_met.Tie as tie
@@ -54,7 +54,7 @@ returns-2 c =
     let at-kind = c.before.before.kind in
     let at_pre = c.before.before.before.before.before.requires in
     let at-args = c.before.before.before.before.before.args in
-    at-is-between.ensures ∙ ap (isInRange (intIn at-kind.given.0.0) (intIn at-kind.given.0.1.0)) (at_pre) ∙ met-shape at-args.symbol at-args.v.now at-kind.given.1
+    at-is-between.ensures ∙ ap (is_in_range (int_in at-kind.given.0.0) (int_in at-kind.given.0.1.0)) (at_pre) ∙ met-shape at-args.symbol at-args.v.now at-kind.given.1
 
 returns-3 : tie.Need-returns-3
 returns-3 c =

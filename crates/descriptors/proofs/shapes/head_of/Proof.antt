@@ -6,7 +6,7 @@ use lib.ListN.{take}
 use Rattle.format.specs.Pieces.{read_of}
 use Rattle.format.specs.Records.{fields_of}
 use Rattle.format.specs.Words.{first_word}
-use Rattle.values.specs.Value.{valueFrom}
+use Rattle.values.specs.Value.{value_from}
 use Rattle.words.specs.Spans.{span}
 use Rattle.descriptors.specs.Names.{names_at}
 use Rattle.words.proofs.Decoded.{decoded-all, decoded-length, decoded-inside, scratch-length}
@@ -119,7 +119,7 @@ slice-reshare-prefix-is-taken c =
     let at-well-formed = c.before.before.before.before.before.before.before.before.before.before.before.before.well-formed in
     let at-copy-value = c.before.before.copy-value in
     let at_pre = c.before.before.before.before.before.before.before.before.before.before.before.before.before.before.before.before.before.before.before.pre in
-    decoded-inside (valueFrom (span (at-args.a + at-rec-value.result.start) (at-args.a + at-rec-value.result.end) at-args.s.now)) at-well-formed.last.1.0 at-copy-value.last.1.0 at-copy-value.result at-copy-value.ensures.0 at-copy-value.ensures.1 (omega (arith, value-part at-args.s.now at-args.a at-args.e at-rec-value.result at_pre.0.0 at_pre.0.1 at-rec-value.ensures at_pre.1.1.0, at_pre.1.1.1.1, at-well-formed.ensures.1))
+    decoded-inside (value_from (span (at-args.a + at-rec-value.result.start) (at-args.a + at-rec-value.result.end) at-args.s.now)) at-well-formed.last.1.0 at-copy-value.last.1.0 at-copy-value.result at-copy-value.ensures.0 at-copy-value.ensures.1 (omega (arith, value-part at-args.s.now at-args.a at-args.e at-rec-value.result at_pre.0.0 at_pre.0.1 at-rec-value.ensures at_pre.1.1.0, at_pre.1.1.1.1, at-well-formed.ensures.1))
 
 slice-aggregate-is-taken : tie.Need-slice-aggregate-is-taken
 slice-aggregate-is-taken c =
@@ -127,7 +127,7 @@ slice-aggregate-is-taken c =
     let at-rec-value = c.before.before.before.before.before.before.before.before.rec-value in
     let at-well-formed = c.before.before.before.before.before.before.before.before.before.before.before.before.before.well-formed in
     let at-copy-value = c.before.before.before.copy-value in
-    decoded-length (valueFrom (span (at-args.a + at-rec-value.result.start) (at-args.a + at-rec-value.result.end) at-args.s.now)) at-well-formed.last.1.0 at-copy-value.last.1.0 at-copy-value.result at-copy-value.ensures.0 at-copy-value.ensures.1
+    decoded-length (value_from (span (at-args.a + at-rec-value.result.start) (at-args.a + at-rec-value.result.end) at-args.s.now)) at-well-formed.last.1.0 at-copy-value.last.1.0 at-copy-value.result at-copy-value.ensures.0 at-copy-value.ensures.1
 
 is-taken-requires : tie.Need-is-taken-requires
 is-taken-requires c κs =
@@ -141,7 +141,7 @@ same-length-2 c =
     let at-well-formed = c.before.before.before.before.before.before.before.before.before.before.before.before.before.before.before.well-formed in
     let at-copy-value = c.before.before.before.before.before.copy-value in
     let at_pre = c.before.before.before.before.before.before.before.before.before.before.before.before.before.before.before.before.before.before.before.before.before.before.pre in
-    scratch-length (valueFrom (span (at-args.a + at-rec-value.result.start) (at-args.a + at-rec-value.result.end) at-args.s.now)) at-well-formed.last.1.0 at-copy-value.last.1.0 at-copy-value.result at-copy-value.ensures.0 at-copy-value.ensures.1 (omega (arith, value-part at-args.s.now at-args.a at-args.e at-rec-value.result at_pre.0.0 at_pre.0.1 at-rec-value.ensures at_pre.1.1.0, at_pre.1.1.1.1, at-well-formed.ensures.1)) ∙ at-well-formed.ensures.1
+    scratch-length (value_from (span (at-args.a + at-rec-value.result.start) (at-args.a + at-rec-value.result.end) at-args.s.now)) at-well-formed.last.1.0 at-copy-value.last.1.0 at-copy-value.result at-copy-value.ensures.0 at-copy-value.ensures.1 (omega (arith, value-part at-args.s.now at-args.a at-args.e at-rec-value.result at_pre.0.0 at_pre.0.1 at-rec-value.ensures at_pre.1.1.0, at_pre.1.1.1.1, at-well-formed.ensures.1)) ∙ at-well-formed.ensures.1
 
 returns-2 : tie.Need-returns-2
 returns-2 c =
@@ -153,7 +153,7 @@ returns-2 c =
     let at_pre = c.before.before.before.before.before.before.before.before.before.before.before.before.before.before.before.before.before.before.before.before.before.before.pre in
     let at-if1 = c.before.before.before.before.before.before.before.before.before.before.before.before.if1 in
     let at-if2 = c.if2 in
-    (taken-told (fields_of (read_of (span at-args.a at-args.e at-args.s.now))) (names_at at-args.s.now at-args.starts.now at-args.ends.now) at-well-formed.result at-well-formed.ensures.0 at-is-taken.result (first_word (take at-copy-value.result at-copy-value.last.1.0)) at-is-taken.ensures (ap first_word (decoded-all (valueFrom (span (at-args.a + at-rec-value.result.start) (at-args.a + at-rec-value.result.end) at-args.s.now)) at-well-formed.last.1.0 at-copy-value.last.1.0 at-copy-value.result at-copy-value.ensures.0 at-copy-value.ensures.1) ∙ name-part at-args.s.now at-args.a at-args.e at-rec-value.result at_pre.0.0 at_pre.0.1 at-rec-value.ensures) (not-false at-well-formed.result at-if1.left) at-if2.taken, scratch-length (valueFrom (span (at-args.a + at-rec-value.result.start) (at-args.a + at-rec-value.result.end) at-args.s.now)) at-well-formed.last.1.0 at-copy-value.last.1.0 at-copy-value.result at-copy-value.ensures.0 at-copy-value.ensures.1 (omega (arith, value-part at-args.s.now at-args.a at-args.e at-rec-value.result at_pre.0.0 at_pre.0.1 at-rec-value.ensures at_pre.1.1.0, at_pre.1.1.1.1, at-well-formed.ensures.1)) ∙ at-well-formed.ensures.1)
+    (taken-told (fields_of (read_of (span at-args.a at-args.e at-args.s.now))) (names_at at-args.s.now at-args.starts.now at-args.ends.now) at-well-formed.result at-well-formed.ensures.0 at-is-taken.result (first_word (take at-copy-value.result at-copy-value.last.1.0)) at-is-taken.ensures (ap first_word (decoded-all (value_from (span (at-args.a + at-rec-value.result.start) (at-args.a + at-rec-value.result.end) at-args.s.now)) at-well-formed.last.1.0 at-copy-value.last.1.0 at-copy-value.result at-copy-value.ensures.0 at-copy-value.ensures.1) ∙ name-part at-args.s.now at-args.a at-args.e at-rec-value.result at_pre.0.0 at_pre.0.1 at-rec-value.ensures) (not-false at-well-formed.result at-if1.left) at-if2.taken, scratch-length (value_from (span (at-args.a + at-rec-value.result.start) (at-args.a + at-rec-value.result.end) at-args.s.now)) at-well-formed.last.1.0 at-copy-value.last.1.0 at-copy-value.result at-copy-value.ensures.0 at-copy-value.ensures.1 (omega (arith, value-part at-args.s.now at-args.a at-args.e at-rec-value.result at_pre.0.0 at_pre.0.1 at-rec-value.ensures at_pre.1.1.0, at_pre.1.1.1.1, at-well-formed.ensures.1)) ∙ at-well-formed.ensures.1)
 
 same-length-3 : tie.Need-same-length-3
 same-length-3 c =
@@ -162,7 +162,7 @@ same-length-3 c =
     let at-well-formed = c.before.before.before.before.before.before.before.before.before.before.before.before.before.before.before.well-formed in
     let at-copy-value = c.before.before.before.before.before.copy-value in
     let at_pre = c.before.before.before.before.before.before.before.before.before.before.before.before.before.before.before.before.before.before.before.before.before.before.pre in
-    scratch-length (valueFrom (span (at-args.a + at-rec-value.result.start) (at-args.a + at-rec-value.result.end) at-args.s.now)) at-well-formed.last.1.0 at-copy-value.last.1.0 at-copy-value.result at-copy-value.ensures.0 at-copy-value.ensures.1 (omega (arith, value-part at-args.s.now at-args.a at-args.e at-rec-value.result at_pre.0.0 at_pre.0.1 at-rec-value.ensures at_pre.1.1.0, at_pre.1.1.1.1, at-well-formed.ensures.1)) ∙ at-well-formed.ensures.1
+    scratch-length (value_from (span (at-args.a + at-rec-value.result.start) (at-args.a + at-rec-value.result.end) at-args.s.now)) at-well-formed.last.1.0 at-copy-value.last.1.0 at-copy-value.result at-copy-value.ensures.0 at-copy-value.ensures.1 (omega (arith, value-part at-args.s.now at-args.a at-args.e at-rec-value.result at_pre.0.0 at_pre.0.1 at-rec-value.ensures at_pre.1.1.0, at_pre.1.1.1.1, at-well-formed.ensures.1)) ∙ at-well-formed.ensures.1
 
 returns-3 : tie.Need-returns-3
 returns-3 c =
@@ -174,7 +174,7 @@ returns-3 c =
     let at_pre = c.before.before.before.before.before.before.before.before.before.before.before.before.before.before.before.before.before.before.before.before.before.before.pre in
     let at-if1 = c.before.before.before.before.before.before.before.before.before.before.before.before.if1 in
     let at-if2 = c.if2 in
-    ((new_told (fields_of (read_of (span at-args.a at-args.e at-args.s.now))) (names_at at-args.s.now at-args.starts.now at-args.ends.now) at-well-formed.result at-well-formed.ensures.0 at-is-taken.result (first_word (take at-copy-value.result at-copy-value.last.1.0)) at-is-taken.ensures (ap first_word (decoded-all (valueFrom (span (at-args.a + at-rec-value.result.start) (at-args.a + at-rec-value.result.end) at-args.s.now)) at-well-formed.last.1.0 at-copy-value.last.1.0 at-copy-value.result at-copy-value.ensures.0 at-copy-value.ensures.1) ∙ name-part at-args.s.now at-args.a at-args.e at-rec-value.result at_pre.0.0 at_pre.0.1 at-rec-value.ensures) (not-false at-well-formed.result at-if1.left) at-if2.left, omega (arith, at-rec-value.ensures.0), name-inside at-args.s.now at-args.a at-args.e at-rec-value.result at_pre.0.0 at_pre.0.1 at-rec-value.ensures, name-part at-args.s.now at-args.a at-args.e at-rec-value.result at_pre.0.0 at_pre.0.1 at-rec-value.ensures), scratch-length (valueFrom (span (at-args.a + at-rec-value.result.start) (at-args.a + at-rec-value.result.end) at-args.s.now)) at-well-formed.last.1.0 at-copy-value.last.1.0 at-copy-value.result at-copy-value.ensures.0 at-copy-value.ensures.1 (omega (arith, value-part at-args.s.now at-args.a at-args.e at-rec-value.result at_pre.0.0 at_pre.0.1 at-rec-value.ensures at_pre.1.1.0, at_pre.1.1.1.1, at-well-formed.ensures.1)) ∙ at-well-formed.ensures.1)
+    ((new_told (fields_of (read_of (span at-args.a at-args.e at-args.s.now))) (names_at at-args.s.now at-args.starts.now at-args.ends.now) at-well-formed.result at-well-formed.ensures.0 at-is-taken.result (first_word (take at-copy-value.result at-copy-value.last.1.0)) at-is-taken.ensures (ap first_word (decoded-all (value_from (span (at-args.a + at-rec-value.result.start) (at-args.a + at-rec-value.result.end) at-args.s.now)) at-well-formed.last.1.0 at-copy-value.last.1.0 at-copy-value.result at-copy-value.ensures.0 at-copy-value.ensures.1) ∙ name-part at-args.s.now at-args.a at-args.e at-rec-value.result at_pre.0.0 at_pre.0.1 at-rec-value.ensures) (not-false at-well-formed.result at-if1.left) at-if2.left, omega (arith, at-rec-value.ensures.0), name-inside at-args.s.now at-args.a at-args.e at-rec-value.result at_pre.0.0 at_pre.0.1 at-rec-value.ensures, name-part at-args.s.now at-args.a at-args.e at-rec-value.result at_pre.0.0 at_pre.0.1 at-rec-value.ensures), scratch-length (value_from (span (at-args.a + at-rec-value.result.start) (at-args.a + at-rec-value.result.end) at-args.s.now)) at-well-formed.last.1.0 at-copy-value.last.1.0 at-copy-value.result at-copy-value.ensures.0 at-copy-value.ensures.1 (omega (arith, value-part at-args.s.now at-args.a at-args.e at-rec-value.result at_pre.0.0 at_pre.0.1 at-rec-value.ensures at_pre.1.1.0, at_pre.1.1.1.1, at-well-formed.ensures.1)) ∙ at-well-formed.ensures.1)
 
 pub head-of-spec : {M : Type 1} → statement M
 head-of-spec =

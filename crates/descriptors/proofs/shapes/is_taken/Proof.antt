@@ -4,7 +4,7 @@ use mathlib.Core.Path.{sym, ap, ◌∙◌}
 use lib.ListN.{length, take}
 use lib.Seq.{length-take-le}
 use Rattle.format.specs.Bytes.{Bytes, among}
-use Rattle.format.specs.Words.{isGap, notGap}
+use Rattle.format.specs.Words.{is_gap, not_gap}
 use Rattle.words.specs.Spans.{span}
 use Rattle.descriptors.specs.Names.{names_at}
 use Rattle.words.proofs.Finding.{run-le, first-span}
@@ -24,13 +24,13 @@ sub-w : tie.Need-overflow-sub-w
 sub-w c =
     let at-gap-end = c.gap-end in
     let at-args = c.before.before.before.before.before.args in
-    omega (arith, at-gap-end.ensures, run-le isGap at-args.t.now)
+    omega (arith, at-gap-end.ensures, run-le is_gap at-args.t.now)
 
 part-w-start : tie.Need-slice-bounds-w-start
 part-w-start c =
     let at-gap-end = c.gap-end in
     let at-args = c.before.before.before.before.before.args in
-    omega (arith, at-gap-end.ensures, run-le isGap at-args.t.now)
+    omega (arith, at-gap-end.ensures, run-le is_gap at-args.t.now)
 
 part-w-end : tie.Need-slice-bounds-w-end
 part-w-end c = search rules
@@ -44,7 +44,7 @@ slice-aggregate-is-named c =
     let at-gap-end = c.before.before.before.gap-end in
     let at-word-end = c.before.word-end in
     let w = span at-gap-end.result (length at-args.t.now) at-args.t.now in
-    sym (length-take-le at-word-end.result w (omega (arith, at-word-end.ensures, run-le notGap w)))
+    sym (length-take-le at-word-end.result w (omega (arith, at-word-end.ensures, run-le not_gap w)))
 
 is-named-requires : tie.Need-is-named-requires
 is-named-requires c κs = search rules

@@ -1,7 +1,7 @@
 -- `descriptors::shapes::one_type_name` meets its contract.
 use native.Mathlib.Omega.{arith}
 use mathlib.Core.Path.{sym, ap, ◌∙◌}
-use Rattle.format.specs.Words.{isTypeName}
+use Rattle.format.specs.Words.{is_type_name}
 use Rattle.format.specs.Rules.{one}
 use Rattle.descriptors.proofs.Wording.{only}
 use borrow.Author.Rules.{rules}
@@ -26,7 +26,7 @@ returns c =
     let at-args = c.before.before.before.before.args in
     let at-one-word = c.before.before.one_word in
     let at-enum-told = c.enum_told in
-    sym (only at-args.s.now at-one-word.result at-one-word.ensures at-enum-told.given.1 isTypeName)
+    sym (only at-args.s.now at-one-word.result at-one-word.ensures at-enum-told.given.1 is_type_name)
 
 sub-is-type-name : tie.Need-overflow-sub-is-type-name
 sub-is-type-name c =
@@ -59,7 +59,7 @@ returns-2 c =
     let at-w = c.before.before.before.w in
     let at-is-type-name = c.is-type-name in
     let o = only at-args.s.now at-one-word.result at-one-word.ensures at-w.given.1 in
-    at-is-type-name.ensures ∙ sym (ap (one isTypeName) o.2)
+    at-is-type-name.ensures ∙ sym (ap (one is_type_name) o.2)
 
 pub one-type-name-spec : {M : Type 1} → statement M
 one-type-name-spec =

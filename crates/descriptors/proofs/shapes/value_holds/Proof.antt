@@ -1,6 +1,6 @@
 -- `descriptors::shapes::value_holds` meets its contract: nothing is asked, or the scratch holds the value, which is what is asked.
 use mathlib.Core.Path.{refl, sym, ap, ◌∙◌}
-use Rattle.values.specs.Value.{valueFrom}
+use Rattle.values.specs.Value.{value_from}
 use Rattle.descriptors.specs.Contents.{holds}
 use Rattle.words.proofs.Decoded.{decoded-all, decoded-length, scratch-length}
 use Rattle.descriptors.proofs.Contents.{free-holds}
@@ -21,7 +21,7 @@ returns c =
     let at-args = c.before.before.before.before.args in
     let at-is-free = c.before.is_free in
     let at-if1 = c.if1 in
-    (free-holds at-args.c (valueFrom at-args.value.now) (sym at-is-free.ensures ∙ at-if1.true), refl)
+    (free-holds at-args.c (value_from at-args.value.now) (sym at-is-free.ensures ∙ at-if1.true), refl)
 
 copy-value-requires : tie.Need-copy-value-requires
 copy-value-requires c κs = search rules
@@ -33,7 +33,7 @@ slice-aggregate-text-holds : tie.Need-slice-aggregate-text-init
 slice-aggregate-text-holds c =
     let at-args = c.before.before.before.before.before.before.before.before.before.args in
     let at-copy-value = c.before.before.before.copy-value in
-    decoded-length (valueFrom at-args.value.now) at-args.scratch.now at-copy-value.new.1.0 at-copy-value.result at-copy-value.ensures.0 at-copy-value.ensures.1
+    decoded-length (value_from at-args.value.now) at-args.scratch.now at-copy-value.new.1.0 at-copy-value.result at-copy-value.ensures.0 at-copy-value.ensures.1
 
 text-holds-requires : tie.Need-text-holds-requires
 text-holds-requires c κs = search rules
@@ -47,7 +47,7 @@ returns-2 c =
     let at-args = c.before.before.before.before.before.before.before.before.before.before.args in
     let at_pre = c.before.before.before.before.before.before.before.before.before.before.requires in
     let at-copy-value = c.before.before.before.before.copy-value in
-    let v = valueFrom at-args.value.now in
+    let v = value_from at-args.value.now in
     ((at-text-holds.ensures ∙ ap (holds at-args.c) (decoded-all v at-args.scratch.now at-copy-value.new.1.0 at-copy-value.result at-copy-value.ensures.0 at-copy-value.ensures.1)), scratch-length v at-args.scratch.now at-copy-value.new.1.0 at-copy-value.result at-copy-value.ensures.0 at-copy-value.ensures.1 at_pre)
 
 pub value-holds-spec : {M : Type 1} → statement M

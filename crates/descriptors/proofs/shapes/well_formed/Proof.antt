@@ -8,16 +8,16 @@ use mathlib.Core.Path.{◌≡◌, refl, sym, ◌∙◌}
 use mathlib.Core.Bool.{true}
 use lib.ListN.{length, drop}
 use Rattle.format.specs.Bytes.{all}
-use Rattle.format.specs.Numbers.{intBounds}
-use Rattle.format.specs.Questions.{fitsField}
-use Rattle.format.specs.Rules.{isWellFormed}
-use Rattle.records.specs.Places.{isReadable}
-use Rattle.records.specs.Walk.{recordIn}
-use Rattle.records.specs.Fields.{fieldsFrom, fieldBetween}
+use Rattle.format.specs.Numbers.{int_bounds}
+use Rattle.format.specs.Questions.{fits_field}
+use Rattle.format.specs.Rules.{is_well_formed}
+use Rattle.records.specs.Places.{is_readable}
+use Rattle.records.specs.Walk.{record_in}
+use Rattle.records.specs.Fields.{fields_from, field_between}
 use Rattle.records.proofs.Readings.{part-readable}
 use Rattle.records.proofs.NextFields.{next-told}
 use Rattle.descriptors.proofs.Folds.{all_both}
-use Rattle.descriptors.proofs.Judging.{formedFrom, formed-done, formed-stop, formed-twice, formed-more}
+use Rattle.descriptors.proofs.Judging.{formed_from, formed-done, formed-stop, formed-twice, formed-more}
 use Rattle.descriptors.proofs.Limits.{fits-fields, fits-value}
 use Rattle.descriptors.proofs.shapes.well_formed.Statement.{statement}
 use Rattle.descriptors.proofs.shapes.well_formed.Tie as tie
@@ -30,7 +30,7 @@ use Rattle.descriptors.proofs.shapes.value_holds.Reads as value-holds-reads
 use Rattle.records.proofs.next_field.Reads as next-field-reads
 
 abbrev invariant-loop : tie.invariant-loop
-invariant-loop d scratch₀ i₀ keyed₀ sized₀ scratch i keyed sized = (i ≤ length d) × (isReadable (drop i d) ≡ true) × (all fitsField (fieldsFrom d i) ≡ true) × (length scratch ≡ length scratch₀) × (isWellFormed intBounds (recordIn d) ≡ formedFrom keyed sized (fieldsFrom d i))
+invariant-loop d scratch₀ i₀ keyed₀ sized₀ scratch i keyed sized = (i ≤ length d) × (is_readable (drop i d) ≡ true) × (all fits_field (fields_from d i) ≡ true) × (length scratch ≡ length scratch₀) × (is_well_formed int_bounds (record_in d) ≡ formed_from keyed sized (fields_from d i))
 
 abbrev decreases-loop : tie.decreases-loop
 decreases-loop d scratch₀ i₀ keyed₀ sized₀ scratch i keyed sized = length d - i
@@ -39,7 +39,7 @@ loop-holds : tie.Need-loop-init invariant-loop decreases-loop
 loop-holds c =
     let at_pre = c.before.before.requires in
     let at-args = c.before.before.args in
-    (omega arith, at_pre.0, fits-fields (recordIn at-args.d.now) at_pre.1.0, refl, refl)
+    (omega arith, at_pre.0, fits-fields (record_in at-args.d.now) at_pre.1.0, refl, refl)
 
 sub-next-field : tie.Need-overflow-sub-next-field invariant-loop decreases-loop
 sub-next-field c = search rules
@@ -74,7 +74,7 @@ returns c =
     let at-next-field = c.before.before.next_field in
     let at-enum-told = c.enum_told in
     let none = next-told at-args.d.now at-loop.i at-next-field.result at-next-field.ensures at-enum-told.given.1 in
-    (sym (at-loop.invariant.4 ∙ formed-done at-loop.keyed at-loop.sized (fieldsFrom at-args.d.now at-loop.i) none), at-loop.invariant.3)
+    (sym (at-loop.invariant.4 ∙ formed-done at-loop.keyed at-loop.sized (fields_from at-args.d.now at-loop.i) none), at-loop.invariant.3)
 
 add-content-of : tie.Need-overflow-add-content-of invariant-loop decreases-loop
 add-content-of c =
@@ -180,9 +180,9 @@ value-holds-requires c κs =
     let i = at-loop.i in
     let g = at_n.given.0 in
     let f = next-told d i at-next-field.result at-next-field.ensures at_n.given.1 in
-    let x = fieldBetween d (i + g.0) (i + g.1.0) (i + g.1.1.0) (i + g.1.1.1.0) in
-    let rest = fieldsFrom d (i + g.1.1.1.0) in
-    let h = all_both fitsField (fieldsFrom d i) x rest f.fields at-loop.invariant.2 in
+    let x = field_between d (i + g.0) (i + g.1.0) (i + g.1.1.0) (i + g.1.1.1.0) in
+    let rest = fields_from d (i + g.1.1.1.0) in
+    let h = all_both fits_field (fields_from d i) x rest f.fields at-loop.invariant.2 in
     omega (arith, fits-value x h.0, at_pre.1.1, at-loop.invariant.3)
 
 same-length-2 : tie.Need-same-length-2 invariant-loop decreases-loop
@@ -204,9 +204,9 @@ returns-2 c =
     let i = at-loop.i in
     let g = at_n.given.0 in
     let f = next-told d i at-next-field.result at-next-field.ensures at_n.given.1 in
-    let x = fieldBetween d (i + g.0) (i + g.1.0) (i + g.1.1.0) (i + g.1.1.1.0) in
-    let rest = fieldsFrom d (i + g.1.1.1.0) in
-    (sym (at-loop.invariant.4 ∙ formed-stop at-loop.keyed at-loop.sized (fieldsFrom d i) x rest f.fields (at-content-of.ensures.shaped x.value x.count ∙ sym at-value-holds.ensures.0 ∙ not-true at-value-holds.result at-if1.true)), at-value-holds.ensures.1 ∙ at-loop.invariant.3)
+    let x = field_between d (i + g.0) (i + g.1.0) (i + g.1.1.0) (i + g.1.1.1.0) in
+    let rest = fields_from d (i + g.1.1.1.0) in
+    (sym (at-loop.invariant.4 ∙ formed-stop at-loop.keyed at-loop.sized (fields_from d i) x rest f.fields (at-content-of.ensures.shaped x.value x.count ∙ sym at-value-holds.ensures.0 ∙ not-true at-value-holds.result at-if1.true)), at-value-holds.ensures.1 ∙ at-loop.invariant.3)
 
 asks-name-requires : tie.Need-asks-name-requires invariant-loop decreases-loop
 asks-name-requires c κs = search rules
@@ -235,9 +235,9 @@ returns-3 c =
     let i = at-loop.i in
     let g = at_n.given.0 in
     let f = next-told d i at-next-field.result at-next-field.ensures at_n.given.1 in
-    let x = fieldBetween d (i + g.0) (i + g.1.0) (i + g.1.1.0) (i + g.1.1.1.0) in
-    let rest = fieldsFrom d (i + g.1.1.1.0) in
-    (sym (at-loop.invariant.4 ∙ formed-twice at-loop.keyed at-loop.sized (fieldsFrom d i) x rest f.fields at-asks-name.result at-asks-size.result (at-content-of.ensures.key ∙ sym at-asks-name.ensures) (at-content-of.ensures.size ∙ sym at-asks-size.ensures) at-if2.true), at-value-holds.ensures.1 ∙ at-loop.invariant.3)
+    let x = field_between d (i + g.0) (i + g.1.0) (i + g.1.1.0) (i + g.1.1.1.0) in
+    let rest = fields_from d (i + g.1.1.1.0) in
+    (sym (at-loop.invariant.4 ∙ formed-twice at-loop.keyed at-loop.sized (fields_from d i) x rest f.fields at-asks-name.result at-asks-size.result (at-content-of.ensures.key ∙ sym at-asks-name.ensures) (at-content-of.ensures.size ∙ sym at-asks-size.ensures) at-if2.true), at-value-holds.ensures.1 ∙ at-loop.invariant.3)
 
 add-i : tie.Need-overflow-add-i invariant-loop decreases-loop
 add-i c =
@@ -273,10 +273,10 @@ loop-again c =
     let i = at-loop.i in
     let g = at_n.given.0 in
     let f = next-told d i at-next-field.result at-next-field.ensures at_n.given.1 in
-    let x = fieldBetween d (i + g.0) (i + g.1.0) (i + g.1.1.0) (i + g.1.1.1.0) in
-    let rest = fieldsFrom d (i + g.1.1.1.0) in
-    let h = all_both fitsField (fieldsFrom d i) x rest f.fields at-loop.invariant.2 in
-    (f.inside, f.readable, h.1, at-value-holds.ensures.1 ∙ at-loop.invariant.3, at-loop.invariant.4 ∙ formed-more at-loop.keyed at-loop.sized (fieldsFrom d i) x rest f.fields at-asks-name.result at-asks-size.result (at-content-of.ensures.key ∙ sym at-asks-name.ensures) (at-content-of.ensures.size ∙ sym at-asks-size.ensures) (at-content-of.ensures.shaped x.value x.count ∙ sym at-value-holds.ensures.0 ∙ not-false at-value-holds.result at-if1.false) at-if2.false)
+    let x = field_between d (i + g.0) (i + g.1.0) (i + g.1.1.0) (i + g.1.1.1.0) in
+    let rest = fields_from d (i + g.1.1.1.0) in
+    let h = all_both fits_field (fields_from d i) x rest f.fields at-loop.invariant.2 in
+    (f.inside, f.readable, h.1, at-value-holds.ensures.1 ∙ at-loop.invariant.3, at-loop.invariant.4 ∙ formed-more at-loop.keyed at-loop.sized (fields_from d i) x rest f.fields at-asks-name.result at-asks-size.result (at-content-of.ensures.key ∙ sym at-asks-name.ensures) (at-content-of.ensures.size ∙ sym at-asks-size.ensures) (at-content-of.ensures.shaped x.value x.count ∙ sym at-value-holds.ensures.0 ∙ not-false at-value-holds.result at-if1.false) at-if2.false)
 
 pub well-formed-spec : {M : Type 1} → statement M
 well-formed-spec =

@@ -2,8 +2,8 @@
 use mathlib.Core.Path.{sym, ap, ◌∙◌}
 use mathlib.Core.Option.{some}
 use lib.Dec.{eqb}
-use Rattle.format.specs.Rules.{sizeBy}
-use Rattle.numbers.specs.Meaning.{naturalAnswer}
+use Rattle.format.specs.Rules.{size_by}
+use Rattle.numbers.specs.Meaning.{natural_answer}
 use borrow.Author.Rules.{rules}
 use Rattle.descriptors.proofs.sizes.size_exactly.Statement.{statement}
 use Rattle.descriptors.proofs.sizes.size_exactly.Tie as tie
@@ -24,13 +24,13 @@ returns : tie.Need-returns
 returns c =
     let at-number-of = c.before.before.before.number_of in
     let at_x = c.before.x in
-    sym (ap (sizeBy (some (λ m n. eqb m n))) (sym at-number-of.ensures ∙ ap naturalAnswer at_x.given.1))
+    sym (ap (size_by (some (λ m n. eqb m n))) (sym at-number-of.ensures ∙ ap natural_answer at_x.given.1))
 
 returns-2 : tie.Need-returns-2
 returns-2 c =
     let at-number-of = c.before.before.number_of in
     let at-enum-told = c.enum_told in
-    sym (ap (sizeBy (some (λ m n. eqb m n))) (sym at-number-of.ensures ∙ ap naturalAnswer at-enum-told.given.1))
+    sym (ap (size_by (some (λ m n. eqb m n))) (sym at-number-of.ensures ∙ ap natural_answer at-enum-told.given.1))
 
 pub size-exactly-spec : {M : Type 1} → statement M
 size-exactly-spec =

@@ -8,19 +8,19 @@ use mathlib.Core.Path.{◌≡◌, refl, sym, ap, ◌∙◌}
 use mathlib.Core.Bool.{Bool, true}
 use lib.ListN.{length, drop}
 use Rattle.format.specs.Bytes.{Bytes, text, all}
-use Rattle.format.specs.Limits.{valueBytes}
-use Rattle.format.specs.Numbers.{intBounds}
-use Rattle.format.specs.Rules.{sizeRule, meetsSize}
+use Rattle.format.specs.Limits.{value_bytes}
+use Rattle.format.specs.Numbers.{int_bounds}
+use Rattle.format.specs.Rules.{size_rule, meets_size}
 use Rattle.format.specs.Words.{words}
-use Rattle.values.specs.Value.{valueFrom}
+use Rattle.values.specs.Value.{value_from}
 use Rattle.words.specs.Spans.{span}
-use Rattle.records.specs.Places.{isReadable}
-use Rattle.records.specs.Walk.{recordIn}
-use Rattle.records.specs.Named.{valuesFrom}
+use Rattle.records.specs.Places.{is_readable}
+use Rattle.records.specs.Walk.{record_in}
+use Rattle.records.specs.Named.{values_from}
 use Rattle.records.proofs.Readings.{part-readable}
 use Rattle.records.proofs.Named.{value-told}
 use Rattle.descriptors.proofs.Folds.{all_more, all-stop, all_both}
-use Rattle.descriptors.proofs.Limits.{fits-fields, isShort, values-short}
+use Rattle.descriptors.proofs.Limits.{fits-fields, is_short, values-short}
 use Rattle.descriptors.proofs.sizes.size_met.Statement.{statement}
 use Rattle.descriptors.proofs.sizes.size_met.Tie as tie
 use Rattle.descriptors.proofs.sizes.size_met.Reads as reads
@@ -28,11 +28,11 @@ use Rattle.descriptors.proofs.sizes.size_met.Lts as lts
 use Rattle.descriptors.proofs.sizes.value_met.Reads as value-met-reads
 use Rattle.records.proofs.next_named.Reads as next-named-reads
 
-abbrev isMet : ℕ → Bytes → Bool
-isMet n v = meetsSize (sizeRule intBounds (words v)) n
+abbrev is_met : ℕ → Bytes → Bool
+is_met n v = meets_size (size_rule int_bounds (words v)) n
 
 abbrev invariant-loop : tie.invariant-loop
-invariant-loop d count scratch₀ i₀ t8 scratch i = (i ≤ length d) × (isReadable (drop i d) ≡ true) × (all isShort (valuesFrom d (text "%size") i) ≡ true) × (length scratch ≡ length scratch₀) × (all (isMet count) (valuesFrom d (text "%size") 0) ≡ all (isMet count) (valuesFrom d (text "%size") i))
+invariant-loop d count scratch₀ i₀ t8 scratch i = (i ≤ length d) × (is_readable (drop i d) ≡ true) × (all is_short (values_from d (text "%size") i) ≡ true) × (length scratch ≡ length scratch₀) × (all (is_met count) (values_from d (text "%size") 0) ≡ all (is_met count) (values_from d (text "%size") i))
 
 abbrev decreases-loop : tie.decreases-loop
 decreases-loop d count scratch₀ i₀ t8 scratch i = length d - i
@@ -41,7 +41,7 @@ loop-holds : tie.Need-loop-init invariant-loop decreases-loop
 loop-holds c =
     let at_pre = c.before.before.requires in
     let at-args = c.before.before.args in
-    (omega arith, at_pre.0, values-short (text "%size") (recordIn at-args.d.now) (fits-fields (recordIn at-args.d.now) at_pre.1.0), refl, refl)
+    (omega arith, at_pre.0, values-short (text "%size") (record_in at-args.d.now) (fits-fields (record_in at-args.d.now) at_pre.1.0), refl, refl)
 
 sub-next-named : tie.Need-overflow-sub-next-named invariant-loop decreases-loop
 sub-next-named c = search rules
@@ -79,7 +79,7 @@ returns c =
     let at-next-named = c.before.before.next-named in
     let at-enum-told = c.enum_told in
     let none = value-told at-args.d.now (text "%size") at-loop.i at-next-named.result at-next-named.ensures at-enum-told.given.1 in
-    (sym (at-loop.invariant.4 ∙ ap (all (isMet at-args.count)) none), at-loop.invariant.3)
+    (sym (at-loop.invariant.4 ∙ ap (all (is_met at-args.count)) none), at-loop.invariant.3)
 
 add-value-met : tie.Need-overflow-add-value-met invariant-loop decreases-loop
 add-value-met c =
@@ -134,9 +134,9 @@ value-met-requires c κs =
     let at_f = c.before.before.before.f in
     let at_pre = c.before.before.before.before.before.before.before.before.before.before.before.requires in
     let v = value-told at-args.d.now (text "%size") at-loop.i at-next-named.result at-next-named.ensures at_f.given.1 in
-    let h = all_both isShort (valuesFrom at-args.d.now (text "%size") at-loop.i) _ _ v.values at-loop.invariant.2 in
+    let h = all_both is_short (values_from at-args.d.now (text "%size") at-loop.i) _ _ v.values at-loop.invariant.2 in
     let g = at_f.given.0 in
-    omega (arith, leb-true (length (valueFrom (span (at-loop.i + g.1.0) (at-loop.i + g.1.1.0) at-args.d.now))) valueBytes h.0, at_pre.1.1, at-loop.invariant.3)
+    omega (arith, leb-true (length (value_from (span (at-loop.i + g.1.0) (at-loop.i + g.1.1.0) at-args.d.now))) value_bytes h.0, at_pre.1.1, at-loop.invariant.3)
 
 same-length-2 : tie.Need-same-length-2 invariant-loop decreases-loop
 same-length-2 c =
@@ -153,7 +153,7 @@ returns-2 c =
     let at-value-met = c.before.before.before.value-met in
     let at-if1 = c.if1 in
     let v = value-told at-args.d.now (text "%size") at-loop.i at-next-named.result at-next-named.ensures at_f.given.1 in
-    (sym (at-loop.invariant.4 ∙ all-stop (isMet at-args.count) (valuesFrom at-args.d.now (text "%size") at-loop.i) _ _ v.values (sym at-value-met.ensures.0 ∙ not-true at-value-met.result at-if1.true)), at-value-met.ensures.1 ∙ at-loop.invariant.3)
+    (sym (at-loop.invariant.4 ∙ all-stop (is_met at-args.count) (values_from at-args.d.now (text "%size") at-loop.i) _ _ v.values (sym at-value-met.ensures.0 ∙ not-true at-value-met.result at-if1.true)), at-value-met.ensures.1 ∙ at-loop.invariant.3)
 
 add-i : tie.Need-overflow-add-i invariant-loop decreases-loop
 add-i c =
@@ -182,9 +182,9 @@ loop-again c =
     let at-value-met = c.before.before.before.value-met in
     let at-if1 = c.if1 in
     let v = value-told at-args.d.now (text "%size") at-loop.i at-next-named.result at-next-named.ensures at_f.given.1 in
-    let vs = valuesFrom at-args.d.now (text "%size") at-loop.i in
-    let h = all_both isShort vs _ _ v.values at-loop.invariant.2 in
-    (v.inside, v.readable, h.1, at-value-met.ensures.1 ∙ at-loop.invariant.3, at-loop.invariant.4 ∙ all_more (isMet at-args.count) vs _ _ v.values (sym at-value-met.ensures.0 ∙ not-false at-value-met.result at-if1.false))
+    let vs = values_from at-args.d.now (text "%size") at-loop.i in
+    let h = all_both is_short vs _ _ v.values at-loop.invariant.2 in
+    (v.inside, v.readable, h.1, at-value-met.ensures.1 ∙ at-loop.invariant.3, at-loop.invariant.4 ∙ all_more (is_met at-args.count) vs _ _ v.values (sym at-value-met.ensures.0 ∙ not-false at-value-met.result at-if1.false))
 
 pub size-met-spec : {M : Type 1} → statement M
 size-met-spec =

@@ -3,8 +3,8 @@ use native.Mathlib.Omega.{arith}
 use mathlib.Core.Path.{sym, ap, ◌∙◌}
 use mathlib.Core.List.{[], ◌∷◌}
 use lib.ListN.{length}
-use Rattle.format.specs.Numbers.{intBounds}
-use Rattle.format.specs.Rules.{sizeRule}
+use Rattle.format.specs.Numbers.{int_bounds}
+use Rattle.format.specs.Rules.{size_rule}
 use Rattle.format.specs.Words.{words}
 use Rattle.words.specs.Spans.{span}
 use Rattle.words.proofs.Finding.{found, not_found}
@@ -32,7 +32,7 @@ returns c =
     let at-args = c.before.before.before.before.args in
     let at-next-word = c.before.before.next_word in
     let at-enum-told = c.enum_told in
-    sym (ap (sizeRule intBounds) (not_found at-args.s.now at-next-word.ensures at-enum-told.given.1))
+    sym (ap (size_rule int_bounds) (not_found at-args.s.now at-next-word.ensures at-enum-told.given.1))
 
 sub-t : tie.Need-overflow-sub-t
 sub-t c =
@@ -96,7 +96,7 @@ returns-2 c =
     let s = at-args.s.now in
     let v = at-w.given.0 in
     let t = span v.1.0 (length s) s in
-    at-size-exactly.ensures ∙ sym (ap (sizeRule intBounds) (words-then (words s) (span v.0 v.1.0 s) (words t) f.2 [] (not_found t at-next-word2.ensures at-enum-told2.given.1)))
+    at-size-exactly.ensures ∙ sym (ap (size_rule int_bounds) (words-then (words s) (span v.0 v.1.0 s) (words t) f.2 [] (not_found t at-next-word2.ensures at-enum-told2.given.1)))
 
 sub-next-word : tie.Need-overflow-sub-next-word
 sub-next-word c =
@@ -192,7 +192,7 @@ returns-3 c =
     let z = at-enum-told3.given.0 in
     let u = span y.1.0 (length t) t in
     let h = found u at-next-word3.ensures at-enum-told3.given.1 in
-    sym (ap (sizeRule intBounds) (words-then (words s) (span v.0 v.1.0 s) (words t) f.2 (span y.0 y.1.0 t ∷ span z.0 z.1.0 u ∷ words (span z.1.0 (length u) u)) (words-then (words t) (span y.0 y.1.0 t) (words u) g.2 (span z.0 z.1.0 u ∷ words (span z.1.0 (length u) u)) h.2)))
+    sym (ap (size_rule int_bounds) (words-then (words s) (span v.0 v.1.0 s) (words t) f.2 (span y.0 y.1.0 t ∷ span z.0 z.1.0 u ∷ words (span z.1.0 (length u) u)) (words-then (words t) (span y.0 y.1.0 t) (words u) g.2 (span z.0 z.1.0 u ∷ words (span z.1.0 (length u) u)) h.2)))
 
 returns-4 : tie.Need-returns-4
 returns-4 c =
@@ -212,7 +212,7 @@ returns-4 c =
     let y = at_x.given.0 in
     let u = span y.1.0 (length t) t in
     let e = words-then (words t) (span y.0 y.1.0 t) (words u) g.2 [] (not_found u at-next-word3.ensures at-enum-told4.given.1) in
-    at-size-signed.ensures ∙ sym (ap (sizeRule intBounds) (words-then (words s) (span v.0 v.1.0 s) (words t) f.2 (span y.0 y.1.0 t ∷ []) e))
+    at-size-signed.ensures ∙ sym (ap (size_rule int_bounds) (words-then (words s) (span v.0 v.1.0 s) (words t) f.2 (span y.0 y.1.0 t ∷ []) e))
 
 pub size-rule-spec : {M : Type 1} → statement M
 size-rule-spec =

@@ -1,7 +1,7 @@
 -- `descriptors::sizes::size_signed` meets its contract.
 use mathlib.Core.Path.{sym, ap, ◌∙◌}
-use Rattle.format.specs.Rules.{order_of, sizeBy}
-use Rattle.numbers.specs.Meaning.{naturalAnswer}
+use Rattle.format.specs.Rules.{order_of, size_by}
+use Rattle.numbers.specs.Meaning.{natural_answer}
 use Rattle.descriptors.proofs.Sizing.{no_number}
 use borrow.Author.Rules.{rules}
 use Rattle.descriptors.proofs.sizes.size_signed.Statement.{statement}
@@ -29,14 +29,14 @@ returns c =
     let at-args = c.before.before.before.before.before.before.before.args in
     let at-number-of = c.before.before.before.before.number_of in
     let at_x = c.before.before.x in
-    at-size-by.ensures ∙ sym (ap (sizeBy (order_of at-args.sign.now)) (sym at-number-of.ensures ∙ ap naturalAnswer at_x.given.1))
+    at-size-by.ensures ∙ sym (ap (size_by (order_of at-args.sign.now)) (sym at-number-of.ensures ∙ ap natural_answer at_x.given.1))
 
 returns-2 : tie.Need-returns-2
 returns-2 c =
     let at-args = c.before.before.before.before.before.args in
     let at-number-of = c.before.before.number_of in
     let at-enum-told = c.enum_told in
-    sym (ap (sizeBy (order_of at-args.sign.now)) (sym at-number-of.ensures ∙ ap naturalAnswer at-enum-told.given.1) ∙ no_number (order_of at-args.sign.now))
+    sym (ap (size_by (order_of at-args.sign.now)) (sym at-number-of.ensures ∙ ap natural_answer at-enum-told.given.1) ∙ no_number (order_of at-args.sign.now))
 
 pub size-signed-spec : {M : Type 1} → statement M
 size-signed-spec =

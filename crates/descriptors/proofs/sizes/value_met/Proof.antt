@@ -4,10 +4,10 @@ use Prim.Native.Nat.{ℕ}
 use mathlib.Core.Bool.{Bool}
 use mathlib.Core.Option.{Option}
 use Rattle.format.specs.Bytes.{Bytes}
-use Rattle.format.specs.Numbers.{intBounds}
-use Rattle.format.specs.Rules.{sizeRule, meetsSize}
+use Rattle.format.specs.Numbers.{int_bounds}
+use Rattle.format.specs.Rules.{size_rule, meets_size}
 use Rattle.format.specs.Words.{words}
-use Rattle.values.specs.Value.{valueFrom}
+use Rattle.values.specs.Value.{value_from}
 use Rattle.words.proofs.Decoded.{decoded-all, decoded-length, scratch-length}
 use borrow.Author.Rules.{rules}
 use Rattle.descriptors.proofs.sizes.value_met.Statement.{statement}
@@ -28,7 +28,7 @@ slice-aggregate-size-rule : tie.Need-slice-aggregate-size-rule
 slice-aggregate-size-rule c =
     let at-args = c.before.before.before.before.before.before.before.args in
     let at-copy-value = c.before.before.before.copy-value in
-    decoded-length (valueFrom at-args.value.now) at-args.scratch.now at-copy-value.new.1.0 at-copy-value.result at-copy-value.ensures.0 at-copy-value.ensures.1
+    decoded-length (value_from at-args.value.now) at-args.scratch.now at-copy-value.new.1.0 at-copy-value.result at-copy-value.ensures.0 at-copy-value.ensures.1
 
 size-rule-requires : tie.Need-size-rule-requires
 size-rule-requires c κs = search rules
@@ -46,7 +46,7 @@ returns c =
     let at-size-rule = c.before.size-rule in
     let at-copy-value = c.before.before.before.before.before.copy-value in
     let at_pre = c.before.before.before.before.before.before.before.before.before.requires in
-    (at-size-holds.ensures ∙ ap (λ (z : Option (ℕ → Bool)). meetsSize z at-args.n) (at-size-rule.ensures ∙ ap (λ (x : Bytes). sizeRule intBounds (words x)) (decoded-all (valueFrom at-args.value.now) at-args.scratch.now at-copy-value.new.1.0 at-copy-value.result at-copy-value.ensures.0 at-copy-value.ensures.1)), scratch-length (valueFrom at-args.value.now) at-args.scratch.now at-copy-value.new.1.0 at-copy-value.result at-copy-value.ensures.0 at-copy-value.ensures.1 at_pre)
+    (at-size-holds.ensures ∙ ap (λ (z : Option (ℕ → Bool)). meets_size z at-args.n) (at-size-rule.ensures ∙ ap (λ (x : Bytes). size_rule int_bounds (words x)) (decoded-all (value_from at-args.value.now) at-args.scratch.now at-copy-value.new.1.0 at-copy-value.result at-copy-value.ensures.0 at-copy-value.ensures.1)), scratch-length (value_from at-args.value.now) at-args.scratch.now at-copy-value.new.1.0 at-copy-value.result at-copy-value.ensures.0 at-copy-value.ensures.1 at_pre)
 
 pub value-met-spec : {M : Type 1} → statement M
 value-met-spec =

@@ -9,7 +9,7 @@ use lib.Dec.{ltb}
 use lib.ListN.{length}
 use Rattle.terms.specs.Sets.{in_set}
 use Rattle.terms.specs.Entries.{word_at}
-use Rattle.dictionary.specs.Numbered.{isFirst}
+use Rattle.dictionary.specs.Numbered.{is_first}
 use Rattle.dictionary.proofs.Firsts.{words_long, firsts-start, firsts-on}
 use Rattle.dictionary.proofs.wordsets.first_entries.Statement.{statement}
 use Rattle.dictionary.proofs.wordsets.first_entries.Tie as tie
@@ -19,7 +19,7 @@ use Rattle.dictionary.proofs.wordsets.is_first.Reads as is-first-reads
 use Rattle.dictionary.proofs.wordsets.with_place.Reads as with-place-reads
 
 abbrev invariant-loop : tie.invariant-loop
-invariant-loop d entries set₀ k₀ set k = (k ≤ length entries) × ((j : ℕ) → in_set j set ≡ (ltb j k && isFirst j (map (word_at d) entries)))
+invariant-loop d entries set₀ k₀ set k = (k ≤ length entries) × ((j : ℕ) → in_set j set ≡ (ltb j k && is_first j (map (word_at d) entries)))
 
 abbrev decreases-loop : tie.decreases-loop
 decreases-loop d entries set₀ k₀ set k = length entries - k
@@ -27,7 +27,7 @@ decreases-loop d entries set₀ k₀ set k = length entries - k
 loop-holds : tie.Need-loop-init invariant-loop decreases-loop
 loop-holds c =
     let at-args = c.before.before.args in
-    (omega arith, firsts-start (λ (j : ℕ). isFirst j (map (word_at at-args.d.now) at-args.entries.now)))
+    (omega arith, firsts-start (λ (j : ℕ). is_first j (map (word_at at-args.d.now) at-args.entries.now)))
 
 is-first-requires : tie.Need-is-first-requires invariant-loop decreases-loop
 is-first-requires c κs =
@@ -58,14 +58,14 @@ loop-again c =
     let at-loop = c.before.before.before.loop in
     let at-with-place = c.with-place in
     let at-is-first = c.before.is-first in
-    (omega (arith, at-loop-test.true), firsts-on (λ (j : ℕ). isFirst j (map (word_at at-args.d.now) at-args.entries.now)) at-loop.k at-loop.set at-with-place.result at-is-first.result at-loop.invariant.1 at-is-first.ensures at-with-place.ensures)
+    (omega (arith, at-loop-test.true), firsts-on (λ (j : ℕ). is_first j (map (word_at at-args.d.now) at-args.entries.now)) at-loop.k at-loop.set at-with-place.result at-is-first.result at-loop.invariant.1 at-is-first.ensures at-with-place.ensures)
 
 returns : tie.Need-returns invariant-loop decreases-loop
 returns c =
     let at-loop = c.before.loop in
     let at-args = c.before.before.before.before.args in
     let at-loop-test = c.loop-test in
-    λ j. at-loop.invariant.1 j ∙ ap (λ (n : ℕ). ltb j n && isFirst j (map (word_at at-args.d.now) at-args.entries.now)) (omega (arith, at-loop.invariant.0, at-loop-test.false, words_long at-args.d.now at-args.entries.now))
+    λ j. at-loop.invariant.1 j ∙ ap (λ (n : ℕ). ltb j n && is_first j (map (word_at at-args.d.now) at-args.entries.now)) (omega (arith, at-loop.invariant.0, at-loop-test.false, words_long at-args.d.now at-args.entries.now))
 
 pub first-entries-spec : {M : Type 1} → statement M
 first-entries-spec =

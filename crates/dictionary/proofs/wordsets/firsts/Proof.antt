@@ -3,7 +3,7 @@ use native.Mathlib.Omega.{arith}
 use mathlib.Core.Path.{sym}
 use lib.Seq.{length-take-le}
 use Rattle.format.specs.Rules.{listed}
-use Rattle.records.specs.Walk.{recordIn}
+use Rattle.records.specs.Walk.{record_in}
 use Rattle.dictionary.proofs.Places.{read-room, read-few}
 use Rattle.dictionary.proofs.Firsts.{added-firsts}
 use borrow.Author.Rules.{rules}
@@ -28,15 +28,15 @@ slice-aggregate-first-entries c =
     let at-add-list = c.before.before.before.add-list in
     let at-args = c.before.before.before.before.before.before.before.args in
     let at_pre = c.before.before.before.before.before.before.before.requires in
-    sym (length-take-le at-add-list.result at-add-list.new.1.1.0 (read-room at-args.d.now (listed at-args.name.now (recordIn at-args.d.now)) _ at-add-list.new.1.1.0 at-add-list.result at_pre.1.few (omega arith) at-add-list.ensures))
+    sym (length-take-le at-add-list.result at-add-list.new.1.1.0 (read-room at-args.d.now (listed at-args.name.now (record_in at-args.d.now)) _ at-add-list.new.1.1.0 at-add-list.result at_pre.1.few (omega arith) at-add-list.ensures))
 
 first-entries-requires : tie.Need-first-entries-requires
 first-entries-requires c κs =
     let at-args = c.before.before.before.before.before.before.before.args in
     let at-add-list = c.before.before.before.add-list in
     let at_pre = c.before.before.before.before.before.before.before.requires in
-    let h = read-room at-args.d.now (listed at-args.name.now (recordIn at-args.d.now)) _ at-add-list.new.1.1.0 at-add-list.result at_pre.1.few (omega arith) at-add-list.ensures in
-    let f = read-few at-args.d.now (listed at-args.name.now (recordIn at-args.d.now)) _ at-add-list.new.1.1.0 at-add-list.result at_pre.1.few (omega arith) at-add-list.ensures in
+    let h = read-room at-args.d.now (listed at-args.name.now (record_in at-args.d.now)) _ at-add-list.new.1.1.0 at-add-list.result at_pre.1.few (omega arith) at-add-list.ensures in
+    let f = read-few at-args.d.now (listed at-args.name.now (record_in at-args.d.now)) _ at-add-list.new.1.1.0 at-add-list.result at_pre.1.few (omega arith) at-add-list.ensures in
     omega (arith, f, length-take-le at-add-list.result at-add-list.new.1.1.0 h)
 
 returns : tie.Need-returns
@@ -44,7 +44,7 @@ returns c =
     let at-args = c.before.before.before.before.before.before.before.before.args in
     let at-add-list = c.before.before.before.before.add-list in
     let at-first-entries = c.first-entries in
-    added-firsts at-args.d.now (listed at-args.name.now (recordIn at-args.d.now)) _ at-add-list.new.1.1.0 at-add-list.result at-first-entries.result at-add-list.ensures at-first-entries.ensures
+    added-firsts at-args.d.now (listed at-args.name.now (record_in at-args.d.now)) _ at-add-list.new.1.1.0 at-add-list.result at-first-entries.result at-add-list.ensures at-first-entries.ensures
 
 pub firsts-spec : {M : Type 1} → statement M
 firsts-spec =

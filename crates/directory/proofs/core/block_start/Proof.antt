@@ -5,10 +5,10 @@ use Rattle.core.specs.Prelude.{◌≡◌, ◌-◌, ◌≤◌, true, length, drop
 use native.Mathlib.Omega.{arith}
 use mathlib.Core.Path.{refl, sym, ◌∙◌}
 use Rattle.format.specs.Pieces.{read_of}
-use Rattle.records.specs.Places.{isReadable}
+use Rattle.records.specs.Places.{is_readable}
 use Rattle.records.proofs.Readings.{part-ended}
 use Rattle.records.proofs.Steps.{part-formed, steps}
-use Rattle.directory.specs.Blocks.{blockFrom}
+use Rattle.directory.specs.Blocks.{block_from}
 use Rattle.directory.proofs.Blocks.{block_at, block_none, block-blank, block-comment, block-field}
 use Rattle.directory.proofs.core.block_start.Statement.{statement}
 use Rattle.directory.proofs.core.block_start.Tie as tie
@@ -17,7 +17,7 @@ use Rattle.directory.proofs.core.block_start.Lts as lts
 use Rattle.lines.proofs.read_piece.Reads as read-piece-reads
 
 abbrev invariant-loop : tie.invariant-loop
-invariant-loop s start₀ i₀ start i = (i ≤ length s) × (isReadable (drop i s) ≡ true) × (blockFrom 0 0 (read_of s) ≡ block_at s start i)
+invariant-loop s start₀ i₀ start i = (i ≤ length s) × (is_readable (drop i s) ≡ true) × (block_from 0 0 (read_of s) ≡ block_at s start i)
 
 abbrev decreases-loop : tie.decreases-loop
 decreases-loop s start₀ i₀ start i = length s - i

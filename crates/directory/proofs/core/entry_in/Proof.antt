@@ -5,7 +5,7 @@ use Rattle.core.specs.Prelude.{◌≡◌, drop}
 use mathlib.Core.Path.{sym, ap, ◌∙◌}
 use Rattle.format.specs.declared.Entry.{Entry}
 use Rattle.lines.proofs.Cuts.{rest}
-use Rattle.directory.specs.Blocks.{nextEntry, raiseEntry, entryIn}
+use Rattle.directory.specs.Blocks.{next_entry, raise_entry, entry_in}
 use Rattle.records.proofs.Readings.{part-readable}
 use Rattle.directory.proofs.Entries.{first_entry, entry-begins, next-entry, place_inside}
 use Rattle.directory.proofs.core.entry_in.Statement.{statement}
@@ -23,7 +23,7 @@ returns c =
     let at-args = c.before.before.before.args in
     let at-next-members = c.next-members in
     let at-if1 = c.before.if1 in
-    first_entry at-args.s.now at-next-members.result at-next-members.ensures ∙ ap (entryIn at-args.s.now) (sym at-if1.true)
+    first_entry at-args.s.now at-next-members.result at-next-members.ensures ∙ ap (entry_in at-args.s.now) (sym at-if1.true)
 
 sub-next-entry : tie.Need-overflow-sub-next-entry
 sub-next-entry c =
@@ -60,7 +60,7 @@ add-t8 c =
     let at-if1 = c.before.before.before.if1 in
     let at-next-entry = c.before.next-entry in
     let b = entry-begins at-args.s.now at_pre.0 at-args.k at-args.at at-if1.false at_pre.1 at_pre.2 in
-    let e : at-next-entry.result ≡ nextEntry (drop at-args.at at-args.s.now) = at-next-entry.ensures ∙ ap nextEntry (rest at-args.s.now at-args.at) in
+    let e : at-next-entry.result ≡ next_entry (drop at-args.at at-args.s.now) = at-next-entry.ensures ∙ ap next_entry (rest at-args.s.now at-args.at) in
     omega (arith, place_inside at-args.s.now at-args.at b.inside b.readable, ap (λ (x : Entry). x.place) e)
 
 add-t11 : tie.Need-overflow-add-t11
@@ -71,7 +71,7 @@ add-t11 c =
     let at-if1 = c.before.before.before.before.if1 in
     let at-next-entry = c.before.before.next-entry in
     let b = entry-begins at-args.s.now at_pre.0 at-args.k at-args.at at-if1.false at_pre.1 at_pre.2 in
-    let e : at-next-entry.result ≡ nextEntry (drop at-args.at at-args.s.now) = at-next-entry.ensures ∙ ap nextEntry (rest at-args.s.now at-args.at) in
+    let e : at-next-entry.result ≡ next_entry (drop at-args.at at-args.s.now) = at-next-entry.ensures ∙ ap next_entry (rest at-args.s.now at-args.at) in
     let n = next-entry at-args.s.now at_pre.0 at-args.k at-args.at b at_pre.1 in
     omega (arith, n.behind.inside, ap (λ (x : Entry). x.end) n.is, ap (λ (x : Entry). x.end) e)
 
@@ -83,9 +83,9 @@ returns-2 c =
     let at-if1 = c.before.before.before.before.if1 in
     let at-next-entry = c.before.before.next-entry in
     let b = entry-begins at-args.s.now at_pre.0 at-args.k at-args.at at-if1.false at_pre.1 at_pre.2 in
-    let e : at-next-entry.result ≡ nextEntry (drop at-args.at at-args.s.now) = at-next-entry.ensures ∙ ap nextEntry (rest at-args.s.now at-args.at) in
+    let e : at-next-entry.result ≡ next_entry (drop at-args.at at-args.s.now) = at-next-entry.ensures ∙ ap next_entry (rest at-args.s.now at-args.at) in
     let n = next-entry at-args.s.now at_pre.0 at-args.k at-args.at b at_pre.1 in
-    ap (raiseEntry at-args.at) e ∙ sym n.is
+    ap (raise_entry at-args.at) e ∙ sym n.is
 
 pub entry-in-spec : {M : Type 1} → statement M
 entry-in-spec =

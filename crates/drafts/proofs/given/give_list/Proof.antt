@@ -8,16 +8,16 @@ use lib.ListN.{length, drop, take}
 use Rattle.format.specs.Bytes.{Bytes}
 use Rattle.format.specs.Words.{words as words_of}
 use Rattle.format.specs.Rules.{listed}
-use Rattle.values.specs.Value.{valueFrom}
+use Rattle.values.specs.Value.{value_from}
 use Rattle.lines.proofs.Cuts.{rest}
 use Rattle.words.specs.Spans.{span}
 use Rattle.words.proofs.Decoded.{decoded-all, decoded-length, decoded-inside}
-use Rattle.records.specs.Places.{isReadable}
-use Rattle.records.specs.Walk.{recordIn}
+use Rattle.records.specs.Places.{is_readable}
+use Rattle.records.specs.Walk.{record_in}
 use Rattle.records.proofs.Readings.{part-readable}
 use Rattle.records.proofs.Named.{value-told}
 use Rattle.drafts.proofs.Giving.{Going, going_start, going_end, going_on}
-use Rattle.drafts.proofs.Listing.{wordsFrom, ShortFrom, short-start, short-here, short_on, words-cut, words-none}
+use Rattle.drafts.proofs.Listing.{words_from, ShortFrom, short-start, short-here, short_on, words-cut, words-none}
 use Rattle.drafts.proofs.given.give_list.Statement.{statement}
 use Rattle.drafts.proofs.given.give_list.Tie as tie
 use Rattle.drafts.proofs.given.give_list.Reads as reads
@@ -27,7 +27,7 @@ use Rattle.records.proofs.next_named.Reads as next-named-reads
 use Rattle.values.proofs.copy_value.Reads as copy-value-reads
 
 abbrev invariant-loop : tie.invariant-loop
-invariant-loop d l set name scratch₀ given₀ i₀ scratch given i = (i ≤ length d) × (isReadable (drop i d) ≡ true) × ShortFrom d name i × (length scratch ≡ length scratch₀) × Going d l (listed name (recordIn d)) set given (wordsFrom d name i)
+invariant-loop d l set name scratch₀ given₀ i₀ scratch given i = (i ≤ length d) × (is_readable (drop i d) ≡ true) × ShortFrom d name i × (length scratch ≡ length scratch₀) × Going d l (listed name (record_in d)) set given (words_from d name i)
 
 abbrev decreases-loop : tie.decreases-loop
 decreases-loop d l set name scratch₀ given₀ i₀ scratch given i = length d - i
@@ -36,7 +36,7 @@ loop-holds : tie.Need-loop-init invariant-loop decreases-loop
 loop-holds c =
     let at_pre = c.before.before.before.requires in
     let at-args = c.before.before.before.args in
-    (omega arith, at_pre.1.0.reads, short-start at-args.d.now at-args.name.now at_pre.1.0, refl, going_start at-args.d.now at-args.l (listed at-args.name.now (recordIn at-args.d.now)) at-args.set)
+    (omega arith, at_pre.1.0.reads, short-start at-args.d.now at-args.name.now at_pre.1.0, refl, going_start at-args.d.now at-args.l (listed at-args.name.now (record_in at-args.d.now)) at-args.set)
 
 sub-next-named : tie.Need-overflow-sub-next-named invariant-loop decreases-loop
 sub-next-named c = search rules
@@ -70,7 +70,7 @@ returns c =
     let at-loop = c.before.before.before.before.loop in
     let at-next-named = c.before.before.next-named in
     let at-enum-told = c.enum_told in
-    going_end at-args.d.now at-args.l (listed at-args.name.now (recordIn at-args.d.now)) at-args.set at-loop.given (wordsFrom at-args.d.now at-args.name.now at-loop.i) at-loop.invariant.4 (words-none at-args.d.now at-args.name.now at-loop.i (value-told at-args.d.now at-args.name.now at-loop.i at-next-named.result at-next-named.ensures at-enum-told.given.1))
+    going_end at-args.d.now at-args.l (listed at-args.name.now (record_in at-args.d.now)) at-args.set at-loop.given (words_from at-args.d.now at-args.name.now at-loop.i) at-loop.invariant.4 (words-none at-args.d.now at-args.name.now at-loop.i (value-told at-args.d.now at-args.name.now at-loop.i at-next-named.result at-next-named.ensures at-enum-told.given.1))
 
 add-copy-value : tie.Need-overflow-add-copy-value invariant-loop decreases-loop
 add-copy-value c =
@@ -107,7 +107,7 @@ copy-value-requires c κs =
     let at-v = c.before.before.before.v in
     let at_pre = c.before.before.before.before.before.before.before.before.before.before.before.requires in
     let h = value-told at-args.d.now at-args.name.now at-loop.i at-next-named.result at-next-named.ensures at-v.given.1 in
-    subst (λ (x : Bytes). length (valueFrom x) ≤ length at-loop.scratch) (sym (rest at-args.d.now (at-loop.i + at-v.given.0.1.0))) (omega (arith, short-here at-args.d.now at-args.name.now at-loop.i _ _ h _ refl at-loop.invariant.2, at-loop.invariant.3, at_pre.1.1))
+    subst (λ (x : Bytes). length (value_from x) ≤ length at-loop.scratch) (sym (rest at-args.d.now (at-loop.i + at-v.given.0.1.0))) (omega (arith, short-here at-args.d.now at-args.name.now at-loop.i _ _ h _ refl at-loop.invariant.2, at-loop.invariant.3, at_pre.1.1))
 
 slice-reshare-prefix-give-words : tie.Need-slice-reshare-prefix-give-words invariant-loop decreases-loop
 slice-reshare-prefix-give-words c =
@@ -118,7 +118,7 @@ slice-reshare-prefix-give-words c =
     let at-copy-value = c.before.before.copy-value in
     let at_pre = c.before.before.before.before.before.before.before.before.before.before.before.before.before.before.requires in
     let h = value-told at-args.d.now at-args.name.now at-loop.i at-next-named.result at-next-named.ensures at-v.given.1 in
-    decoded-inside (valueFrom (span (at-loop.i + at-v.given.0.1.0) (length at-args.d.now) at-args.d.now)) at-loop.scratch _ at-copy-value.result at-copy-value.ensures.0 at-copy-value.ensures.1 (subst (λ (x : Bytes). length (valueFrom x) ≤ length at-loop.scratch) (sym (rest at-args.d.now (at-loop.i + at-v.given.0.1.0))) (omega (arith, short-here at-args.d.now at-args.name.now at-loop.i _ _ h _ refl at-loop.invariant.2, at-loop.invariant.3, at_pre.1.1)))
+    decoded-inside (value_from (span (at-loop.i + at-v.given.0.1.0) (length at-args.d.now) at-args.d.now)) at-loop.scratch _ at-copy-value.result at-copy-value.ensures.0 at-copy-value.ensures.1 (subst (λ (x : Bytes). length (value_from x) ≤ length at-loop.scratch) (sym (rest at-args.d.now (at-loop.i + at-v.given.0.1.0))) (omega (arith, short-here at-args.d.now at-args.name.now at-loop.i _ _ h _ refl at-loop.invariant.2, at-loop.invariant.3, at_pre.1.1)))
 
 slice-aggregate-give-words : tie.Need-slice-aggregate-give-words invariant-loop decreases-loop
 slice-aggregate-give-words c =
@@ -126,7 +126,7 @@ slice-aggregate-give-words c =
     let at-v = c.before.before.before.before.before.before.before.v in
     let at-args = c.before.before.before.before.before.before.before.before.before.before.before.before.before.before.before.args in
     let at-copy-value = c.before.before.before.copy-value in
-    decoded-length (valueFrom (span (at-loop.i + at-v.given.0.1.0) (length at-args.d.now) at-args.d.now)) at-loop.scratch _ at-copy-value.result at-copy-value.ensures.0 at-copy-value.ensures.1
+    decoded-length (value_from (span (at-loop.i + at-v.given.0.1.0) (length at-args.d.now) at-args.d.now)) at-loop.scratch _ at-copy-value.result at-copy-value.ensures.0 at-copy-value.ensures.1
 
 give-words-requires : tie.Need-give-words-requires invariant-loop decreases-loop
 give-words-requires c κs =
@@ -161,8 +161,8 @@ loop-again c =
     let at-give-words = c.give-words in
     let h = value-told at-args.d.now at-args.name.now at-loop.i at-next-named.result at-next-named.ensures at-v.given.1 in
     let x = take at-copy-value.result at-copy-value.new.1.0 in
-    let q = decoded-all (valueFrom (span (at-loop.i + at-v.given.0.1.0) (length at-args.d.now) at-args.d.now)) at-loop.scratch at-copy-value.new.1.0 at-copy-value.result at-copy-value.ensures.0 at-copy-value.ensures.1 ∙ ap valueFrom (rest at-args.d.now (at-loop.i + at-v.given.0.1.0)) in
-    (h.inside, h.readable, short_on at-args.d.now at-args.name.now at-loop.i _ _ h x q at-loop.invariant.2, at-scratch.given ∙ at-loop.invariant.3, going_on at-args.d.now at-args.l (listed at-args.name.now (recordIn at-args.d.now)) at-args.set at-loop.given at-give-words.result (wordsFrom at-args.d.now at-args.name.now at-loop.i) (words_of x) (wordsFrom at-args.d.now at-args.name.now (at-loop.i + at-v.given.0.1.1.0)) at-loop.invariant.4 (words-cut at-args.d.now at-args.name.now at-loop.i _ _ h x q) at-give-words.ensures)
+    let q = decoded-all (value_from (span (at-loop.i + at-v.given.0.1.0) (length at-args.d.now) at-args.d.now)) at-loop.scratch at-copy-value.new.1.0 at-copy-value.result at-copy-value.ensures.0 at-copy-value.ensures.1 ∙ ap value_from (rest at-args.d.now (at-loop.i + at-v.given.0.1.0)) in
+    (h.inside, h.readable, short_on at-args.d.now at-args.name.now at-loop.i _ _ h x q at-loop.invariant.2, at-scratch.given ∙ at-loop.invariant.3, going_on at-args.d.now at-args.l (listed at-args.name.now (record_in at-args.d.now)) at-args.set at-loop.given at-give-words.result (words_from at-args.d.now at-args.name.now at-loop.i) (words_of x) (words_from at-args.d.now at-args.name.now (at-loop.i + at-v.given.0.1.1.0)) at-loop.invariant.4 (words-cut at-args.d.now at-args.name.now at-loop.i _ _ h x q) at-give-words.ensures)
 
 pub give-list-spec : {M : Type 1} → statement M
 give-list-spec =

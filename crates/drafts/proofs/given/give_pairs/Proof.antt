@@ -8,9 +8,9 @@ use mathlib.Core.List.{List, [], ◌∷◌}
 use lib.ListN.{length}
 use Rattle.format.specs.Bytes.{is_some}
 use Rattle.format.specs.Written.{Pair}
-use Rattle.format.specs.Numbering.{pairNames}
+use Rattle.format.specs.Numbering.{pair_names}
 use Rattle.requests.specs.Fields.{bytes_of}
-use Rattle.requests.specs.Pairs.{pairsFrom, pairsAt, pair_of}
+use Rattle.requests.specs.Pairs.{pairs_from, pairs_at, pair_of}
 use Rattle.requests.proofs.Pairing.{pair_found, pair-missed, some_more, list-more, list-end}
 use Rattle.drafts.proofs.Giving.{Going, going_start, going_end, going_on}
 use Rattle.drafts.proofs.given.give_pairs.Statement.{statement}
@@ -21,7 +21,7 @@ use Rattle.drafts.proofs.given.give.Reads as give-reads
 use Rattle.requests.proofs.pair_at.Reads as pair-at-reads
 
 abbrev invariant-loop : tie.invariant-loop
-invariant-loop d l set req from given₀ i₀ given i = (i ≤ length req) × (is_some (pairsFrom req i) ≡ true) × Going d l (pairNames (pairsAt req from)) set given (pairNames (pairsAt req i))
+invariant-loop d l set req from given₀ i₀ given i = (i ≤ length req) × (is_some (pairs_from req i) ≡ true) × Going d l (pair_names (pairs_at req from)) set given (pair_names (pairs_at req i))
 
 abbrev decreases-loop : tie.decreases-loop
 decreases-loop d l set req from given₀ i₀ given i = length req - i
@@ -30,7 +30,7 @@ loop-holds : tie.Need-loop-init invariant-loop decreases-loop
 loop-holds c =
     let at_pre = c.before.before.requires in
     let at-args = c.before.before.args in
-    (at_pre.1.1, at_pre.1.2, going_start at-args.d.now at-args.l (pairNames (pairsAt at-args.req.now at-args.from)) at-args.set)
+    (at_pre.1.1, at_pre.1.2, going_start at-args.d.now at-args.l (pair_names (pairs_at at-args.req.now at-args.from)) at-args.set)
 
 pair-at-requires : tie.Need-pair-at-requires invariant-loop decreases-loop
 pair-at-requires c κs = search rules
@@ -47,7 +47,7 @@ returns c =
     let at-loop = c.before.before.before.loop in
     let at-pair-at = c.before.before.pair-at in
     let at-enum-told = c.enum_told in
-    going_end at-args.d.now at-args.l (pairNames (pairsAt at-args.req.now at-args.from)) at-args.set at-loop.given (pairNames (pairsAt at-args.req.now at-loop.i)) at-loop.invariant.2 (ap pairNames (list-end at-args.req.now at-loop.i (pair-missed at-args.req.now at-loop.i at-pair-at.result at-pair-at.ensures at-enum-told.given.1)))
+    going_end at-args.d.now at-args.l (pair_names (pairs_at at-args.req.now at-args.from)) at-args.set at-loop.given (pair_names (pairs_at at-args.req.now at-loop.i)) at-loop.invariant.2 (ap pair_names (list-end at-args.req.now at-loop.i (pair-missed at-args.req.now at-loop.i at-pair-at.result at-pair-at.ensures at-enum-told.given.1)))
 
 sub-give : tie.Need-overflow-sub-give invariant-loop decreases-loop
 sub-give c =
@@ -96,7 +96,7 @@ loop-again c =
     let at_give = c.give in
     let h = pair_found at-args.req.now at-loop.i at-pair-at.result at_p.given.0.0 at_p.given.0.1.0 at_p.given.0.1.1.0 at-pair-at.ensures at_p.given.1 in
     let e = list-more at-args.req.now at-loop.i at_p.given.0.0 at_p.given.0.1.0 at_p.given.0.1.1.0 h at-loop.invariant.1 in
-    (omega (arith, h.5.1, h.6), sym (some_more at-args.req.now at-loop.i at_p.given.0.0 at_p.given.0.1.0 at_p.given.0.1.1.0 h) ∙ at-loop.invariant.1, going_on at-args.d.now at-args.l (pairNames (pairsAt at-args.req.now at-args.from)) at-args.set at-loop.given at_give.result (pairNames (pairsAt at-args.req.now at-loop.i)) (bytes_of at-args.req.now at_p.given.0.0 ∷ []) (pairNames (pairsAt at-args.req.now at_p.given.0.1.1.0)) at-loop.invariant.2 (ap pairNames e) at_give.ensures)
+    (omega (arith, h.5.1, h.6), sym (some_more at-args.req.now at-loop.i at_p.given.0.0 at_p.given.0.1.0 at_p.given.0.1.1.0 h) ∙ at-loop.invariant.1, going_on at-args.d.now at-args.l (pair_names (pairs_at at-args.req.now at-args.from)) at-args.set at-loop.given at_give.result (pair_names (pairs_at at-args.req.now at-loop.i)) (bytes_of at-args.req.now at_p.given.0.0 ∷ []) (pair_names (pairs_at at-args.req.now at_p.given.0.1.1.0)) at-loop.invariant.2 (ap pair_names e) at_give.ensures)
 
 pub give-pairs-spec : {M : Type 1} → statement M
 give-pairs-spec =

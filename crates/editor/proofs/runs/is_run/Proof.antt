@@ -6,8 +6,8 @@ use mathlib.Core.Path.{◌≡◌, refl, sym, ap, ◌∙◌}
 use mathlib.Core.Bool.{Bool}
 use lib.ListN.{length, take, drop}
 use Rattle.format.specs.Bytes.{Bytes}
-use Rattle.format.specs.Requests.{requestsIn}
-use Rattle.editor.specs.Runs.{isRun}
+use Rattle.format.specs.Requests.{requests_in}
+use Rattle.editor.specs.Runs.{is_run}
 use Rattle.editor.proofs.Running.{first_found, first-fault, run-goes, run-stops, run_ends}
 use Rattle.editor.proofs.runs.is_run.Statement.{statement}
 use Rattle.editor.proofs.runs.is_run.Tie as tie
@@ -16,7 +16,7 @@ use Rattle.editor.proofs.runs.is_run.Lts as lts
 use Rattle.editor.proofs.runs.first_request.Reads as first-request-reads
 
 abbrev invariant-loop : tie.invariant-loop
-invariant-loop run most rest₀ left₀ rest left = isRun most (requestsIn run) ≡ isRun left (requestsIn rest)
+invariant-loop run most rest₀ left₀ rest left = is_run most (requests_in run) ≡ is_run left (requests_in rest)
 
 abbrev decreases-loop : tie.decreases-loop
 decreases-loop run most rest₀ left₀ rest left = length rest
@@ -43,7 +43,7 @@ returns-2 c =
     let at-loop = c.before.before.before.before.before.loop in
     let at-first-request = c.before.before.first-request in
     let at-enum-told = c.enum_told in
-    sym (at-loop.invariant ∙ ap (isRun at-loop.left) (first-fault at-loop.rest.now at-first-request.ensures at-enum-told.given.1))
+    sym (at-loop.invariant ∙ ap (is_run at-loop.left) (first-fault at-loop.rest.now at-first-request.ensures at-enum-told.given.1))
 
 sub-rest : tie.Need-overflow-sub-rest invariant-loop decreases-loop
 sub-rest c =
@@ -77,7 +77,7 @@ loop-again c =
     let at-loop = c.before.before.before.before.before.before.before.loop in
     let at-first-request = c.before.before.before.before.first-request in
     let at_f = c.before.before.f in
-    let f = first_found at-loop.rest.now at-first-request.ensures at_f.given.1 in at-loop.invariant ∙ run-goes at-loop.left (omega arith) (requestsIn at-loop.rest.now) (take (at_f.given.0.0 - 2) (drop 2 at-loop.rest.now)) (requestsIn (take (length at-loop.rest.now - at_f.given.0.0) (drop at_f.given.0.0 at-loop.rest.now))) f.2
+    let f = first_found at-loop.rest.now at-first-request.ensures at_f.given.1 in at-loop.invariant ∙ run-goes at-loop.left (omega arith) (requests_in at-loop.rest.now) (take (at_f.given.0.0 - 2) (drop 2 at-loop.rest.now)) (requests_in (take (length at-loop.rest.now - at_f.given.0.0) (drop at_f.given.0.0 at-loop.rest.now))) f.2
 
 returns-3 : tie.Need-returns-3 invariant-loop decreases-loop
 returns-3 c =

@@ -6,8 +6,8 @@ use native.Mathlib.Omega.{arith}
 use mathlib.Core.Path.{◌≡◌, ap}
 use mathlib.Core.Bool.{true}
 use lib.ListN.{length, drop}
-use Rattle.records.specs.Places.{isReadable}
-use Rattle.records.specs.Walk.{recordIn}
+use Rattle.records.specs.Places.{is_readable}
+use Rattle.records.specs.Walk.{record_in}
 use Rattle.records.proofs.Readings.{part-readable}
 use Rattle.records.proofs.NextFields.{next-told}
 use Rattle.edits.proofs.acts.count_fields.Statement.{statement}
@@ -17,7 +17,7 @@ use Rattle.edits.proofs.acts.count_fields.Lts as lts
 use Rattle.records.proofs.next_field.Reads as next-field-reads
 
 abbrev invariant-loop : tie.invariant-loop
-invariant-loop s i₀ n₀ i n = (i ≤ length s) × (isReadable (drop i s) ≡ true) × (n ≤ i) × (length (recordIn s) ≡ n + length (recordIn (drop i s)))
+invariant-loop s i₀ n₀ i n = (i ≤ length s) × (is_readable (drop i s) ≡ true) × (n ≤ i) × (length (record_in s) ≡ n + length (record_in (drop i s)))
 
 abbrev decreases-loop : tie.decreases-loop
 decreases-loop s i₀ n₀ i n = length s - i

@@ -8,7 +8,7 @@ use Rattle.format.specs.Edits.{Edit}
 use Rattle.requests.specs.Fields.{bytes_of}
 use Rattle.requests.specs.declared.kinds.Act.{Act as ReadAct}
 use Rattle.requests.specs.Pairs.{pair_of}
-use Rattle.requests.specs.Kinds.{actOf, changeOf, InAct}
+use Rattle.requests.specs.Kinds.{act_of, change_of, InAct}
 use Rattle.edits.specs.declared.Located.{Located}
 use Rattle.edits.specs.declared.Splice.{Splice}
 use Rattle.edits.specs.Places.{LocatesIn}
@@ -53,7 +53,7 @@ returns c =
     let a = at-args in
     let p = at_pre.0 in
     let g = record-placed a.s.now a.head.begin a.row at-find-record.result at-find-record.ensures at-enum-told.given.1 in
-    record-missing a.s.now a.head a.row p.0 p.1 p.2 a.req.now (actOf a.req.now a.act) g
+    record-missing a.s.now a.head a.row p.0 p.1 p.2 a.req.now (act_of a.req.now a.act) g
 
 add-first : tie.Need-overflow-add-first
 add-first c =
@@ -227,7 +227,7 @@ returns-5 c =
     let p = at_pre.0 in
     let h = at-act2.given in
     let g = record-placed a.s.now a.head.begin a.row at-find-record.result at-find-record.ensures at_f.given.1 in
-    act-as a.s.now a.req.now a.head a.row (Located.Refused 23) h.1 (field-missing a.s.now a.head a.row p.0 p.1 p.2 at_f.given.0.0 g a.req.now (bytes_of a.req.now h.0.0) h.0.1.0 (changeOf a.req.now h.0.1.1.0) (sym at-find-field.ensures ∙ at-enum-told3.given.1))
+    act-as a.s.now a.req.now a.head a.row (Located.Refused 23) h.1 (field-missing a.s.now a.head a.row p.0 p.1 p.2 at_f.given.0.0 g a.req.now (bytes_of a.req.now h.0.0) h.0.1.0 (change_of a.req.now h.0.1.1.0) (sym at-find-field.ensures ∙ at-enum-told3.given.1))
 
 add-locate-change : tie.Need-overflow-add-locate-change
 add-locate-change c =
@@ -335,7 +335,7 @@ returns-6 c =
     let k = at_g.given in
     let g = record-placed a.s.now a.head.begin a.row at-find-record.result at-find-record.ensures at_f.given.1 in
     let j = subst (InAct a.req.now) h.1 at_pre.1.1 in
-    act-as a.s.now a.req.now a.head a.row at-locate-change.result h.1 (subst (LocatesIn a.s.now a.req.now a.head (Edit.on a.row (actOf a.req.now (ReadAct.Change h.0.0 h.0.1.0 h.0.1.1.0)))) (sym at-locate-change.ensures) (change-located a.s.now a.head a.row p.0 p.1 p.2 at_f.given.0.0 g a.req.now h.0.0 h.0.1.0 k.0.0 k.0.1.0 k.0.1.1.0 j.0 (sym at-find-field.ensures ∙ k.1) h.0.1.1.0 at_pre.1.0 j.1))
+    act-as a.s.now a.req.now a.head a.row at-locate-change.result h.1 (subst (LocatesIn a.s.now a.req.now a.head (Edit.on a.row (act_of a.req.now (ReadAct.Change h.0.0 h.0.1.0 h.0.1.1.0)))) (sym at-locate-change.ensures) (change-located a.s.now a.head a.row p.0 p.1 p.2 at_f.given.0.0 g a.req.now h.0.0 h.0.1.0 k.0.0 k.0.1.0 k.0.1.1.0 j.0 (sym at-find-field.ensures ∙ k.1) h.0.1.1.0 at_pre.1.0 j.1))
 
 pub locate-act-spec : {M : Type 1} → statement M
 locate-act-spec =

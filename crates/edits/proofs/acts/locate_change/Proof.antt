@@ -6,9 +6,9 @@ use mathlib.Core.Bool.{Bool}
 use borrow.Author.Tests.{not-true, not-false, lt-ltb, le-ltb}
 use lib.ListN.{length}
 use Rattle.format.specs.Bytes.{pick}
-use Rattle.records.specs.Walk.{recordIn}
+use Rattle.records.specs.Walk.{record_in}
 use Rattle.requests.specs.Kinds.{InChange}
-use Rattle.edits.specs.Places.{changeAt}
+use Rattle.edits.specs.Places.{change_at}
 use Rattle.edits.specs.declared.Located.{Located}
 use Rattle.edits.specs.declared.Splice.{Splice}
 use borrow.Author.Rules.{rules}
@@ -58,7 +58,7 @@ returns c =
     let at-if1 = c.if1 in
     let a = at-args in
     let f = a.field in
-    sym (ap (changeAt a.own.now a.req.now a.name f) at-change.given.1 ∙ ap (λ (b : Bool). pick b (Located.At (Splice.Field f.start (f.end - f.start) a.name at-change.given.0.0)) (Located.Refused 25)) (sym at-is-legal-value.ensures ∙ not-true at-is-legal-value.result at-if1.true))
+    sym (ap (change_at a.own.now a.req.now a.name f) at-change.given.1 ∙ ap (λ (b : Bool). pick b (Located.At (Splice.Field f.start (f.end - f.start) a.name at-change.given.0.0)) (Located.Refused 25)) (sym at-is-legal-value.ensures ∙ not-true at-is-legal-value.result at-if1.true))
 
 returns-2 : tie.Need-returns-2
 returns-2 c =
@@ -68,7 +68,7 @@ returns-2 c =
     let at-if1 = c.if1 in
     let a = at-args in
     let f = a.field in
-    sym (ap (changeAt a.own.now a.req.now a.name f) at-change.given.1 ∙ ap (λ (b : Bool). pick b (Located.At (Splice.Field f.start (f.end - f.start) a.name at-change.given.0.0)) (Located.Refused 25)) (sym at-is-legal-value.ensures ∙ not-false at-is-legal-value.result at-if1.false))
+    sym (ap (change_at a.own.now a.req.now a.name f) at-change.given.1 ∙ ap (λ (b : Bool). pick b (Located.At (Splice.Field f.start (f.end - f.start) a.name at-change.given.0.0)) (Located.Refused 25)) (sym at-is-legal-value.ensures ∙ not-false at-is-legal-value.result at-if1.false))
 
 enum_told : tie.Need-enum-told
 enum_told c = search rules
@@ -86,8 +86,8 @@ returns-3 c =
     let at-enum-told = c.before.before.enum_told in
     let a = at-args in
     let f = a.field in
-    let few = le-ltb 1 (length (recordIn a.own.now)) (omega (arith, at-count-fields.ensures, at-if2.true)) in
-    sym (ap (changeAt a.own.now a.req.now a.name f) at-enum-told.given.1 ∙ ap (λ (b : Bool). pick b (Located.At (Splice.Cut f.start (f.end - f.start))) (Located.Refused 24)) few)
+    let few = le-ltb 1 (length (record_in a.own.now)) (omega (arith, at-count-fields.ensures, at-if2.true)) in
+    sym (ap (change_at a.own.now a.req.now a.name f) at-enum-told.given.1 ∙ ap (λ (b : Bool). pick b (Located.At (Splice.Cut f.start (f.end - f.start))) (Located.Refused 24)) few)
 
 returns-4 : tie.Need-returns-4
 returns-4 c =
@@ -97,8 +97,8 @@ returns-4 c =
     let at-enum-told = c.before.before.enum_told in
     let a = at-args in
     let f = a.field in
-    let many = lt-ltb 1 (length (recordIn a.own.now)) (omega (arith, at-count-fields.ensures, at-if2.false)) in
-    sym (ap (changeAt a.own.now a.req.now a.name f) at-enum-told.given.1 ∙ ap (λ (b : Bool). pick b (Located.At (Splice.Cut f.start (f.end - f.start))) (Located.Refused 24)) many)
+    let many = lt-ltb 1 (length (record_in a.own.now)) (omega (arith, at-count-fields.ensures, at-if2.false)) in
+    sym (ap (change_at a.own.now a.req.now a.name f) at-enum-told.given.1 ∙ ap (λ (b : Bool). pick b (Located.At (Splice.Cut f.start (f.end - f.start))) (Located.Refused 24)) many)
 
 enum-known-change-2 : tie.Need-enum-known-change-2
 enum-known-change-2 c = search rules
@@ -136,7 +136,7 @@ returns-5 c =
     let a = at-args in
     let f = a.field in
     let n = a.name in
-    sym (ap (changeAt a.own.now a.req.now n f) at-change2.given.1 ∙ ap (λ (b : Bool). pick b (Located.At (Splice.Name f.start (n.end - n.start) at-change2.given.0.0)) (Located.Refused 25)) (sym at-is-legal-name.ensures ∙ not-true at-is-legal-name.result at-if3.true))
+    sym (ap (change_at a.own.now a.req.now n f) at-change2.given.1 ∙ ap (λ (b : Bool). pick b (Located.At (Splice.Name f.start (n.end - n.start) at-change2.given.0.0)) (Located.Refused 25)) (sym at-is-legal-name.ensures ∙ not-true at-is-legal-name.result at-if3.true))
 
 sub-t26 : tie.Need-overflow-sub-t26
 sub-t26 c = search rules
@@ -150,7 +150,7 @@ returns-6 c =
     let a = at-args in
     let f = a.field in
     let n = a.name in
-    sym (ap (changeAt a.own.now a.req.now n f) at-change2.given.1 ∙ ap (λ (b : Bool). pick b (Located.At (Splice.Name f.start (n.end - n.start) at-change2.given.0.0)) (Located.Refused 25)) (sym at-is-legal-name.ensures ∙ not-false at-is-legal-name.result at-if3.false))
+    sym (ap (change_at a.own.now a.req.now n f) at-change2.given.1 ∙ ap (λ (b : Bool). pick b (Located.At (Splice.Name f.start (n.end - n.start) at-change2.given.0.0)) (Located.Refused 25)) (sym at-is-legal-name.ensures ∙ not-false at-is-legal-name.result at-if3.false))
 
 pub locate-change-spec : {M : Type 1} → statement M
 locate-change-spec =

@@ -6,7 +6,7 @@ use mathlib.Core.Bool.{Bool}
 use lib.Dec.{ltb}
 use borrow.Author.Tests.{lt-ltb, le-ltb}
 use Rattle.format.specs.Bytes.{pick}
-use Rattle.format.specs.Limits.{fileBytes}
+use Rattle.format.specs.Limits.{file_bytes}
 use borrow.Author.Rules.{rules}
 use Rattle.edits.proofs.inserts.capped_len.Statement.{statement}
 use Rattle.edits.proofs.inserts.capped_len.Tie as tie
@@ -18,7 +18,7 @@ returns c =
     let at-args = c.before.args in
     let at-if1 = c.if1 in
     let a = at-args in
-    sym (ap (λ (b : Bool). pick b a.own (pick (ltb fileBytes a.len) a.len (a.own + a.len))) (lt-ltb fileBytes a.own (omega (arith, at-if1.true))))
+    sym (ap (λ (b : Bool). pick b a.own (pick (ltb file_bytes a.len) a.len (a.own + a.len))) (lt-ltb file_bytes a.own (omega (arith, at-if1.true))))
 
 returns-2 : tie.Need-returns-2
 returns-2 c =
@@ -27,8 +27,8 @@ returns-2 c =
     let at-if2 = c.if2 in
     let a = at-args in
     sym (
-    ap (λ (b : Bool). pick b a.own (pick (ltb fileBytes a.len) a.len (a.own + a.len))) (le-ltb fileBytes a.own (omega (arith, at-if1.false)))
-    ∙ ap (λ (b : Bool). pick b a.len (a.own + a.len)) (lt-ltb fileBytes a.len (omega (arith, at-if2.true))))
+    ap (λ (b : Bool). pick b a.own (pick (ltb file_bytes a.len) a.len (a.own + a.len))) (le-ltb file_bytes a.own (omega (arith, at-if1.false)))
+    ∙ ap (λ (b : Bool). pick b a.len (a.own + a.len)) (lt-ltb file_bytes a.len (omega (arith, at-if2.true))))
 
 add-result : tie.Need-overflow-add-result
 add-result c = search rules
@@ -40,8 +40,8 @@ returns-3 c =
     let at-if2 = c.if2 in
     let a = at-args in
     sym (
-    ap (λ (b : Bool). pick b a.own (pick (ltb fileBytes a.len) a.len (a.own + a.len))) (le-ltb fileBytes a.own (omega (arith, at-if1.false)))
-    ∙ ap (λ (b : Bool). pick b a.len (a.own + a.len)) (le-ltb fileBytes a.len (omega (arith, at-if2.false))))
+    ap (λ (b : Bool). pick b a.own (pick (ltb file_bytes a.len) a.len (a.own + a.len))) (le-ltb file_bytes a.own (omega (arith, at-if1.false)))
+    ∙ ap (λ (b : Bool). pick b a.len (a.own + a.len)) (le-ltb file_bytes a.len (omega (arith, at-if2.false))))
 
 pub capped-len-spec : {M : Type 1} → statement M
 capped-len-spec = tie.close (tie.spec returns returns-2 add-result returns-3)

@@ -5,16 +5,16 @@ use mathlib.Core.Option.{Option}
 use lib.ListN.{length, take}
 use lib.Seq.{length-take-le}
 use Rattle.format.specs.Bytes.{Bytes}
-use Rattle.format.specs.Numbers.{intBounds}
-use Rattle.format.specs.Numbering.{added as addedBy}
+use Rattle.format.specs.Numbers.{int_bounds}
+use Rattle.format.specs.Numbering.{added as added_by}
 use Rattle.format.specs.Pieces.{read_of}
 use Rattle.format.proofs.Dense.{dense}
 use Rattle.format.proofs.Records.{records}
 use Rattle.format.proofs.Walking.{ruled}
-use Rattle.records.specs.Walk.{recordIn}
+use Rattle.records.specs.Walk.{record_in}
 use Rattle.records.proofs.Readings.{readable-ended}
 use Rattle.rules.proofs.Granted.{values-fit}
-use Rattle.requests.specs.Pairs.{pairsAt}
+use Rattle.requests.specs.Pairs.{pairs_at}
 use Rattle.dictionary.specs.Known.{Described}
 use Rattle.numbering.specs.Adding.{AddedAs}
 use Rattle.dictionary.proofs.Dense.{dense-described}
@@ -78,8 +78,8 @@ returns c =
     let a = at-args in
     let d : Bytes = a.d.now in
     let ms = records (read_of a.part.now) in
-    let new = pairsAt a.req.now a.from in
-    let e = ap (λ (x : Bytes). addedBy intBounds (ruled (recordIn x) ms) new) at-put-dense.ensures.2 ∙ dense-added d at_pre.0.0.0 ms new in
+    let new = pairs_at a.req.now a.from in
+    let e = ap (λ (x : Bytes). added_by int_bounds (ruled (record_in x) ms) new) at-put-dense.ensures.2 ∙ dense-added d at_pre.0.0.0 ms new in
     subst (λ (x : Option _). AddedAs x at-add-numbers.new.1.1.1.1.0 at-add-numbers.result) e at-add-numbers.ensures
 
 add-numbers-requires-2 : tie.Need-add-numbers-requires-2

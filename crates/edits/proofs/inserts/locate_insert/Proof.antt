@@ -5,7 +5,7 @@ use Rattle.format.specs.Bytes.{Bytes}
 use Rattle.format.specs.Edits.{Edit}
 use Rattle.records.specs.declared.FoundHead.{FoundHead}
 use Rattle.records.proofs.Members.{head-told}
-use Rattle.requests.specs.Pairs.{pairsAt, Weighs}
+use Rattle.requests.specs.Pairs.{pairs_at, Weighs}
 use Rattle.edits.specs.Places.{Locates}
 use Rattle.edits.proofs.Inserting.{insert-illegal, set-passes, set-numberable, insert-located}
 use borrow.Author.Rules.{rules}
@@ -38,8 +38,8 @@ returns c =
     let at-weigh = c.before.before.weigh in
     let a = at-args in
     let k = at_pre.0 in
-    let w = subst (Weighs (pairsAt a.req.now a.from)) at-enum-told.given.1 at-weigh.ensures in
-    λ set found. insert-illegal a.s.now k.0 a.head set found a.req.now a.added.now (pairsAt a.req.now a.from) w
+    let w = subst (Weighs (pairs_at a.req.now a.from)) at-enum-told.given.1 at-weigh.ensures in
+    λ set found. insert-illegal a.s.now k.0 a.head set found a.req.now a.added.now (pairs_at a.req.now a.from) w
 
 set-behind-requires : tie.Need-set-behind-requires
 set-behind-requires c κs =
@@ -137,9 +137,9 @@ returns-2 c =
     let req : Bytes = a.req.now in
     let k = at_pre.0 in
     let g = at-w.given in
-    let w = subst (Weighs (pairsAt req a.from)) g.1 at-weigh.ensures in
+    let w = subst (Weighs (pairs_at req a.from)) g.1 at-weigh.ensures in
     let out : Bytes = at-complete.new.1.1.1.1.1.0 in
-    λ set found. subst (Locates s req out (record { set = set; edit = Edit.insert (pairsAt req a.from) })) (sym at-located.ensures)
+    λ set found. subst (Locates s req out (record { set = set; edit = Edit.insert (pairs_at req a.from) })) (sym at-located.ensures)
     (insert-located s k.0 a.head set found k.1 k.2 at-set-behind.result at-set-behind.ensures req out a.from g.0.0 g.0.1.0 at-complete.result at_pre.1.0.1.1 w at-complete.ensures)
 
 pub locate-insert-spec : {M : Type 1} → statement M

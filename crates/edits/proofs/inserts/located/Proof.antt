@@ -1,4 +1,4 @@
--- `edits::inserts::located` meets its contract: each return is one case of `locatedBy`.
+-- `edits::inserts::located` meets its contract: each return is one case of `located_by`.
 use native.Mathlib.Omega.{arith}
 use mathlib.Core.Path.{◌≡◌, sym, ap, ◌∙◌}
 use mathlib.Core.Bool.{Bool, true, false}
@@ -6,12 +6,12 @@ use Prim.Native.Nat.{ℕ, ◌<◌, ◌≤◌}
 use lib.Dec.{ltb}
 use borrow.Author.Tests.{lt-ltb, le-ltb}
 use Rattle.format.specs.Bytes.{pick}
-use Rattle.format.specs.Limits.{fileBytes}
+use Rattle.format.specs.Limits.{file_bytes}
 use Rattle.numbering.specs.declared.Added.{Added}
 use Rattle.edits.specs.declared.Located.{Located}
 use Rattle.edits.specs.declared.Splice.{Splice}
-use Rattle.edits.specs.Splices.{madeLen}
-use Rattle.edits.specs.Inserts.{cappedLen, locatedBy}
+use Rattle.edits.specs.Splices.{made_len}
+use Rattle.edits.specs.Inserts.{capped_len, located_by}
 use borrow.Author.Rules.{rules}
 use Rattle.edits.proofs.inserts.located.Statement.{statement}
 use Rattle.edits.proofs.inserts.located.Tie as tie
@@ -25,7 +25,7 @@ abbrev text-by : ℕ → ℕ → ℕ → Bool → ℕ → Located
 text-by at from own b n = pick b (Located.Over n) (Located.At (Splice.Record (record { at = at; from = from; len = n }) own))
 
 abbrev long-by : ℕ → Bool → ℕ → Located
-long-by used b n = pick b (Located.Over n) (Located.Over (madeLen used n))
+long-by used b n = pick b (Located.Over n) (Located.Over (made_len used n))
 
 enum_told : tie.Need-enum-told
 enum_told c = search rules
@@ -49,9 +49,9 @@ returns-2 c =
     let own = at_a.given.0.0 in
     let n = at-capped-len.result in
     sym (
-    ap (locatedBy a.used a.at a.from a.len) at_a.given.1
-    ∙ ap (λ (m : ℕ). text-by a.at a.from own (ltb fileBytes m) m) (sym at-capped-len.ensures)
-    ∙ ap (λ (b : Bool). text-by a.at a.from own b n) (lt-ltb fileBytes n (omega (arith, at-if1.true))))
+    ap (located_by a.used a.at a.from a.len) at_a.given.1
+    ∙ ap (λ (m : ℕ). text-by a.at a.from own (ltb file_bytes m) m) (sym at-capped-len.ensures)
+    ∙ ap (λ (b : Bool). text-by a.at a.from own b n) (lt-ltb file_bytes n (omega (arith, at-if1.true))))
 
 returns-3 : tie.Need-returns-3
 returns-3 c =
@@ -63,9 +63,9 @@ returns-3 c =
     let own = at_a.given.0.0 in
     let n = at-capped-len.result in
     sym (
-    ap (locatedBy a.used a.at a.from a.len) at_a.given.1
-    ∙ ap (λ (m : ℕ). text-by a.at a.from own (ltb fileBytes m) m) (sym at-capped-len.ensures)
-    ∙ ap (λ (b : Bool). text-by a.at a.from own b n) (le-ltb fileBytes n (omega (arith, at-if1.false))))
+    ap (located_by a.used a.at a.from a.len) at_a.given.1
+    ∙ ap (λ (m : ℕ). text-by a.at a.from own (ltb file_bytes m) m) (sym at-capped-len.ensures)
+    ∙ ap (λ (b : Bool). text-by a.at a.from own b n) (le-ltb file_bytes n (omega (arith, at-if1.false))))
 
 enum-known-a-2 : tie.Need-enum-known-a-2
 enum-known-a-2 c = search rules
@@ -82,9 +82,9 @@ returns-4 c =
     let a = at-args in
     let n = at-capped-len2.result in
     sym (
-    ap (locatedBy a.used a.at a.from a.len) at-a2.given.1
-    ∙ ap (λ (m : ℕ). long-by a.used (ltb fileBytes m) m) (sym at-capped-len2.ensures)
-    ∙ ap (λ (b : Bool). long-by a.used b n) (lt-ltb fileBytes n (omega (arith, at-if2.true))))
+    ap (located_by a.used a.at a.from a.len) at-a2.given.1
+    ∙ ap (λ (m : ℕ). long-by a.used (ltb file_bytes m) m) (sym at-capped-len2.ensures)
+    ∙ ap (λ (b : Bool). long-by a.used b n) (lt-ltb file_bytes n (omega (arith, at-if2.true))))
 
 made-len-requires : tie.Need-made-len-requires
 made-len-requires c κs = search rules
@@ -100,9 +100,9 @@ returns-5 c =
     let n = at-capped-len2.result in
     ap (λ (m : ℕ). Located.Over m) at-made-len.ensures
     ∙ sym (
-    ap (locatedBy a.used a.at a.from a.len) at-a2.given.1
-    ∙ ap (λ (m : ℕ). long-by a.used (ltb fileBytes m) m) (sym at-capped-len2.ensures)
-    ∙ ap (λ (b : Bool). long-by a.used b n) (le-ltb fileBytes n (omega (arith, at-if2.false))))
+    ap (located_by a.used a.at a.from a.len) at-a2.given.1
+    ∙ ap (λ (m : ℕ). long-by a.used (ltb file_bytes m) m) (sym at-capped-len2.ensures)
+    ∙ ap (λ (b : Bool). long-by a.used b n) (le-ltb file_bytes n (omega (arith, at-if2.false))))
 
 pub located-spec : {M : Type 1} → statement M
 located-spec =

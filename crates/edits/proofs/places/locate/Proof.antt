@@ -4,7 +4,7 @@ use mathlib.Core.Path.{sym, ◌∙◌, subst}
 use Rattle.records.proofs.Members.{head-told}
 use Rattle.requests.specs.Fields.{bytes_of}
 use Rattle.requests.specs.Kinds.{InEdit}
-use Rattle.edits.specs.Places.{askedBy}
+use Rattle.edits.specs.Places.{asked_by}
 use Rattle.edits.proofs.Acting.{set-missing, edit-as}
 use borrow.Author.Rules.{rules}
 use Rattle.edits.proofs.places.locate.Statement.{statement}
@@ -40,7 +40,7 @@ returns c =
     let at-find-head = c.before.before.find-Head in
     let at-enum-told = c.enum_told in
     let a = at-args in
-    set-missing a.s.now a.req.now (askedBy a.req.now a.q) at_pre.0.0 (sym at-find-head.ensures ∙ at-enum-told.given.1) a.added.now
+    set-missing a.s.now a.req.now (asked_by a.req.now a.q) at_pre.0.0 (sym at-find-head.ensures ∙ at-enum-told.given.1) a.added.now
 
 enum-known-edit : tie.Need-enum-known-edit
 enum-known-edit c = search rules

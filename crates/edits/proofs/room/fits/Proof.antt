@@ -10,8 +10,8 @@ use Rattle.requests.specs.Fields.{bytes_of}
 use Rattle.requests.proofs.Reading.{span-length}
 use Rattle.words.specs.Spans.{span}
 use Rattle.records.proofs.Unfielding.{left_of}
-use Rattle.splices.specs.Space.{spliced, inserted, recordText}
-use Rattle.edits.specs.Splices.{isWithin, madeLen}
+use Rattle.splices.specs.Space.{spliced, inserted, record_text}
+use Rattle.edits.specs.Splices.{is_within, made_len}
 use Rattle.edits.proofs.Sizes.{not-longer, over-file, exchanged-length, inserted-length, inserted-least, unfielded-length, sound-as, fits-as}
 use borrow.Author.Rules.{rules}
 use Rattle.edits.proofs.room.fits.Statement.{statement}
@@ -38,7 +38,7 @@ returns c =
     let req = a.req.now in
     let added = a.added.now in
     let h = sound-as s req added g.1 at_pre.0 in
-    let t = recordText (take g.0.1.0 added) req g.0.0.from in
+    let t = record_text (take g.0.1.0 added) req g.0.0.from in
     fits-as s req added g.1 a.room (over-file a.room (length (inserted s g.0.0.at t)) (omega (arith, at-if1.true, inserted-least s g.0.0.at t h.0, h.3)))
 
 made-len-requires : tie.Need-made-len-requires
@@ -64,8 +64,8 @@ returns-2 c =
     let req = a.req.now in
     let added = a.added.now in
     let h = sound-as s req added g.1 at_pre.0 in
-    let t = recordText (take g.0.1.0 added) req g.0.0.from in
-    fits-as s req added g.1 a.room (ap (isWithin a.room) (inserted-length s g.0.0.at t h.0 ∙ ap (madeLen (length s)) (sym h.3) ∙ sym at-made-len.ensures) ∙ sym (at-fits2.ensures ∙ ap (isWithin a.room) at_new.ensures))
+    let t = record_text (take g.0.1.0 added) req g.0.0.from in
+    fits-as s req added g.1 a.room (ap (is_within a.room) (inserted-length s g.0.0.at t h.0 ∙ ap (made_len (length s)) (sym h.3) ∙ sym at-made-len.ensures) ∙ sym (at-fits2.ensures ∙ ap (is_within a.room) at_new.ensures))
 
 enum-known-x-2 : tie.Need-enum-known-x-2
 enum-known-x-2 c = search rules
@@ -217,7 +217,7 @@ returns-3 c =
     let n = g.0.1.1.0 in
     let v = g.0.1.1.1.0 in
     let w = written (bytes_of req n) (bytes_of req v) in
-    fits-as s req added g.1 a.room (ap (isWithin a.room) (exchanged-length s at old w h.0 ∙ ap (λ k. (length s - old) + k) (sym at-written-len.ensures)) ∙ sym (at-fits3.ensures ∙ ap (isWithin a.room) at-new2.ensures))
+    fits-as s req added g.1 a.room (ap (is_within a.room) (exchanged-length s at old w h.0 ∙ ap (λ k. (length s - old) + k) (sym at-written-len.ensures)) ∙ sym (at-fits3.ensures ∙ ap (is_within a.room) at-new2.ensures))
 
 enum-known-x-3 : tie.Need-enum-known-x-3
 enum-known-x-3 c = search rules
@@ -284,7 +284,7 @@ returns-4 c =
     let at = g.0.0 in
     let old = g.0.1.0 in
     let n = g.0.1.1.0 in
-    fits-as s req added g.1 a.room (ap (isWithin a.room) (exchanged-length s at old (bytes_of req n) h.0 ∙ ap (λ k. (length s - old) + k) (span-length req n h.1)) ∙ sym (at-fits4.ensures ∙ ap (isWithin a.room) at-new3.ensures))
+    fits-as s req added g.1 a.room (ap (is_within a.room) (exchanged-length s at old (bytes_of req n) h.0 ∙ ap (λ k. (length s - old) + k) (span-length req n h.1)) ∙ sym (at-fits4.ensures ∙ ap (is_within a.room) at-new3.ensures))
 
 enum_told : tie.Need-enum-told
 enum_told c = search rules

@@ -7,9 +7,9 @@ use Rattle.format.specs.Lists.{front}
 use Rattle.format.specs.Bytes.{Bytes, text}
 use Rattle.format.specs.Calls.{Answer}
 use Rattle.format.specs.Sets.{values_of}
-use Rattle.format.specs.Words.{notGap}
-use Rattle.values.specs.Value.{valueFrom}
-use Rattle.records.specs.Walk.{recordIn}
+use Rattle.format.specs.Words.{not_gap}
+use Rattle.values.specs.Value.{value_from}
+use Rattle.records.specs.Walk.{record_in}
 use Rattle.records.proofs.Fields.{field_told}
 use Rattle.lookup.proofs.Names.{titled-none, titled-long, titled-first}
 use borrow.Author.Rules.{rules}
@@ -42,7 +42,7 @@ returns c =
     let at-find-field = c.before.before.find-field in
     let at_pre = c.before.before.before.before.before.before.requires in
     let at-enum-told = c.enum_told in
-    titled-none (values_of (text "%rec") (recordIn at-args.d.now)) at-args.out.now (field_told (text "%rec") at-args.d.now 0 at-find-field.result (at_pre) at-find-field.ensures at-enum-told.given.1)
+    titled-none (values_of (text "%rec") (record_in at-args.d.now)) at-args.out.now (field_told (text "%rec") at-args.d.now 0 at-find-field.result (at_pre) at-find-field.ensures at-enum-told.given.1)
 
 sub-word-start : tie.Need-overflow-sub-word-start
 sub-word-start c =
@@ -107,7 +107,7 @@ returns-2 c =
     let at-word-start = c.before.before.before.word-start in
     let at-word-len = c.before.word_len in
     let at-if1 = c.if1 in
-    let g = at_f.given in let p = field_told (text "%rec") at-args.d.now 0 at-find-field.result (at_pre) at-find-field.ensures g.1 in let w : Bytes = front notGap (valueFrom (drop at-word-start.result (take (g.0.1.1.0 - g.0.1.0) (drop g.0.1.0 at-args.d.now)))) in titled-long at-args.d.now (values_of (text "%rec") (recordIn at-args.d.now)) g.0.0 g.0.1.0 g.0.1.1.0 at-args.out.now w p (ap (front notGap) at-word-start.ensures) (omega (arith, at-word-len.ensures, at-if1.true))
+    let g = at_f.given in let p = field_told (text "%rec") at-args.d.now 0 at-find-field.result (at_pre) at-find-field.ensures g.1 in let w : Bytes = front not_gap (value_from (drop at-word-start.result (take (g.0.1.1.0 - g.0.1.0) (drop g.0.1.0 at-args.d.now)))) in titled-long at-args.d.now (values_of (text "%rec") (record_in at-args.d.now)) g.0.0 g.0.1.0 g.0.1.1.0 at-args.out.now w p (ap (front not_gap) at-word-start.ensures) (omega (arith, at-word-len.ensures, at-if1.true))
 
 sub-copy-word : tie.Need-overflow-sub-copy-word
 sub-copy-word c =
@@ -152,7 +152,7 @@ returns-3 c =
     let at-word-len = c.before.before.before.before.before.before.word_len in
     let at-if1 = c.before.before.before.before.before.if1 in
     let at-copy-word = c.before.before.copy-word in
-    let g = at_f.given in let p = field_told (text "%rec") at-args.d.now 0 at-find-field.result (at_pre) at-find-field.ensures g.1 in let w : Bytes = front notGap (valueFrom (drop at-word-start.result (take (g.0.1.1.0 - g.0.1.0) (drop g.0.1.0 at-args.d.now)))) in titled-first at-args.d.now (values_of (text "%rec") (recordIn at-args.d.now)) g.0.0 g.0.1.0 g.0.1.1.0 at-args.out.now w p (ap (front notGap) at-word-start.ensures) (omega (arith, at-word-len.ensures, at-if1.false)) ∙ (λ i. record { result = Answer.value (sym at-word-len.ensures i); out = sym at-copy-word.ensures i })
+    let g = at_f.given in let p = field_told (text "%rec") at-args.d.now 0 at-find-field.result (at_pre) at-find-field.ensures g.1 in let w : Bytes = front not_gap (value_from (drop at-word-start.result (take (g.0.1.1.0 - g.0.1.0) (drop g.0.1.0 at-args.d.now)))) in titled-first at-args.d.now (values_of (text "%rec") (record_in at-args.d.now)) g.0.0 g.0.1.0 g.0.1.1.0 at-args.out.now w p (ap (front not_gap) at-word-start.ensures) (omega (arith, at-word-len.ensures, at-if1.false)) ∙ (λ i. record { result = Answer.value (sym at-word-len.ensures i); out = sym at-copy-word.ensures i })
 
 pub descriptor-name-spec : {M : Type 1} → statement M
 descriptor-name-spec =

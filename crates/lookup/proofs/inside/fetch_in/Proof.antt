@@ -8,7 +8,7 @@ use Rattle.format.specs.Calls.{Answer}
 use Rattle.records.proofs.Readings.{part-readable}
 use Rattle.records.proofs.Members.{head-told, record-told}
 use Rattle.records.proofs.Fields.{field_told}
-use Rattle.records.specs.Places.{places_of, recordPlace}
+use Rattle.records.specs.Places.{places_of, record_place}
 use Rattle.lines.proofs.Cuts.{rest}
 use Rattle.lookup.proofs.Looking.{span-part, record-readable, fetch-missing, fetch-past, fetch-none, fetch-long, fetch-found}
 use borrow.Author.Rules.{rules}
@@ -80,7 +80,7 @@ returns-2 c =
     let at_f = c.before.before.before.before.before.f in
     let at-find-record = c.before.before.find-record in
     let at-enum-told2 = c.enum-told2 in
-    let t = head-told at-args.s.now at-args.set.now at-find-head.result (at_pre) at-find-head.ensures at_f.given.1 in let x = at-find-record.ensures ∙ ap (λ (y : Bytes). recordPlace (places_of y) at-args.row) (rest at-args.s.now at_f.given.0.0.begin) in let r = record-told (drop at_f.given.0.0.begin at-args.s.now) at-args.row at-find-record.result t.set.readable x at-enum-told2.given.1 in fetch-past at-args.s.now at-args.set.now at-args.row at-args.name.now at-args.occurrence at-args.out.now at_f.given.0.0 t r
+    let t = head-told at-args.s.now at-args.set.now at-find-head.result (at_pre) at-find-head.ensures at_f.given.1 in let x = at-find-record.ensures ∙ ap (λ (y : Bytes). record_place (places_of y) at-args.row) (rest at-args.s.now at_f.given.0.0.begin) in let r = record-told (drop at_f.given.0.0.begin at-args.s.now) at-args.row at-find-record.result t.set.readable x at-enum-told2.given.1 in fetch-past at-args.s.now at-args.set.now at-args.row at-args.name.now at-args.occurrence at-args.out.now at_f.given.0.0 t r
 
 add-b : tie.Need-overflow-add-b
 add-b c =
@@ -91,7 +91,7 @@ add-b c =
     let at-find-record = c.before.before.before.before.find-record in
     let at_g = c.before.before.g in
     let at-good = c.before.before.before.before.before.before.before.before.before.before.before.before.before.before.well-formed in
-    let t = head-told at-args.s.now at-args.set.now at-find-head.result (at_pre) at-find-head.ensures at_f.given.1 in let x = at-find-record.ensures ∙ ap (λ (y : Bytes). recordPlace (places_of y) at-args.row) (rest at-args.s.now at_f.given.0.0.begin) in let r = record-told (drop at_f.given.0.0.begin at-args.s.now) at-args.row at-find-record.result t.set.readable x at_g.given.1 in omega (arith, at-good.0.0, t.set.inside, r.stand.filled, r.stand.within, r.stand.inside, length-drop at_f.given.0.0.begin at-args.s.now)
+    let t = head-told at-args.s.now at-args.set.now at-find-head.result (at_pre) at-find-head.ensures at_f.given.1 in let x = at-find-record.ensures ∙ ap (λ (y : Bytes). record_place (places_of y) at-args.row) (rest at-args.s.now at_f.given.0.0.begin) in let r = record-told (drop at_f.given.0.0.begin at-args.s.now) at-args.row at-find-record.result t.set.readable x at_g.given.1 in omega (arith, at-good.0.0, t.set.inside, r.stand.filled, r.stand.within, r.stand.inside, length-drop at_f.given.0.0.begin at-args.s.now)
 
 add-e : tie.Need-overflow-add-e
 add-e c =
@@ -102,7 +102,7 @@ add-e c =
     let at-find-record = c.before.before.before.before.before.find-record in
     let at_g = c.before.before.before.g in
     let at-good = c.before.before.before.before.before.before.before.before.before.before.before.before.before.before.before.well-formed in
-    let t = head-told at-args.s.now at-args.set.now at-find-head.result (at_pre) at-find-head.ensures at_f.given.1 in let x = at-find-record.ensures ∙ ap (λ (y : Bytes). recordPlace (places_of y) at-args.row) (rest at-args.s.now at_f.given.0.0.begin) in let r = record-told (drop at_f.given.0.0.begin at-args.s.now) at-args.row at-find-record.result t.set.readable x at_g.given.1 in omega (arith, at-good.0.0, t.set.inside, r.stand.filled, r.stand.within, r.stand.inside, length-drop at_f.given.0.0.begin at-args.s.now)
+    let t = head-told at-args.s.now at-args.set.now at-find-head.result (at_pre) at-find-head.ensures at_f.given.1 in let x = at-find-record.ensures ∙ ap (λ (y : Bytes). record_place (places_of y) at-args.row) (rest at-args.s.now at_f.given.0.0.begin) in let r = record-told (drop at_f.given.0.0.begin at-args.s.now) at-args.row at-find-record.result t.set.readable x at_g.given.1 in omega (arith, at-good.0.0, t.set.inside, r.stand.filled, r.stand.within, r.stand.inside, length-drop at_f.given.0.0.begin at-args.s.now)
 
 sub-find-field : tie.Need-overflow-sub-find-field
 sub-find-field c =
@@ -112,7 +112,7 @@ sub-find-field c =
     let at_f = c.before.before.before.before.before.before.before.before.f in
     let at-find-record = c.before.before.before.before.before.find-record in
     let at_g = c.before.before.before.g in
-    let t = head-told at-args.s.now at-args.set.now at-find-head.result (at_pre) at-find-head.ensures at_f.given.1 in let x = at-find-record.ensures ∙ ap (λ (y : Bytes). recordPlace (places_of y) at-args.row) (rest at-args.s.now at_f.given.0.0.begin) in let r = record-told (drop at_f.given.0.0.begin at-args.s.now) at-args.row at-find-record.result t.set.readable x at_g.given.1 in omega (arith, t.set.inside, r.stand.filled, r.stand.within, r.stand.inside, length-drop at_f.given.0.0.begin at-args.s.now)
+    let t = head-told at-args.s.now at-args.set.now at-find-head.result (at_pre) at-find-head.ensures at_f.given.1 in let x = at-find-record.ensures ∙ ap (λ (y : Bytes). record_place (places_of y) at-args.row) (rest at-args.s.now at_f.given.0.0.begin) in let r = record-told (drop at_f.given.0.0.begin at-args.s.now) at-args.row at-find-record.result t.set.readable x at_g.given.1 in omega (arith, t.set.inside, r.stand.filled, r.stand.within, r.stand.inside, length-drop at_f.given.0.0.begin at-args.s.now)
 
 part-find-field-start : tie.Need-slice-bounds-find-field-start
 part-find-field-start c =
@@ -122,7 +122,7 @@ part-find-field-start c =
     let at_f = c.before.before.before.before.before.before.before.before.f in
     let at-find-record = c.before.before.before.before.before.find-record in
     let at_g = c.before.before.before.g in
-    let t = head-told at-args.s.now at-args.set.now at-find-head.result (at_pre) at-find-head.ensures at_f.given.1 in let x = at-find-record.ensures ∙ ap (λ (y : Bytes). recordPlace (places_of y) at-args.row) (rest at-args.s.now at_f.given.0.0.begin) in let r = record-told (drop at_f.given.0.0.begin at-args.s.now) at-args.row at-find-record.result t.set.readable x at_g.given.1 in omega (arith, t.set.inside, r.stand.filled, r.stand.within, r.stand.inside, length-drop at_f.given.0.0.begin at-args.s.now)
+    let t = head-told at-args.s.now at-args.set.now at-find-head.result (at_pre) at-find-head.ensures at_f.given.1 in let x = at-find-record.ensures ∙ ap (λ (y : Bytes). record_place (places_of y) at-args.row) (rest at-args.s.now at_f.given.0.0.begin) in let r = record-told (drop at_f.given.0.0.begin at-args.s.now) at-args.row at-find-record.result t.set.readable x at_g.given.1 in omega (arith, t.set.inside, r.stand.filled, r.stand.within, r.stand.inside, length-drop at_f.given.0.0.begin at-args.s.now)
 
 part-find-field-end : tie.Need-slice-bounds-find-field-end
 part-find-field-end c =
@@ -132,7 +132,7 @@ part-find-field-end c =
     let at_f = c.before.before.before.before.before.before.before.before.f in
     let at-find-record = c.before.before.before.before.before.find-record in
     let at_g = c.before.before.before.g in
-    let t = head-told at-args.s.now at-args.set.now at-find-head.result (at_pre) at-find-head.ensures at_f.given.1 in let x = at-find-record.ensures ∙ ap (λ (y : Bytes). recordPlace (places_of y) at-args.row) (rest at-args.s.now at_f.given.0.0.begin) in let r = record-told (drop at_f.given.0.0.begin at-args.s.now) at-args.row at-find-record.result t.set.readable x at_g.given.1 in omega (arith, t.set.inside, r.stand.filled, r.stand.within, r.stand.inside, length-drop at_f.given.0.0.begin at-args.s.now)
+    let t = head-told at-args.s.now at-args.set.now at-find-head.result (at_pre) at-find-head.ensures at_f.given.1 in let x = at-find-record.ensures ∙ ap (λ (y : Bytes). record_place (places_of y) at-args.row) (rest at-args.s.now at_f.given.0.0.begin) in let r = record-told (drop at_f.given.0.0.begin at-args.s.now) at-args.row at-find-record.result t.set.readable x at_g.given.1 in omega (arith, t.set.inside, r.stand.filled, r.stand.within, r.stand.inside, length-drop at_f.given.0.0.begin at-args.s.now)
 
 find-field-requires : tie.Need-find-field-requires
 find-field-requires c κs =
@@ -142,7 +142,7 @@ find-field-requires c κs =
     let at_f = c.before.before.before.before.before.before.before.before.before.f in
     let at-find-record = c.before.before.before.before.before.before.find-record in
     let at_g = c.before.before.before.before.g in
-    let t = head-told at-args.s.now at-args.set.now at-find-head.result (at_pre) at-find-head.ensures at_f.given.1 in let x = at-find-record.ensures ∙ ap (λ (y : Bytes). recordPlace (places_of y) at-args.row) (rest at-args.s.now at_f.given.0.0.begin) in let r = record-told (drop at_f.given.0.0.begin at-args.s.now) at-args.row at-find-record.result t.set.readable x at_g.given.1 in (record-readable at-args.s.now at-args.set.now at-args.row at-args.name.now at-args.occurrence at-args.out.now at_f.given.0.0 t at_g.given.0.0 r)
+    let t = head-told at-args.s.now at-args.set.now at-find-head.result (at_pre) at-find-head.ensures at_f.given.1 in let x = at-find-record.ensures ∙ ap (λ (y : Bytes). record_place (places_of y) at-args.row) (rest at-args.s.now at_f.given.0.0.begin) in let r = record-told (drop at_f.given.0.0.begin at-args.s.now) at-args.row at-find-record.result t.set.readable x at_g.given.1 in (record-readable at-args.s.now at-args.set.now at-args.row at-args.name.now at-args.occurrence at-args.out.now at_f.given.0.0 t at_g.given.0.0 r)
 
 enum-known-h : tie.Need-enum-known-h
 enum-known-h c = search rules
@@ -160,7 +160,7 @@ returns-3 c =
     let at_g = c.before.before.before.before.before.before.before.g in
     let at-find-field = c.before.before.find-field in
     let at-enum-told3 = c.enum-told3 in
-    let t = head-told at-args.s.now at-args.set.now at-find-head.result (at_pre) at-find-head.ensures at_f.given.1 in let x = at-find-record.ensures ∙ ap (λ (y : Bytes). recordPlace (places_of y) at-args.row) (rest at-args.s.now at_f.given.0.0.begin) in let r = record-told (drop at_f.given.0.0.begin at-args.s.now) at-args.row at-find-record.result t.set.readable x at_g.given.1 in let k = field_told at-args.name.now (take ((at_f.given.0.0.begin + at_g.given.0.0.end) - (at_f.given.0.0.begin + at_g.given.0.0.start)) (drop (at_f.given.0.0.begin + at_g.given.0.0.start) at-args.s.now)) at-args.occurrence at-find-field.result (record-readable at-args.s.now at-args.set.now at-args.row at-args.name.now at-args.occurrence at-args.out.now at_f.given.0.0 t at_g.given.0.0 r) at-find-field.ensures at-enum-told3.given.1 in fetch-none at-args.s.now at-args.set.now at-args.row at-args.name.now at-args.occurrence at-args.out.now at_f.given.0.0 t at_g.given.0.0 r k
+    let t = head-told at-args.s.now at-args.set.now at-find-head.result (at_pre) at-find-head.ensures at_f.given.1 in let x = at-find-record.ensures ∙ ap (λ (y : Bytes). record_place (places_of y) at-args.row) (rest at-args.s.now at_f.given.0.0.begin) in let r = record-told (drop at_f.given.0.0.begin at-args.s.now) at-args.row at-find-record.result t.set.readable x at_g.given.1 in let k = field_told at-args.name.now (take ((at_f.given.0.0.begin + at_g.given.0.0.end) - (at_f.given.0.0.begin + at_g.given.0.0.start)) (drop (at_f.given.0.0.begin + at_g.given.0.0.start) at-args.s.now)) at-args.occurrence at-find-field.result (record-readable at-args.s.now at-args.set.now at-args.row at-args.name.now at-args.occurrence at-args.out.now at_f.given.0.0 t at_g.given.0.0 r) at-find-field.ensures at-enum-told3.given.1 in fetch-none at-args.s.now at-args.set.now at-args.row at-args.name.now at-args.occurrence at-args.out.now at_f.given.0.0 t at_g.given.0.0 r k
 
 add-v : tie.Need-overflow-add-v
 add-v c =
@@ -173,7 +173,7 @@ add-v c =
     let at-find-field = c.before.before.before.find-field in
     let at-h = c.before.h in
     let at-good = c.before.before.before.before.before.before.before.before.before.before.before.before.before.before.before.before.before.before.before.before.well-formed in
-    let t = head-told at-args.s.now at-args.set.now at-find-head.result (at_pre) at-find-head.ensures at_f.given.1 in let x = at-find-record.ensures ∙ ap (λ (y : Bytes). recordPlace (places_of y) at-args.row) (rest at-args.s.now at_f.given.0.0.begin) in let r = record-told (drop at_f.given.0.0.begin at-args.s.now) at-args.row at-find-record.result t.set.readable x at_g.given.1 in let k = field_told at-args.name.now (take ((at_f.given.0.0.begin + at_g.given.0.0.end) - (at_f.given.0.0.begin + at_g.given.0.0.start)) (drop (at_f.given.0.0.begin + at_g.given.0.0.start) at-args.s.now)) at-args.occurrence at-find-field.result (record-readable at-args.s.now at-args.set.now at-args.row at-args.name.now at-args.occurrence at-args.out.now at_f.given.0.0 t at_g.given.0.0 r) at-find-field.ensures at-h.given.1 in omega (arith, at-good.0.0, t.set.inside, r.stand.filled, r.stand.within, r.stand.inside, length-drop at_f.given.0.0.begin at-args.s.now, k.begins, k.within, k.inside, length-take ((at_f.given.0.0.begin + at_g.given.0.0.end) - (at_f.given.0.0.begin + at_g.given.0.0.start)) (drop (at_f.given.0.0.begin + at_g.given.0.0.start) at-args.s.now), length-drop (at_f.given.0.0.begin + at_g.given.0.0.start) at-args.s.now)
+    let t = head-told at-args.s.now at-args.set.now at-find-head.result (at_pre) at-find-head.ensures at_f.given.1 in let x = at-find-record.ensures ∙ ap (λ (y : Bytes). record_place (places_of y) at-args.row) (rest at-args.s.now at_f.given.0.0.begin) in let r = record-told (drop at_f.given.0.0.begin at-args.s.now) at-args.row at-find-record.result t.set.readable x at_g.given.1 in let k = field_told at-args.name.now (take ((at_f.given.0.0.begin + at_g.given.0.0.end) - (at_f.given.0.0.begin + at_g.given.0.0.start)) (drop (at_f.given.0.0.begin + at_g.given.0.0.start) at-args.s.now)) at-args.occurrence at-find-field.result (record-readable at-args.s.now at-args.set.now at-args.row at-args.name.now at-args.occurrence at-args.out.now at_f.given.0.0 t at_g.given.0.0 r) at-find-field.ensures at-h.given.1 in omega (arith, at-good.0.0, t.set.inside, r.stand.filled, r.stand.within, r.stand.inside, length-drop at_f.given.0.0.begin at-args.s.now, k.begins, k.within, k.inside, length-take ((at_f.given.0.0.begin + at_g.given.0.0.end) - (at_f.given.0.0.begin + at_g.given.0.0.start)) (drop (at_f.given.0.0.begin + at_g.given.0.0.start) at-args.s.now), length-drop (at_f.given.0.0.begin + at_g.given.0.0.start) at-args.s.now)
 
 add-w : tie.Need-overflow-add-w
 add-w c =
@@ -186,7 +186,7 @@ add-w c =
     let at-find-field = c.before.before.before.find-field in
     let at-h = c.before.h in
     let at-good = c.before.before.before.before.before.before.before.before.before.before.before.before.before.before.before.before.before.before.before.before.well-formed in
-    let t = head-told at-args.s.now at-args.set.now at-find-head.result (at_pre) at-find-head.ensures at_f.given.1 in let x = at-find-record.ensures ∙ ap (λ (y : Bytes). recordPlace (places_of y) at-args.row) (rest at-args.s.now at_f.given.0.0.begin) in let r = record-told (drop at_f.given.0.0.begin at-args.s.now) at-args.row at-find-record.result t.set.readable x at_g.given.1 in let k = field_told at-args.name.now (take ((at_f.given.0.0.begin + at_g.given.0.0.end) - (at_f.given.0.0.begin + at_g.given.0.0.start)) (drop (at_f.given.0.0.begin + at_g.given.0.0.start) at-args.s.now)) at-args.occurrence at-find-field.result (record-readable at-args.s.now at-args.set.now at-args.row at-args.name.now at-args.occurrence at-args.out.now at_f.given.0.0 t at_g.given.0.0 r) at-find-field.ensures at-h.given.1 in omega (arith, at-good.0.0, t.set.inside, r.stand.filled, r.stand.within, r.stand.inside, length-drop at_f.given.0.0.begin at-args.s.now, k.begins, k.within, k.inside, length-take ((at_f.given.0.0.begin + at_g.given.0.0.end) - (at_f.given.0.0.begin + at_g.given.0.0.start)) (drop (at_f.given.0.0.begin + at_g.given.0.0.start) at-args.s.now), length-drop (at_f.given.0.0.begin + at_g.given.0.0.start) at-args.s.now)
+    let t = head-told at-args.s.now at-args.set.now at-find-head.result (at_pre) at-find-head.ensures at_f.given.1 in let x = at-find-record.ensures ∙ ap (λ (y : Bytes). record_place (places_of y) at-args.row) (rest at-args.s.now at_f.given.0.0.begin) in let r = record-told (drop at_f.given.0.0.begin at-args.s.now) at-args.row at-find-record.result t.set.readable x at_g.given.1 in let k = field_told at-args.name.now (take ((at_f.given.0.0.begin + at_g.given.0.0.end) - (at_f.given.0.0.begin + at_g.given.0.0.start)) (drop (at_f.given.0.0.begin + at_g.given.0.0.start) at-args.s.now)) at-args.occurrence at-find-field.result (record-readable at-args.s.now at-args.set.now at-args.row at-args.name.now at-args.occurrence at-args.out.now at_f.given.0.0 t at_g.given.0.0 r) at-find-field.ensures at-h.given.1 in omega (arith, at-good.0.0, t.set.inside, r.stand.filled, r.stand.within, r.stand.inside, length-drop at_f.given.0.0.begin at-args.s.now, k.begins, k.within, k.inside, length-take ((at_f.given.0.0.begin + at_g.given.0.0.end) - (at_f.given.0.0.begin + at_g.given.0.0.start)) (drop (at_f.given.0.0.begin + at_g.given.0.0.start) at-args.s.now), length-drop (at_f.given.0.0.begin + at_g.given.0.0.start) at-args.s.now)
 
 sub-value-len : tie.Need-overflow-sub-value-len
 sub-value-len c =
@@ -198,7 +198,7 @@ sub-value-len c =
     let at_g = c.before.before.before.before.before.before.before.before.g in
     let at-find-field = c.before.before.before.find-field in
     let at-h = c.before.h in
-    let t = head-told at-args.s.now at-args.set.now at-find-head.result (at_pre) at-find-head.ensures at_f.given.1 in let x = at-find-record.ensures ∙ ap (λ (y : Bytes). recordPlace (places_of y) at-args.row) (rest at-args.s.now at_f.given.0.0.begin) in let r = record-told (drop at_f.given.0.0.begin at-args.s.now) at-args.row at-find-record.result t.set.readable x at_g.given.1 in let k = field_told at-args.name.now (take ((at_f.given.0.0.begin + at_g.given.0.0.end) - (at_f.given.0.0.begin + at_g.given.0.0.start)) (drop (at_f.given.0.0.begin + at_g.given.0.0.start) at-args.s.now)) at-args.occurrence at-find-field.result (record-readable at-args.s.now at-args.set.now at-args.row at-args.name.now at-args.occurrence at-args.out.now at_f.given.0.0 t at_g.given.0.0 r) at-find-field.ensures at-h.given.1 in omega (arith, t.set.inside, r.stand.filled, r.stand.within, r.stand.inside, length-drop at_f.given.0.0.begin at-args.s.now, k.begins, k.within, k.inside, length-take ((at_f.given.0.0.begin + at_g.given.0.0.end) - (at_f.given.0.0.begin + at_g.given.0.0.start)) (drop (at_f.given.0.0.begin + at_g.given.0.0.start) at-args.s.now), length-drop (at_f.given.0.0.begin + at_g.given.0.0.start) at-args.s.now)
+    let t = head-told at-args.s.now at-args.set.now at-find-head.result (at_pre) at-find-head.ensures at_f.given.1 in let x = at-find-record.ensures ∙ ap (λ (y : Bytes). record_place (places_of y) at-args.row) (rest at-args.s.now at_f.given.0.0.begin) in let r = record-told (drop at_f.given.0.0.begin at-args.s.now) at-args.row at-find-record.result t.set.readable x at_g.given.1 in let k = field_told at-args.name.now (take ((at_f.given.0.0.begin + at_g.given.0.0.end) - (at_f.given.0.0.begin + at_g.given.0.0.start)) (drop (at_f.given.0.0.begin + at_g.given.0.0.start) at-args.s.now)) at-args.occurrence at-find-field.result (record-readable at-args.s.now at-args.set.now at-args.row at-args.name.now at-args.occurrence at-args.out.now at_f.given.0.0 t at_g.given.0.0 r) at-find-field.ensures at-h.given.1 in omega (arith, t.set.inside, r.stand.filled, r.stand.within, r.stand.inside, length-drop at_f.given.0.0.begin at-args.s.now, k.begins, k.within, k.inside, length-take ((at_f.given.0.0.begin + at_g.given.0.0.end) - (at_f.given.0.0.begin + at_g.given.0.0.start)) (drop (at_f.given.0.0.begin + at_g.given.0.0.start) at-args.s.now), length-drop (at_f.given.0.0.begin + at_g.given.0.0.start) at-args.s.now)
 
 part-value-len-start : tie.Need-slice-bounds-value-len-start
 part-value-len-start c =
@@ -210,7 +210,7 @@ part-value-len-start c =
     let at_g = c.before.before.before.before.before.before.before.before.g in
     let at-find-field = c.before.before.before.find-field in
     let at-h = c.before.h in
-    let t = head-told at-args.s.now at-args.set.now at-find-head.result (at_pre) at-find-head.ensures at_f.given.1 in let x = at-find-record.ensures ∙ ap (λ (y : Bytes). recordPlace (places_of y) at-args.row) (rest at-args.s.now at_f.given.0.0.begin) in let r = record-told (drop at_f.given.0.0.begin at-args.s.now) at-args.row at-find-record.result t.set.readable x at_g.given.1 in let k = field_told at-args.name.now (take ((at_f.given.0.0.begin + at_g.given.0.0.end) - (at_f.given.0.0.begin + at_g.given.0.0.start)) (drop (at_f.given.0.0.begin + at_g.given.0.0.start) at-args.s.now)) at-args.occurrence at-find-field.result (record-readable at-args.s.now at-args.set.now at-args.row at-args.name.now at-args.occurrence at-args.out.now at_f.given.0.0 t at_g.given.0.0 r) at-find-field.ensures at-h.given.1 in omega (arith, t.set.inside, r.stand.filled, r.stand.within, r.stand.inside, length-drop at_f.given.0.0.begin at-args.s.now, k.begins, k.within, k.inside, length-take ((at_f.given.0.0.begin + at_g.given.0.0.end) - (at_f.given.0.0.begin + at_g.given.0.0.start)) (drop (at_f.given.0.0.begin + at_g.given.0.0.start) at-args.s.now), length-drop (at_f.given.0.0.begin + at_g.given.0.0.start) at-args.s.now)
+    let t = head-told at-args.s.now at-args.set.now at-find-head.result (at_pre) at-find-head.ensures at_f.given.1 in let x = at-find-record.ensures ∙ ap (λ (y : Bytes). record_place (places_of y) at-args.row) (rest at-args.s.now at_f.given.0.0.begin) in let r = record-told (drop at_f.given.0.0.begin at-args.s.now) at-args.row at-find-record.result t.set.readable x at_g.given.1 in let k = field_told at-args.name.now (take ((at_f.given.0.0.begin + at_g.given.0.0.end) - (at_f.given.0.0.begin + at_g.given.0.0.start)) (drop (at_f.given.0.0.begin + at_g.given.0.0.start) at-args.s.now)) at-args.occurrence at-find-field.result (record-readable at-args.s.now at-args.set.now at-args.row at-args.name.now at-args.occurrence at-args.out.now at_f.given.0.0 t at_g.given.0.0 r) at-find-field.ensures at-h.given.1 in omega (arith, t.set.inside, r.stand.filled, r.stand.within, r.stand.inside, length-drop at_f.given.0.0.begin at-args.s.now, k.begins, k.within, k.inside, length-take ((at_f.given.0.0.begin + at_g.given.0.0.end) - (at_f.given.0.0.begin + at_g.given.0.0.start)) (drop (at_f.given.0.0.begin + at_g.given.0.0.start) at-args.s.now), length-drop (at_f.given.0.0.begin + at_g.given.0.0.start) at-args.s.now)
 
 part-value-len-end : tie.Need-slice-bounds-value-len-end
 part-value-len-end c =
@@ -222,7 +222,7 @@ part-value-len-end c =
     let at_g = c.before.before.before.before.before.before.before.before.g in
     let at-find-field = c.before.before.before.find-field in
     let at-h = c.before.h in
-    let t = head-told at-args.s.now at-args.set.now at-find-head.result (at_pre) at-find-head.ensures at_f.given.1 in let x = at-find-record.ensures ∙ ap (λ (y : Bytes). recordPlace (places_of y) at-args.row) (rest at-args.s.now at_f.given.0.0.begin) in let r = record-told (drop at_f.given.0.0.begin at-args.s.now) at-args.row at-find-record.result t.set.readable x at_g.given.1 in let k = field_told at-args.name.now (take ((at_f.given.0.0.begin + at_g.given.0.0.end) - (at_f.given.0.0.begin + at_g.given.0.0.start)) (drop (at_f.given.0.0.begin + at_g.given.0.0.start) at-args.s.now)) at-args.occurrence at-find-field.result (record-readable at-args.s.now at-args.set.now at-args.row at-args.name.now at-args.occurrence at-args.out.now at_f.given.0.0 t at_g.given.0.0 r) at-find-field.ensures at-h.given.1 in omega (arith, t.set.inside, r.stand.filled, r.stand.within, r.stand.inside, length-drop at_f.given.0.0.begin at-args.s.now, k.begins, k.within, k.inside, length-take ((at_f.given.0.0.begin + at_g.given.0.0.end) - (at_f.given.0.0.begin + at_g.given.0.0.start)) (drop (at_f.given.0.0.begin + at_g.given.0.0.start) at-args.s.now), length-drop (at_f.given.0.0.begin + at_g.given.0.0.start) at-args.s.now)
+    let t = head-told at-args.s.now at-args.set.now at-find-head.result (at_pre) at-find-head.ensures at_f.given.1 in let x = at-find-record.ensures ∙ ap (λ (y : Bytes). record_place (places_of y) at-args.row) (rest at-args.s.now at_f.given.0.0.begin) in let r = record-told (drop at_f.given.0.0.begin at-args.s.now) at-args.row at-find-record.result t.set.readable x at_g.given.1 in let k = field_told at-args.name.now (take ((at_f.given.0.0.begin + at_g.given.0.0.end) - (at_f.given.0.0.begin + at_g.given.0.0.start)) (drop (at_f.given.0.0.begin + at_g.given.0.0.start) at-args.s.now)) at-args.occurrence at-find-field.result (record-readable at-args.s.now at-args.set.now at-args.row at-args.name.now at-args.occurrence at-args.out.now at_f.given.0.0 t at_g.given.0.0 r) at-find-field.ensures at-h.given.1 in omega (arith, t.set.inside, r.stand.filled, r.stand.within, r.stand.inside, length-drop at_f.given.0.0.begin at-args.s.now, k.begins, k.within, k.inside, length-take ((at_f.given.0.0.begin + at_g.given.0.0.end) - (at_f.given.0.0.begin + at_g.given.0.0.start)) (drop (at_f.given.0.0.begin + at_g.given.0.0.start) at-args.s.now), length-drop (at_f.given.0.0.begin + at_g.given.0.0.start) at-args.s.now)
 
 value-len-requires : tie.Need-value-len-requires
 value-len-requires c κs = search rules
@@ -239,7 +239,7 @@ returns-4 c =
     let at-h = c.before.before.before.before.h in
     let at-value-len = c.before.value_len in
     let at-if1 = c.if1 in
-    let t = head-told at-args.s.now at-args.set.now at-find-head.result (at_pre) at-find-head.ensures at_f.given.1 in let x = at-find-record.ensures ∙ ap (λ (y : Bytes). recordPlace (places_of y) at-args.row) (rest at-args.s.now at_f.given.0.0.begin) in let r = record-told (drop at_f.given.0.0.begin at-args.s.now) at-args.row at-find-record.result t.set.readable x at_g.given.1 in let k = field_told at-args.name.now (take ((at_f.given.0.0.begin + at_g.given.0.0.end) - (at_f.given.0.0.begin + at_g.given.0.0.start)) (drop (at_f.given.0.0.begin + at_g.given.0.0.start) at-args.s.now)) at-args.occurrence at-find-field.result (record-readable at-args.s.now at-args.set.now at-args.row at-args.name.now at-args.occurrence at-args.out.now at_f.given.0.0 t at_g.given.0.0 r) at-find-field.ensures at-h.given.1 in let e = sym (span-part (at_f.given.0.0.begin + at_g.given.0.0.start) (at_f.given.0.0.begin + at_g.given.0.0.end) at-h.given.0.1.0 at-h.given.0.1.1.0 at-args.s.now k.within (omega (arith, t.set.inside, r.stand.filled, r.stand.within, r.stand.inside, length-drop at_f.given.0.0.begin at-args.s.now, k.begins, k.within, k.inside, length-take ((at_f.given.0.0.begin + at_g.given.0.0.end) - (at_f.given.0.0.begin + at_g.given.0.0.start)) (drop (at_f.given.0.0.begin + at_g.given.0.0.start) at-args.s.now), length-drop (at_f.given.0.0.begin + at_g.given.0.0.start) at-args.s.now))) in fetch-long at-args.s.now at-args.set.now at-args.row at-args.name.now at-args.occurrence at-args.out.now at_f.given.0.0 t at_g.given.0.0 r at-h.given.0.0 at-h.given.0.1.0 at-h.given.0.1.1.0 k (take ((at_f.given.0.0.begin + at_g.given.0.0.start + at-h.given.0.1.1.0) - (at_f.given.0.0.begin + at_g.given.0.0.start + at-h.given.0.1.0)) (drop (at_f.given.0.0.begin + at_g.given.0.0.start + at-h.given.0.1.0) at-args.s.now)) e (omega (arith, at-value-len.ensures, at-if1.true))
+    let t = head-told at-args.s.now at-args.set.now at-find-head.result (at_pre) at-find-head.ensures at_f.given.1 in let x = at-find-record.ensures ∙ ap (λ (y : Bytes). record_place (places_of y) at-args.row) (rest at-args.s.now at_f.given.0.0.begin) in let r = record-told (drop at_f.given.0.0.begin at-args.s.now) at-args.row at-find-record.result t.set.readable x at_g.given.1 in let k = field_told at-args.name.now (take ((at_f.given.0.0.begin + at_g.given.0.0.end) - (at_f.given.0.0.begin + at_g.given.0.0.start)) (drop (at_f.given.0.0.begin + at_g.given.0.0.start) at-args.s.now)) at-args.occurrence at-find-field.result (record-readable at-args.s.now at-args.set.now at-args.row at-args.name.now at-args.occurrence at-args.out.now at_f.given.0.0 t at_g.given.0.0 r) at-find-field.ensures at-h.given.1 in let e = sym (span-part (at_f.given.0.0.begin + at_g.given.0.0.start) (at_f.given.0.0.begin + at_g.given.0.0.end) at-h.given.0.1.0 at-h.given.0.1.1.0 at-args.s.now k.within (omega (arith, t.set.inside, r.stand.filled, r.stand.within, r.stand.inside, length-drop at_f.given.0.0.begin at-args.s.now, k.begins, k.within, k.inside, length-take ((at_f.given.0.0.begin + at_g.given.0.0.end) - (at_f.given.0.0.begin + at_g.given.0.0.start)) (drop (at_f.given.0.0.begin + at_g.given.0.0.start) at-args.s.now), length-drop (at_f.given.0.0.begin + at_g.given.0.0.start) at-args.s.now))) in fetch-long at-args.s.now at-args.set.now at-args.row at-args.name.now at-args.occurrence at-args.out.now at_f.given.0.0 t at_g.given.0.0 r at-h.given.0.0 at-h.given.0.1.0 at-h.given.0.1.1.0 k (take ((at_f.given.0.0.begin + at_g.given.0.0.start + at-h.given.0.1.1.0) - (at_f.given.0.0.begin + at_g.given.0.0.start + at-h.given.0.1.0)) (drop (at_f.given.0.0.begin + at_g.given.0.0.start + at-h.given.0.1.0) at-args.s.now)) e (omega (arith, at-value-len.ensures, at-if1.true))
 
 sub-copy-value : tie.Need-overflow-sub-copy-value
 sub-copy-value c =
@@ -251,7 +251,7 @@ sub-copy-value c =
     let at_g = c.before.before.before.before.before.before.before.before.before.before.before.g in
     let at-find-field = c.before.before.before.before.before.before.find-field in
     let at-h = c.before.before.before.before.h in
-    let t = head-told at-args.s.now at-args.set.now at-find-head.result (at_pre) at-find-head.ensures at_f.given.1 in let x = at-find-record.ensures ∙ ap (λ (y : Bytes). recordPlace (places_of y) at-args.row) (rest at-args.s.now at_f.given.0.0.begin) in let r = record-told (drop at_f.given.0.0.begin at-args.s.now) at-args.row at-find-record.result t.set.readable x at_g.given.1 in let k = field_told at-args.name.now (take ((at_f.given.0.0.begin + at_g.given.0.0.end) - (at_f.given.0.0.begin + at_g.given.0.0.start)) (drop (at_f.given.0.0.begin + at_g.given.0.0.start) at-args.s.now)) at-args.occurrence at-find-field.result (record-readable at-args.s.now at-args.set.now at-args.row at-args.name.now at-args.occurrence at-args.out.now at_f.given.0.0 t at_g.given.0.0 r) at-find-field.ensures at-h.given.1 in omega (arith, t.set.inside, r.stand.filled, r.stand.within, r.stand.inside, length-drop at_f.given.0.0.begin at-args.s.now, k.begins, k.within, k.inside, length-take ((at_f.given.0.0.begin + at_g.given.0.0.end) - (at_f.given.0.0.begin + at_g.given.0.0.start)) (drop (at_f.given.0.0.begin + at_g.given.0.0.start) at-args.s.now), length-drop (at_f.given.0.0.begin + at_g.given.0.0.start) at-args.s.now)
+    let t = head-told at-args.s.now at-args.set.now at-find-head.result (at_pre) at-find-head.ensures at_f.given.1 in let x = at-find-record.ensures ∙ ap (λ (y : Bytes). record_place (places_of y) at-args.row) (rest at-args.s.now at_f.given.0.0.begin) in let r = record-told (drop at_f.given.0.0.begin at-args.s.now) at-args.row at-find-record.result t.set.readable x at_g.given.1 in let k = field_told at-args.name.now (take ((at_f.given.0.0.begin + at_g.given.0.0.end) - (at_f.given.0.0.begin + at_g.given.0.0.start)) (drop (at_f.given.0.0.begin + at_g.given.0.0.start) at-args.s.now)) at-args.occurrence at-find-field.result (record-readable at-args.s.now at-args.set.now at-args.row at-args.name.now at-args.occurrence at-args.out.now at_f.given.0.0 t at_g.given.0.0 r) at-find-field.ensures at-h.given.1 in omega (arith, t.set.inside, r.stand.filled, r.stand.within, r.stand.inside, length-drop at_f.given.0.0.begin at-args.s.now, k.begins, k.within, k.inside, length-take ((at_f.given.0.0.begin + at_g.given.0.0.end) - (at_f.given.0.0.begin + at_g.given.0.0.start)) (drop (at_f.given.0.0.begin + at_g.given.0.0.start) at-args.s.now), length-drop (at_f.given.0.0.begin + at_g.given.0.0.start) at-args.s.now)
 
 part-copy-value-start : tie.Need-slice-bounds-copy-value-start
 part-copy-value-start c =
@@ -263,7 +263,7 @@ part-copy-value-start c =
     let at_g = c.before.before.before.before.before.before.before.before.before.before.before.g in
     let at-find-field = c.before.before.before.before.before.before.find-field in
     let at-h = c.before.before.before.before.h in
-    let t = head-told at-args.s.now at-args.set.now at-find-head.result (at_pre) at-find-head.ensures at_f.given.1 in let x = at-find-record.ensures ∙ ap (λ (y : Bytes). recordPlace (places_of y) at-args.row) (rest at-args.s.now at_f.given.0.0.begin) in let r = record-told (drop at_f.given.0.0.begin at-args.s.now) at-args.row at-find-record.result t.set.readable x at_g.given.1 in let k = field_told at-args.name.now (take ((at_f.given.0.0.begin + at_g.given.0.0.end) - (at_f.given.0.0.begin + at_g.given.0.0.start)) (drop (at_f.given.0.0.begin + at_g.given.0.0.start) at-args.s.now)) at-args.occurrence at-find-field.result (record-readable at-args.s.now at-args.set.now at-args.row at-args.name.now at-args.occurrence at-args.out.now at_f.given.0.0 t at_g.given.0.0 r) at-find-field.ensures at-h.given.1 in omega (arith, t.set.inside, r.stand.filled, r.stand.within, r.stand.inside, length-drop at_f.given.0.0.begin at-args.s.now, k.begins, k.within, k.inside, length-take ((at_f.given.0.0.begin + at_g.given.0.0.end) - (at_f.given.0.0.begin + at_g.given.0.0.start)) (drop (at_f.given.0.0.begin + at_g.given.0.0.start) at-args.s.now), length-drop (at_f.given.0.0.begin + at_g.given.0.0.start) at-args.s.now)
+    let t = head-told at-args.s.now at-args.set.now at-find-head.result (at_pre) at-find-head.ensures at_f.given.1 in let x = at-find-record.ensures ∙ ap (λ (y : Bytes). record_place (places_of y) at-args.row) (rest at-args.s.now at_f.given.0.0.begin) in let r = record-told (drop at_f.given.0.0.begin at-args.s.now) at-args.row at-find-record.result t.set.readable x at_g.given.1 in let k = field_told at-args.name.now (take ((at_f.given.0.0.begin + at_g.given.0.0.end) - (at_f.given.0.0.begin + at_g.given.0.0.start)) (drop (at_f.given.0.0.begin + at_g.given.0.0.start) at-args.s.now)) at-args.occurrence at-find-field.result (record-readable at-args.s.now at-args.set.now at-args.row at-args.name.now at-args.occurrence at-args.out.now at_f.given.0.0 t at_g.given.0.0 r) at-find-field.ensures at-h.given.1 in omega (arith, t.set.inside, r.stand.filled, r.stand.within, r.stand.inside, length-drop at_f.given.0.0.begin at-args.s.now, k.begins, k.within, k.inside, length-take ((at_f.given.0.0.begin + at_g.given.0.0.end) - (at_f.given.0.0.begin + at_g.given.0.0.start)) (drop (at_f.given.0.0.begin + at_g.given.0.0.start) at-args.s.now), length-drop (at_f.given.0.0.begin + at_g.given.0.0.start) at-args.s.now)
 
 part-copy-value-end : tie.Need-slice-bounds-copy-value-end
 part-copy-value-end c =
@@ -275,7 +275,7 @@ part-copy-value-end c =
     let at_g = c.before.before.before.before.before.before.before.before.before.before.before.g in
     let at-find-field = c.before.before.before.before.before.before.find-field in
     let at-h = c.before.before.before.before.h in
-    let t = head-told at-args.s.now at-args.set.now at-find-head.result (at_pre) at-find-head.ensures at_f.given.1 in let x = at-find-record.ensures ∙ ap (λ (y : Bytes). recordPlace (places_of y) at-args.row) (rest at-args.s.now at_f.given.0.0.begin) in let r = record-told (drop at_f.given.0.0.begin at-args.s.now) at-args.row at-find-record.result t.set.readable x at_g.given.1 in let k = field_told at-args.name.now (take ((at_f.given.0.0.begin + at_g.given.0.0.end) - (at_f.given.0.0.begin + at_g.given.0.0.start)) (drop (at_f.given.0.0.begin + at_g.given.0.0.start) at-args.s.now)) at-args.occurrence at-find-field.result (record-readable at-args.s.now at-args.set.now at-args.row at-args.name.now at-args.occurrence at-args.out.now at_f.given.0.0 t at_g.given.0.0 r) at-find-field.ensures at-h.given.1 in omega (arith, t.set.inside, r.stand.filled, r.stand.within, r.stand.inside, length-drop at_f.given.0.0.begin at-args.s.now, k.begins, k.within, k.inside, length-take ((at_f.given.0.0.begin + at_g.given.0.0.end) - (at_f.given.0.0.begin + at_g.given.0.0.start)) (drop (at_f.given.0.0.begin + at_g.given.0.0.start) at-args.s.now), length-drop (at_f.given.0.0.begin + at_g.given.0.0.start) at-args.s.now)
+    let t = head-told at-args.s.now at-args.set.now at-find-head.result (at_pre) at-find-head.ensures at_f.given.1 in let x = at-find-record.ensures ∙ ap (λ (y : Bytes). record_place (places_of y) at-args.row) (rest at-args.s.now at_f.given.0.0.begin) in let r = record-told (drop at_f.given.0.0.begin at-args.s.now) at-args.row at-find-record.result t.set.readable x at_g.given.1 in let k = field_told at-args.name.now (take ((at_f.given.0.0.begin + at_g.given.0.0.end) - (at_f.given.0.0.begin + at_g.given.0.0.start)) (drop (at_f.given.0.0.begin + at_g.given.0.0.start) at-args.s.now)) at-args.occurrence at-find-field.result (record-readable at-args.s.now at-args.set.now at-args.row at-args.name.now at-args.occurrence at-args.out.now at_f.given.0.0 t at_g.given.0.0 r) at-find-field.ensures at-h.given.1 in omega (arith, t.set.inside, r.stand.filled, r.stand.within, r.stand.inside, length-drop at_f.given.0.0.begin at-args.s.now, k.begins, k.within, k.inside, length-take ((at_f.given.0.0.begin + at_g.given.0.0.end) - (at_f.given.0.0.begin + at_g.given.0.0.start)) (drop (at_f.given.0.0.begin + at_g.given.0.0.start) at-args.s.now), length-drop (at_f.given.0.0.begin + at_g.given.0.0.start) at-args.s.now)
 
 copy-value-requires : tie.Need-copy-value-requires
 copy-value-requires c κs =
@@ -299,7 +299,7 @@ returns-5 c =
     let at-value-len = c.before.before.before.before.before.before.value_len in
     let at-if1 = c.before.before.before.before.before.if1 in
     let at-copy-value = c.before.before.copy-value in
-    let t = head-told at-args.s.now at-args.set.now at-find-head.result (at_pre) at-find-head.ensures at_f.given.1 in let x = at-find-record.ensures ∙ ap (λ (y : Bytes). recordPlace (places_of y) at-args.row) (rest at-args.s.now at_f.given.0.0.begin) in let r = record-told (drop at_f.given.0.0.begin at-args.s.now) at-args.row at-find-record.result t.set.readable x at_g.given.1 in let k = field_told at-args.name.now (take ((at_f.given.0.0.begin + at_g.given.0.0.end) - (at_f.given.0.0.begin + at_g.given.0.0.start)) (drop (at_f.given.0.0.begin + at_g.given.0.0.start) at-args.s.now)) at-args.occurrence at-find-field.result (record-readable at-args.s.now at-args.set.now at-args.row at-args.name.now at-args.occurrence at-args.out.now at_f.given.0.0 t at_g.given.0.0 r) at-find-field.ensures at-h.given.1 in let e = sym (span-part (at_f.given.0.0.begin + at_g.given.0.0.start) (at_f.given.0.0.begin + at_g.given.0.0.end) at-h.given.0.1.0 at-h.given.0.1.1.0 at-args.s.now k.within (omega (arith, t.set.inside, r.stand.filled, r.stand.within, r.stand.inside, length-drop at_f.given.0.0.begin at-args.s.now, k.begins, k.within, k.inside, length-take ((at_f.given.0.0.begin + at_g.given.0.0.end) - (at_f.given.0.0.begin + at_g.given.0.0.start)) (drop (at_f.given.0.0.begin + at_g.given.0.0.start) at-args.s.now), length-drop (at_f.given.0.0.begin + at_g.given.0.0.start) at-args.s.now))) in fetch-found at-args.s.now at-args.set.now at-args.row at-args.name.now at-args.occurrence at-args.out.now at_f.given.0.0 t at_g.given.0.0 r at-h.given.0.0 at-h.given.0.1.0 at-h.given.0.1.1.0 k (take ((at_f.given.0.0.begin + at_g.given.0.0.start + at-h.given.0.1.1.0) - (at_f.given.0.0.begin + at_g.given.0.0.start + at-h.given.0.1.0)) (drop (at_f.given.0.0.begin + at_g.given.0.0.start + at-h.given.0.1.0) at-args.s.now)) e (omega (arith, at-value-len.ensures, at-if1.false)) ∙ (λ i. record { result = Answer.value (sym at-value-len.ensures i); out = sym at-copy-value.ensures.1 i })
+    let t = head-told at-args.s.now at-args.set.now at-find-head.result (at_pre) at-find-head.ensures at_f.given.1 in let x = at-find-record.ensures ∙ ap (λ (y : Bytes). record_place (places_of y) at-args.row) (rest at-args.s.now at_f.given.0.0.begin) in let r = record-told (drop at_f.given.0.0.begin at-args.s.now) at-args.row at-find-record.result t.set.readable x at_g.given.1 in let k = field_told at-args.name.now (take ((at_f.given.0.0.begin + at_g.given.0.0.end) - (at_f.given.0.0.begin + at_g.given.0.0.start)) (drop (at_f.given.0.0.begin + at_g.given.0.0.start) at-args.s.now)) at-args.occurrence at-find-field.result (record-readable at-args.s.now at-args.set.now at-args.row at-args.name.now at-args.occurrence at-args.out.now at_f.given.0.0 t at_g.given.0.0 r) at-find-field.ensures at-h.given.1 in let e = sym (span-part (at_f.given.0.0.begin + at_g.given.0.0.start) (at_f.given.0.0.begin + at_g.given.0.0.end) at-h.given.0.1.0 at-h.given.0.1.1.0 at-args.s.now k.within (omega (arith, t.set.inside, r.stand.filled, r.stand.within, r.stand.inside, length-drop at_f.given.0.0.begin at-args.s.now, k.begins, k.within, k.inside, length-take ((at_f.given.0.0.begin + at_g.given.0.0.end) - (at_f.given.0.0.begin + at_g.given.0.0.start)) (drop (at_f.given.0.0.begin + at_g.given.0.0.start) at-args.s.now), length-drop (at_f.given.0.0.begin + at_g.given.0.0.start) at-args.s.now))) in fetch-found at-args.s.now at-args.set.now at-args.row at-args.name.now at-args.occurrence at-args.out.now at_f.given.0.0 t at_g.given.0.0 r at-h.given.0.0 at-h.given.0.1.0 at-h.given.0.1.1.0 k (take ((at_f.given.0.0.begin + at_g.given.0.0.start + at-h.given.0.1.1.0) - (at_f.given.0.0.begin + at_g.given.0.0.start + at-h.given.0.1.0)) (drop (at_f.given.0.0.begin + at_g.given.0.0.start + at-h.given.0.1.0) at-args.s.now)) e (omega (arith, at-value-len.ensures, at-if1.false)) ∙ (λ i. record { result = Answer.value (sym at-value-len.ensures i); out = sym at-copy-value.ensures.1 i })
 
 pub fetch-in-spec : {M : Type 1} → statement M
 fetch-in-spec =

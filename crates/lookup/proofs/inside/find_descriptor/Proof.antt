@@ -6,11 +6,11 @@ use native.Mathlib.Omega.{arith}
 use mathlib.Core.Path.{◌≡◌, sym, ap, ◌∙◌}
 use mathlib.Core.Bool.{true}
 use lib.ListN.{length, drop}
-use Rattle.records.specs.Places.{isReadable, places_of}
+use Rattle.records.specs.Places.{is_readable, places_of}
 use Rattle.records.proofs.Readings.{part-readable}
 use Rattle.records.proofs.Searches.{places_at, places-all}
-use Rattle.records.proofs.Sets.{raiseSet, sets-met}
-use Rattle.lookup.specs.Names.{descriptorAt}
+use Rattle.records.proofs.Sets.{raise_set, sets-met}
+use Rattle.lookup.specs.Names.{descriptor_at}
 use Rattle.lookup.proofs.Names.{descriptor-none, descriptor-here, descriptor-later}
 use Rattle.lookup.proofs.inside.find_descriptor.Statement.{statement}
 use Rattle.lookup.proofs.inside.find_descriptor.Tie as tie
@@ -19,7 +19,7 @@ use Rattle.lookup.proofs.inside.find_descriptor.Lts as lts
 use Rattle.records.proofs.next_set.Reads as next-set-reads
 
 abbrev invariant-loop : tie.invariant-loop
-invariant-loop s k i₀ left₀ i left = (i ≤ length s) × (isReadable (drop i s) ≡ true) × (descriptorAt (places_of s) k ≡ descriptorAt (places_at s i) left)
+invariant-loop s k i₀ left₀ i left = (i ≤ length s) × (is_readable (drop i s) ≡ true) × (descriptor_at (places_of s) k ≡ descriptor_at (places_at s i) left)
 
 abbrev decreases-loop : tie.decreases-loop
 decreases-loop s k i₀ left₀ i left = length s - i
@@ -28,7 +28,7 @@ loop-holds : tie.Need-loop-init invariant-loop decreases-loop
 loop-holds c =
     let at_pre = c.before.requires in
     let at-args = c.before.args in
-    (omega arith, at_pre, ap (λ ps. descriptorAt ps at-args.k) (places-all at-args.s.now))
+    (omega arith, at_pre, ap (λ ps. descriptor_at ps at-args.k) (places-all at-args.s.now))
 
 sub-next-set : tie.Need-overflow-sub-next-set invariant-loop decreases-loop
 sub-next-set c = search rules
@@ -94,7 +94,7 @@ returns-2 c =
     let at-r = c.before.before.before.before.before.r in
     let at-if1 = c.before.before.before.if1 in
     let m = sets-met at-args.s.now at-loop.i at-next-set.result at-loop.invariant.0 at-loop.invariant.1 at-next-set.ensures at-r.given.1 in
-    sym (at-loop.invariant.2 ∙ descriptor-here at-args.s.now at-loop.i (raiseSet at-loop.i at-r.given.0.0) m at-loop.left at-if1.true)
+    sym (at-loop.invariant.2 ∙ descriptor-here at-args.s.now at-loop.i (raise_set at-loop.i at-r.given.0.0) m at-loop.left at-if1.true)
 
 sub-left : tie.Need-overflow-sub-left invariant-loop decreases-loop
 sub-left c = search rules
@@ -125,7 +125,7 @@ loop-again c =
     let at-r = c.before.before.before.r in
     let at-if1 = c.before.if1 in
     let m = sets-met at-args.s.now at-loop.i at-next-set.result at-loop.invariant.0 at-loop.invariant.1 at-next-set.ensures at-r.given.1 in
-    (m.behind.inside, m.behind.readable, at-loop.invariant.2 ∙ descriptor-later at-args.s.now at-loop.i (raiseSet at-loop.i at-r.given.0.0) m at-loop.left (at-loop.left - 1) (omega (arith, at-if1.false)))
+    (m.behind.inside, m.behind.readable, at-loop.invariant.2 ∙ descriptor-later at-args.s.now at-loop.i (raise_set at-loop.i at-r.given.0.0) m at-loop.left (at-loop.left - 1) (omega (arith, at-if1.false)))
 
 pub find-descriptor-spec : {M : Type 1} → statement M
 find-descriptor-spec =

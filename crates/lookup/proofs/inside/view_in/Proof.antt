@@ -5,7 +5,7 @@ use lib.ListN.{drop, length-drop}
 use Rattle.format.specs.Bytes.{Bytes}
 use Rattle.records.proofs.Readings.{part-readable}
 use Rattle.records.proofs.Members.{head-told, record-told}
-use Rattle.records.specs.Places.{places_of, recordPlace}
+use Rattle.records.specs.Places.{places_of, record_place}
 use Rattle.lines.proofs.Cuts.{rest}
 use Rattle.lookup.proofs.Looking.{view-missing, view-past, view-found}
 use borrow.Author.Rules.{rules}
@@ -74,7 +74,7 @@ returns-2 c =
     let at_f = c.before.before.before.before.before.f in
     let at-find-record = c.before.before.find-record in
     let at-enum-told2 = c.enum-told2 in
-    let t = head-told at-args.s.now at-args.set.now at-find-head.result (at_pre) at-find-head.ensures at_f.given.1 in let x = at-find-record.ensures ∙ ap (λ (y : Bytes). recordPlace (places_of y) at-args.row) (rest at-args.s.now at_f.given.0.0.begin) in let r = record-told (drop at_f.given.0.0.begin at-args.s.now) at-args.row at-find-record.result t.set.readable x at-enum-told2.given.1 in (sym (view-past at-args.s.now at-args.set.now at-args.row at_f.given.0.0 t r), tt)
+    let t = head-told at-args.s.now at-args.set.now at-find-head.result (at_pre) at-find-head.ensures at_f.given.1 in let x = at-find-record.ensures ∙ ap (λ (y : Bytes). record_place (places_of y) at-args.row) (rest at-args.s.now at_f.given.0.0.begin) in let r = record-told (drop at_f.given.0.0.begin at-args.s.now) at-args.row at-find-record.result t.set.readable x at-enum-told2.given.1 in (sym (view-past at-args.s.now at-args.set.now at-args.row at_f.given.0.0 t r), tt)
 
 add_start : tie.Need-overflow-add-start
 add_start c =
@@ -85,7 +85,7 @@ add_start c =
     let at-find-record = c.before.before.before.before.find-record in
     let at_g = c.before.before.g in
     let at-good = c.before.before.before.before.before.before.before.before.before.before.before.before.well-formed in
-    let t = head-told at-args.s.now at-args.set.now at-find-head.result (at_pre) at-find-head.ensures at_f.given.1 in let x = at-find-record.ensures ∙ ap (λ (y : Bytes). recordPlace (places_of y) at-args.row) (rest at-args.s.now at_f.given.0.0.begin) in let r = record-told (drop at_f.given.0.0.begin at-args.s.now) at-args.row at-find-record.result t.set.readable x at_g.given.1 in omega (arith, at-good.0.0, t.set.inside, r.stand.filled, r.stand.within, r.stand.inside, length-drop at_f.given.0.0.begin at-args.s.now)
+    let t = head-told at-args.s.now at-args.set.now at-find-head.result (at_pre) at-find-head.ensures at_f.given.1 in let x = at-find-record.ensures ∙ ap (λ (y : Bytes). record_place (places_of y) at-args.row) (rest at-args.s.now at_f.given.0.0.begin) in let r = record-told (drop at_f.given.0.0.begin at-args.s.now) at-args.row at-find-record.result t.set.readable x at_g.given.1 in omega (arith, at-good.0.0, t.set.inside, r.stand.filled, r.stand.within, r.stand.inside, length-drop at_f.given.0.0.begin at-args.s.now)
 
 add-end : tie.Need-overflow-add-end
 add-end c =
@@ -96,7 +96,7 @@ add-end c =
     let at-find-record = c.before.before.before.before.before.find-record in
     let at_g = c.before.before.before.g in
     let at-good = c.before.before.before.before.before.before.before.before.before.before.before.before.before.well-formed in
-    let t = head-told at-args.s.now at-args.set.now at-find-head.result (at_pre) at-find-head.ensures at_f.given.1 in let x = at-find-record.ensures ∙ ap (λ (y : Bytes). recordPlace (places_of y) at-args.row) (rest at-args.s.now at_f.given.0.0.begin) in let r = record-told (drop at_f.given.0.0.begin at-args.s.now) at-args.row at-find-record.result t.set.readable x at_g.given.1 in omega (arith, at-good.0.0, t.set.inside, r.stand.filled, r.stand.within, r.stand.inside, length-drop at_f.given.0.0.begin at-args.s.now)
+    let t = head-told at-args.s.now at-args.set.now at-find-head.result (at_pre) at-find-head.ensures at_f.given.1 in let x = at-find-record.ensures ∙ ap (λ (y : Bytes). record_place (places_of y) at-args.row) (rest at-args.s.now at_f.given.0.0.begin) in let r = record-told (drop at_f.given.0.0.begin at-args.s.now) at-args.row at-find-record.result t.set.readable x at_g.given.1 in omega (arith, at-good.0.0, t.set.inside, r.stand.filled, r.stand.within, r.stand.inside, length-drop at_f.given.0.0.begin at-args.s.now)
 
 returns-3 : tie.Need-returns-3
 returns-3 c =
@@ -106,7 +106,7 @@ returns-3 c =
     let at_f = c.before.before.before.before.before.before.before.before.f in
     let at-find-record = c.before.before.before.before.before.find-record in
     let at_g = c.before.before.before.g in
-    let t = head-told at-args.s.now at-args.set.now at-find-head.result (at_pre) at-find-head.ensures at_f.given.1 in let x = at-find-record.ensures ∙ ap (λ (y : Bytes). recordPlace (places_of y) at-args.row) (rest at-args.s.now at_f.given.0.0.begin) in let r = record-told (drop at_f.given.0.0.begin at-args.s.now) at-args.row at-find-record.result t.set.readable x at_g.given.1 in (sym (view-found at-args.s.now at-args.set.now at-args.row at_f.given.0.0 t at_g.given.0.0 (at_pre) (sym at-find-head.ensures ∙ at_f.given.1) (sym x ∙ at_g.given.1) r), (omega (arith, r.stand.filled), omega (arith, t.set.inside, r.stand.within, r.stand.inside, length-drop at_f.given.0.0.begin at-args.s.now)))
+    let t = head-told at-args.s.now at-args.set.now at-find-head.result (at_pre) at-find-head.ensures at_f.given.1 in let x = at-find-record.ensures ∙ ap (λ (y : Bytes). record_place (places_of y) at-args.row) (rest at-args.s.now at_f.given.0.0.begin) in let r = record-told (drop at_f.given.0.0.begin at-args.s.now) at-args.row at-find-record.result t.set.readable x at_g.given.1 in (sym (view-found at-args.s.now at-args.set.now at-args.row at_f.given.0.0 t at_g.given.0.0 (at_pre) (sym at-find-head.ensures ∙ at_f.given.1) (sym x ∙ at_g.given.1) r), (omega (arith, r.stand.filled), omega (arith, t.set.inside, r.stand.within, r.stand.inside, length-drop at_f.given.0.0.begin at-args.s.now)))
 
 pub view-in-spec : {M : Type 1} → statement M
 view-in-spec =

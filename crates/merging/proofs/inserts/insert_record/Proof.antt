@@ -7,10 +7,10 @@ use lib.ListN.{length, take}
 use lib.Seq.{length-take-le}
 use Rattle.format.specs.Bytes.{is_some}
 use Rattle.format.proofs.Elements.{Filled}
-use Rattle.records.specs.Walk.{recordIn}
+use Rattle.records.specs.Walk.{record_in}
 use Rattle.records.specs.declared.FoundHead.{FoundHead}
 use Rattle.records.proofs.Members.{head-told}
-use Rattle.requests.specs.Pairs.{pairsFrom, list_of}
+use Rattle.requests.specs.Pairs.{pairs_from, list_of}
 use Rattle.merging.specs.Merging.{pair_of}
 use Rattle.merging.proofs.Requesting.{pairs-length, pairs-read, pairs-over, request-length}
 use Rattle.merging.proofs.Placing.{set-stands, skipped-set, inserted-placed, inserted-long, filled-pairs}
@@ -109,7 +109,7 @@ returns-2 c =
     let at-find-head = c.before.before.before.before.before.before.before.before.find-Head in
     let at-is-skipped = c.before.is-skipped in
     let at-if1 = c.if1 in
-    (skipped-set (take at-args.used at-args.text.now) at-args.set.now at-set-behind.result (set-stands (take at-args.used at-args.text.now) at_pre.0.0 at_f.given.0.0 at-args.set.now (sym at-find-head.ensures ∙ at_f.given.1) at-set-behind.result at-set-behind.ensures) (map pair_of (recordIn at-args.own.now)) ∙ sym at-is-skipped.ensures ∙ at-if1.true, refl)
+    (skipped-set (take at-args.used at-args.text.now) at-args.set.now at-set-behind.result (set-stands (take at-args.used at-args.text.now) at_pre.0.0 at_f.given.0.0 at-args.set.now (sym at-find-head.ensures ∙ at_f.given.1) at-set-behind.result at-set-behind.ensures) (map pair_of (record_in at-args.own.now)) ∙ sym at-is-skipped.ensures ∙ at-if1.true, refl)
 
 put-pairs-requires : tie.Need-put-pairs-requires
 put-pairs-requires c κs =
@@ -136,7 +136,7 @@ returns-3 c =
     let at-if1 = c.before.before.before.before.before.before.before.before.if1 in
     let at-put-pairs = c.before.before.before.before.before.put-pairs in
     let at-if2 = c.if2 in
-    inserted-long at-args.text.now at-args.used at-args.room at-args.set.now (map pair_of (recordIn at-args.own.now)) (skipped-set (take at-args.used at-args.text.now) at-args.set.now at-set-behind.result (set-stands (take at-args.used at-args.text.now) at_pre.0.0 at_f.given.0.0 at-args.set.now (sym at-find-head.ensures ∙ at_f.given.1) at-set-behind.result at-set-behind.ensures) (map pair_of (recordIn at-args.own.now)) ∙ sym at-is-skipped.ensures ∙ at-if1.false) (omega (arith, request-length at-args.set.now at-args.own.now, pairs-over at-args.own.now at-args.request.now at-put-pairs.new.1.1.0 at-put-pairs.result at_pre.1.1.1 at-put-pairs.ensures (omega (arith, at-if2.true))))
+    inserted-long at-args.text.now at-args.used at-args.room at-args.set.now (map pair_of (record_in at-args.own.now)) (skipped-set (take at-args.used at-args.text.now) at-args.set.now at-set-behind.result (set-stands (take at-args.used at-args.text.now) at_pre.0.0 at_f.given.0.0 at-args.set.now (sym at-find-head.ensures ∙ at_f.given.1) at-set-behind.result at-set-behind.ensures) (map pair_of (record_in at-args.own.now)) ∙ sym at-is-skipped.ensures ∙ at-if1.false) (omega (arith, request-length at-args.set.now at-args.own.now, pairs-over at-args.own.now at-args.request.now at-put-pairs.new.1.1.0 at-put-pairs.result at_pre.1.1.1 at-put-pairs.ensures (omega (arith, at-if2.true))))
 
 add-if3 : tie.Need-overflow-add-if3
 add-if3 c =
@@ -170,7 +170,7 @@ returns-4 c =
     let at-put-pairs = c.before.before.before.before.before.before.put-pairs in
     let at-if2 = c.before.if2 in
     let at-if3 = c.if3 in
-    inserted-long at-args.text.now at-args.used at-args.room at-args.set.now (map pair_of (recordIn at-args.own.now)) (skipped-set (take at-args.used at-args.text.now) at-args.set.now at-set-behind.result (set-stands (take at-args.used at-args.text.now) at_pre.0.0 at_f.given.0.0 at-args.set.now (sym at-find-head.ensures ∙ at_f.given.1) at-set-behind.result at-set-behind.ensures) (map pair_of (recordIn at-args.own.now)) ∙ sym at-is-skipped.ensures ∙ at-if1.false) (omega (arith, request-length at-args.set.now at-args.own.now, pairs-length at-args.own.now at-args.request.now at-put-pairs.new.1.1.0 at-put-pairs.result at_pre.1.1.1 at-put-pairs.ensures (omega (arith, at-if2.false)), at-if3.true))
+    inserted-long at-args.text.now at-args.used at-args.room at-args.set.now (map pair_of (record_in at-args.own.now)) (skipped-set (take at-args.used at-args.text.now) at-args.set.now at-set-behind.result (set-stands (take at-args.used at-args.text.now) at_pre.0.0 at_f.given.0.0 at-args.set.now (sym at-find-head.ensures ∙ at_f.given.1) at-set-behind.result at-set-behind.ensures) (map pair_of (record_in at-args.own.now)) ∙ sym at-is-skipped.ensures ∙ at-if1.false) (omega (arith, request-length at-args.set.now at-args.own.now, pairs-length at-args.own.now at-args.request.now at-put-pairs.new.1.1.0 at-put-pairs.result at_pre.1.1.1 at-put-pairs.ensures (omega (arith, at-if2.false)), at-if3.true))
 
 slice-reshare-prefix-place : tie.Need-slice-reshare-prefix-place
 slice-reshare-prefix-place c =
@@ -197,7 +197,7 @@ place-requires c κs =
     let at-if2 = c.before.before.before.before.if2 in
     let at-put-pairs = c.before.before.before.before.before.before.before.before.before.put-pairs in
     let at-request = c.before.before.before.before.before.before.request in
-    ((at_pre.0.0, at_pre.0.1, at_pre.0.2, (at-args.set.now, (at_f.given.0.0, ((sym at-find-head.ensures ∙ at_f.given.1), at-set-behind.ensures)))), (omega (arith, at-if2.false, length-take-le at-put-pairs.result at-put-pairs.new.1.1.0 (omega (arith, at-if2.false, at-request.given, at_pre.1.1.1))), ap is_some (pairs-read at-args.own.now at-args.request.now at-put-pairs.new.1.1.0 at-put-pairs.result at_pre.1.1.1 at-put-pairs.ensures (omega (arith, at-if2.false))), subst Filled (sym (ap list_of (pairs-read at-args.own.now at-args.request.now at-put-pairs.new.1.1.0 at-put-pairs.result at_pre.1.1.1 at-put-pairs.ensures (omega (arith, at-if2.false))))) (filled-pairs (recordIn at-args.own.now) at_pre.1.0.2), at_pre.1.1.2))
+    ((at_pre.0.0, at_pre.0.1, at_pre.0.2, (at-args.set.now, (at_f.given.0.0, ((sym at-find-head.ensures ∙ at_f.given.1), at-set-behind.ensures)))), (omega (arith, at-if2.false, length-take-le at-put-pairs.result at-put-pairs.new.1.1.0 (omega (arith, at-if2.false, at-request.given, at_pre.1.1.1))), ap is_some (pairs-read at-args.own.now at-args.request.now at-put-pairs.new.1.1.0 at-put-pairs.result at_pre.1.1.1 at-put-pairs.ensures (omega (arith, at-if2.false))), subst Filled (sym (ap list_of (pairs-read at-args.own.now at-args.request.now at-put-pairs.new.1.1.0 at-put-pairs.result at_pre.1.1.1 at-put-pairs.ensures (omega (arith, at-if2.false))))) (filled-pairs (record_in at-args.own.now) at_pre.1.0.2), at_pre.1.1.2))
 
 same-length-9 : tie.Need-same-length-9
 same-length-9 c = search rules
@@ -224,7 +224,7 @@ returns-5 c =
     let at-if1 = c.before.before.before.before.before.before.before.before.before.before.before.before.before.before.before.before.before.if1 in
     let at-if2 = c.before.before.before.before.before.before.before.before.before.if2 in
     let at-if3 = c.before.before.before.before.before.before.before.before.if3 in
-    inserted-placed at-args.text.now at-args.used at-args.room at-args.set.now (map pair_of (recordIn at-args.own.now)) (list_of (pairsFrom (take at-put-pairs.result at-put-pairs.new.1.1.0) 0)) at_place.new.0 at_place.result (skipped-set (take at-args.used at-args.text.now) at-args.set.now at-set-behind.result (set-stands (take at-args.used at-args.text.now) at_pre.0.0 at_f.given.0.0 at-args.set.now (sym at-find-head.ensures ∙ at_f.given.1) at-set-behind.result at-set-behind.ensures) (map pair_of (recordIn at-args.own.now)) ∙ sym at-is-skipped.ensures ∙ at-if1.false) (omega (arith, request-length at-args.set.now at-args.own.now, pairs-length at-args.own.now at-args.request.now at-put-pairs.new.1.1.0 at-put-pairs.result at_pre.1.1.1 at-put-pairs.ensures (omega (arith, at-if2.false)), at-if3.false)) (ap list_of (pairs-read at-args.own.now at-args.request.now at-put-pairs.new.1.1.0 at-put-pairs.result at_pre.1.1.1 at-put-pairs.ensures (omega (arith, at-if2.false)))) (at_place.ensures at-args.set.now at_f.given.0.0 (sym at-find-head.ensures ∙ at_f.given.1) at-set-behind.ensures)
+    inserted-placed at-args.text.now at-args.used at-args.room at-args.set.now (map pair_of (record_in at-args.own.now)) (list_of (pairs_from (take at-put-pairs.result at-put-pairs.new.1.1.0) 0)) at_place.new.0 at_place.result (skipped-set (take at-args.used at-args.text.now) at-args.set.now at-set-behind.result (set-stands (take at-args.used at-args.text.now) at_pre.0.0 at_f.given.0.0 at-args.set.now (sym at-find-head.ensures ∙ at_f.given.1) at-set-behind.result at-set-behind.ensures) (map pair_of (record_in at-args.own.now)) ∙ sym at-is-skipped.ensures ∙ at-if1.false) (omega (arith, request-length at-args.set.now at-args.own.now, pairs-length at-args.own.now at-args.request.now at-put-pairs.new.1.1.0 at-put-pairs.result at_pre.1.1.1 at-put-pairs.ensures (omega (arith, at-if2.false)), at-if3.false)) (ap list_of (pairs-read at-args.own.now at-args.request.now at-put-pairs.new.1.1.0 at-put-pairs.result at_pre.1.1.1 at-put-pairs.ensures (omega (arith, at-if2.false)))) (at_place.ensures at-args.set.now at_f.given.0.0 (sym at-find-head.ensures ∙ at_f.given.1) at-set-behind.ensures)
 
 pub insert-record-spec : {M : Type 1} → statement M
 insert-record-spec =

@@ -7,8 +7,8 @@ use Rattle.format.specs.Bytes.{any}
 use Rattle.format.specs.Pieces.{read_of}
 use Rattle.format.proofs.Records.{records}
 use Rattle.words.specs.Spans.{span}
-use Rattle.records.specs.Walk.{recordIn}
-use Rattle.merging.specs.Merging.{pair_of, isTwin}
+use Rattle.records.specs.Walk.{record_in}
+use Rattle.merging.specs.Merging.{pair_of, is_twin}
 use Rattle.merging.proofs.Placing.{set-stands, set-described, key-found}
 use borrow.Author.Rules.{rules}
 use Rattle.merging.proofs.inserts.is_skipped.Statement.{statement}
@@ -57,7 +57,7 @@ returns c =
     let at_pre = c.before.before.before.before.before.before.before.requires in
     let at-next-named = c.before.before.next-named in
     let at-enum-told2 = c.enum-told2 in
-    sym (ap (λ (b : Bool). b && any (isTwin (map pair_of (recordIn at-args.own.now))) (records (read_of (span at-args.p.begin at-args.p.after at-args.s.now)))) (key-found (span at-args.p.start at-args.p.end at-args.s.now) (set-described at-args.s.now at_pre.0 at_pre.1.1.0 at_pre.1.0 at_pre.1.1.1.0 at-args.p at_pre.1.1.1.1) at-next-named.result at-next-named.ensures at-enum-told2.given.1))
+    sym (ap (λ (b : Bool). b && any (is_twin (map pair_of (record_in at-args.own.now))) (records (read_of (span at-args.p.begin at-args.p.after at-args.s.now)))) (key-found (span at-args.p.start at-args.p.end at-args.s.now) (set-described at-args.s.now at_pre.0 at_pre.1.1.0 at_pre.1.0 at_pre.1.1.1.0 at-args.p at_pre.1.1.1.1) at-next-named.result at-next-named.ensures at-enum-told2.given.1))
 
 sub-is-among : tie.Need-overflow-sub-is-among
 sub-is-among c =
@@ -90,7 +90,7 @@ returns-2 c =
     let at_pre = c.before.before.before.before.before.before.before.before.before.requires in
     let at-next-named = c.before.before.before.before.next-named in
     let at-enum-told = c.before.before.enum_told in
-    at-is-among.ensures ∙ sym (ap (λ (b : Bool). b && any (isTwin (map pair_of (recordIn at-args.own.now))) (records (read_of (span at-args.p.begin at-args.p.after at-args.s.now)))) (key-found (span at-args.p.start at-args.p.end at-args.s.now) (set-described at-args.s.now at_pre.0 at_pre.1.1.0 at_pre.1.0 at_pre.1.1.1.0 at-args.p at_pre.1.1.1.1) at-next-named.result at-next-named.ensures at-enum-told.given.1))
+    at-is-among.ensures ∙ sym (ap (λ (b : Bool). b && any (is_twin (map pair_of (record_in at-args.own.now))) (records (read_of (span at-args.p.begin at-args.p.after at-args.s.now)))) (key-found (span at-args.p.start at-args.p.end at-args.s.now) (set-described at-args.s.now at_pre.0 at_pre.1.1.0 at_pre.1.0 at_pre.1.1.1.0 at-args.p at_pre.1.1.1.1) at-next-named.result at-next-named.ensures at-enum-told.given.1))
 
 pub is-skipped-spec : {M : Type 1} → statement M
 is-skipped-spec =

@@ -8,16 +8,16 @@ use lib.ListN.{length, take, drop, length-take, length-drop}
 use lib.Seq.{length-take-le}
 use borrow.Author.Tests.{leb-true}
 use Rattle.format.specs.Bytes.{Bytes, all}
-use Rattle.format.specs.Limits.{valueBytes}
+use Rattle.format.specs.Limits.{value_bytes}
 use Rattle.format.specs.Calls.{Built, built}
-use Rattle.values.specs.Value.{valueFrom}
+use Rattle.values.specs.Value.{value_from}
 use Rattle.words.specs.Spans.{span}
-use Rattle.records.specs.Places.{isReadable}
-use Rattle.records.specs.Walk.{recordIn}
+use Rattle.records.specs.Places.{is_readable}
+use Rattle.records.specs.Walk.{record_in}
 use Rattle.records.proofs.Readings.{part-readable}
-use Rattle.merging.specs.Texts.{fitsValue}
+use Rattle.merging.specs.Texts.{fits_value}
 use Rattle.merging.proofs.Twinning.{field_told}
-use Rattle.merging.proofs.Requesting.{pairsIn, pairs_end, pairs-on, value-fits, values-behind, copied, over-least}
+use Rattle.merging.proofs.Requesting.{pairs_in, pairs_end, pairs-on, value-fits, values-behind, copied, over-least}
 use Rattle.merging.proofs.inserts.put_pairs.Statement.{statement}
 use Rattle.merging.proofs.inserts.put_pairs.Tie as tie
 use Rattle.merging.proofs.inserts.put_pairs.Reads as reads
@@ -27,7 +27,7 @@ use Rattle.requests.proofs.put_field.Reads as put-field-reads
 use Rattle.values.proofs.copy_value.Reads as copy-value-reads
 
 abbrev invariant-loop : tie.invariant-loop
-invariant-loop own scratch₀ out₀ rest₀ at₀ scratch out rest at = (isReadable rest ≡ true) × (all fitsValue (recordIn rest) ≡ true) × (length scratch ≡ length scratch₀) × (length out ≡ length out₀) × (built (pairsIn own) (record { next = 0; out = out₀ }) ≡ built (pairsIn rest) (record { next = at; out = out }))
+invariant-loop own scratch₀ out₀ rest₀ at₀ scratch out rest at = (is_readable rest ≡ true) × (all fits_value (record_in rest) ≡ true) × (length scratch ≡ length scratch₀) × (length out ≡ length out₀) × (built (pairs_in own) (record { next = 0; out = out₀ }) ≡ built (pairs_in rest) (record { next = at; out = out }))
 
 abbrev decreases-loop : tie.decreases-loop
 decreases-loop own scratch₀ out₀ rest₀ at₀ scratch out rest at = length rest
@@ -110,21 +110,21 @@ copy-value-requires c κs =
     let at-next-field = c.before.before.before.before.before.before.before.before.before.before.next_field in
     let at_f = c.before.before.before.before.before.before.before.before.f in
     let at_pre = c.before.before.before.before.before.before.before.before.before.before.before.before.before.before.before.requires in
-    let h = field_told at-loop.rest.now at-next-field.result at-next-field.ensures at_f.given.1 in omega (arith, leb-true (length (valueFrom (span at_f.given.0.1.1.0 at_f.given.0.1.1.1.0 at-loop.rest.now))) valueBytes (value-fits at-loop.rest.now at_f.given.0.0 at_f.given.0.1.0 at_f.given.0.1.1.0 at_f.given.0.1.1.1.0 h at-loop.invariant.1), at-loop.invariant.2, at_pre.1)
+    let h = field_told at-loop.rest.now at-next-field.result at-next-field.ensures at_f.given.1 in omega (arith, leb-true (length (value_from (span at_f.given.0.1.1.0 at_f.given.0.1.1.1.0 at-loop.rest.now))) value_bytes (value-fits at-loop.rest.now at_f.given.0.0 at_f.given.0.1.0 at_f.given.0.1.1.0 at_f.given.0.1.1.1.0 h at-loop.invariant.1), at-loop.invariant.2, at_pre.1)
 
 slice-reshare-prefix-put-field : tie.Need-slice-reshare-prefix-put-field invariant-loop decreases-loop
 slice-reshare-prefix-put-field c =
     let at_f = c.before.before.before.before.before.before.before.before.before.before.before.before.f in
     let at-loop = c.before.before.before.before.before.before.before.before.before.before.before.before.before.before.before.loop in
     let at-copy-value = c.before.before.before.copy-value in
-    over-least (valueFrom (span at_f.given.0.1.1.0 at_f.given.0.1.1.1.0 at-loop.rest.now)) at-loop.scratch at-copy-value.new.1.0 at-copy-value.result at-copy-value.ensures.0 at-copy-value.ensures.1
+    over-least (value_from (span at_f.given.0.1.1.0 at_f.given.0.1.1.1.0 at-loop.rest.now)) at-loop.scratch at-copy-value.new.1.0 at-copy-value.result at-copy-value.ensures.0 at-copy-value.ensures.1
 
 slice-aggregate-put-field : tie.Need-slice-aggregate-put-field invariant-loop decreases-loop
 slice-aggregate-put-field c =
     let at-copy-value = c.before.before.before.before.copy-value in
     let at_f = c.before.before.before.before.before.before.before.before.before.before.before.before.before.f in
     let at-loop = c.before.before.before.before.before.before.before.before.before.before.before.before.before.before.before.before.loop in
-    sym (length-take-le at-copy-value.result at-copy-value.new.1.0 (over-least (valueFrom (span at_f.given.0.1.1.0 at_f.given.0.1.1.1.0 at-loop.rest.now)) at-loop.scratch at-copy-value.new.1.0 at-copy-value.result at-copy-value.ensures.0 at-copy-value.ensures.1))
+    sym (length-take-le at-copy-value.result at-copy-value.new.1.0 (over-least (value_from (span at_f.given.0.1.1.0 at_f.given.0.1.1.1.0 at-loop.rest.now)) at-loop.scratch at-copy-value.new.1.0 at-copy-value.result at-copy-value.ensures.0 at-copy-value.ensures.1))
 
 put-field-requires-2 : tie.Need-put-field-requires-2 invariant-loop decreases-loop
 put-field-requires-2 c κs = search rules
@@ -168,7 +168,7 @@ loop-again c =
     let at-put-field = c.before.before.before.before.before.before.before.before.before.before.before.before.before.put-field in
     let at-put-field2 = c.before.before.before.put-field2 in
     let at-copy-value = c.before.before.before.before.before.before.before.before.copy-value in
-    let h = field_told at-loop.rest.now at-next-field.result at-next-field.ensures at_f.given.1 in (part-readable at-loop.rest.now at_f.given.0.1.1.1.0 h.readable, values-behind at-loop.rest.now at_f.given.0.0 at_f.given.0.1.0 at_f.given.0.1.1.0 at_f.given.0.1.1.1.0 h at-loop.invariant.1, omega (arith, at-scratch.given, at-loop.invariant.2), omega (arith, at_out.given, at-out2.given, at-loop.invariant.3), at-loop.invariant.4 ∙ pairs-on at-loop.rest.now at-loop.out at-put-field.new.0 at-put-field2.new.0 at-loop.at at-put-field.result at-put-field2.result at_f.given.0.0 at_f.given.0.1.0 at_f.given.0.1.1.0 at_f.given.0.1.1.1.0 (take at-copy-value.result at-copy-value.new.1.0) h at-put-field.ensures (copied (valueFrom (span at_f.given.0.1.1.0 at_f.given.0.1.1.1.0 at-loop.rest.now)) at-loop.scratch at-copy-value.new.1.0 at-copy-value.result at-copy-value.ensures.0 at-copy-value.ensures.1) at-put-field2.ensures)
+    let h = field_told at-loop.rest.now at-next-field.result at-next-field.ensures at_f.given.1 in (part-readable at-loop.rest.now at_f.given.0.1.1.1.0 h.readable, values-behind at-loop.rest.now at_f.given.0.0 at_f.given.0.1.0 at_f.given.0.1.1.0 at_f.given.0.1.1.1.0 h at-loop.invariant.1, omega (arith, at-scratch.given, at-loop.invariant.2), omega (arith, at_out.given, at-out2.given, at-loop.invariant.3), at-loop.invariant.4 ∙ pairs-on at-loop.rest.now at-loop.out at-put-field.new.0 at-put-field2.new.0 at-loop.at at-put-field.result at-put-field2.result at_f.given.0.0 at_f.given.0.1.0 at_f.given.0.1.1.0 at_f.given.0.1.1.1.0 (take at-copy-value.result at-copy-value.new.1.0) h at-put-field.ensures (copied (value_from (span at_f.given.0.1.1.0 at_f.given.0.1.1.1.0 at-loop.rest.now)) at-loop.scratch at-copy-value.new.1.0 at-copy-value.result at-copy-value.ensures.0 at-copy-value.ensures.1) at-put-field2.ensures)
 
 pub put-pairs-spec : {M : Type 1} → statement M
 put-pairs-spec =

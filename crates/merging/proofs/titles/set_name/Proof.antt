@@ -5,7 +5,7 @@ use mathlib.Core.Path.{sym, ap, ◌∙◌}
 use lib.ListN.{length, take, drop}
 use Rattle.format.specs.Bytes.{Bytes, text}
 use Rattle.format.specs.Calls.{over}
-use Rattle.records.specs.Walk.{recordIn}
+use Rattle.records.specs.Walk.{record_in}
 use Rattle.records.proofs.Fields.{field_told}
 use Rattle.merging.proofs.HeadNames.{head-there, head-word, word_fits}
 use borrow.Author.Rules.{rules}
@@ -38,7 +38,7 @@ returns c =
     let at_pre = c.before.before.before.before.before.before.requires in
     let at-find-field = c.before.before.find-field in
     let at-enum-told = c.enum_told in
-    absurd (head-there (recordIn at-args.d.now) at_pre.1 (field_told (text "%rec") at-args.d.now 0 at-find-field.result at_pre.0 at-find-field.ensures at-enum-told.given.1))
+    absurd (head-there (record_in at-args.d.now) at_pre.1 (field_told (text "%rec") at-args.d.now 0 at-find-field.result at_pre.0 at-find-field.ensures at-enum-told.given.1))
 
 sub-word-start : tie.Need-overflow-sub-word-start
 sub-word-start c =

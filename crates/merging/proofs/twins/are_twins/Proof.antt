@@ -6,10 +6,10 @@ use mathlib.Core.Path.{◌≡◌, refl, sym, ◌∙◌}
 use mathlib.Core.Bool.{true}
 use lib.ListN.{length, drop, length-take, length-drop}
 use borrow.Author.Tests.{not-true, not-false}
-use Rattle.records.specs.Places.{isReadable}
-use Rattle.records.specs.Fields.{fieldsFrom, fieldBetween}
+use Rattle.records.specs.Places.{is_readable}
+use Rattle.records.specs.Fields.{fields_from, field_between}
 use Rattle.records.proofs.Readings.{part-readable}
-use Rattle.merging.proofs.Twinning.{twinsFrom, twins-end, twins-short, twins-names, twins-values, field_told, twins-again}
+use Rattle.merging.proofs.Twinning.{twins_from, twins-end, twins-short, twins-names, twins-values, field_told, twins-again}
 use Rattle.merging.proofs.twins.are_twins.Statement.{statement}
 use Rattle.merging.proofs.twins.are_twins.Tie as tie
 use Rattle.merging.proofs.twins.are_twins.Reads as reads
@@ -20,7 +20,7 @@ use Rattle.records.proofs.next_field.Reads as next-field-reads
 use Rattle.values.proofs.are_equal.Reads as are-equal-reads
 
 abbrev invariant-loop : tie.invariant-loop
-invariant-loop a b p₀ q₀ p q = (isReadable p ≡ true) × (isReadable q ≡ true) × (twinsFrom a 0 b 0 ≡ twinsFrom p 0 q 0)
+invariant-loop a b p₀ q₀ p q = (is_readable p ≡ true) × (is_readable q ≡ true) × (twins_from a 0 b 0 ≡ twins_from p 0 q 0)
 
 abbrev decreases-loop : tie.decreases-loop
 decreases-loop a b p₀ q₀ p q = length p
@@ -65,7 +65,7 @@ returns-2 c =
     let at_x = c.before.before.before.x in
     let at-next-field2 = c.before.before.before.before.before.next-field2 in
     let at-enum-told2 = c.enum-told2 in
-    let h = field_told at-loop.p.now at-next-field.result at-next-field.ensures at_x.given.1 in twins-short at-loop.p.now 0 at-loop.q.now 0 (fieldBetween at-loop.p.now at_x.given.0.0 at_x.given.0.1.0 at_x.given.0.1.1.0 at_x.given.0.1.1.1.0) (fieldsFrom at-loop.p.now at_x.given.0.1.1.1.0) h.fields (field_told at-loop.q.now at-next-field2.result at-next-field2.ensures at-enum-told2.given.1) ∙ sym at-loop.invariant.2
+    let h = field_told at-loop.p.now at-next-field.result at-next-field.ensures at_x.given.1 in twins-short at-loop.p.now 0 at-loop.q.now 0 (field_between at-loop.p.now at_x.given.0.0 at_x.given.0.1.0 at_x.given.0.1.1.0 at_x.given.0.1.1.1.0) (fields_from at-loop.p.now at_x.given.0.1.1.1.0) h.fields (field_told at-loop.q.now at-next-field2.result at-next-field2.ensures at-enum-told2.given.1) ∙ sym at-loop.invariant.2
 
 sub-same-bytes : tie.Need-overflow-sub-same-bytes invariant-loop decreases-loop
 sub-same-bytes c =
@@ -121,7 +121,7 @@ returns-3 c =
     let at_y = c.before.before.before.before.before.y in
     let at-same-bytes = c.before.same_bytes in
     let at-if1 = c.if1 in
-    let h = field_told at-loop.p.now at-next-field.result at-next-field.ensures at_x.given.1 in let k = field_told at-loop.q.now at-next-field2.result at-next-field2.ensures at_y.given.1 in twins-names at-loop.p.now 0 at-loop.q.now 0 (fieldBetween at-loop.p.now at_x.given.0.0 at_x.given.0.1.0 at_x.given.0.1.1.0 at_x.given.0.1.1.1.0) (fieldBetween at-loop.q.now at_y.given.0.0 at_y.given.0.1.0 at_y.given.0.1.1.0 at_y.given.0.1.1.1.0) (fieldsFrom at-loop.p.now at_x.given.0.1.1.1.0) (fieldsFrom at-loop.q.now at_y.given.0.1.1.1.0) h.fields k.fields (sym at-same-bytes.ensures ∙ not-true at-same-bytes.result at-if1.true) ∙ sym at-loop.invariant.2
+    let h = field_told at-loop.p.now at-next-field.result at-next-field.ensures at_x.given.1 in let k = field_told at-loop.q.now at-next-field2.result at-next-field2.ensures at_y.given.1 in twins-names at-loop.p.now 0 at-loop.q.now 0 (field_between at-loop.p.now at_x.given.0.0 at_x.given.0.1.0 at_x.given.0.1.1.0 at_x.given.0.1.1.1.0) (field_between at-loop.q.now at_y.given.0.0 at_y.given.0.1.0 at_y.given.0.1.1.0 at_y.given.0.1.1.1.0) (fields_from at-loop.p.now at_x.given.0.1.1.1.0) (fields_from at-loop.q.now at_y.given.0.1.1.1.0) h.fields k.fields (sym at-same-bytes.ensures ∙ not-true at-same-bytes.result at-if1.true) ∙ sym at-loop.invariant.2
 
 sub-are-equal : tie.Need-overflow-sub-are-equal invariant-loop decreases-loop
 sub-are-equal c =
@@ -179,7 +179,7 @@ returns-4 c =
     let at-if1 = c.before.before.before.before.if1 in
     let at-are-equal = c.before.are-equal in
     let at-if2 = c.if2 in
-    let h = field_told at-loop.p.now at-next-field.result at-next-field.ensures at_x.given.1 in let k = field_told at-loop.q.now at-next-field2.result at-next-field2.ensures at_y.given.1 in twins-values at-loop.p.now 0 at-loop.q.now 0 (fieldBetween at-loop.p.now at_x.given.0.0 at_x.given.0.1.0 at_x.given.0.1.1.0 at_x.given.0.1.1.1.0) (fieldBetween at-loop.q.now at_y.given.0.0 at_y.given.0.1.0 at_y.given.0.1.1.0 at_y.given.0.1.1.1.0) (fieldsFrom at-loop.p.now at_x.given.0.1.1.1.0) (fieldsFrom at-loop.q.now at_y.given.0.1.1.1.0) h.fields k.fields (sym at-same-bytes.ensures ∙ not-false at-same-bytes.result at-if1.false) (sym at-are-equal.ensures ∙ not-true at-are-equal.result at-if2.true) ∙ sym at-loop.invariant.2
+    let h = field_told at-loop.p.now at-next-field.result at-next-field.ensures at_x.given.1 in let k = field_told at-loop.q.now at-next-field2.result at-next-field2.ensures at_y.given.1 in twins-values at-loop.p.now 0 at-loop.q.now 0 (field_between at-loop.p.now at_x.given.0.0 at_x.given.0.1.0 at_x.given.0.1.1.0 at_x.given.0.1.1.1.0) (field_between at-loop.q.now at_y.given.0.0 at_y.given.0.1.0 at_y.given.0.1.1.0 at_y.given.0.1.1.1.0) (fields_from at-loop.p.now at_x.given.0.1.1.1.0) (fields_from at-loop.q.now at_y.given.0.1.1.1.0) h.fields k.fields (sym at-same-bytes.ensures ∙ not-false at-same-bytes.result at-if1.false) (sym at-are-equal.ensures ∙ not-true at-are-equal.result at-if2.true) ∙ sym at-loop.invariant.2
 
 sub-p : tie.Need-overflow-sub-p invariant-loop decreases-loop
 sub-p c =

@@ -11,10 +11,10 @@ use Rattle.lines.proofs.Cuts.{rest}
 use Rattle.words.specs.Spans.{span}
 use Rattle.format.specs.Pieces.{read_of}
 use Rattle.format.proofs.Records.{records}
-use Rattle.records.specs.Places.{isReadable}
-use Rattle.records.specs.Walk.{recordIn}
+use Rattle.records.specs.Places.{is_readable}
+use Rattle.records.specs.Walk.{record_in}
 use Rattle.records.proofs.Readings.{part-readable}
-use Rattle.merging.specs.Merging.{pair_of, isTwin}
+use Rattle.merging.specs.Merging.{pair_of, is_twin}
 use Rattle.merging.proofs.Walked.{first-none, first-record}
 use Rattle.merging.proofs.Twinning.{any_here, any-later}
 use Rattle.merging.proofs.twins.is_among.Statement.{statement}
@@ -25,7 +25,7 @@ use Rattle.merging.proofs.twins.are_twins.Reads as are-twins-reads
 use Rattle.records.proofs.next_record.Reads as next-record-reads
 
 abbrev invariant-loop : tie.invariant-loop
-invariant-loop own part rest₀ rest = (isReadable rest ≡ true) × (any (isTwin (map pair_of (recordIn own))) (records (read_of part)) ≡ any (isTwin (map pair_of (recordIn own))) (records (read_of rest)))
+invariant-loop own part rest₀ rest = (is_readable rest ≡ true) × (any (is_twin (map pair_of (record_in own))) (records (read_of part)) ≡ any (is_twin (map pair_of (record_in own))) (records (read_of rest)))
 
 abbrev decreases-loop : tie.decreases-loop
 decreases-loop own part rest₀ rest = length rest
@@ -48,7 +48,7 @@ returns c =
     let at-args = c.before.before.before.before.before.before.args in
     let at-next-record = c.before.before.next-record in
     let at-enum-told = c.enum_told in
-    sym (at-loop.invariant.1 ∙ ap (any (isTwin (map pair_of (recordIn at-args.own.now)))) (first-none at-loop.rest.now at-loop.invariant.0 at-next-record.result at-next-record.ensures at-enum-told.given.1))
+    sym (at-loop.invariant.1 ∙ ap (any (is_twin (map pair_of (record_in at-args.own.now)))) (first-none at-loop.rest.now at-loop.invariant.0 at-next-record.result at-next-record.ensures at-enum-told.given.1))
 
 sub-are-twins : tie.Need-overflow-sub-are-twins invariant-loop decreases-loop
 sub-are-twins c =
@@ -87,7 +87,7 @@ returns-2 c =
     let at-args = c.before.before.before.before.before.before.before.before.before.before.args in
     let at-are-twins = c.before.are-twins in
     let at-if1 = c.if1 in
-    let m = first-record at-loop.rest.now at-loop.invariant.0 at-next-record.result at-r.given.0.0 at-next-record.ensures at-r.given.1 in any_here (isTwin (map pair_of (recordIn at-args.own.now))) (records (read_of at-loop.rest.now)) (recordIn (span at-r.given.0.0.start at-r.given.0.0.end at-loop.rest.now)) (records (read_of (drop at-r.given.0.0.after at-loop.rest.now))) m.cut (sym at-are-twins.ensures ∙ at-if1.true) ∙ sym at-loop.invariant.1
+    let m = first-record at-loop.rest.now at-loop.invariant.0 at-next-record.result at-r.given.0.0 at-next-record.ensures at-r.given.1 in any_here (is_twin (map pair_of (record_in at-args.own.now))) (records (read_of at-loop.rest.now)) (record_in (span at-r.given.0.0.start at-r.given.0.0.end at-loop.rest.now)) (records (read_of (drop at-r.given.0.0.after at-loop.rest.now))) m.cut (sym at-are-twins.ensures ∙ at-if1.true) ∙ sym at-loop.invariant.1
 
 sub-rest : tie.Need-overflow-sub-rest invariant-loop decreases-loop
 sub-rest c =
@@ -125,7 +125,7 @@ loop-again c =
     let at-args = c.before.before.before.before.before.before.before.before.before.before.before.args in
     let at-are-twins = c.before.before.are-twins in
     let at-if1 = c.before.if1 in
-    let m = first-record at-loop.rest.now at-loop.invariant.0 at-next-record.result at-r.given.0.0 at-next-record.ensures at-r.given.1 in (part-readable at-loop.rest.now at-r.given.0.0.after m.readable, at-loop.invariant.1 ∙ any-later (isTwin (map pair_of (recordIn at-args.own.now))) (records (read_of at-loop.rest.now)) (recordIn (span at-r.given.0.0.start at-r.given.0.0.end at-loop.rest.now)) (records (read_of (drop at-r.given.0.0.after at-loop.rest.now))) m.cut (sym at-are-twins.ensures ∙ at-if1.false) ∙ ap (λ (t : Bytes). any (isTwin (map pair_of (recordIn at-args.own.now))) (records (read_of t))) (sym (rest at-loop.rest.now at-r.given.0.0.after)))
+    let m = first-record at-loop.rest.now at-loop.invariant.0 at-next-record.result at-r.given.0.0 at-next-record.ensures at-r.given.1 in (part-readable at-loop.rest.now at-r.given.0.0.after m.readable, at-loop.invariant.1 ∙ any-later (is_twin (map pair_of (record_in at-args.own.now))) (records (read_of at-loop.rest.now)) (record_in (span at-r.given.0.0.start at-r.given.0.0.end at-loop.rest.now)) (records (read_of (drop at-r.given.0.0.after at-loop.rest.now))) m.cut (sym at-are-twins.ensures ∙ at-if1.false) ∙ ap (λ (t : Bytes). any (is_twin (map pair_of (record_in at-args.own.now))) (records (read_of t))) (sym (rest at-loop.rest.now at-r.given.0.0.after)))
 
 pub is-among-spec : {M : Type 1} → statement M
 is-among-spec =

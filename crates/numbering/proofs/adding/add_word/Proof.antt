@@ -3,8 +3,8 @@ use native.Mathlib.Omega.{arith}
 use mathlib.Core.Path.{sym, ◌∙◌}
 use lib.ListN.{get_or}
 use Rattle.format.specs.Rules.{auto}
-use Rattle.records.specs.Walk.{recordIn}
-use Rattle.numbering.specs.Adding.{pairBy}
+use Rattle.records.specs.Walk.{record_in}
+use Rattle.numbering.specs.Adding.{pair_by}
 use Rattle.numbering.proofs.Summing.{place_inside, pair-none, pair-some, sums-seen, sums_none, sums-more, small-floor, room_most, room-more}
 use borrow.Author.Rules.{rules}
 use Rattle.numbering.proofs.adding.add_word.Statement.{statement}
@@ -27,15 +27,15 @@ place-in-requires : tie.Need-place-in-requires
 place-in-requires c κs =
     let at-args = c.before.before.before.before.before.before.before.before.args in
     let at_pre = c.before.before.before.before.before.before.before.before.requires in
-    (auto (recordIn at-args.d.now), at_pre.0)
+    (auto (record_in at-args.d.now), at_pre.0)
 
 has-requires : tie.Need-has-requires
 has-requires c κs =
     let at-args = c.before.before.before.before.before.before.before.before.before.args in
     let at-place-in = c.IsPlace-in in
     let at_pre = c.before.before.before.before.before.before.before.before.before.requires in
-    let ws = auto (recordIn at-args.d.now) in
-    let f = pairBy ws at-args.bounds.floors at-args.bounds.limits in
+    let ws = auto (record_in at-args.d.now) in
+    let f = pair_by ws at-args.bounds.floors at-args.bounds.limits in
     let p = at-place-in.ensures ws at_pre.0 in
     let l = place_inside ws at-args.name.now at-place-in.result p at_pre.1.1.0.0 in
     omega (arith, l, at_pre.0.few)
@@ -47,8 +47,8 @@ returns c =
     let at_pre = c.before.before.before.before.before.before.before.before.before.before.before.requires in
     let at_has = c.before.has in
     let at-if1 = c.if1 in
-    let ws = auto (recordIn at-args.d.now) in
-    let f = pairBy ws at-args.bounds.floors at-args.bounds.limits in
+    let ws = auto (record_in at-args.d.now) in
+    let f = pair_by ws at-args.bounds.floors at-args.bounds.limits in
     let p = at-place-in.ensures ws at_pre.0 in
     let l = place_inside ws at-args.name.now at-place-in.result p at_pre.1.1.0.0 in
     λ s h. sums-seen ws f s at-args.out.now at-args.sum h at-args.name.now at_pre.1.1.0.0 at-place-in.result p (sym at_has.ensures ∙ at-if1.true)
@@ -58,8 +58,8 @@ mul-number c =
     let at-args = c.before.before.before.before.before.before.before.before.before.before.before.before.before.args in
     let at-place-in = c.before.before.before.before.IsPlace-in in
     let at_pre = c.before.before.before.before.before.before.before.before.before.before.before.before.before.requires in
-    let ws = auto (recordIn at-args.d.now) in
-    let f = pairBy ws at-args.bounds.floors at-args.bounds.limits in
+    let ws = auto (record_in at-args.d.now) in
+    let f = pair_by ws at-args.bounds.floors at-args.bounds.limits in
     let p = at-place-in.ensures ws at_pre.0 in
     let l = place_inside ws at-args.name.now at-place-in.result p at_pre.1.1.0.0 in
     omega (arith, l, at_pre.0.few)
@@ -69,8 +69,8 @@ array-read-number c =
     let at-args = c.before.before.before.before.before.before.before.before.before.before.before.before.before.args in
     let at-place-in = c.before.before.before.before.IsPlace-in in
     let at_pre = c.before.before.before.before.before.before.before.before.before.before.before.before.before.requires in
-    let ws = auto (recordIn at-args.d.now) in
-    let f = pairBy ws at-args.bounds.floors at-args.bounds.limits in
+    let ws = auto (record_in at-args.d.now) in
+    let f = pair_by ws at-args.bounds.floors at-args.bounds.limits in
     let p = at-place-in.ensures ws at_pre.0 in
     let l = place_inside ws at-args.name.now at-place-in.result p at_pre.1.1.0.0 in
     omega (arith, l, at_pre.0.few, at_pre.1.0.0)
@@ -80,8 +80,8 @@ mul-if2 c =
     let at-args = c.before.before.before.before.before.before.before.before.before.before.before.before.before.args in
     let at-place-in = c.before.before.before.before.IsPlace-in in
     let at_pre = c.before.before.before.before.before.before.before.before.before.before.before.before.before.requires in
-    let ws = auto (recordIn at-args.d.now) in
-    let f = pairBy ws at-args.bounds.floors at-args.bounds.limits in
+    let ws = auto (record_in at-args.d.now) in
+    let f = pair_by ws at-args.bounds.floors at-args.bounds.limits in
     let p = at-place-in.ensures ws at_pre.0 in
     let l = place_inside ws at-args.name.now at-place-in.result p at_pre.1.1.0.0 in
     omega (arith, l, at_pre.0.few)
@@ -91,8 +91,8 @@ array-read-if2 c =
     let at-args = c.before.before.before.before.before.before.before.before.before.before.before.before.before.args in
     let at-place-in = c.before.before.before.before.IsPlace-in in
     let at_pre = c.before.before.before.before.before.before.before.before.before.before.before.before.before.requires in
-    let ws = auto (recordIn at-args.d.now) in
-    let f = pairBy ws at-args.bounds.floors at-args.bounds.limits in
+    let ws = auto (record_in at-args.d.now) in
+    let f = pair_by ws at-args.bounds.floors at-args.bounds.limits in
     let p = at-place-in.ensures ws at_pre.0 in
     let l = place_inside ws at-args.name.now at-place-in.result p at_pre.1.1.0.0 in
     omega (arith, l, at_pre.0.few, at_pre.1.0.1)
@@ -105,8 +105,8 @@ returns-2 c =
     let at_has = c.before.before.before.before.has in
     let at-if1 = c.before.before.before.if1 in
     let at-if2 = c.if2 in
-    let ws = auto (recordIn at-args.d.now) in
-    let f = pairBy ws at-args.bounds.floors at-args.bounds.limits in
+    let ws = auto (record_in at-args.d.now) in
+    let f = pair_by ws at-args.bounds.floors at-args.bounds.limits in
     let p = at-place-in.ensures ws at_pre.0 in
     let l = place_inside ws at-args.name.now at-place-in.result p at_pre.1.1.0.0 in
     λ s h. sums_none ws f s at-args.out.now at-args.sum h at-args.name.now at_pre.1.1.0.0 at-place-in.result p (sym at_has.ensures ∙ at-if1.false) (pair-none ws at-args.bounds.floors at-args.bounds.limits at-args.name.now at-place-in.result p at-if2.true)
@@ -121,8 +121,8 @@ put-number-requires c κs =
     let at_pre = c.before.before.before.before.before.before.before.before.before.before.before.before.before.before.before.before.requires in
     let at-if2 = c.before.before.if2 in
     let at-stays-short = c.before.stays-short in
-    let ws = auto (recordIn at-args.d.now) in
-    let f = pairBy ws at-args.bounds.floors at-args.bounds.limits in
+    let ws = auto (record_in at-args.d.now) in
+    let f = pair_by ws at-args.bounds.floors at-args.bounds.limits in
     let p = at-place-in.ensures ws at_pre.0 in
     let l = place_inside ws at-args.name.now at-place-in.result p at_pre.1.1.0.0 in
     let number = get_or at-args.bounds.floors at-place-in.result 0 in
@@ -159,8 +159,8 @@ returns-3 c =
     let at-put-number = c.before.before.before.before.before.put-number in
     let at-stays-short = c.before.before.before.before.before.before.before.stays-short in
     let at_mark = c.mark in
-    let ws = auto (recordIn at-args.d.now) in
-    let f = pairBy ws at-args.bounds.floors at-args.bounds.limits in
+    let ws = auto (record_in at-args.d.now) in
+    let f = pair_by ws at-args.bounds.floors at-args.bounds.limits in
     let p = at-place-in.ensures ws at_pre.0 in
     let l = place_inside ws at-args.name.now at-place-in.result p at_pre.1.1.0.0 in
     let number = get_or at-args.bounds.floors at-place-in.result 0 in

@@ -11,8 +11,8 @@ use Rattle.format.specs.Words.{words as words_of}
 use Rattle.format.specs.Rules.{auto}
 use Rattle.words.specs.Spans.{span}
 use Rattle.words.proofs.Finding.{found, not_found}
-use Rattle.records.specs.Walk.{recordIn}
-use Rattle.numbering.specs.Adding.{State, pairBy, stepAll, Sums}
+use Rattle.records.specs.Walk.{record_in}
+use Rattle.numbering.specs.Adding.{State, pair_by, step_all, Sums}
 use Rattle.numbering.proofs.Stepping.{Going, going_start, going_end, going-none, going_on, first_passes, span-within}
 use Rattle.numbering.proofs.adding.add_words.Statement.{statement}
 use Rattle.numbering.proofs.adding.add_words.Tie as tie
@@ -22,7 +22,7 @@ use Rattle.numbering.proofs.adding.add_word.Reads as add-word-reads
 use Rattle.words.proofs.next_word.Reads as next-word-reads
 
 abbrev invariant-loop : tie.invariant-loop
-invariant-loop d l s bounds out₀ sums₀ rest₀ out sums rest = (length rest ≤ length s) × (all (λ (n : Bytes). among n (auto (recordIn d))) (words_of rest) ≡ true) × (length out ≡ length out₀) × ((t : State) → Sums (auto (recordIn d)) t out₀ sums₀ → t.passed + length (words_of s) ≤ 64 → Going (pairBy (auto (recordIn d)) bounds.floors bounds.limits) (auto (recordIn d)) out sums (words_of rest) (stepAll (pairBy (auto (recordIn d)) bounds.floors bounds.limits) t (words_of s)))
+invariant-loop d l s bounds out₀ sums₀ rest₀ out sums rest = (length rest ≤ length s) × (all (λ (n : Bytes). among n (auto (record_in d))) (words_of rest) ≡ true) × (length out ≡ length out₀) × ((t : State) → Sums (auto (record_in d)) t out₀ sums₀ → t.passed + length (words_of s) ≤ 64 → Going (pair_by (auto (record_in d)) bounds.floors bounds.limits) (auto (record_in d)) out sums (words_of rest) (step_all (pair_by (auto (record_in d)) bounds.floors bounds.limits) t (words_of s)))
 
 abbrev decreases-loop : tie.decreases-loop
 decreases-loop d l s bounds out₀ sums₀ rest₀ out sums rest = length rest
@@ -31,7 +31,7 @@ loop-holds : tie.Need-loop-init invariant-loop decreases-loop
 loop-holds c =
     let at_pre = c.before.before.before.requires in
     let at-args = c.before.before.before.args in
-    (omega arith, at_pre.1.1.0.0, refl, λ t h l. going_start (pairBy (auto (recordIn at-args.d.now)) at-args.bounds.floors at-args.bounds.limits) (auto (recordIn at-args.d.now)) at-args.out.now at-args.sum (words_of at-args.s.now) t h l)
+    (omega arith, at_pre.1.1.0.0, refl, λ t h l. going_start (pair_by (auto (record_in at-args.d.now)) at-args.bounds.floors at-args.bounds.limits) (auto (record_in at-args.d.now)) at-args.out.now at-args.sum (words_of at-args.s.now) t h l)
 
 next-word-requires : tie.Need-next-word-requires invariant-loop decreases-loop
 next-word-requires c κs = search rules
@@ -53,9 +53,9 @@ returns c =
     let at-loop = c.before.before.before.loop in
     let at-next-word = c.before.before.next_word in
     let at-enum-told = c.enum_told in
-    let ws = auto (recordIn at-args.d.now) in
-    let f = pairBy ws at-args.bounds.floors at-args.bounds.limits in
-    λ t h l. going_end f ws at-loop.out at-loop.sums (words_of at-loop.rest.now) (stepAll f t (words_of at-args.s.now)) (at-loop.invariant.3 t h l) (not_found at-loop.rest.now at-next-word.ensures at-enum-told.given.1)
+    let ws = auto (record_in at-args.d.now) in
+    let f = pair_by ws at-args.bounds.floors at-args.bounds.limits in
+    λ t h l. going_end f ws at-loop.out at-loop.sums (words_of at-loop.rest.now) (step_all f t (words_of at-args.s.now)) (at-loop.invariant.3 t h l) (not_found at-loop.rest.now at-next-word.ensures at-enum-told.given.1)
 
 sub-add-word : tie.Need-overflow-sub-add-word invariant-loop decreases-loop
 sub-add-word c =
@@ -88,8 +88,8 @@ add-word-requires c κs =
     let at-next-word = c.before.before.before.before.before.next_word in
     let at_x = c.before.before.before.x in
     let at_pre = c.before.before.before.before.before.before.before.before.before.before.requires in
-    let ws = auto (recordIn at-args.d.now) in
-    let f = pairBy ws at-args.bounds.floors at-args.bounds.limits in
+    let ws = auto (record_in at-args.d.now) in
+    let f = pair_by ws at-args.bounds.floors at-args.bounds.limits in
     let w = found at-loop.rest.now at-next-word.ensures at_x.given.1 in
     let g = first_passes (λ (n : Bytes). among n ws) (words_of at-loop.rest.now) _ _ w.2 at-loop.invariant.1 in
     let t = at_pre.1.1.1 in
@@ -116,11 +116,11 @@ returns-2 c =
     let at_x = c.before.before.before.before.before.before.before.before.x in
     let at-add-word = c.before.before.before.before.add-word in
     let at-enum-told2 = c.enum-told2 in
-    let ws = auto (recordIn at-args.d.now) in
-    let f = pairBy ws at-args.bounds.floors at-args.bounds.limits in
+    let ws = auto (record_in at-args.d.now) in
+    let f = pair_by ws at-args.bounds.floors at-args.bounds.limits in
     let w = found at-loop.rest.now at-next-word.ensures at_x.given.1 in
     λ t h l. let go = at-loop.invariant.3 t h l in
-    going-none f ws at-loop.out at-loop.sums (words_of at-loop.rest.now) (stepAll f t (words_of at-args.s.now)) go (span at_x.given.0.0 at_x.given.0.1.0 at-loop.rest.now ∷ []) (words_of (span at_x.given.0.1.0 (length at-loop.rest.now) at-loop.rest.now)) w.2 at-add-word.new.1.1.1.1.1.0 at-add-word.result (at-add-word.ensures go.reached go.sums) at-enum-told2.given.1
+    going-none f ws at-loop.out at-loop.sums (words_of at-loop.rest.now) (step_all f t (words_of at-args.s.now)) go (span at_x.given.0.0 at_x.given.0.1.0 at-loop.rest.now ∷ []) (words_of (span at_x.given.0.1.0 (length at-loop.rest.now) at-loop.rest.now)) w.2 at-add-word.new.1.1.1.1.1.0 at-add-word.result (at-add-word.ensures go.reached go.sums) at-enum-told2.given.1
 
 sub-rest : tie.Need-overflow-sub-rest invariant-loop decreases-loop
 sub-rest c =
@@ -158,15 +158,15 @@ loop-again c =
     let at_out = c.before.before.before.before.before.out in
     let at-add-word = c.before.before.before.before.before.before.add-word in
     let at_y = c.before.before.y in
-    let ws = auto (recordIn at-args.d.now) in
-    let f = pairBy ws at-args.bounds.floors at-args.bounds.limits in
+    let ws = auto (record_in at-args.d.now) in
+    let f = pair_by ws at-args.bounds.floors at-args.bounds.limits in
     let w = found at-loop.rest.now at-next-word.ensures at_x.given.1 in
     let g = first_passes (λ (n : Bytes). among n ws) (words_of at-loop.rest.now) _ _ w.2 at-loop.invariant.1 in (
       omega (arith, at-loop.invariant.0),
       g.1,
       at_out.given ∙ at-loop.invariant.2,
       λ t h l. let go = at-loop.invariant.3 t h l in
-          going_on f ws at-loop.out at-loop.sums (words_of at-loop.rest.now) (stepAll f t (words_of at-args.s.now)) go (span at_x.given.0.0 at_x.given.0.1.0 at-loop.rest.now ∷ []) (words_of (span at_x.given.0.1.0 (length at-loop.rest.now) at-loop.rest.now)) w.2 at-add-word.new.1.1.1.1.1.0 at-add-word.result (at-add-word.ensures go.reached go.sums) at_y.given.0.0 at_y.given.1,
+          going_on f ws at-loop.out at-loop.sums (words_of at-loop.rest.now) (step_all f t (words_of at-args.s.now)) go (span at_x.given.0.0 at_x.given.0.1.0 at-loop.rest.now ∷ []) (words_of (span at_x.given.0.1.0 (length at-loop.rest.now) at-loop.rest.now)) w.2 at-add-word.new.1.1.1.1.1.0 at-add-word.result (at-add-word.ensures go.reached go.sums) at_y.given.0.0 at_y.given.1,
     )
 
 pub add-words-spec : {M : Type 1} → statement M

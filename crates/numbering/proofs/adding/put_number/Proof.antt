@@ -6,7 +6,7 @@ use mathlib.Core.Bool.{true}
 use mathlib.Core.List.{◌++◌}
 use lib.ListN.{length, take}
 use Rattle.format.specs.Bytes.{Bytes}
-use Rattle.format.specs.Limits.{fileBytes}
+use Rattle.format.specs.Limits.{file_bytes}
 use Rattle.format.specs.Written.{written}
 use Rattle.lines.proofs.Cuts.{rest}
 use Rattle.numbering.proofs.Digits.{number_short}
@@ -42,7 +42,7 @@ put-text-requires c κs =
     let at_pre = c.before.before.before.before.before.before.before.before.requires in
     let at-args = c.before.before.before.before.before.before.before.before.args in
     let e = rest at-put-decimal.new.1.0 at-put-decimal.result ∙ at-put-decimal.ensures.1 in
-    ((omega (arith, at_pre.0.0), subst (λ (x : Bytes). length x ≤ fileBytes) (sym e) (omega (arith, number_short at-args.number at_pre.0.1)), at_pre.0.2), subst (λ (x : Bytes). at-args.short ≡ true → at-args.len + length (written at-args.name.now x) ≤ length at-args.out.now) (sym e) at_pre.1)
+    ((omega (arith, at_pre.0.0), subst (λ (x : Bytes). length x ≤ file_bytes) (sym e) (omega (arith, number_short at-args.number at_pre.0.1)), at_pre.0.2), subst (λ (x : Bytes). at-args.short ≡ true → at-args.len + length (written at-args.name.now x) ≤ length at-args.out.now) (sym e) at_pre.1)
 
 same_length : tie.Need-same-length
 same_length c = search rules

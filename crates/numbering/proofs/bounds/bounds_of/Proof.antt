@@ -5,9 +5,9 @@ use mathlib.Core.Path.{refl, ap, ◌∙◌}
 use Rattle.format.specs.Bytes.{text}
 use Rattle.format.specs.Numbering.{largest}
 use Rattle.format.specs.Rules.{auto}
-use Rattle.records.specs.Walk.{recordIn}
-use Rattle.records.specs.Named.{valuesFrom}
-use Rattle.numbering.specs.Bounds.{numbers, typeFloor, fieldFloor, limitOf}
+use Rattle.records.specs.Walk.{record_in}
+use Rattle.records.specs.Named.{values_from}
+use Rattle.numbering.specs.Bounds.{numbers, type_floor, field_floor, limit_of}
 use Rattle.numbering.proofs.Numbers.{max-zero, lowest-least}
 use Rattle.numbering.proofs.Completing.{repeated, all_hold}
 use borrow.Author.Rules.{rules}
@@ -38,7 +38,7 @@ narrow-all-requires c κs =
     let at_pre = c.before.before.before.before.before.before.before.before.before.before.before.before.requires in
     let at-scratch = c.before.before.before.before.before.scratch in
     let at-floors2 = c.before.before.before.floors2 in
-    let ws = auto (recordIn at-args.d.now) in
+    let ws = auto (record_in at-args.d.now) in
     ((at_pre.0.0, at_pre.0.1, omega (arith, at-scratch.given, at_pre.0.2)), (omega (arith, at-floors2.given), omega arith, λ n h. omega (arith, all_hold ws numbers (repeated 64 numbers) refl at_pre.0.1.few n h)))
 
 same_length : tie.Need-same-length
@@ -53,12 +53,12 @@ returns c =
     let at-floors4 = c.before.floors4 in
     let at-floors2 = c.before.before.before.before.before.before.before.before.floors2 in
     let at-limits2 = c.limits2 in
-    let ws = auto (recordIn at-args.d.now) in
-    let vs = valuesFrom at-args.d.now (text "%type") 0 in
+    let ws = auto (record_in at-args.d.now) in
+    let vs = values_from at-args.d.now (text "%type") 0 in
     let few = at_pre.0.1.few in
     record {
-      floors = λ n h. at-narrow-all.ensures.0 n h ∙ ap (λ (x : ℕ). max x (largest (typeFloor at-args.d.now n) vs)) (at-raise-all.ensures n h ∙ ap (λ (x : ℕ). max x (largest (fieldFloor n) (recordIn at-args.s.now))) (all_hold ws 0 (repeated 64 0) refl few n h) ∙ max-zero _);
-      limits = λ n h. at-narrow-all.ensures.1 n h ∙ ap (λ (x : ℕ). min x (limitOf at-args.d.now n)) (all_hold ws numbers (repeated 64 numbers) refl few n h) ∙ lowest-least at-args.d.now n vs;
+      floors = λ n h. at-narrow-all.ensures.0 n h ∙ ap (λ (x : ℕ). max x (largest (type_floor at-args.d.now n) vs)) (at-raise-all.ensures n h ∙ ap (λ (x : ℕ). max x (largest (field_floor n) (record_in at-args.s.now))) (all_hold ws 0 (repeated 64 0) refl few n h) ∙ max-zero _);
+      limits = λ n h. at-narrow-all.ensures.1 n h ∙ ap (λ (x : ℕ). min x (limit_of at-args.d.now n)) (all_hold ws numbers (repeated 64 numbers) refl few n h) ∙ lowest-least at-args.d.now n vs;
       floor-room = omega (arith, at-floors4.given, at-floors2.given);
       limit-room = omega (arith, at-limits2.given);
     }

@@ -5,8 +5,8 @@ use mathlib.Core.Option.{Option}
 use Prim.Native.Nat.{max}
 use Rattle.format.specs.Numbers.{Int}
 use Rattle.format.specs.Words.{trim}
-use Rattle.numbers.specs.Meaning.{intAnswer}
-use Rattle.numbering.specs.Bounds.{aboveIn}
+use Rattle.numbers.specs.Meaning.{int_answer}
+use Rattle.numbering.specs.Bounds.{above_in}
 use Rattle.numbering.proofs.Bounding.{IsSmall, small_int}
 use borrow.Author.Rules.{rules}
 use Rattle.numbering.proofs.bounds.exceed_value.Statement.{statement}
@@ -29,7 +29,7 @@ returns : tie.Need-returns
 returns c =
     let at-enum-told = c.enum_told in
     let at-int-in = c.before.before.int-in in
-    let z = ap aboveIn (sym (ap intAnswer at-enum-told.given.1) ∙ at-int-in.ensures) in
+    let z = ap above_in (sym (ap int_answer at-enum-told.given.1) ∙ at-int-in.ensures) in
     omega (arith, z)
 
 exceed-requires : tie.Need-exceed-requires
@@ -37,7 +37,7 @@ exceed-requires c κs =
     let at_i = c.before.i in
     let at-int-in = c.before.before.before.int-in in
     let at-args = c.before.before.before.before.before.args in
-    let e = sym (ap intAnswer at_i.given.1) ∙ at-int-in.ensures in
+    let e = sym (ap int_answer at_i.given.1) ∙ at-int-in.ensures in
     subst IsSmall (sym e) (small_int (trim at-args.v.now))
 
 returns-2 : tie.Need-returns-2
@@ -46,8 +46,8 @@ returns-2 c =
     let at-int-in = c.before.before.before.before.int-in in
     let at-exceed = c.exceed in
     let at-args = c.before.before.before.before.before.before.args in
-    let e = sym (ap intAnswer at_i.given.1) ∙ at-int-in.ensures in
-    at-exceed.ensures ∙ ap (λ (x : Option Int). max at-args.floor (aboveIn x)) e
+    let e = sym (ap int_answer at_i.given.1) ∙ at-int-in.ensures in
+    at-exceed.ensures ∙ ap (λ (x : Option Int). max at-args.floor (above_in x)) e
 
 pub exceed-value-spec : {M : Type 1} → statement M
 exceed-value-spec =

@@ -3,12 +3,12 @@ use Prim.Native.Nat.{min, max}
 use mathlib.Core.Path.{sym, ap, ◌∙◌}
 use lib.ListN.{get_or}
 use Rattle.format.specs.Bytes.{pick, among}
-use Rattle.format.specs.Rules.{typedNames, auto}
+use Rattle.format.specs.Rules.{typed_names, auto}
 use Rattle.words.specs.RuleNames.{place_in}
-use Rattle.records.specs.Walk.{recordIn}
+use Rattle.records.specs.Walk.{record_in}
 use Rattle.typing.specs.declared.Shape.{Shape}
-use Rattle.numbering.specs.Types.{spanIn}
-use Rattle.numbering.specs.Bounds.{numbers, floorIn, limitIn}
+use Rattle.numbering.specs.Types.{span_in}
+use Rattle.numbering.specs.Bounds.{numbers, floor_in, limit_in}
 use Rattle.numbering.proofs.Narrowing.{unbounded, max-idle, min-idle}
 use borrow.Author.Rules.{rules}
 use Rattle.numbering.proofs.bounds.narrow.Statement.{statement}
@@ -26,9 +26,9 @@ returns c =
     let at-match = c.match in
     let at_pre = c.before.before.before.before.before.requires in
     let u = unbounded at-args.kind at-match.keys2 in
-    let ws = auto (recordIn at-args.d.now) in
-    let ns = typedNames at-args.s.now in
-    (λ n h. max-idle (among n ns) (floorIn (spanIn at-args.kind)) (get_or at-args.floors.now (place_in n ws) 0) u.0, λ n h. min-idle (among n ns) (limitIn (spanIn at-args.kind)) (get_or at-args.limits.now (place_in n ws) 0) u.1 (at_pre.1.2 n h))
+    let ws = auto (record_in at-args.d.now) in
+    let ns = typed_names at-args.s.now in
+    (λ n h. max-idle (among n ns) (floor_in (span_in at-args.kind)) (get_or at-args.floors.now (place_in n ws) 0) u.0, λ n h. min-idle (among n ns) (limit_in (span_in at-args.kind)) (get_or at-args.limits.now (place_in n ws) 0) u.1 (at_pre.1.2 n h))
 
 narrow-names-requires : tie.Need-narrow-names-requires
 narrow-names-requires c κs = search rules
@@ -44,9 +44,9 @@ returns-2 c =
     let at-args = c.before.before.before.before.before.before.before.before.before.before.before.before.before.before.args in
     let at-narrow-names = c.before.before.before.before.narrow-names in
     let at-kind = c.before.before.before.before.before.before.before.before.kind in
-    let ws = auto (recordIn at-args.d.now) in
-    let ns = typedNames at-args.s.now in
-    (λ n h. at-narrow-names.ensures.0 n h ∙ sym (ap (λ (k : Shape). max (get_or at-args.floors.now (place_in n ws) 0) (pick (among n ns) (floorIn (spanIn k)) 0)) at-kind.given.1), λ n h. at-narrow-names.ensures.1 n h ∙ sym (ap (λ (k : Shape). min (get_or at-args.limits.now (place_in n ws) 0) (pick (among n ns) (limitIn (spanIn k)) numbers)) at-kind.given.1))
+    let ws = auto (record_in at-args.d.now) in
+    let ns = typed_names at-args.s.now in
+    (λ n h. at-narrow-names.ensures.0 n h ∙ sym (ap (λ (k : Shape). max (get_or at-args.floors.now (place_in n ws) 0) (pick (among n ns) (floor_in (span_in k)) 0)) at-kind.given.1), λ n h. at-narrow-names.ensures.1 n h ∙ sym (ap (λ (k : Shape). min (get_or at-args.limits.now (place_in n ws) 0) (pick (among n ns) (limit_in (span_in k)) numbers)) at-kind.given.1))
 
 pub narrow-spec : {M : Type 1} → statement M
 narrow-spec =

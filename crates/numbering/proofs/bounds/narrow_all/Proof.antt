@@ -6,21 +6,21 @@ use mathlib.Core.Path.{◌≡◌, refl, sym, ap, ◌∙◌, subst}
 use mathlib.Core.Bool.{true}
 use lib.ListN.{length, drop, get_or}
 use Rattle.format.specs.Bytes.{Bytes, text, pick, among}
-use Rattle.format.specs.Rules.{typedNames, auto}
-use Rattle.records.specs.Places.{isReadable}
-use Rattle.records.specs.Walk.{recordIn}
+use Rattle.format.specs.Rules.{typed_names, auto}
+use Rattle.records.specs.Places.{is_readable}
+use Rattle.records.specs.Walk.{record_in}
 use Rattle.records.proofs.Readings.{part-readable}
 use Rattle.records.proofs.Named.{value-told}
 use Rattle.numbering.proofs.Counted.{TypedFrom, typed-start, typed-here, typed-on}
 use Rattle.numbering.proofs.Narrowing.{TypesLeft, types-start, types-limits, types-end, types-on}
-use Rattle.values.specs.Value.{valueFrom}
+use Rattle.values.specs.Value.{value_from}
 use Rattle.lines.proofs.Cuts.{rest}
 use Rattle.words.specs.RuleNames.{place_in}
 use Rattle.words.specs.Spans.{span}
 use Rattle.words.proofs.Decoded.{decoded-all, decoded-length, decoded-inside}
 use Rattle.columns.proofs.Granted.{typedefs-few, typedefs-fit, typedefs-named}
-use Rattle.numbering.specs.Types.{spanIn}
-use Rattle.numbering.specs.Bounds.{numbers, floorIn, limitIn}
+use Rattle.numbering.specs.Types.{span_in}
+use Rattle.numbering.specs.Bounds.{numbers, floor_in, limit_in}
 use Rattle.numbering.proofs.bounds.narrow_all.Statement.{statement}
 use Rattle.numbering.proofs.bounds.narrow_all.Tie as tie
 use Rattle.numbering.proofs.bounds.narrow_all.Reads as reads
@@ -33,7 +33,7 @@ use Rattle.typedefs.proofs.read_names.Reads as read-names-reads
 use Rattle.typedefs.proofs.read_typedefs.Reads as read-typedefs-reads
 
 abbrev invariant-loop : tie.invariant-loop
-invariant-loop d l scratch₀ floors₀ limits₀ names defs i₀ t14 scratch floors limits i = (i ≤ length d) × (isReadable (drop i d) ≡ true) × TypedFrom d i × (length scratch ≡ length scratch₀) × (length floors ≡ length floors₀) × (length limits ≡ length limits₀) × TypesLeft d (auto (recordIn d)) floors₀ limits₀ i floors limits
+invariant-loop d l scratch₀ floors₀ limits₀ names defs i₀ t14 scratch floors limits i = (i ≤ length d) × (is_readable (drop i d) ≡ true) × TypedFrom d i × (length scratch ≡ length scratch₀) × (length floors ≡ length floors₀) × (length limits ≡ length limits₀) × TypesLeft d (auto (record_in d)) floors₀ limits₀ i floors limits
 
 abbrev decreases-loop : tie.decreases-loop
 decreases-loop d l scratch₀ floors₀ limits₀ names defs i₀ t14 scratch floors limits i = length d - i
@@ -55,7 +55,7 @@ loop-holds : tie.Need-loop-init invariant-loop decreases-loop
 loop-holds c =
     let at_pre = c.before.before.before.before.before.before.before.before.before.requires in
     let at-args = c.before.before.before.before.before.before.before.before.before.args in
-    (omega arith, at_pre.0.0.reads, typed-start at-args.d.now at_pre.0.0, refl, refl, refl, types-start at-args.d.now (auto (recordIn at-args.d.now)) at-args.floors.now at-args.limits.now at_pre.1.2)
+    (omega arith, at_pre.0.0.reads, typed-start at-args.d.now at_pre.0.0, refl, refl, refl, types-start at-args.d.now (auto (record_in at-args.d.now)) at-args.floors.now at-args.limits.now at_pre.1.2)
 
 sub-next-named : tie.Need-overflow-sub-next-named invariant-loop decreases-loop
 sub-next-named c = search rules
@@ -103,7 +103,7 @@ returns c =
     let at-loop = c.before.before.before.before.before.loop in
     let at-next-named = c.before.before.next-named in
     let at-enum-told = c.enum_told in
-    types-end at-args.d.now (auto (recordIn at-args.d.now)) at-args.floors.now at-args.limits.now at-loop.i at-loop.floors at-loop.limits at-loop.invariant.6 (value-told at-args.d.now (text "%type") at-loop.i at-next-named.result at-next-named.ensures at-enum-told.given.1)
+    types-end at-args.d.now (auto (record_in at-args.d.now)) at-args.floors.now at-args.limits.now at-loop.i at-loop.floors at-loop.limits at-loop.invariant.6 (value-told at-args.d.now (text "%type") at-loop.i at-next-named.result at-next-named.ensures at-enum-told.given.1)
 
 add-kind-at : tie.Need-overflow-add-kind-at invariant-loop decreases-loop
 add-kind-at c =
@@ -171,7 +171,7 @@ copy-value-requires c κs =
     let at_pre = c.before.before.before.before.before.before.before.before.before.before.before.before.before.before.before.before.before.before.before.before.before.before.requires in
     let h = value-told at-args.d.now (text "%type") at-loop.i at-next-named.result at-next-named.ensures at-v.given.1 in
     let t = typed-here at-args.d.now at-loop.i _ _ h at-loop.invariant.2 in
-    (subst (λ (x : Bytes). length (valueFrom x) ≤ length at-kind-at.new.1.1.1.1.0) (sym (rest at-args.d.now (at-loop.i + at-v.given.0.1.0))) (omega (arith, t.fits, at-scratch2.given, at-loop.invariant.3, at-scratch.given, at_pre.0.2)))
+    (subst (λ (x : Bytes). length (value_from x) ≤ length at-kind-at.new.1.1.1.1.0) (sym (rest at-args.d.now (at-loop.i + at-v.given.0.1.0))) (omega (arith, t.fits, at-scratch2.given, at-loop.invariant.3, at-scratch.given, at_pre.0.2)))
 
 slice-reshare-prefix-narrow : tie.Need-slice-reshare-prefix-narrow invariant-loop decreases-loop
 slice-reshare-prefix-narrow c =
@@ -186,7 +186,7 @@ slice-reshare-prefix-narrow c =
     let at_pre = c.before.before.before.before.before.before.before.before.before.before.before.before.before.before.before.before.before.before.before.before.before.before.before.before.before.requires in
     let h = value-told at-args.d.now (text "%type") at-loop.i at-next-named.result at-next-named.ensures at-v.given.1 in
     let t = typed-here at-args.d.now at-loop.i _ _ h at-loop.invariant.2 in
-    decoded-inside (valueFrom (span (at-loop.i + at-v.given.0.1.0) (length at-args.d.now) at-args.d.now)) _ _ at-copy-value.result at-copy-value.ensures.0 at-copy-value.ensures.1 (subst (λ (x : Bytes). length (valueFrom x) ≤ length at-kind-at.new.1.1.1.1.0) (sym (rest at-args.d.now (at-loop.i + at-v.given.0.1.0))) (omega (arith, t.fits, at-scratch2.given, at-loop.invariant.3, at-scratch.given, at_pre.0.2)))
+    decoded-inside (value_from (span (at-loop.i + at-v.given.0.1.0) (length at-args.d.now) at-args.d.now)) _ _ at-copy-value.result at-copy-value.ensures.0 at-copy-value.ensures.1 (subst (λ (x : Bytes). length (value_from x) ≤ length at-kind-at.new.1.1.1.1.0) (sym (rest at-args.d.now (at-loop.i + at-v.given.0.1.0))) (omega (arith, t.fits, at-scratch2.given, at-loop.invariant.3, at-scratch.given, at_pre.0.2)))
 
 slice-aggregate-narrow : tie.Need-slice-aggregate-narrow invariant-loop decreases-loop
 slice-aggregate-narrow c =
@@ -194,14 +194,14 @@ slice-aggregate-narrow c =
     let at-v = c.before.before.before.before.before.before.before.before.before.before.before.v in
     let at-args = c.before.before.before.before.before.before.before.before.before.before.before.before.before.before.before.before.before.before.before.before.before.before.before.before.before.before.args in
     let at-copy-value = c.before.before.before.copy-value in
-    decoded-length (valueFrom (span (at-loop.i + at-v.given.0.1.0) (length at-args.d.now) at-args.d.now)) _ _ at-copy-value.result at-copy-value.ensures.0 at-copy-value.ensures.1
+    decoded-length (value_from (span (at-loop.i + at-v.given.0.1.0) (length at-args.d.now) at-args.d.now)) _ _ at-copy-value.result at-copy-value.ensures.0 at-copy-value.ensures.1
 
 narrow-requires : tie.Need-narrow-requires invariant-loop decreases-loop
 narrow-requires c κs =
     let at_pre = c.before.before.before.before.before.before.before.before.before.before.before.before.before.before.before.before.before.before.before.before.before.before.before.before.before.before.before.before.requires in
     let at-loop = c.before.before.before.before.before.before.before.before.before.before.before.before.before.before.before.before.before.before.loop in
     let at-args = c.before.before.before.before.before.before.before.before.before.before.before.before.before.before.before.before.before.before.before.before.before.before.before.before.before.before.before.before.args in
-    (at_pre.0.1, (omega (arith, at-loop.invariant.4, at_pre.1.0), omega (arith, at-loop.invariant.5, at_pre.1.1), types-limits at-args.d.now (auto (recordIn at-args.d.now)) at-args.floors.now at-args.limits.now at-loop.i at-loop.floors at-loop.limits at-loop.invariant.6))
+    (at_pre.0.1, (omega (arith, at-loop.invariant.4, at_pre.1.0), omega (arith, at-loop.invariant.5, at_pre.1.1), types-limits at-args.d.now (auto (record_in at-args.d.now)) at-args.floors.now at-args.limits.now at-loop.i at-loop.floors at-loop.limits at-loop.invariant.6))
 
 add-i : tie.Need-overflow-add-i invariant-loop decreases-loop
 add-i c =
@@ -236,11 +236,11 @@ loop-again c =
     let at-limits = c.before.limits in
     let at-narrow = c.before.before.before.before.narrow in
     let h = value-told at-args.d.now (text "%type") at-loop.i at-next-named.result at-next-named.ensures at-v.given.1 in
-    let ws = auto (recordIn at-args.d.now) in
-    let v = valueFrom (span (at-loop.i + at-v.given.0.1.0) (length at-args.d.now) at-args.d.now) in
-    let all = decoded-all v _ _ at-copy-value.result at-copy-value.ensures.0 at-copy-value.ensures.1 ∙ ap valueFrom (rest at-args.d.now (at-loop.i + at-v.given.0.1.0)) in
-    let s = spanIn at-kind-at.result in
-    (h.inside, h.readable, typed-on at-args.d.now at-loop.i _ _ h at-loop.invariant.2, at-scratch3.given ∙ at-scratch2.given ∙ at-loop.invariant.3, at-floors.given ∙ at-loop.invariant.4, at-limits.given ∙ at-loop.invariant.5, types-on at-args.d.now (auto (recordIn at-args.d.now)) at-args.floors.now at-args.limits.now at-loop.i at-loop.floors at-loop.limits at-loop.invariant.6 _ _ h at-kind-at.result at-kind-at.ensures _ _ (λ n k. at-narrow.ensures.0 n k ∙ ap (λ (x : Bytes). max (get_or at-loop.floors (place_in n ws) 0) (pick (among n (typedNames x)) (floorIn s) 0)) all) (λ n k. at-narrow.ensures.1 n k ∙ ap (λ (x : Bytes). min (get_or at-loop.limits (place_in n ws) 0) (pick (among n (typedNames x)) (limitIn s) numbers)) all))
+    let ws = auto (record_in at-args.d.now) in
+    let v = value_from (span (at-loop.i + at-v.given.0.1.0) (length at-args.d.now) at-args.d.now) in
+    let all = decoded-all v _ _ at-copy-value.result at-copy-value.ensures.0 at-copy-value.ensures.1 ∙ ap value_from (rest at-args.d.now (at-loop.i + at-v.given.0.1.0)) in
+    let s = span_in at-kind-at.result in
+    (h.inside, h.readable, typed-on at-args.d.now at-loop.i _ _ h at-loop.invariant.2, at-scratch3.given ∙ at-scratch2.given ∙ at-loop.invariant.3, at-floors.given ∙ at-loop.invariant.4, at-limits.given ∙ at-loop.invariant.5, types-on at-args.d.now (auto (record_in at-args.d.now)) at-args.floors.now at-args.limits.now at-loop.i at-loop.floors at-loop.limits at-loop.invariant.6 _ _ h at-kind-at.result at-kind-at.ensures _ _ (λ n k. at-narrow.ensures.0 n k ∙ ap (λ (x : Bytes). max (get_or at-loop.floors (place_in n ws) 0) (pick (among n (typed_names x)) (floor_in s) 0)) all) (λ n k. at-narrow.ensures.1 n k ∙ ap (λ (x : Bytes). min (get_or at-loop.limits (place_in n ws) 0) (pick (among n (typed_names x)) (limit_in s) numbers)) all))
 
 pub narrow-all-spec : {M : Type 1} → statement M
 narrow-all-spec =

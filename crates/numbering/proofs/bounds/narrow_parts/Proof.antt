@@ -7,10 +7,10 @@ use lib.ListN.{length, take}
 use lib.Seq.{length-take-le}
 use Rattle.format.specs.Numbering.{above, from}
 use Rattle.format.specs.Rules.{auto}
-use Rattle.numbers.specs.Meaning.{intIn}
-use Rattle.words.specs.Spans.{notByte}
+use Rattle.numbers.specs.Meaning.{int_in}
+use Rattle.words.specs.Spans.{not_byte}
 use Rattle.words.proofs.Finding.{run-le}
-use Rattle.records.specs.Walk.{recordIn}
+use Rattle.records.specs.Walk.{record_in}
 use Rattle.numbering.proofs.Counted.{parts_last, parts_more}
 use Rattle.numbering.proofs.Bounding.{PartsLeft, parts-start, parts-on, parts-end}
 use Rattle.numbering.proofs.bounds.narrow_parts.Statement.{statement}
@@ -22,7 +22,7 @@ use Rattle.numbering.proofs.bounds.narrow_place.Reads as narrow-place-reads
 use Rattle.words.proofs.part_end.Reads as part-end-reads
 
 abbrev invariant-loop : tie.invariant-loop
-invariant-loop d s range floors₀ limits₀ entries sets w count rest₀ floors limits rest = (length rest ≤ length s) × (length floors ≡ length floors₀) × (length limits ≡ length limits₀) × PartsLeft (auto (recordIn d)) (from (intIn range.low)) (above (intIn range.high)) s floors₀ limits₀ rest floors limits
+invariant-loop d s range floors₀ limits₀ entries sets w count rest₀ floors limits rest = (length rest ≤ length s) × (length floors ≡ length floors₀) × (length limits ≡ length limits₀) × PartsLeft (auto (record_in d)) (from (int_in range.low)) (above (int_in range.high)) s floors₀ limits₀ rest floors limits
 
 abbrev decreases-loop : tie.decreases-loop
 decreases-loop d s range floors₀ limits₀ entries sets w count rest₀ floors limits rest = length rest
@@ -31,7 +31,7 @@ loop-holds : tie.Need-loop-init invariant-loop decreases-loop
 loop-holds c =
     let at-args = c.before.before.before.before.before.before.before.args in
     let at_pre = c.before.before.before.before.before.before.before.requires in
-    (omega arith, refl, refl, parts-start (auto (recordIn at-args.d.now)) (from (intIn at-args.range.low)) (above (intIn at-args.range.high)) at-args.s.now at-args.floors.now at-args.limits.now at_pre.1.2)
+    (omega arith, refl, refl, parts-start (auto (record_in at-args.d.now)) (from (int_in at-args.range.low)) (above (int_in at-args.range.high)) at-args.s.now at-args.floors.now at-args.limits.now at_pre.1.2)
 
 part-end-requires : tie.Need-part-end-requires invariant-loop decreases-loop
 part-end-requires c κs = search rules
@@ -46,13 +46,13 @@ slice-aggregate-place-in-3 : tie.Need-slice-aggregate-place-in-3 invariant-loop 
 slice-aggregate-place-in-3 c =
     let at-part-end = c.before.before.before.part-end in
     let at-loop = c.before.before.before.before.loop in
-    sym (length-take-le at-part-end.result at-loop.rest.now (omega (arith, at-part-end.ensures, run-le (notByte 44) at-loop.rest.now)))
+    sym (length-take-le at-part-end.result at-loop.rest.now (omega (arith, at-part-end.ensures, run-le (not_byte 44) at-loop.rest.now)))
 
 place-in-requires : tie.Need-place-in-requires invariant-loop decreases-loop
 place-in-requires c κs =
     let at-args = c.before.before.before.before.before.before.before.before.before.before.before.before.args in
     let at_pre = c.before.before.before.before.before.before.before.before.before.before.before.before.requires in
-    (auto (recordIn at-args.d.now), at_pre.0)
+    (auto (record_in at-args.d.now), at_pre.0)
 
 narrow-place-requires : tie.Need-narrow-place-requires invariant-loop decreases-loop
 narrow-place-requires c κs =
@@ -81,28 +81,28 @@ returns c =
     let at_pre = c.before.before.before.before.before.before.before.before.before.before.before.before.before.before.before.before.before.before.before.before.before.requires in
     let at-narrow-place = c.before.before.before.before.before.narrow-place in
     let at-if1 = c.if1 in
-    parts-end (auto (recordIn at-args.d.now)) (from (intIn at-args.range.low)) (above (intIn at-args.range.high)) at-args.s.now at-args.floors.now at-args.limits.now at-loop.rest.now at-loop.floors at-loop.limits at-loop.invariant.3 (take at-part-end.result at-loop.rest.now) at-args.l.words.count at-place-in.result (omega (arith, at-loop.invariant.1, at_pre.0.few, at_pre.1.0)) (omega (arith, at-loop.invariant.2, at_pre.0.few, at_pre.1.1)) at_pre.0.count (at-place-in.ensures (auto (recordIn at-args.d.now)) at_pre.0) _ _ at-narrow-place.ensures.0 at-narrow-place.ensures.1 (parts_last at-loop.rest.now at-part-end.result at-part-end.ensures at-if1.true)
+    parts-end (auto (record_in at-args.d.now)) (from (int_in at-args.range.low)) (above (int_in at-args.range.high)) at-args.s.now at-args.floors.now at-args.limits.now at-loop.rest.now at-loop.floors at-loop.limits at-loop.invariant.3 (take at-part-end.result at-loop.rest.now) at-args.l.words.count at-place-in.result (omega (arith, at-loop.invariant.1, at_pre.0.few, at_pre.1.0)) (omega (arith, at-loop.invariant.2, at_pre.0.few, at_pre.1.1)) at_pre.0.count (at-place-in.ensures (auto (record_in at-args.d.now)) at_pre.0) _ _ at-narrow-place.ensures.0 at-narrow-place.ensures.1 (parts_last at-loop.rest.now at-part-end.result at-part-end.ensures at-if1.true)
 
 add-rest : tie.Need-overflow-add-rest invariant-loop decreases-loop
 add-rest c =
     let at-part-end = c.before.before.before.before.before.before.before.before.before.before.before.before.part-end in
     let at-if1 = c.if1 in
     let at-loop = c.before.before.before.before.before.before.before.before.before.before.before.before.before.loop in
-    omega (arith, at-part-end.ensures, at-if1.false, run-le (notByte 44) at-loop.rest.now)
+    omega (arith, at-part-end.ensures, at-if1.false, run-le (not_byte 44) at-loop.rest.now)
 
 sub-rest : tie.Need-overflow-sub-rest invariant-loop decreases-loop
 sub-rest c =
     let at-part-end = c.before.before.before.before.before.before.before.before.before.before.before.before.part-end in
     let at-if1 = c.if1 in
     let at-loop = c.before.before.before.before.before.before.before.before.before.before.before.before.before.loop in
-    omega (arith, at-part-end.ensures, at-if1.false, run-le (notByte 44) at-loop.rest.now)
+    omega (arith, at-part-end.ensures, at-if1.false, run-le (not_byte 44) at-loop.rest.now)
 
 part-rest-start : tie.Need-slice-bounds-rest-start invariant-loop decreases-loop
 part-rest-start c =
     let at-part-end = c.before.before.before.before.before.before.before.before.before.before.before.before.part-end in
     let at-if1 = c.if1 in
     let at-loop = c.before.before.before.before.before.before.before.before.before.before.before.before.before.loop in
-    omega (arith, at-part-end.ensures, at-if1.false, run-le (notByte 44) at-loop.rest.now)
+    omega (arith, at-part-end.ensures, at-if1.false, run-le (not_byte 44) at-loop.rest.now)
 
 part-rest-end : tie.Need-slice-bounds-rest-end invariant-loop decreases-loop
 part-rest-end c = search rules
@@ -112,7 +112,7 @@ loop-less c =
     let at-part-end = c.before.before.before.before.before.before.before.before.before.before.before.before.before.part-end in
     let at-if1 = c.before.if1 in
     let at-loop = c.before.before.before.before.before.before.before.before.before.before.before.before.before.before.loop in
-    omega (arith, at-part-end.ensures, at-if1.false, run-le (notByte 44) at-loop.rest.now)
+    omega (arith, at-part-end.ensures, at-if1.false, run-le (not_byte 44) at-loop.rest.now)
 
 loop-again : tie.Need-loop-preserved invariant-loop decreases-loop
 loop-again c =
@@ -125,7 +125,7 @@ loop-again c =
     let at_pre = c.before.before.before.before.before.before.before.before.before.before.before.before.before.before.before.before.before.before.before.before.before.before.requires in
     let at-narrow-place = c.before.before.before.before.before.before.narrow-place in
     let at-if1 = c.before.if1 in
-    (omega arith, at-floors.given ∙ at-loop.invariant.1, at-limits.given ∙ at-loop.invariant.2, parts-on (auto (recordIn at-args.d.now)) (from (intIn at-args.range.low)) (above (intIn at-args.range.high)) at-args.s.now at-args.floors.now at-args.limits.now at-loop.rest.now at-loop.floors at-loop.limits at-loop.invariant.3 (take at-part-end.result at-loop.rest.now) at-args.l.words.count at-place-in.result (omega (arith, at-loop.invariant.1, at_pre.0.few, at_pre.1.0)) (omega (arith, at-loop.invariant.2, at_pre.0.few, at_pre.1.1)) at_pre.0.count (at-place-in.ensures (auto (recordIn at-args.d.now)) at_pre.0) _ _ at-narrow-place.ensures.0 at-narrow-place.ensures.1 _ (parts_more at-loop.rest.now at-part-end.result at-part-end.ensures (omega (arith, at-part-end.ensures, at-if1.false, run-le (notByte 44) at-loop.rest.now))))
+    (omega arith, at-floors.given ∙ at-loop.invariant.1, at-limits.given ∙ at-loop.invariant.2, parts-on (auto (record_in at-args.d.now)) (from (int_in at-args.range.low)) (above (int_in at-args.range.high)) at-args.s.now at-args.floors.now at-args.limits.now at-loop.rest.now at-loop.floors at-loop.limits at-loop.invariant.3 (take at-part-end.result at-loop.rest.now) at-args.l.words.count at-place-in.result (omega (arith, at-loop.invariant.1, at_pre.0.few, at_pre.1.0)) (omega (arith, at-loop.invariant.2, at_pre.0.few, at_pre.1.1)) at_pre.0.count (at-place-in.ensures (auto (record_in at-args.d.now)) at_pre.0) _ _ at-narrow-place.ensures.0 at-narrow-place.ensures.1 _ (parts_more at-loop.rest.now at-part-end.result at-part-end.ensures (omega (arith, at-part-end.ensures, at-if1.false, run-le (not_byte 44) at-loop.rest.now))))
 
 pub narrow-parts-spec : {M : Type 1} → statement M
 narrow-parts-spec =

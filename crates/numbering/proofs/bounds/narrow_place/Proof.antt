@@ -1,7 +1,7 @@
 -- `numbering::bounds::narrow_place` meets its contract.
 use Prim.Native.Nat.{min, max}
 use Rattle.format.specs.Numbering.{above, from}
-use Rattle.numbers.specs.Meaning.{intIn}
+use Rattle.numbers.specs.Meaning.{int_in}
 use Rattle.numbering.proofs.Bounding.{joined-here, joined-none}
 use borrow.Author.Rules.{rules}
 use Rattle.numbering.proofs.bounds.narrow_place.Statement.{statement}
@@ -53,13 +53,13 @@ returns c =
     let at-raise = c.before.before.raise in
     let at-if1 = c.before.before.before.before.if1 in
     let at-lower = c.lower in
-    (joined-here max at-args.count at-args.k (from (intIn at-args.range.low)) at-args.floors.now at-raise.result at-if1.true at-raise.ensures, joined-here min at-args.count at-args.k (above (intIn at-args.range.high)) at-args.limits.now at-lower.result at-if1.true at-lower.ensures)
+    (joined-here max at-args.count at-args.k (from (int_in at-args.range.low)) at-args.floors.now at-raise.result at-if1.true at-raise.ensures, joined-here min at-args.count at-args.k (above (int_in at-args.range.high)) at-args.limits.now at-lower.result at-if1.true at-lower.ensures)
 
 returns-2 : tie.Need-returns-2
 returns-2 c =
     let at-args = c.before.before.before.args in
     let at-if1 = c.if1 in
-    (joined-none max at-args.count at-args.k (from (intIn at-args.range.low)) at-args.floors.now at-if1.false, joined-none min at-args.count at-args.k (above (intIn at-args.range.high)) at-args.limits.now at-if1.false)
+    (joined-none max at-args.count at-args.k (from (int_in at-args.range.low)) at-args.floors.now at-if1.false, joined-none min at-args.count at-args.k (above (int_in at-args.range.high)) at-args.limits.now at-if1.false)
 
 pub narrow-place-spec : {M : Type 1} → statement M
 narrow-place-spec =

@@ -7,12 +7,12 @@ use mathlib.Core.Bool.{true}
 use lib.ListN.{length, drop}
 use Rattle.format.specs.Bytes.{all}
 use Rattle.format.specs.Rules.{auto}
-use Rattle.records.specs.Places.{isReadable}
-use Rattle.records.specs.Walk.{recordIn}
-use Rattle.records.specs.Fields.{fieldsFrom}
+use Rattle.records.specs.Places.{is_readable}
+use Rattle.records.specs.Walk.{record_in}
+use Rattle.records.specs.Fields.{fields_from}
 use Rattle.records.proofs.Readings.{part-readable}
 use Rattle.records.proofs.NextFields.{next-told}
-use Rattle.numbering.specs.Types.{fitsIn}
+use Rattle.numbering.specs.Types.{fits_in}
 use Rattle.numbering.proofs.Narrowing.{FieldsLeft, fields-start, fields-end, fields-on, fits-here}
 use Rattle.numbering.proofs.bounds.raise_all.Statement.{statement}
 use Rattle.numbering.proofs.bounds.raise_all.Tie as tie
@@ -23,7 +23,7 @@ use Rattle.numbering.proofs.bounds.raise_place.Reads as raise-place-reads
 use Rattle.records.proofs.next_field.Reads as next-field-reads
 
 abbrev invariant-loop : tie.invariant-loop
-invariant-loop d s scratch₀ floors₀ entries sets w count i₀ scratch floors i = (i ≤ length s) × (isReadable (drop i s) ≡ true) × (length scratch ≡ length scratch₀) × (length floors ≡ length floors₀) × (all (fitsIn (length scratch₀)) (fieldsFrom s i) ≡ true) × FieldsLeft s (auto (recordIn d)) floors₀ i floors
+invariant-loop d s scratch₀ floors₀ entries sets w count i₀ scratch floors i = (i ≤ length s) × (is_readable (drop i s) ≡ true) × (length scratch ≡ length scratch₀) × (length floors ≡ length floors₀) × (all (fits_in (length scratch₀)) (fields_from s i) ≡ true) × FieldsLeft s (auto (record_in d)) floors₀ i floors
 
 abbrev decreases-loop : tie.decreases-loop
 decreases-loop d s scratch₀ floors₀ entries sets w count i₀ scratch floors i = length s - i
@@ -32,7 +32,7 @@ loop-holds : tie.Need-loop-init invariant-loop decreases-loop
 loop-holds c =
     let at_pre = c.before.before.before.before.before.before.before.requires in
     let at-args = c.before.before.before.before.before.before.before.args in
-    (omega arith, at_pre.1.0.0, refl, refl, at_pre.1.0.2, fields-start at-args.s.now (auto (recordIn at-args.d.now)) at-args.floors.now)
+    (omega arith, at_pre.1.0.0, refl, refl, at_pre.1.0.2, fields-start at-args.s.now (auto (record_in at-args.d.now)) at-args.floors.now)
 
 sub-next-field : tie.Need-overflow-sub-next-field invariant-loop decreases-loop
 sub-next-field c = search rules
@@ -71,7 +71,7 @@ returns c =
     let at-loop = c.before.before.before.before.loop in
     let at-next-field = c.before.before.next_field in
     let at-enum-told = c.enum_told in
-    fields-end at-args.s.now (auto (recordIn at-args.d.now)) at-args.floors.now at-loop.i at-loop.floors at-loop.invariant.5 (next-told at-args.s.now at-loop.i at-next-field.result at-next-field.ensures at-enum-told.given.1)
+    fields-end at-args.s.now (auto (record_in at-args.d.now)) at-args.floors.now at-loop.i at-loop.floors at-loop.invariant.5 (next-told at-args.s.now at-loop.i at-next-field.result at-next-field.ensures at-enum-told.given.1)
 
 slice-aggregate-place-in : tie.Need-slice-aggregate-place-in invariant-loop decreases-loop
 slice-aggregate-place-in c = search rules
@@ -130,7 +130,7 @@ place-in-requires : tie.Need-place-in-requires invariant-loop decreases-loop
 place-in-requires c κs =
     let at-args = c.before.before.before.before.before.before.before.before.before.before.before.before.before.before.before.before.args in
     let at_pre = c.before.before.before.before.before.before.before.before.before.before.before.before.before.before.before.before.requires in
-    (auto (recordIn at-args.d.now), at_pre.0)
+    (auto (record_in at-args.d.now), at_pre.0)
 
 add-raise-place : tie.Need-overflow-add-raise-place invariant-loop decreases-loop
 add-raise-place c =
@@ -150,7 +150,7 @@ raise-place-requires c κs =
     let at_f = c.before.before.before.before.before.before.before.f in
     let at_pre = c.before.before.before.before.before.before.before.before.before.before.before.before.before.before.before.before.before.before.before.requires in
     let h = next-told at-args.s.now at-loop.i at-next-field.result at-next-field.ensures at_f.given.1 in
-    let f = fits-here (length at-args.scratch.now) _ _ (fieldsFrom at-args.s.now at-loop.i) h.fields at-loop.invariant.4 in
+    let f = fits-here (length at-args.scratch.now) _ _ (fields_from at-args.s.now at-loop.i) h.fields at-loop.invariant.4 in
     (omega (arith, h.value_there), omega (arith, f.0, ap length h.ends-itself, at-loop.invariant.2), omega (arith, at-loop.invariant.3, at_pre.0.few, at_pre.0.count, at_pre.1.1))
 
 add-i : tie.Need-overflow-add-i invariant-loop decreases-loop
@@ -184,8 +184,8 @@ loop-again c =
     let at_pre = c.before.before.before.before.before.before.before.before.before.before.before.before.before.before.before.before.before.before.before.before.before.before.before.before.requires in
     let at-raise-place = c.before.before.before.before.raise-place in
     let h = next-told at-args.s.now at-loop.i at-next-field.result at-next-field.ensures at_f.given.1 in
-    let f = fits-here (length at-args.scratch.now) _ _ (fieldsFrom at-args.s.now at-loop.i) h.fields at-loop.invariant.4 in
-    (h.inside, h.readable, at-scratch.given ∙ at-loop.invariant.2, at-floors.given ∙ at-loop.invariant.3, f.1, fields-on at-args.s.now (auto (recordIn at-args.d.now)) at-args.floors.now at-loop.i at-loop.floors at-loop.invariant.5 _ _ _ _ h at-args.l.words.count at-place-in.result (omega (arith, at-loop.invariant.3, at_pre.0.few, at_pre.1.1)) at_pre.0.count (at-place-in.ensures (auto (recordIn at-args.d.now)) at_pre.0) _ at-raise-place.ensures)
+    let f = fits-here (length at-args.scratch.now) _ _ (fields_from at-args.s.now at-loop.i) h.fields at-loop.invariant.4 in
+    (h.inside, h.readable, at-scratch.given ∙ at-loop.invariant.2, at-floors.given ∙ at-loop.invariant.3, f.1, fields-on at-args.s.now (auto (record_in at-args.d.now)) at-args.floors.now at-loop.i at-loop.floors at-loop.invariant.5 _ _ _ _ h at-args.l.words.count at-place-in.result (omega (arith, at-loop.invariant.3, at_pre.0.few, at_pre.1.1)) at_pre.0.count (at-place-in.ensures (auto (record_in at-args.d.now)) at_pre.0) _ at-raise-place.ensures)
 
 pub raise-all-spec : {M : Type 1} → statement M
 raise-all-spec =

@@ -7,11 +7,11 @@ use mathlib.Core.Bool.{true, false}
 use borrow.Author.Tests.{not-true, not-false}
 use lib.ListN.{length, drop}
 use Rattle.format.specs.Bytes.{text, all}
-use Rattle.records.specs.Places.{isReadable}
-use Rattle.records.specs.Named.{valuesFrom}
+use Rattle.records.specs.Places.{is_readable}
+use Rattle.records.specs.Named.{values_from}
 use Rattle.records.proofs.Readings.{part-readable}
 use Rattle.records.proofs.Named.{value-told}
-use Rattle.numbering.specs.Types.{isTypeCounted}
+use Rattle.numbering.specs.Types.{is_type_counted}
 use Rattle.numbering.proofs.Counted.{TypedFrom, typed-start, typed-here, typed-on, counted-cut}
 use Rattle.numbering.proofs.types.all_counted.Statement.{statement}
 use Rattle.numbering.proofs.types.all_counted.Tie as tie
@@ -22,7 +22,7 @@ use Rattle.numbering.proofs.types.type_counted.Reads as type-counted-reads
 use Rattle.records.proofs.next_named.Reads as next-named-reads
 
 abbrev invariant-loop : tie.invariant-loop
-invariant-loop d l names defs scratch₀ i₀ t11 scratch i = (i ≤ length d) × (isReadable (drop i d) ≡ true) × TypedFrom d i × (length scratch ≡ length scratch₀) × (all (isTypeCounted d) (valuesFrom d (text "%type") 0) ≡ all (isTypeCounted d) (valuesFrom d (text "%type") i))
+invariant-loop d l names defs scratch₀ i₀ t11 scratch i = (i ≤ length d) × (is_readable (drop i d) ≡ true) × TypedFrom d i × (length scratch ≡ length scratch₀) × (all (is_type_counted d) (values_from d (text "%type") 0) ≡ all (is_type_counted d) (values_from d (text "%type") i))
 
 abbrev decreases-loop : tie.decreases-loop
 decreases-loop d l names defs scratch₀ i₀ t11 scratch i = length d - i
@@ -68,7 +68,7 @@ returns c =
     let at-args = c.before.before.before.before.before.before.before.before.args in
     let at-next-named = c.before.before.next-named in
     let at-enum-told = c.enum_told in
-    sym (at-loop.invariant.4 ∙ ap (all (isTypeCounted at-args.d.now)) (value-told at-args.d.now (text "%type") at-loop.i at-next-named.result at-next-named.ensures at-enum-told.given.1))
+    sym (at-loop.invariant.4 ∙ ap (all (is_type_counted at-args.d.now)) (value-told at-args.d.now (text "%type") at-loop.i at-next-named.result at-next-named.ensures at-enum-told.given.1))
 
 add-kind-at : tie.Need-overflow-add-kind-at invariant-loop decreases-loop
 add-kind-at c =

@@ -4,12 +4,12 @@ use mathlib.Core.Path.{sym, ap, ◌∙◌, subst}
 use mathlib.Core.Bool.{Bool, ◌||◌, not}
 use lib.ListN.{length, drop}
 use Rattle.format.specs.Bytes.{Bytes, any, among}
-use Rattle.format.specs.Rules.{typedNames, auto}
-use Rattle.values.specs.Value.{valueFrom}
+use Rattle.format.specs.Rules.{typed_names, auto}
+use Rattle.values.specs.Value.{value_from}
 use Rattle.lines.proofs.Cuts.{rest}
 use Rattle.words.specs.Spans.{span}
 use Rattle.words.proofs.Decoded.{decoded-all, decoded-length, decoded-inside}
-use Rattle.records.specs.Walk.{recordIn}
+use Rattle.records.specs.Walk.{record_in}
 use borrow.Author.Rules.{rules}
 use Rattle.numbering.proofs.types.type_counted.Statement.{statement}
 use Rattle.numbering.proofs.types.type_counted.Tie as tie
@@ -27,7 +27,7 @@ returns c =
     let at-args = c.before.before.before.before.args in
     let at-is-counted = c.before.is-counted in
     let at-if1 = c.if1 in
-    sym (ap (λ (t : Bool). t || not (any (λ (n : Bytes). among n (auto (recordIn at-args.d.now))) (typedNames (valueFrom (drop at-args.value at-args.d.now))))) (sym at-is-counted.ensures ∙ at-if1.true))
+    sym (ap (λ (t : Bool). t || not (any (λ (n : Bytes). among n (auto (record_in at-args.d.now))) (typed_names (value_from (drop at-args.value at-args.d.now))))) (sym at-is-counted.ensures ∙ at-if1.true))
 
 sub-copy-value : tie.Need-overflow-sub-copy-value
 sub-copy-value c = search rules
@@ -42,20 +42,20 @@ copy-value-requires : tie.Need-copy-value-requires
 copy-value-requires c κs =
     let at-args = c.before.before.before.before.before.before.args in
     let at_pre = c.before.before.before.before.before.before.requires in
-    subst (λ (x : Bytes). length (valueFrom x) ≤ length at-args.scratch.now) (sym (rest at-args.d.now at-args.value)) at_pre.1.1
+    subst (λ (x : Bytes). length (value_from x) ≤ length at-args.scratch.now) (sym (rest at-args.d.now at-args.value)) at_pre.1.1
 
 slice-reshare-prefix-name-listed : tie.Need-slice-reshare-prefix-name-listed
 slice-reshare-prefix-name-listed c =
     let at-args = c.before.before.before.before.before.before.before.before.before.args in
     let at-copy-value = c.before.before.copy-value in
     let at_pre = c.before.before.before.before.before.before.before.before.before.requires in
-    decoded-inside (valueFrom (span at-args.value (length at-args.d.now) at-args.d.now)) at-args.scratch.now _ at-copy-value.result at-copy-value.ensures.0 at-copy-value.ensures.1 (subst (λ (x : Bytes). length (valueFrom x) ≤ length at-args.scratch.now) (sym (rest at-args.d.now at-args.value)) at_pre.1.1)
+    decoded-inside (value_from (span at-args.value (length at-args.d.now) at-args.d.now)) at-args.scratch.now _ at-copy-value.result at-copy-value.ensures.0 at-copy-value.ensures.1 (subst (λ (x : Bytes). length (value_from x) ≤ length at-args.scratch.now) (sym (rest at-args.d.now at-args.value)) at_pre.1.1)
 
 slice-aggregate-name-listed : tie.Need-slice-aggregate-name-listed
 slice-aggregate-name-listed c =
     let at-args = c.before.before.before.before.before.before.before.before.before.before.args in
     let at-copy-value = c.before.before.before.copy-value in
-    decoded-length (valueFrom (span at-args.value (length at-args.d.now) at-args.d.now)) at-args.scratch.now _ at-copy-value.result at-copy-value.ensures.0 at-copy-value.ensures.1
+    decoded-length (value_from (span at-args.value (length at-args.d.now) at-args.d.now)) at-args.scratch.now _ at-copy-value.result at-copy-value.ensures.0 at-copy-value.ensures.1
 
 name-listed-requires : tie.Need-name-listed-requires
 name-listed-requires c κs = search rules
@@ -70,10 +70,10 @@ returns-2 c =
     let at-name-listed = c.name-listed in
     let at-is-counted = c.before.before.before.before.before.before.before.before.is-counted in
     let at-if1 = c.before.before.before.before.before.before.before.if1 in
-    let v = valueFrom (span at-args.value (length at-args.d.now) at-args.d.now) in
-    let all = decoded-all v at-args.scratch.now _ at-copy-value.result at-copy-value.ensures.0 at-copy-value.ensures.1 ∙ ap valueFrom (rest at-args.d.now at-args.value) in
-    ap not (at-name-listed.ensures ∙ ap (λ (x : Bytes). any (λ (n : Bytes). among n (auto (recordIn at-args.d.now))) (typedNames x)) all)
-    ∙ sym (ap (λ (t : Bool). t || not (any (λ (n : Bytes). among n (auto (recordIn at-args.d.now))) (typedNames (valueFrom (drop at-args.value at-args.d.now))))) (sym at-is-counted.ensures ∙ at-if1.false))
+    let v = value_from (span at-args.value (length at-args.d.now) at-args.d.now) in
+    let all = decoded-all v at-args.scratch.now _ at-copy-value.result at-copy-value.ensures.0 at-copy-value.ensures.1 ∙ ap value_from (rest at-args.d.now at-args.value) in
+    ap not (at-name-listed.ensures ∙ ap (λ (x : Bytes). any (λ (n : Bytes). among n (auto (record_in at-args.d.now))) (typed_names x)) all)
+    ∙ sym (ap (λ (t : Bool). t || not (any (λ (n : Bytes). among n (auto (record_in at-args.d.now))) (typed_names (value_from (drop at-args.value at-args.d.now))))) (sym at-is-counted.ensures ∙ at-if1.false))
 
 pub type-counted-spec : {M : Type 1} → statement M
 type-counted-spec =

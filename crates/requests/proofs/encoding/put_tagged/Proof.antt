@@ -2,7 +2,7 @@
 use native.Mathlib.Omega.{arith}
 use mathlib.Core.Path.{refl}
 use lib.ListN.{length-take, length-drop, length-set}
-use Rattle.format.specs.Requests.{tag, taggedBytes}
+use Rattle.format.specs.Requests.{tag, tagged_bytes}
 use Rattle.writing.proofs.Texts.{length_over}
 use Rattle.requests.proofs.Building.{tagged-over}
 use borrow.Author.Rules.{rules}
@@ -44,7 +44,7 @@ same_length c =
     let at-args = c.before.before.before.before.before.before.args in
     let at_pre = c.before.before.before.before.before.before.requires in
     let at-put-bytes = c.before.before.put-bytes in
-    length_over _ at-args.out.now (taggedBytes (tag at-args.tag at-args.contents.now)) (omega arith) (tagged-over at-args.out.now at-args.tag _ at-args.contents.now _ at_pre.1 refl at-put-bytes.ensures)
+    length_over _ at-args.out.now (tagged_bytes (tag at-args.tag at-args.contents.now)) (omega arith) (tagged-over at-args.out.now at-args.tag _ at-args.contents.now _ at_pre.1 refl at-put-bytes.ensures)
 
 returns : tie.Need-returns
 returns c =

@@ -4,7 +4,7 @@ use mathlib.Core.List.{[], ◌∷◌}
 use mathlib.Core.Path.{ap}
 use Prim.Native.Nat.{ℕ}
 use Rattle.format.specs.Requests.{by_kind, changes}
-use Rattle.requests.specs.Kinds.{insertKind, deleteKind, addKind, changeKind}
+use Rattle.requests.specs.Kinds.{insert_kind, delete_kind, add_kind, change_kind}
 use Rattle.requests.proofs.Kinding.{kind-reads, kind-changes, kind-unknown}
 use borrow.Author.Rules.{rules}
 use Rattle.requests.proofs.kinds.edit_at.Statement.{statement}
@@ -24,7 +24,7 @@ returns c =
     let at-args = c.before.before.before.args in
     let at-insert-at = c.insert-at in
     let at-if1 = c.before.if1 in
-    kind-reads at-args.req.now at-args.kind at-args.i insertKind at-insert-at.result (λ fs. ap (λ (k : ℕ). by_kind (k ∷ []) fs) at-if1.true) at-insert-at.ensures
+    kind-reads at-args.req.now at-args.kind at-args.i insert_kind at-insert-at.result (λ fs. ap (λ (k : ℕ). by_kind (k ∷ []) fs) at-if1.true) at-insert-at.ensures
 
 delete-at-requires : tie.Need-delete-at-requires
 delete-at-requires c κs = search rules
@@ -34,7 +34,7 @@ returns-2 c =
     let at-args = c.before.before.before.before.args in
     let at-delete-at = c.delete-at in
     let at-if2 = c.before.if2 in
-    kind-reads at-args.req.now at-args.kind at-args.i deleteKind at-delete-at.result (λ fs. ap (λ (k : ℕ). by_kind (k ∷ []) fs) at-if2.true) at-delete-at.ensures
+    kind-reads at-args.req.now at-args.kind at-args.i delete_kind at-delete-at.result (λ fs. ap (λ (k : ℕ). by_kind (k ∷ []) fs) at-if2.true) at-delete-at.ensures
 
 add-at-requires : tie.Need-add-at-requires
 add-at-requires c κs = search rules
@@ -44,7 +44,7 @@ returns-3 c =
     let at-args = c.before.before.before.before.before.args in
     let at-add-at = c.add_at in
     let at-if3 = c.before.if3 in
-    kind-reads at-args.req.now at-args.kind at-args.i addKind at-add-at.result (λ fs. ap (λ (k : ℕ). by_kind (k ∷ []) fs) at-if3.true) at-add-at.ensures
+    kind-reads at-args.req.now at-args.kind at-args.i add_kind at-add-at.result (λ fs. ap (λ (k : ℕ). by_kind (k ∷ []) fs) at-if3.true) at-add-at.ensures
 
 returns-4 : tie.Need-returns-4
 returns-4 c =
@@ -75,7 +75,7 @@ returns-6 c =
     let at-change-at = c.change-at in
     let at-if4 = c.before.before.if4 in
     let at-if5 = c.before.if5 in
-    kind-reads at-args.req.now at-args.kind at-args.i (changes (changeKind at-args.kind)) at-change-at.result (kind-changes at-args.kind (omega (arith, at-if4.false)) (omega (arith, at-if5.false))) at-change-at.ensures
+    kind-reads at-args.req.now at-args.kind at-args.i (changes (change_kind at-args.kind)) at-change-at.result (kind-changes at-args.kind (omega (arith, at-if4.false)) (omega (arith, at-if5.false))) at-change-at.ensures
 
 pub edit-at-spec : {M : Type 1} → statement M
 edit-at-spec =

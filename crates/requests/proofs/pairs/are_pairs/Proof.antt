@@ -5,7 +5,7 @@ use Prim.Native.Nat.{◌-◌}
 use native.Mathlib.Omega.{arith}
 use mathlib.Core.Path.{◌≡◌, refl, sym, ◌∙◌}
 use lib.ListN.{length}
-use Rattle.requests.specs.Pairs.{pairsFrom}
+use Rattle.requests.specs.Pairs.{pairs_from}
 use Rattle.requests.proofs.Pairing.{pair_found, pair-missed, some_more, some_end}
 use Rattle.requests.proofs.pairs.are_pairs.Statement.{statement}
 use Rattle.requests.proofs.pairs.are_pairs.Tie as tie
@@ -14,7 +14,7 @@ use Rattle.requests.proofs.pairs.are_pairs.Lts as lts
 use Rattle.requests.proofs.pairs.pair_at.Reads as pair-at-reads
 
 abbrev invariant-loop : tie.invariant-loop
-invariant-loop req from i₀ i = is_some (pairsFrom req from) ≡ is_some (pairsFrom req i)
+invariant-loop req from i₀ i = is_some (pairs_from req from) ≡ is_some (pairs_from req i)
 
 abbrev decreases-loop : tie.decreases-loop
 decreases-loop req from i₀ i = length req - i

@@ -10,8 +10,8 @@ use mathlib.Core.Bool.{true}
 use mathlib.Core.List.{List}
 use lib.ListN.{length}
 use Rattle.format.specs.Bytes.{all, is_some}
-use Rattle.format.specs.Written.{Pair, writtenAll, isLegalPair}
-use Rattle.requests.specs.Pairs.{pairsFrom, pairsAt, pair_of}
+use Rattle.format.specs.Written.{Pair, written_all, is_legal_pair}
+use Rattle.requests.specs.Pairs.{pairs_from, pairs_at, pair_of}
 use Rattle.requests.proofs.Pairing.{pair_found, pair-missed, some_more, list-more, list-end}
 use Rattle.requests.proofs.Weighing.{pair_size, first-illegal, first-legal, first-length, first_count}
 use Rattle.requests.proofs.pairs.weigh.Statement.{statement}
@@ -23,7 +23,7 @@ use Rattle.requests.proofs.pairs.pair_at.Reads as pair-at-reads
 use Rattle.requests.proofs.pairs.pair_len.Reads as pair-len-reads
 
 abbrev invariant-loop : tie.invariant-loop
-invariant-loop req from i₀ len₀ count₀ i len count = (i ≤ length req) × (is_some (pairsFrom req i) ≡ true) × (len ≤ 3 * i) × (count ≤ i) × (all isLegalPair (pairsAt req from) ≡ all isLegalPair (pairsAt req i)) × (len + length (writtenAll (pairsAt req i)) ≡ length (writtenAll (pairsAt req from))) × (count + length (pairsAt req i) ≡ length (pairsAt req from))
+invariant-loop req from i₀ len₀ count₀ i len count = (i ≤ length req) × (is_some (pairs_from req i) ≡ true) × (len ≤ 3 * i) × (count ≤ i) × (all is_legal_pair (pairs_at req from) ≡ all is_legal_pair (pairs_at req i)) × (len + length (written_all (pairs_at req i)) ≡ length (written_all (pairs_at req from))) × (count + length (pairs_at req i) ≡ length (pairs_at req from))
 
 abbrev decreases-loop : tie.decreases-loop
 decreases-loop req from i₀ len₀ count₀ i len count = length req - i
@@ -32,7 +32,7 @@ loop-holds : tie.Need-loop-init invariant-loop decreases-loop
 loop-holds c =
     let at_pre = c.before.requires in
     let at-args = c.before.args in
-    (at_pre.0.1, at_pre.1, omega arith, omega arith, refl, zero-add (length (writtenAll (pairsAt at-args.req.now at-args.from))), zero-add (length (pairsAt at-args.req.now at-args.from)))
+    (at_pre.0.1, at_pre.1, omega arith, omega arith, refl, zero-add (length (written_all (pairs_at at-args.req.now at-args.from))), zero-add (length (pairs_at at-args.req.now at-args.from)))
 
 pair-at-requires : tie.Need-pair-at-requires invariant-loop decreases-loop
 pair-at-requires c κs = search rules
@@ -49,7 +49,7 @@ returns c =
     let at-loop = c.before.before.before.loop in
     let at-pair-at = c.before.before.pair-at in
     let at-enum-told = c.enum_told in
-    let e = list-end at-args.req.now at-loop.i (pair-missed at-args.req.now at-loop.i at-pair-at.result at-pair-at.ensures at-enum-told.given.1) in (at-loop.invariant.4 ∙ ap (all isLegalPair) e, omega (arith, at-loop.invariant.5, ap (λ (ps : List Pair). length (writtenAll ps)) e), omega (arith, at-loop.invariant.6, ap length e))
+    let e = list-end at-args.req.now at-loop.i (pair-missed at-args.req.now at-loop.i at-pair-at.result at-pair-at.ensures at-enum-told.given.1) in (at-loop.invariant.4 ∙ ap (all is_legal_pair) e, omega (arith, at-loop.invariant.5, ap (λ (ps : List Pair). length (written_all ps)) e), omega (arith, at-loop.invariant.6, ap length e))
 
 is-legal-pair-requires : tie.Need-is-legal-pair-requires invariant-loop decreases-loop
 is-legal-pair-requires c κs =
@@ -67,7 +67,7 @@ returns-2 c =
     let at_p = c.before.before.before.p in
     let at-is-legal-pair = c.before.is-legal-pair in
     let at-if1 = c.if1 in
-    let h = pair_found at-args.req.now at-loop.i at-pair-at.result at_p.given.0.0 at_p.given.0.1.0 at_p.given.0.1.1.0 at-pair-at.ensures at_p.given.1 in at-loop.invariant.4 ∙ first-illegal (pairsAt at-args.req.now at-loop.i) (pairsAt at-args.req.now at_p.given.0.1.1.0) (pair_of at-args.req.now at_p.given.0.0 at_p.given.0.1.0) (list-more at-args.req.now at-loop.i at_p.given.0.0 at_p.given.0.1.0 at_p.given.0.1.1.0 h at-loop.invariant.1) (sym at-is-legal-pair.ensures ∙ not-true at-is-legal-pair.result at-if1.true)
+    let h = pair_found at-args.req.now at-loop.i at-pair-at.result at_p.given.0.0 at_p.given.0.1.0 at_p.given.0.1.1.0 at-pair-at.ensures at_p.given.1 in at-loop.invariant.4 ∙ first-illegal (pairs_at at-args.req.now at-loop.i) (pairs_at at-args.req.now at_p.given.0.1.1.0) (pair_of at-args.req.now at_p.given.0.0 at_p.given.0.1.0) (list-more at-args.req.now at-loop.i at_p.given.0.0 at_p.given.0.1.0 at_p.given.0.1.1.0 h at-loop.invariant.1) (sym at-is-legal-pair.ensures ∙ not-true at-is-legal-pair.result at-if1.true)
 
 pair-len-requires : tie.Need-pair-len-requires invariant-loop decreases-loop
 pair-len-requires c κs =
@@ -119,9 +119,9 @@ loop-again c =
       sym (some_more at-args.req.now at-loop.i at_p.given.0.0 at_p.given.0.1.0 at_p.given.0.1.1.0 h) ∙ at-loop.invariant.1,
       omega (arith, pair_size at-args.req.now at-loop.i at_p.given.0.0 at_p.given.0.1.0 at_p.given.0.1.1.0 h, at-pair-len.ensures, at-loop.invariant.2),
       omega (arith, at-loop.invariant.3, h.2, h.3.0, h.4, h.5.0, h.5.1, h.6),
-      at-loop.invariant.4 ∙ first-legal (pairsAt at-args.req.now at-loop.i) (pairsAt at-args.req.now at_p.given.0.1.1.0) (pair_of at-args.req.now at_p.given.0.0 at_p.given.0.1.0) (list-more at-args.req.now at-loop.i at_p.given.0.0 at_p.given.0.1.0 at_p.given.0.1.1.0 h at-loop.invariant.1) (sym at-is-legal-pair.ensures ∙ not-false at-is-legal-pair.result at-if1.false),
-      omega (arith, first-length (pairsAt at-args.req.now at-loop.i) (pairsAt at-args.req.now at_p.given.0.1.1.0) (pair_of at-args.req.now at_p.given.0.0 at_p.given.0.1.0) (list-more at-args.req.now at-loop.i at_p.given.0.0 at_p.given.0.1.0 at_p.given.0.1.1.0 h at-loop.invariant.1), at-pair-len.ensures, at-loop.invariant.5),
-      omega (arith, first_count (pairsAt at-args.req.now at-loop.i) (pairsAt at-args.req.now at_p.given.0.1.1.0) (pair_of at-args.req.now at_p.given.0.0 at_p.given.0.1.0) (list-more at-args.req.now at-loop.i at_p.given.0.0 at_p.given.0.1.0 at_p.given.0.1.1.0 h at-loop.invariant.1), at-loop.invariant.6),
+      at-loop.invariant.4 ∙ first-legal (pairs_at at-args.req.now at-loop.i) (pairs_at at-args.req.now at_p.given.0.1.1.0) (pair_of at-args.req.now at_p.given.0.0 at_p.given.0.1.0) (list-more at-args.req.now at-loop.i at_p.given.0.0 at_p.given.0.1.0 at_p.given.0.1.1.0 h at-loop.invariant.1) (sym at-is-legal-pair.ensures ∙ not-false at-is-legal-pair.result at-if1.false),
+      omega (arith, first-length (pairs_at at-args.req.now at-loop.i) (pairs_at at-args.req.now at_p.given.0.1.1.0) (pair_of at-args.req.now at_p.given.0.0 at_p.given.0.1.0) (list-more at-args.req.now at-loop.i at_p.given.0.0 at_p.given.0.1.0 at_p.given.0.1.1.0 h at-loop.invariant.1), at-pair-len.ensures, at-loop.invariant.5),
+      omega (arith, first_count (pairs_at at-args.req.now at-loop.i) (pairs_at at-args.req.now at_p.given.0.1.1.0) (pair_of at-args.req.now at_p.given.0.0 at_p.given.0.1.0) (list-more at-args.req.now at-loop.i at_p.given.0.0 at_p.given.0.1.0 at_p.given.0.1.1.0 h at-loop.invariant.1), at-loop.invariant.6),
     )
 
 pub weigh-spec : {M : Type 1} → statement M

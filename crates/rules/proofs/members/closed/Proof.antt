@@ -6,7 +6,7 @@ use mathlib.Core.Bool.{Bool}
 use borrow.Author.Tests.{eq-eqb, ne_eqb}
 use Rattle.format.specs.Bytes.{pick}
 use Rattle.format.proofs.Least.{least}
-use Rattle.rules.specs.Tallies.{tallyNo}
+use Rattle.rules.specs.Tallies.{tally_no}
 use Rattle.rules.proofs.members.closed.Statement.{statement}
 use Rattle.rules.proofs.members.closed.Tie as tie
 use Rattle.rules.proofs.members.closed.Reads as reads
@@ -18,7 +18,7 @@ returns : tie.Need-returns
 returns c =
     let at-args = c.before.args in
     let at-if1 = c.if1 in
-    (ap (λ (b : Bool). pick b at-args.a.number (least at-args.a.number (tallyNo at-args.t at-args.limited at-args.keyed at-args.mandatory))) (sym (eq-eqb at-args.fields 0 at-if1.true)), ap (λ (b : Bool). pick b at-args.a.count (at-args.a.count + 1)) (sym (eq-eqb at-args.fields 0 at-if1.true)))
+    (ap (λ (b : Bool). pick b at-args.a.number (least at-args.a.number (tally_no at-args.t at-args.limited at-args.keyed at-args.mandatory))) (sym (eq-eqb at-args.fields 0 at-if1.true)), ap (λ (b : Bool). pick b at-args.a.count (at-args.a.count + 1)) (sym (eq-eqb at-args.fields 0 at-if1.true)))
 
 number-requires : tie.Need-number-requires
 number-requires c κs =
@@ -37,7 +37,7 @@ returns-2 c =
     let at-args = c.before.before.before.before.args in
     let at-number = c.before.before.number in
     let at-if1 = c.before.before.before.if1 in
-    (at-lesser.ensures ∙ ap (least at-args.a.number) at-number.ensures ∙ ap (λ (b : Bool). pick b at-args.a.number (least at-args.a.number (tallyNo at-args.t at-args.limited at-args.keyed at-args.mandatory))) (sym (ne_eqb at-args.fields 0 at-if1.false)), ap (λ (b : Bool). pick b at-args.a.count (at-args.a.count + 1)) (sym (ne_eqb at-args.fields 0 at-if1.false)))
+    (at-lesser.ensures ∙ ap (least at-args.a.number) at-number.ensures ∙ ap (λ (b : Bool). pick b at-args.a.number (least at-args.a.number (tally_no at-args.t at-args.limited at-args.keyed at-args.mandatory))) (sym (ne_eqb at-args.fields 0 at-if1.false)), ap (λ (b : Bool). pick b at-args.a.count (at-args.a.count + 1)) (sym (ne_eqb at-args.fields 0 at-if1.false)))
 
 pub closed-spec : {M : Type 1} → statement M
 closed-spec = tie.close (tie.spec returns number-requires lesser-requires add-t10 returns-2)

@@ -7,11 +7,11 @@ use mathlib.Core.Path.{◌≡◌, refl, sym, ap, ◌∙◌}
 use mathlib.Core.Bool.{true}
 use lib.ListN.{length, length-set}
 use Rattle.format.specs.Bytes.{all}
-use Rattle.records.specs.Walk.{recordIn}
-use Rattle.records.specs.Fields.{fieldsFrom}
+use Rattle.records.specs.Walk.{record_in}
+use Rattle.records.specs.Fields.{fields_from}
 use Rattle.records.proofs.Readings.{part-ended}
 use Rattle.records.proofs.Steps.{steps, part-formed, record-blank, record-comment, record-field}
-use Rattle.rules.specs.Members.{fitsIn}
+use Rattle.rules.specs.Members.{fits_in}
 use Rattle.rules.proofs.Walking.{Walked, walk_start, walk-comment, walk-blank, walk-count, walk_end, walk_field, few-mandatory, open_no, AllSeen, seen_start, seen-set, fits-here, field-met}
 use Rattle.rules.proofs.members.judge_part.Statement.{statement}
 use Rattle.rules.proofs.members.judge_part.Tie as tie
@@ -28,7 +28,7 @@ use Rattle.rules.proofs.tallies.start.Reads as start-reads
 
 abbrev invariant-loop : tie.invariant-loop
 invariant-loop d entries sets r s scratch₀ tables mandatory seen₀ t₀ fields₀ typed₀ a₀ i₀ scratch seen t fields typed a i =
-    (length scratch ≡ length scratch₀) × (length seen ≡ 16) × AllSeen (recordIn d) r.tables.names.from r.tables.names.next s seen × Walked d r.tables.names.from (r.typed.symbols.next - r.tables.names.from) s t fields typed a.number a.count i × (all (fitsIn (length scratch₀)) (fieldsFrom s i) ≡ true)
+    (length scratch ≡ length scratch₀) × (length seen ≡ 16) × AllSeen (record_in d) r.tables.names.from r.tables.names.next s seen × Walked d r.tables.names.from (r.typed.symbols.next - r.tables.names.from) s t fields typed a.number a.count i × (all (fits_in (length scratch₀)) (fields_from s i) ≡ true)
 
 abbrev decreases-loop : tie.decreases-loop
 decreases-loop d entries sets r s scratch₀ tables mandatory seen₀ t₀ fields₀ typed₀ a₀ i₀ scratch seen t fields typed a i =
@@ -57,7 +57,7 @@ loop-holds c =
     let at-look-up = c.before.look_up in
     let at-start = c.start in
     let at_pre = c.before.before.before.before.before.before.before.before.before.requires in
-    (refl, refl, seen_start (recordIn at-args.d.now) at-args.r.tables.names.from at-args.r.tables.names.next at-args.s.now _ (record { ordered = omega arith; inside = omega arith; stands = at-look-up.ensures }), walk_start at-args.d.now at-args.r.tables.names.from (at-args.r.typed.symbols.next - at-args.r.tables.names.from) at-args.s.now at-start.result at-start.ensures at_pre.1.0, at_pre.1.2)
+    (refl, refl, seen_start (record_in at-args.d.now) at-args.r.tables.names.from at-args.r.tables.names.next at-args.s.now _ (record { ordered = omega arith; inside = omega arith; stands = at-look-up.ensures }), walk_start at-args.d.now at-args.r.tables.names.from (at-args.r.typed.symbols.next - at-args.r.tables.names.from) at-args.s.now at-start.result at-start.ensures at_pre.1.0, at_pre.1.2)
 
 sub-read-piece : tie.Need-overflow-sub-read-piece invariant-loop decreases-loop
 sub-read-piece c =
@@ -106,7 +106,7 @@ loop-again c =
     let at_p = c.before.p in
     let h = steps at-args.s.now at-loop.i at-read-piece.result at-loop.invariant.3.readable at-read-piece.ensures at_p.given.1 in
     let k = at_p.given.0.0 in
-    (at-loop.invariant.0, at-loop.invariant.1, at-loop.invariant.2, walk-comment at-args.d.now at-args.r.tables.names.from (at-args.r.typed.symbols.next - at-args.r.tables.names.from) at-args.s.now at-loop.t at-loop.fields at-loop.typed at-loop.a.number at-loop.a.count at-loop.i at-loop.invariant.3 h.0 k h.1, sym (ap (all (fitsIn (length at-args.scratch.now))) (record-comment at-args.s.now at-loop.i h.0 k h.1)) ∙ at-loop.invariant.4)
+    (at-loop.invariant.0, at-loop.invariant.1, at-loop.invariant.2, walk-comment at-args.d.now at-args.r.tables.names.from (at-args.r.typed.symbols.next - at-args.r.tables.names.from) at-args.s.now at-loop.t at-loop.fields at-loop.typed at-loop.a.number at-loop.a.count at-loop.i at-loop.invariant.3 h.0 k h.1, sym (ap (all (fits_in (length at-args.scratch.now))) (record-comment at-args.s.now at-loop.i h.0 k h.1)) ∙ at-loop.invariant.4)
 
 enum-known-p-2 : tie.Need-enum-known-p-2 invariant-loop decreases-loop
 enum-known-p-2 c = search rules
@@ -149,7 +149,7 @@ loop-again-2 c =
     let at-start2 = c.start2 in
     let h = steps at-args.s.now at-loop.i at-read-piece.result at-loop.invariant.3.readable at-read-piece.ensures at-p2.given.1 in
     let k = at-p2.given.0.0 in
-    (at-loop.invariant.0, at-loop.invariant.1, at-loop.invariant.2, walk-blank at-args.d.now at-args.r.tables.names.from (at-args.r.typed.symbols.next - at-args.r.tables.names.from) at-args.s.now at-loop.t at-loop.fields at-loop.typed at-loop.a.number at-loop.a.count at-loop.i at-loop.invariant.3 at-closed.result.number _ at-closed.result.count (open_no at-args.d.now at-args.entries.now at-args.sets.now at-args.r at_pre.0 at-loop.invariant.3.opened at-loop.t at-loop.invariant.3.tallied) at-closed.ensures.0 at-closed.ensures.1 h.0 k at-start2.result at-start2.ensures h.1, sym (ap (all (fitsIn (length at-args.scratch.now))) (record-blank at-args.s.now at-loop.i h.0 k h.1)) ∙ at-loop.invariant.4)
+    (at-loop.invariant.0, at-loop.invariant.1, at-loop.invariant.2, walk-blank at-args.d.now at-args.r.tables.names.from (at-args.r.typed.symbols.next - at-args.r.tables.names.from) at-args.s.now at-loop.t at-loop.fields at-loop.typed at-loop.a.number at-loop.a.count at-loop.i at-loop.invariant.3 at-closed.result.number _ at-closed.result.count (open_no at-args.d.now at-args.entries.now at-args.sets.now at-args.r at_pre.0 at-loop.invariant.3.opened at-loop.t at-loop.invariant.3.tallied) at-closed.ensures.0 at-closed.ensures.1 h.0 k at-start2.result at-start2.ensures h.1, sym (ap (all (fits_in (length at-args.scratch.now))) (record-blank at-args.s.now at-loop.i h.0 k h.1)) ∙ at-loop.invariant.4)
 
 enum-known-p-3 : tie.Need-enum-known-p-3 invariant-loop decreases-loop
 enum-known-p-3 c = search rules
@@ -285,7 +285,7 @@ loop-again-3 c =
     let g = at-p3.given.0 in
     let from = at-args.r.tables.names.from in
     let next = at-args.r.tables.names.next in
-    let rules = recordIn at-args.d.now in
+    let rules = record_in at-args.d.now in
     let f = fits-here (length at-args.scratch.now) _ _ _ (record-field at-args.s.now at-loop.i g.0 g.1.0 g.1.1.0 h) at-loop.invariant.4 in
     let stands = at-recall.ensures in
     let ok = field-met at-args.d.now from next at-args.r.typed.symbols.from at-args.r.typed.symbols.next _ at-recall.result at-value-met.result stands at_pre.0.from_is at_pre.0.typed-are.symbols-are.begins at_pre.0.within at-value-met.ensures in (

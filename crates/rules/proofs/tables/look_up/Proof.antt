@@ -1,7 +1,7 @@
 -- `rules::tables::look_up` meets its contract: the tags and the places that are found.
 use mathlib.Core.Path.{◌∙◌}
 use Rattle.format.specs.Rules.{mandatory, unique}
-use Rattle.records.specs.Walk.{recordIn}
+use Rattle.records.specs.Walk.{record_in}
 use borrow.Author.Rules.{rules}
 use Rattle.rules.proofs.tables.look_up.Statement.{statement}
 use Rattle.rules.proofs.tables.look_up.Tie as tie
@@ -86,7 +86,7 @@ returns c =
     let at_has = c.before.before.before.before.before.has in
     let at-places2 = c.places2 in
     let at-has2 = c.before.has2 in
-    let rules = recordIn at-args.d.now in
+    let rules = record_in at-args.d.now in
     let k = at-look-up.ensures in
     record {
       tags = k;

@@ -4,7 +4,7 @@ use Prim.Native.Nat.{◌≤◌}
 use mathlib.Core.Path.{◌≡◌, ◌∙◌}
 use lib.ListN.{length}
 use borrow.Rule.Slice.PartMut.{mid_len}
-use Rattle.rules.specs.Tables.{uniqueAt, names_at, symbolsAt}
+use Rattle.rules.specs.Tables.{unique_at, names_at, symbols_at}
 use Rattle.dictionary.proofs.Granted.{mandatory-lists, unique-lists}
 use Rattle.rules.proofs.Rulebooks.{mandatory-room, unique-room, with-words, words-length, mandatory-stand, unique-stand, tables-are}
 use borrow.Author.Rules.{rules}
@@ -73,8 +73,8 @@ read-requires-2 c κs =
     let at_read = c.before.before.before.before.before.before.before.read in
     let d = at-args.d.now in
     let room : names_at ≤ length at-args.entries.now = omega (arith, at_pre.1.0) in
-    let long : length at_read.new.1.1.0 ≡ uniqueAt = at_read.auto.1.1.0 ∙ mandatory-room at-args.entries.now room in
-    let longs : length at_read.new.1.1.1.0 ≡ uniqueAt = at_read.auto.1.1.1.0 ∙ mandatory-room at-args.sets.now at_pre.1.1 in
+    let long : length at_read.new.1.1.0 ≡ unique_at = at_read.auto.1.1.0 ∙ mandatory-room at-args.entries.now room in
+    let longs : length at_read.new.1.1.1.0 ≡ unique_at = at_read.auto.1.1.1.0 ∙ mandatory-room at-args.sets.now at_pre.1.1 in
     let l = unique-room at-args.entries.now room at_read.new.1.1.0 long in
     let k = unique-room at-args.sets.now at_pre.1.1 at_read.new.1.1.1.0 longs in
     ((at_pre.0.0, unique-lists d at_pre.0.0), (omega (arith, l), omega (arith, k)))
@@ -95,10 +95,10 @@ read-requires-3 c κs =
     let at_read = c.before.before.before.before.before.before.before.before.before.before.before.before.before.read in
     let at-read2 = c.before.before.before.before.before.read2 in
     let room : names_at ≤ length at-args.entries.now = omega (arith, at_pre.1.0) in
-    let long : length at_read.new.1.1.0 ≡ uniqueAt = at_read.auto.1.1.0 ∙ mandatory-room at-args.entries.now room in
-    let long-unique : length at-read2.new.1.1.0 ≡ uniqueAt = at-read2.auto.1.1.0 ∙ unique-room at-args.entries.now room at_read.new.1.1.0 long in
+    let long : length at_read.new.1.1.0 ≡ unique_at = at_read.auto.1.1.0 ∙ mandatory-room at-args.entries.now room in
+    let long-unique : length at-read2.new.1.1.0 ≡ unique_at = at-read2.auto.1.1.0 ∙ unique-room at-args.entries.now room at_read.new.1.1.0 long in
     let e = words-length at-args.entries.now room at_read.new.1.1.0 long at-read2.new.1.1.0 long-unique in
-    let l = mid_len names_at symbolsAt (with-words at-args.entries.now room at_read.new.1.1.0 long at-read2.new.1.1.0 long-unique) (omega (arith, e, at_pre.1.0)) in
+    let l = mid_len names_at symbols_at (with-words at-args.entries.now room at_read.new.1.1.0 long at-read2.new.1.1.0 long-unique) (omega (arith, e, at_pre.1.0)) in
     (at_pre.0.0, (at_pre.0.1, omega (arith, l)))
 
 same_length : tie.Need-same-length
@@ -118,15 +118,15 @@ returns c =
     let l = at-args.entries.now in
     let sets = at-args.sets.now in
     let room : names_at ≤ length l = omega (arith, at_pre.1.0) in
-    let long : length at_read.new.1.1.0 ≡ uniqueAt = at_read.auto.1.1.0 ∙ mandatory-room l room in
-    let longs : length at_read.new.1.1.1.0 ≡ uniqueAt = at_read.auto.1.1.1.0 ∙ mandatory-room sets at_pre.1.1 in
-    let long-unique : length at-read2.new.1.1.0 ≡ uniqueAt = at-read2.auto.1.1.0 ∙ unique-room l room at_read.new.1.1.0 long in
-    let longs-unique : length at-read2.new.1.1.1.0 ≡ uniqueAt = at-read2.auto.1.1.1.0 ∙ unique-room sets at_pre.1.1 at_read.new.1.1.1.0 longs in
+    let long : length at_read.new.1.1.0 ≡ unique_at = at_read.auto.1.1.0 ∙ mandatory-room l room in
+    let longs : length at_read.new.1.1.1.0 ≡ unique_at = at_read.auto.1.1.1.0 ∙ mandatory-room sets at_pre.1.1 in
+    let long-unique : length at-read2.new.1.1.0 ≡ unique_at = at-read2.auto.1.1.0 ∙ unique-room l room at_read.new.1.1.0 long in
+    let longs-unique : length at-read2.new.1.1.1.0 ≡ unique_at = at-read2.auto.1.1.1.0 ∙ unique-room sets at_pre.1.1 at_read.new.1.1.1.0 longs in
     let e = words-length l room at_read.new.1.1.0 long at-read2.new.1.1.0 long-unique in
     let f = words-length sets at_pre.1.1 at_read.new.1.1.1.0 longs at-read2.new.1.1.1.0 longs-unique in
     let words = with-words l room at_read.new.1.1.0 long at-read2.new.1.1.0 long-unique in
     let many : names_at ≤ length (with-words sets at_pre.1.1 at_read.new.1.1.1.0 longs at-read2.new.1.1.1.0 longs-unique) = omega (arith, f, at_pre.1.1) in
-    let z = at-read3.auto.1.1.0 ∙ mid_len names_at symbolsAt words (omega (arith, e, at_pre.1.0)) in
+    let z = at-read3.auto.1.1.0 ∙ mid_len names_at symbols_at words (omega (arith, e, at_pre.1.0)) in
     (tables-are words (omega (arith, e, at_pre.1.0)) at-read3.new.1.1.0 z d at_pre.0.0 _ many _ (mandatory-stand d l sets at_read.new.1.1.0 at_read.new.1.1.1.0 at-read2.new.1.1.0 at-read2.new.1.1.1.0 room at_pre.1.1 long longs long-unique longs-unique at_read.result at_read.ensures) (unique-stand d l sets at_read.new.1.1.0 at_read.new.1.1.1.0 at-read2.new.1.1.0 at-read2.new.1.1.1.0 room at_pre.1.1 long longs long-unique longs-unique at-read2.result at-read2.ensures) at-read3.ensures.0, at-read3.ensures.1)
 
 pub read_spec : {M : Type 1} → statement M

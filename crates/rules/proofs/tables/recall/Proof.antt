@@ -3,7 +3,7 @@ use mathlib.Core.Path.{sym, ◌∙◌, subst}
 use Rattle.format.specs.Bytes.{Bytes}
 use Rattle.format.proofs.Listing.{same_true}
 use Rattle.words.specs.Spans.{span}
-use Rattle.records.specs.Walk.{recordIn}
+use Rattle.records.specs.Walk.{record_in}
 use Rattle.rules.specs.Tables.{Stands}
 use borrow.Author.Rules.{rules}
 use Rattle.rules.proofs.tables.recall.Statement.{statement}
@@ -41,7 +41,7 @@ returns c =
     let at-if1 = c.before.if1 in
     let at_pre = c.before.before.before.before.before.before.before.before.before.before.requires in
     let old = at-args.n.before in
-    subst (λ (w : Bytes). Stands (recordIn at-args.d.now) at-args.t.names.from at-args.t.names.next w old.seen) (same_true (span old.at old.end at-args.s.now) (span at-args.n.at at-args.n.end at-args.s.now) (sym at-same-bytes.ensures ∙ at-if1.true)) at_pre.1.1.stands
+    subst (λ (w : Bytes). Stands (record_in at-args.d.now) at-args.t.names.from at-args.t.names.next w old.seen) (same_true (span old.at old.end at-args.s.now) (span at-args.n.at at-args.n.end at-args.s.now) (sym at-same-bytes.ensures ∙ at-if1.true)) at_pre.1.1.stands
 
 sub-look-up : tie.Need-overflow-sub-look-up
 sub-look-up c = search rules

@@ -1,5 +1,5 @@
 -- `selection::fields::int_compares` meets its contract.
-use Rattle.numbers.specs.Meaning.{intIn}
+use Rattle.numbers.specs.Meaning.{int_in}
 use Rattle.numbers.specs.declared.IntOf.{IntOf}
 use Rattle.selection.proofs.Marking.{int-by}
 use borrow.Author.Rules.{rules}
@@ -23,7 +23,7 @@ returns c =
     let at-args = c.before.before.before.before.args in
     let at_x = c.before.before.x in
     let at-ints-compare = c.ints-compare in
-    int-by at-args.o at-args.x (IntOf.Value at_x.given.0.0) (intIn at-args.y) _ at_x.given.1 at-ints-compare.ensures
+    int-by at-args.o at-args.x (IntOf.Value at_x.given.0.0) (int_in at-args.y) _ at_x.given.1 at-ints-compare.ensures
 
 returns-2 : tie.Need-returns-2
 returns-2 c = search rules

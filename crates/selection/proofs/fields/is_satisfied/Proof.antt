@@ -4,9 +4,9 @@ use mathlib.Core.Bool.{Bool}
 use mathlib.Core.Option.{Option}
 use Rattle.format.specs.Bytes.{Bytes, same}
 use Rattle.format.specs.Numbers.{Int}
-use Rattle.numbers.specs.Meaning.{intIn}
-use Rattle.selection.specs.Meaning.{intCompares, stringCompares}
-use Rattle.selection.specs.Tokens.{operatorIn}
+use Rattle.numbers.specs.Meaning.{int_in}
+use Rattle.selection.specs.Meaning.{int_compares, string_compares}
+use Rattle.selection.specs.Tokens.{operator_in}
 use Rattle.selection.specs.declared.programs.Operand.{Operand}
 use Rattle.selection.proofs.Marking.{operand-by}
 use borrow.Author.Rules.{rules}
@@ -43,7 +43,7 @@ returns c =
     let at-operand = c.before.before.operand in
     let at-int-compares = c.int-compares in
     let at_pre = c.before.before.before.before.before.before.requires in
-    operand-by at-args.e.now at-args.operator at-args.operand (Operand.Int at-operand.given.0.0) at-args.v.now _ at-operand.given.1 (at-int-compares.ensures ∙ ap (λ (z : Option Int). intCompares (operatorIn at-args.operator) z (intIn at-operand.given.0.0)) at_pre)
+    operand-by at-args.e.now at-args.operator at-args.operand (Operand.Int at-operand.given.0.0) at-args.v.now _ at-operand.given.1 (at-int-compares.ensures ∙ ap (λ (z : Option Int). int_compares (operator_in at-args.operator) z (int_in at-operand.given.0.0)) at_pre)
 
 returns-2 : tie.Need-returns-2
 returns-2 c =
@@ -52,7 +52,7 @@ returns-2 c =
     let at-string-compares = c.string-compares in
     let at-same-bytes = c.before.same_bytes in
     let at-span-of = c.before.before.Span-of in
-    operand-by at-args.e.now at-args.operator at-args.operand (Operand.Text at-operand2.given.0.0 at-operand2.given.0.1.0) at-args.v.now _ at-operand2.given.1 (at-string-compares.ensures ∙ ap (stringCompares (operatorIn at-args.operator)) (at-same-bytes.ensures ∙ ap (λ (w : Bytes). same at-args.v.now w) at-span-of.ensures))
+    operand-by at-args.e.now at-args.operator at-args.operand (Operand.Text at-operand2.given.0.0 at-operand2.given.0.1.0) at-args.v.now _ at-operand2.given.1 (at-string-compares.ensures ∙ ap (string_compares (operator_in at-args.operator)) (at-same-bytes.ensures ∙ ap (λ (w : Bytes). same at-args.v.now w) at-span-of.ensures))
 
 pub is-satisfied-spec : {M : Type 1} → statement M
 is-satisfied-spec =

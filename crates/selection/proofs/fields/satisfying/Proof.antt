@@ -6,7 +6,7 @@ use mathlib.Core.Path.{◌≡◌}
 use mathlib.Core.Bool.{◌&&◌}
 use lib.ListN.{length}
 use Rattle.terms.specs.Sets.{in_set}
-use Rattle.selection.specs.Rows.{satisfiesAt}
+use Rattle.selection.specs.Rows.{satisfies_at}
 use Rattle.selection.proofs.Marking.{Marked, marked-none, marked_more, marked_all, hit-by}
 use Rattle.selection.proofs.fields.satisfying.Statement.{statement}
 use Rattle.selection.proofs.fields.satisfying.Tie as tie
@@ -17,7 +17,7 @@ use Rattle.selection.proofs.fields.with_number.Reads as with-number-reads
 use Rattle.terms.proofs.has.Reads as has-reads
 
 abbrev invariant-loop : tie.invariant-loop
-invariant-loop e p hits v x rows set₀ k₀ set k = (k ≤ p.count) × Marked (λ (j : ℕ). in_set j hits && satisfiesAt e p.rows j v) k set
+invariant-loop e p hits v x rows set₀ k₀ set k = (k ≤ p.count) × Marked (λ (j : ℕ). in_set j hits && satisfies_at e p.rows j v) k set
 
 abbrev decreases-loop : tie.decreases-loop
 decreases-loop e p hits v x rows set₀ k₀ set k = p.count - k

@@ -1,5 +1,5 @@
 -- `selection::fields::with_field` meets its contract: the value is looked at only where a comparison has the name.
-use Rattle.values.specs.Value.{valueFrom}
+use Rattle.values.specs.Value.{value_from}
 use Rattle.words.proofs.Decoded.{decoded-all, decoded-length}
 use Rattle.selection.proofs.Marking.{field-none, field-marks}
 use borrow.Author.Rules.{rules}
@@ -22,7 +22,7 @@ returns c =
     let at-args = c.before.before.before.before.before.before.args in
     let at_named = c.before.named in
     let at-if1 = c.if1 in
-    field-none at-args.e.now at-args.p.rows at-args.p.count at-args.set at_named.result at-args.name.now (valueFrom at-args.s.now) at_named.ensures at-if1.true
+    field-none at-args.e.now at-args.p.rows at-args.p.count at-args.set at_named.result at-args.name.now (value_from at-args.s.now) at_named.ensures at-if1.true
 
 copy-value-requires : tie.Need-copy-value-requires
 copy-value-requires c κs =
@@ -36,7 +36,7 @@ slice-aggregate-int-in : tie.Need-slice-aggregate-int-in
 slice-aggregate-int-in c =
     let at-args = c.before.before.before.before.before.before.before.before.before.before.before.args in
     let at-copy-value = c.before.before.before.copy-value in
-    decoded-length (valueFrom at-args.s.now) at-args.scratch.now _ at-copy-value.result at-copy-value.ensures.0 at-copy-value.ensures.1
+    decoded-length (value_from at-args.s.now) at-args.scratch.now _ at-copy-value.result at-copy-value.ensures.0 at-copy-value.ensures.1
 
 int-in-requires : tie.Need-int-in-requires
 int-in-requires c κs = search rules
@@ -48,7 +48,7 @@ slice-aggregate-satisfying : tie.Need-slice-aggregate-satisfying
 slice-aggregate-satisfying c =
     let at-args = c.before.before.before.before.before.before.before.before.before.before.before.before.before.args in
     let at-copy-value = c.before.before.before.before.before.copy-value in
-    decoded-length (valueFrom at-args.s.now) at-args.scratch.now _ at-copy-value.result at-copy-value.ensures.0 at-copy-value.ensures.1
+    decoded-length (value_from at-args.s.now) at-args.scratch.now _ at-copy-value.result at-copy-value.ensures.0 at-copy-value.ensures.1
 
 satisfying-requires : tie.Need-satisfying-requires
 satisfying-requires c κs =
@@ -65,7 +65,7 @@ returns-2 c =
     let at_named = c.before.before.before.before.before.before.before.before.before.named in
     let at-satisfying = c.satisfying in
     let at-copy-value = c.before.before.before.before.before.before.copy-value in
-    field-marks at-args.e.now at-args.p.rows at-args.p.count at-args.set at_named.result at-args.name.now (valueFrom at-args.s.now) at_named.ensures at-satisfying.result _ (decoded-all (valueFrom at-args.s.now) at-args.scratch.now _ at-copy-value.result at-copy-value.ensures.0 at-copy-value.ensures.1) at-satisfying.ensures
+    field-marks at-args.e.now at-args.p.rows at-args.p.count at-args.set at_named.result at-args.name.now (value_from at-args.s.now) at_named.ensures at-satisfying.result _ (decoded-all (value_from at-args.s.now) at-args.scratch.now _ at-copy-value.result at-copy-value.ensures.0 at-copy-value.ensures.1) at-satisfying.ensures
 
 pub with-field-spec : {M : Type 1} → statement M
 with-field-spec =

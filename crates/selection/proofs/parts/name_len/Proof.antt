@@ -4,7 +4,7 @@ use mathlib.Core.Path.{◌≡◌, sym, ◌∙◌}
 use Prim.Native.Nat.{◌+◌, ◌≤◌, ◌-◌}
 use native.Mathlib.Omega.{arith}
 use lib.ListN.{length, drop}
-use Rattle.format.specs.Lines.{isLater}
+use Rattle.format.specs.Lines.{is_later}
 use Rattle.lines.proofs.Heads.{run_more, run-stop, run_end}
 use Rattle.lines.specs.Line.{run}
 use Rattle.selection.proofs.parts.name_len.Statement.{statement}
@@ -14,7 +14,7 @@ use Rattle.selection.proofs.parts.name_len.Lts as lts
 use Rattle.format.proofs.is_later.Reads as is-later-reads
 
 abbrev invariant-loop : tie.invariant-loop
-invariant-loop table s i₀ i = (i ≤ length s) × (run isLater s ≡ i + run isLater (drop i s))
+invariant-loop table s i₀ i = (i ≤ length s) × (run is_later s ≡ i + run is_later (drop i s))
 
 abbrev decreases-loop : tie.decreases-loop
 decreases-loop table s i₀ i = length s - i
@@ -41,7 +41,7 @@ loop-again c =
     let at-loop-test = c.before.before.before.loop-test in
     let at-is-later = c.before.is_later in
     let at-if1 = c.if1 in
-    omega (arith, run_more isLater at-args.s.now at-loop.i at-loop-test.true (sym at-is-later.ensures ∙ at-if1.true))
+    omega (arith, run_more is_later at-args.s.now at-loop.i at-loop-test.true (sym at-is-later.ensures ∙ at-if1.true))
 
 returns : tie.Need-returns invariant-loop decreases-loop
 returns c =
@@ -50,14 +50,14 @@ returns c =
     let at-loop-test = c.before.before.before.loop-test in
     let at-is-later = c.before.is_later in
     let at-if1 = c.if1 in
-    omega (arith, run-stop isLater at-args.s.now at-loop.i at-loop-test.true (sym at-is-later.ensures ∙ at-if1.false))
+    omega (arith, run-stop is_later at-args.s.now at-loop.i at-loop-test.true (sym at-is-later.ensures ∙ at-if1.false))
 
 returns-2 : tie.Need-returns-2 invariant-loop decreases-loop
 returns-2 c =
     let at-loop = c.before.loop in
     let at-args = c.before.before.before.args in
     let at-loop-test = c.loop-test in
-    omega (arith, run_end isLater at-args.s.now at-loop.i at-loop-test.false)
+    omega (arith, run_end is_later at-args.s.now at-loop.i at-loop-test.false)
 
 pub name-len-spec : {M : Type 1} → statement M
 name-len-spec =

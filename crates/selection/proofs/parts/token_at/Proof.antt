@@ -4,11 +4,11 @@ use native.Mathlib.Omega.{arith}
 use mathlib.Core.Path.{sym, ap, ◌∙◌}
 use mathlib.Core.List.{[], ◌∷◌}
 use lib.ListN.{get_or}
-use Rattle.format.specs.Lines.{isLater}
-use Rattle.words.specs.Spans.{notByte}
+use Rattle.format.specs.Lines.{is_later}
+use Rattle.words.specs.Spans.{not_byte}
 use Rattle.numbers.specs.declared.IntOf.{IntOf}
-use Rattle.selection.specs.Reading.{allSigns, signAmong}
-use Rattle.selection.specs.Tokens.{signIn}
+use Rattle.selection.specs.Reading.{all_signs, sign_among}
+use Rattle.selection.specs.Tokens.{sign_in}
 use Rattle.selection.proofs.Finding.{run-behind, run_short, name-found, int-told-by, gap-found, tab-found, text-found, sign-found}
 use borrow.Author.Rules.{rules}
 use Rattle.selection.proofs.parts.token_at.Statement.{statement}
@@ -46,7 +46,7 @@ add-t14 c =
     let at-args = c.before.before.before.before.before.before.args in
     let at_pre = c.before.before.before.before.before.before.requires in
     let at-name-len = c.name-len in
-    omega (arith, run_short isLater at-args.s.now at-name-len.result at_pre.1.0 at-name-len.ensures)
+    omega (arith, run_short is_later at-args.s.now at-name-len.result at_pre.1.0 at-name-len.ensures)
 
 returns : tie.Need-returns
 returns c =
@@ -55,7 +55,7 @@ returns c =
     let at-is-first = c.before.before.before.is-first in
     let at-if1 = c.before.before.if1 in
     let at-name-len = c.name-len in
-    name-found at-args.s.now at-name-len.result at_pre.1.0 (sym at-is-first.ensures ∙ at-if1.true) (run-behind isLater at-args.s.now at-name-len.result at-name-len.ensures)
+    name-found at-args.s.now at-name-len.result at_pre.1.0 (sym at-is-first.ensures ∙ at-if1.true) (run-behind is_later at-args.s.now at-name-len.result at-name-len.ensures)
 
 is-int-first-requires : tie.Need-is-int-first-requires
 is-int-first-requires c κs = search rules
@@ -77,7 +77,7 @@ add-e c =
     let at-args = c.before.before.before.before.before.before.before.before.args in
     let at_pre = c.before.before.before.before.before.before.before.before.requires in
     let at-name-len2 = c.name-len2 in
-    omega (arith, run_short isLater at-args.s.now at-name-len2.result at_pre.1.0 at-name-len2.ensures)
+    omega (arith, run_short is_later at-args.s.now at-name-len2.result at_pre.1.0 at-name-len2.ensures)
 
 sub-int-of : tie.Need-overflow-sub-int-of
 sub-int-of c = search rules
@@ -90,7 +90,7 @@ part-int-of-end c =
     let at-args = c.before.before.before.before.before.before.before.before.args in
     let at_pre = c.before.before.before.before.before.before.before.before.requires in
     let at-name-len2 = c.name-len2 in
-    let l = run_short isLater at-args.s.now at-name-len2.result at_pre.1.0 at-name-len2.ensures in search rules
+    let l = run_short is_later at-args.s.now at-name-len2.result at_pre.1.0 at-name-len2.ensures in search rules
 
 int-of-requires : tie.Need-int-of-requires
 int-of-requires c κs = search rules
@@ -156,14 +156,14 @@ add-t27 c =
     let at-args = c.before.before.before.before.before.before.before.before.before.before.before.args in
     let at_pre = c.before.before.before.before.before.before.before.before.before.before.before.requires in
     let at-part-end = c.part-end in
-    omega (arith, run_short (notByte 39) at-args.s.now at-part-end.result at_pre.1.0 at-part-end.ensures, at_pre.1.1)
+    omega (arith, run_short (not_byte 39) at-args.s.now at-part-end.result at_pre.1.0 at-part-end.ensures, at_pre.1.1)
 
 returns-6 : tie.Need-returns-6
 returns-6 c =
     let at-args = c.before.before.before.before.before.before.before.before.before.before.before.args in
     let at-if5 = c.before.before.if5 in
     let at-part-end = c.part-end in
-    text-found at-args.s.now at-part-end.result at-if5.true (run-behind (notByte 39) at-args.s.now at-part-end.result at-part-end.ensures)
+    text-found at-args.s.now at-part-end.result at-if5.true (run-behind (not_byte 39) at-args.s.now at-part-end.result at-part-end.ensures)
 
 byte-requires : tie.Need-byte-requires
 byte-requires c κs = search rules
@@ -184,8 +184,8 @@ returns-7 c =
     let at-if5 = c.before.before.if5 in
     let at_byte = c.before.byte in
     let at-sign-of = c.sign_of in
-    sign-found at-args.s.now (signIn at-sign-of.result) at_pre.1.0 (sym at-is-first.ensures ∙ at-if1.false) (sym at-is-int-first.ensures ∙ at-if2.false) at-if3.false at-if4.false at-if5.false
-    (at-sign-of.ensures ∙ ap (λ (d : ℕ). signAmong allSigns (get_or at-args.s.now 0 0 ∷ d ∷ [])) at_byte.ensures)
+    sign-found at-args.s.now (sign_in at-sign-of.result) at_pre.1.0 (sym at-is-first.ensures ∙ at-if1.false) (sym at-is-int-first.ensures ∙ at-if2.false) at-if3.false at-if4.false at-if5.false
+    (at-sign-of.ensures ∙ ap (λ (d : ℕ). sign_among all_signs (get_or at-args.s.now 0 0 ∷ d ∷ [])) at_byte.ensures)
 
 pub token-at-spec : {M : Type 1} → statement M
 token-at-spec =

@@ -1,6 +1,6 @@
 -- `selection::programs::from_stage` meets its contract.
 use mathlib.Core.Path.{refl, sym, ap, ◌∙◌}
-use Rattle.selection.specs.Rows.{progressIn}
+use Rattle.selection.specs.Rows.{progress_in}
 use Rattle.selection.proofs.Making.{at_stage, off-stage}
 use borrow.Author.Rules.{rules}
 use Rattle.selection.proofs.programs.from_stage.Statement.{statement}
@@ -17,7 +17,7 @@ returns c =
     let at-args = c.before.before.before.args in
     let at-if1 = c.before.if1 in
     let at-to-stage = c.to-stage in
-    λ s. at_stage at-args.at (progressIn s at-args.r) _ _ at-if1.true (at-to-stage.ensures s)
+    λ s. at_stage at-args.at (progress_in s at-args.r) _ _ at-if1.true (at-to-stage.ensures s)
 
 to-stage-requires-2 : tie.Need-to-stage-requires-2
 to-stage-requires-2 c κs = search rules
@@ -27,7 +27,7 @@ returns-2 c =
     let at-args = c.before.before.before.args in
     let at-if1 = c.before.if1 in
     let at-to-stage2 = c.to-stage2 in
-    λ s. off-stage at-args.at (progressIn s at-args.r) _ _ at-if1.false (at-to-stage2.ensures s)
+    λ s. off-stage at-args.at (progress_in s at-args.r) _ _ at-if1.false (at-to-stage2.ensures s)
 
 pub from-stage-spec : {M : Type 1} → statement M
 from-stage-spec = tie.close (tie.spec to-stage-requires returns to-stage-requires-2 returns-2)

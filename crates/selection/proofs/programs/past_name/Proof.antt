@@ -1,6 +1,6 @@
 -- `selection::programs::past_name` meets its contract.
 use mathlib.Core.Path.{refl, sym, ap, ◌∙◌}
-use Rattle.selection.specs.Rows.{progressIn}
+use Rattle.selection.specs.Rows.{progress_in}
 use Rattle.selection.proofs.Making.{at_stage, off-stage}
 use borrow.Author.Rules.{rules}
 use Rattle.selection.proofs.programs.past_name.Statement.{statement}
@@ -17,13 +17,13 @@ returns c =
     let at-args = c.before.before.before.args in
     let at-if1 = c.before.if1 in
     let at-to-stage = c.to-stage in
-    λ s. off-stage 0 (progressIn s at-args.r) _ _ at-if1.true (at-to-stage.ensures s)
+    λ s. off-stage 0 (progress_in s at-args.r) _ _ at-if1.true (at-to-stage.ensures s)
 
 returns-2 : tie.Need-returns-2
 returns-2 c =
     let at-args = c.before.before.args in
     let at-if1 = c.if1 in
-    λ s. at_stage 0 (progressIn s at-args.r) _ _ at-if1.false refl
+    λ s. at_stage 0 (progress_in s at-args.r) _ _ at-if1.false refl
 
 pub past-name-spec : {M : Type 1} → statement M
 past-name-spec = tie.close (tie.spec to-stage-requires returns returns-2)

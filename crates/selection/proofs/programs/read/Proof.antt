@@ -5,7 +5,7 @@ use native.Mathlib.Omega.{arith}
 use mathlib.Core.Path.{refl, ap}
 use lib.ListN.{length, drop, length-drop}
 use Rattle.lines.proofs.Cuts.{rest}
-use Rattle.selection.specs.Tokens.{frontIn}
+use Rattle.selection.specs.Tokens.{front_in}
 use Rattle.selection.proofs.Turning.{ReadTo, front-told, token-least, token-size, tests-room, past_end, past-refused, past_more, read-start, long-answers, refused-answers, end-answers}
 use Rattle.selection.proofs.programs.read.Statement.{statement}
 use Rattle.selection.proofs.programs.read.Tie as tie
@@ -83,7 +83,7 @@ returns-2 c =
     let at-token-at = c.before.before.token-at in
     let at-token-bytes = c.before.token-bytes in
     let at-if2 = c.if2 in
-    refused-answers at-args.s.now at-loop.p at-if1.false (past_end at-args.s.now at-loop.i at-loop.r at-loop.p at-loop.invariant at-loop-test.true (frontIn (drop at-loop.i at-args.s.now) at-token-at.result) at-token-bytes.result (front-told at-args.s.now at-loop.i at-token-at.result at-token-at.ensures) (token-size at-token-bytes.result (drop at-loop.i at-args.s.now) at-token-at.result at-token-bytes.ensures) at-if2.true) at-loop.invariant.filled
+    refused-answers at-args.s.now at-loop.p at-if1.false (past_end at-args.s.now at-loop.i at-loop.r at-loop.p at-loop.invariant at-loop-test.true (front_in (drop at-loop.i at-args.s.now) at-token-at.result) at-token-bytes.result (front-told at-args.s.now at-loop.i at-token-at.result at-token-at.ensures) (token-size at-token-bytes.result (drop at-loop.i at-args.s.now) at-token-at.result at-token-bytes.ensures) at-if2.true) at-loop.invariant.filled
 
 with-token-requires : tie.Need-with-token-requires invariant-loop decreases-loop
 with-token-requires c κs =
@@ -118,7 +118,7 @@ returns-3 c =
     let at-if2 = c.before.before.before.before.if2 in
     let at-past-token = c.before.before.past-token in
     let at-if3 = c.if3 in
-    refused-answers at-args.s.now at-with-token.result at-if1.false (past-refused at-args.s.now at-loop.i at-loop.r at-loop.p at-loop.invariant at-loop-test.true (frontIn (drop at-loop.i at-args.s.now) at-token-at.result) at-token-bytes.result (front-told at-args.s.now at-loop.i at-token-at.result at-token-at.ensures) (token-size at-token-bytes.result (drop at-loop.i at-args.s.now) at-token-at.result at-token-bytes.ensures) (omega (arith, at-if2.false, at-loop.invariant.inside)) at-past-token.result at-with-token.result (at-past-token.ensures at-args.s.now) at-if3.true) (at-with-token.ensures at-args.s.now).0.filled
+    refused-answers at-args.s.now at-with-token.result at-if1.false (past-refused at-args.s.now at-loop.i at-loop.r at-loop.p at-loop.invariant at-loop-test.true (front_in (drop at-loop.i at-args.s.now) at-token-at.result) at-token-bytes.result (front-told at-args.s.now at-loop.i at-token-at.result at-token-at.ensures) (token-size at-token-bytes.result (drop at-loop.i at-args.s.now) at-token-at.result at-token-bytes.ensures) (omega (arith, at-if2.false, at-loop.invariant.inside)) at-past-token.result at-with-token.result (at-past-token.ensures at-args.s.now) at-if3.true) (at-with-token.ensures at-args.s.now).0.filled
 
 add-i : tie.Need-overflow-add-i invariant-loop decreases-loop
 add-i c =
@@ -148,7 +148,7 @@ loop-again c =
     let at-past-token = c.before.before.past-token in
     let at-with-token = c.before.before.before.with-token in
     let at-if3 = c.if3 in
-    past_more at-args.s.now at-loop.i at-loop.r at-loop.p at-loop.invariant at-loop-test.true (frontIn (drop at-loop.i at-args.s.now) at-token-at.result) at-token-bytes.result (front-told at-args.s.now at-loop.i at-token-at.result at-token-at.ensures) (token-size at-token-bytes.result (drop at-loop.i at-args.s.now) at-token-at.result at-token-bytes.ensures) (omega (arith, at-if2.false, at-loop.invariant.inside)) at-past-token.result at-with-token.result (at-with-token.ensures at-args.s.now).0 (at-with-token.ensures at-args.s.now).1 (at-past-token.ensures at-args.s.now) at-if3.false
+    past_more at-args.s.now at-loop.i at-loop.r at-loop.p at-loop.invariant at-loop-test.true (front_in (drop at-loop.i at-args.s.now) at-token-at.result) at-token-bytes.result (front-told at-args.s.now at-loop.i at-token-at.result at-token-at.ensures) (token-size at-token-bytes.result (drop at-loop.i at-args.s.now) at-token-at.result at-token-bytes.ensures) (omega (arith, at-if2.false, at-loop.invariant.inside)) at-past-token.result at-with-token.result (at-with-token.ensures at-args.s.now).0 (at-with-token.ensures at-args.s.now).1 (at-past-token.ensures at-args.s.now) at-if3.false
 
 is-end-requires : tie.Need-is-end-requires invariant-loop decreases-loop
 is-end-requires c κs = search rules

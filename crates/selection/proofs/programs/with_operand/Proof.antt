@@ -3,7 +3,7 @@ use native.Mathlib.Omega.{arith}
 use mathlib.Core.Path.{sym, ◌∙◌}
 use lib.Dec.{eqb}
 use borrow.Author.Tests.{eq-eqb, ne_eqb}
-use Rattle.selection.specs.Rows.{testsIn}
+use Rattle.selection.specs.Rows.{tests_in}
 use Rattle.selection.proofs.Ints.{pick-false}
 use Rattle.selection.proofs.Making.{both-added, same_tests, test-added}
 use borrow.Author.Rules.{rules}
@@ -37,7 +37,7 @@ returns-2 c =
     let at-with-code = c.before.before.before.with_code in
     let at-with-row = c.with_row in
     let at-if1 = c.before.if1 in
-    (both-added at-args.p at-with-code.result at-with-row.result _ at-with-code.ensures.0 at-with-row.ensures.0 at-with-row.ensures.1, λ s. test-added (testsIn s at-args.p) (testsIn s at-with-code.result) (testsIn s at-with-row.result) _ (eqb at-args.r.stage 2) (at-with-row.ensures.2 s) (same_tests s at-args.p at-with-code.result at-with-code.ensures.1 at-with-code.ensures.2) (eq-eqb at-args.r.stage 2 at-if1.false))
+    (both-added at-args.p at-with-code.result at-with-row.result _ at-with-code.ensures.0 at-with-row.ensures.0 at-with-row.ensures.1, λ s. test-added (tests_in s at-args.p) (tests_in s at-with-code.result) (tests_in s at-with-row.result) _ (eqb at-args.r.stage 2) (at-with-row.ensures.2 s) (same_tests s at-args.p at-with-code.result at-with-code.ensures.1 at-with-code.ensures.2) (eq-eqb at-args.r.stage 2 at-if1.false))
 
 pub with-operand-spec : {M : Type 1} → statement M
 with-operand-spec = tie.close (tie.spec with-code-requires returns with-row-requires returns-2)

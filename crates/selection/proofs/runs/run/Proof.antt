@@ -7,7 +7,7 @@ use mathlib.Core.List.{List}
 use lib.ListN.{length, drop, drop_of_length-le}
 use Rattle.lines.proofs.Cuts.{at-cons}
 use Rattle.selection.specs.declared.runs.Machine.{Machine}
-use Rattle.selection.specs.Programs.{wholeAnswer, runs, started, runAnswer}
+use Rattle.selection.specs.Programs.{whole_answer, runs, started, run_answer}
 use Rattle.selection.proofs.runs.run.Statement.{statement}
 use Rattle.selection.proofs.runs.run.Tie as tie
 use Rattle.selection.proofs.runs.run.Reads as reads
@@ -48,13 +48,13 @@ whole-answer-requires : tie.Need-whole-answer-requires invariant-loop decreases-
 whole-answer-requires c κs = search rules
 
 returns : tie.Need-returns invariant-loop decreases-loop
-unfolding runAnswer
+unfolding run_answer
 returns c =
     let at-whole-answer = c.whole-answer in
     let at-loop = c.before.before.loop in
     let at-args = c.before.before.before.before.args in
     let at-loop-test = c.before.loop-test in
-    at-whole-answer.ensures ∙ ap (λ (m : Machine). wholeAnswer m.level) (sym (at-loop.invariant.1 ∙ ap (λ (cs : List ℕ). runs cs at-loop.m) (drop_of_length-le at-args.codes.now at-loop-test.false)))
+    at-whole-answer.ensures ∙ ap (λ (m : Machine). whole_answer m.level) (sym (at-loop.invariant.1 ∙ ap (λ (cs : List ℕ). runs cs at-loop.m) (drop_of_length-le at-args.codes.now at-loop-test.false)))
 
 pub run_spec : {M : Type 1} → statement M
 run_spec =

@@ -2,7 +2,7 @@
 use mathlib.Core.Path.{sym, ◌∙◌}
 use lib.ListN.{take}
 use lib.Seq.{length-take-le}
-use Rattle.selection.specs.Programs.{runAnswer}
+use Rattle.selection.specs.Programs.{run_answer}
 use Rattle.selection.proofs.Closing.{closed_none, closed-found, closed-passed}
 use borrow.Author.Rules.{rules}
 use Rattle.selection.proofs.walks.closed.Statement.{statement}
@@ -16,7 +16,7 @@ returns : tie.Need-returns
 returns c =
     let at-args = c.before.before.before.args in
     let at-if1 = c.if1 in
-    closed_none at-args.fields at-args.t.met at-args.t.found (runAnswer (take at-args.size at-args.codes.now) at-args.set) at-args.list.now at-if1.true
+    closed_none at-args.fields at-args.t.met at-args.t.found (run_answer (take at-args.size at-args.codes.now) at-args.set) at-args.list.now at-if1.true
 
 slice-aggregate-run : tie.Need-slice-aggregate-run
 slice-aggregate-run c =
@@ -46,7 +46,7 @@ returns-2 c =
     let at-run = c.before.before.before.before.before.run in
     let at-if2 = c.before.before.before.before.if2 in
     let at-put = c.before.before.put in
-    closed-found at-args.fields at-args.t.met at-args.t.found (runAnswer (take at-args.size at-args.codes.now) at-args.set) at-args.list.now at-if1.false _ (sym at-run.ensures ∙ at-if2.true) at-put.ensures
+    closed-found at-args.fields at-args.t.met at-args.t.found (run_answer (take at-args.size at-args.codes.now) at-args.set) at-args.list.now at-if1.false _ (sym at-run.ensures ∙ at-if2.true) at-put.ensures
 
 add-t18 : tie.Need-overflow-add-t18
 add-t18 c = search rules
@@ -57,7 +57,7 @@ returns-3 c =
     let at-if1 = c.before.before.before.if1 in
     let at-run = c.before.run in
     let at-if2 = c.if2 in
-    closed-passed at-args.fields at-args.t.met at-args.t.found (runAnswer (take at-args.size at-args.codes.now) at-args.set) at-args.list.now at-if1.false (sym at-run.ensures ∙ at-if2.false)
+    closed-passed at-args.fields at-args.t.met at-args.t.found (run_answer (take at-args.size at-args.codes.now) at-args.set) at-args.list.now at-if1.false (sym at-run.ensures ∙ at-if2.false)
 
 pub closed-spec : {M : Type 1} → statement M
 closed-spec =

@@ -7,10 +7,10 @@ use mathlib.Core.Path.{◌≡◌, refl, sym, ap, ◌∙◌}
 use mathlib.Core.Bool.{true}
 use lib.ListN.{length}
 use Rattle.format.specs.Bytes.{all}
-use Rattle.records.specs.Fields.{fieldsFrom}
+use Rattle.records.specs.Fields.{fields_from}
 use Rattle.records.proofs.Readings.{part-ended}
 use Rattle.records.proofs.Steps.{steps, part-formed, record-blank, record-comment, record-field}
-use Rattle.rules.specs.Members.{fitsIn}
+use Rattle.rules.specs.Members.{fits_in}
 use Rattle.rules.proofs.Walking.{fits-here}
 use Rattle.selection.proofs.Walking.{Walked, walk_start, walk-comment, walk-blank, walk_field, walk_end, walked_as}
 use Rattle.selection.proofs.walks.list_found.Statement.{statement}
@@ -22,7 +22,7 @@ use Rattle.selection.proofs.fields.with_field.Reads as with-field-reads
 use Rattle.selection.proofs.walks.closed.Reads as closed-reads
 
 abbrev invariant-loop : tie.invariant-loop
-invariant-loop e p s scratch₀ list₀ codes size set₀ fields₀ t₀ i₀ scratch list set fields t i = (length scratch ≡ length scratch₀) × (length list ≡ length list₀) × Walked e p s list₀ set fields t.met t.found list i × (all (fitsIn (length scratch₀)) (fieldsFrom s i) ≡ true)
+invariant-loop e p s scratch₀ list₀ codes size set₀ fields₀ t₀ i₀ scratch list set fields t i = (length scratch ≡ length scratch₀) × (length list ≡ length list₀) × Walked e p s list₀ set fields t.met t.found list i × (all (fits_in (length scratch₀)) (fields_from s i) ≡ true)
 
 abbrev decreases-loop : tie.decreases-loop
 decreases-loop e p s scratch₀ list₀ codes size set₀ fields₀ t₀ i₀ scratch list set fields t i = length s - i
@@ -78,7 +78,7 @@ loop-again c =
     let at-loop = c.before.before.before.before.before.loop in
     let at-read-piece = c.before.before.before.read-piece in
     let at-q = c.before.q in
-    let h = steps at-args.s.now at-loop.i at-read-piece.result at-loop.invariant.2.readable at-read-piece.ensures at-q.given.1 in (at-loop.invariant.0, at-loop.invariant.1, walk-comment at-args.e.now at-args.p at-args.s.now at-args.list.now at-loop.set at-loop.fields at-loop.t.met at-loop.t.found at-loop.list at-loop.i at-loop.invariant.2 h.0 _ h.1, sym (ap (all (fitsIn (length at-args.scratch.now))) (record-comment at-args.s.now at-loop.i h.0 _ h.1)) ∙ at-loop.invariant.3)
+    let h = steps at-args.s.now at-loop.i at-read-piece.result at-loop.invariant.2.readable at-read-piece.ensures at-q.given.1 in (at-loop.invariant.0, at-loop.invariant.1, walk-comment at-args.e.now at-args.p at-args.s.now at-args.list.now at-loop.set at-loop.fields at-loop.t.met at-loop.t.found at-loop.list at-loop.i at-loop.invariant.2 h.0 _ h.1, sym (ap (all (fits_in (length at-args.scratch.now))) (record-comment at-args.s.now at-loop.i h.0 _ h.1)) ∙ at-loop.invariant.3)
 
 enum-known-q-2 : tie.Need-enum-known-q-2 invariant-loop decreases-loop
 enum-known-q-2 c = search rules
@@ -118,7 +118,7 @@ loop-again-2 c =
     let at-list = c.before.list in
     let at-closed = c.before.before.closed in
     let at_pre = c.before.before.before.before.before.before.before.before.before.before.before.before.before.before.before.before.requires in
-    let h = steps at-args.s.now at-loop.i at-read-piece.result at-loop.invariant.2.readable at-read-piece.ensures at-q2.given.1 in (at-loop.invariant.0, at-list.given ∙ at-loop.invariant.1, walked_as at-args.e.now at-args.p at-args.s.now at-args.list.now 0 0 _ _ _ _ at-closed.result.met at-closed.result.found _ at-closed.ensures.0 at-closed.ensures.1 at-closed.ensures.2 (walk-blank at-args.e.now at-args.p at-args.s.now at-args.list.now at-loop.set at-loop.fields at-loop.t.met at-loop.t.found at-loop.list at-loop.i at-loop.invariant.2 at_pre.0 h.0 at-q2.given.0.0 h.1), sym (ap (all (fitsIn (length at-args.scratch.now))) (record-blank at-args.s.now at-loop.i h.0 at-q2.given.0.0 h.1)) ∙ at-loop.invariant.3)
+    let h = steps at-args.s.now at-loop.i at-read-piece.result at-loop.invariant.2.readable at-read-piece.ensures at-q2.given.1 in (at-loop.invariant.0, at-list.given ∙ at-loop.invariant.1, walked_as at-args.e.now at-args.p at-args.s.now at-args.list.now 0 0 _ _ _ _ at-closed.result.met at-closed.result.found _ at-closed.ensures.0 at-closed.ensures.1 at-closed.ensures.2 (walk-blank at-args.e.now at-args.p at-args.s.now at-args.list.now at-loop.set at-loop.fields at-loop.t.met at-loop.t.found at-loop.list at-loop.i at-loop.invariant.2 at_pre.0 h.0 at-q2.given.0.0 h.1), sym (ap (all (fits_in (length at-args.scratch.now))) (record-blank at-args.s.now at-loop.i h.0 at-q2.given.0.0 h.1)) ∙ at-loop.invariant.3)
 
 enum-known-q-3 : tie.Need-enum-known-q-3 invariant-loop decreases-loop
 enum-known-q-3 c = search rules

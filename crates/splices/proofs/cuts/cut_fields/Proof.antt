@@ -1,7 +1,7 @@
 -- `splices::cuts::cut_fields` meets its contract: what stays stands at the part's front, and the text's tail closes up behind it.
 use native.Mathlib.Omega.{arith}
 use mathlib.Core.Path.{sym, ap, ◌∙◌}
-use Rattle.records.specs.Places.{isReadable}
+use Rattle.records.specs.Places.{is_readable}
 use Rattle.splices.proofs.Left.{span-front, fields-cut}
 use borrow.Author.Rules.{rules}
 use Rattle.splices.proofs.cuts.cut_fields.Statement.{statement}
@@ -24,7 +24,7 @@ keep-loose-requires : tie.Need-keep-loose-requires
 keep-loose-requires c κs =
     let at-args = c.before.before.args in
     let at_pre = c.before.before.requires in
-    let a = at-args in ap isReadable (sym (span-front a.buf.now a.used a.start a.end (omega arith))) ∙ at_pre.1
+    let a = at-args in ap is_readable (sym (span-front a.buf.now a.used a.start a.end (omega arith))) ∙ at_pre.1
 
 add_at : tie.Need-overflow-add-at
 add_at c = search rules

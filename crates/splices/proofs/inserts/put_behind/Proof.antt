@@ -5,7 +5,7 @@ use mathlib.Core.Path.{refl, sym, ◌∙◌}
 use mathlib.Core.List.{◌∷◌}
 use lib.ListN.{length, length-set}
 use Rattle.format.specs.Bytes.{Bytes}
-use Rattle.splices.specs.Space.{recordText}
+use Rattle.splices.specs.Space.{record_text}
 use Rattle.splices.proofs.Opening.{over-part, spliced-length, placed-spliced}
 use Rattle.splices.proofs.Inserted.{over-newline}
 use borrow.Author.Rules.{rules}
@@ -54,7 +54,7 @@ returns c =
     let at-put-fields = c.before.before.put-fields in
     let a = at-args in
     let b : Bytes = a.buf.now in
-    let w : Bytes = recordText a.first.now a.req.now a.r.from in
+    let w : Bytes = record_text a.first.now a.req.now a.r.from in
     let b' : Bytes = at-open-space.new.0 in (
       sym (spliced-length b a.used a.r.at 0 (10 ∷ w) (omega arith) (omega arith) ∙ omega (arith, at_pre.1.1)),
       rw (at-put-fields.ensures, over-part b' w (a.r.at + 1) (length b' - (a.r.at + 1)) (omega arith) refl, over-newline b' w a.r.at (omega arith)) (placed-spliced b a.used a.r.at 0 (a.r.len + 1) b' (10 ∷ w) (omega arith) (omega arith) (omega (arith, at_pre.1.1)) at-open-space.ensures),

@@ -6,7 +6,7 @@ use mathlib.Core.List.{[], ◌∷◌, ◌++◌}
 use lib.ListN.{length-set, length-append}
 use Rattle.format.specs.Bytes.{Bytes}
 use Rattle.format.specs.Calls.{placed}
-use Rattle.splices.specs.Space.{recordText}
+use Rattle.splices.specs.Space.{record_text}
 use Rattle.splices.proofs.Opening.{placed-spliced}
 use Rattle.splices.proofs.Inserted.{over-ended, front-alone, front-text, front_length, alone-length}
 use borrow.Author.Rules.{rules}
@@ -23,7 +23,7 @@ put-fields-requires c κs =
     let at_pre = c.before.before.before.before.before.requires in
     let at-if1 = c.before.if1 in
     let a = at-args in
-    let w : Bytes = recordText a.first.now a.req.now a.r.from in
+    let w : Bytes = record_text a.first.now a.req.now a.r.from in
     (at_pre.1.0, omega (arith, at_pre.1.1, alone-length a.buf.now a.used a.r.len w (omega arith) at_pre.1.1 at-if1.true))
 
 same_length : tie.Need-same-length
@@ -36,7 +36,7 @@ returns c =
     let at_pre = c.before.before.before.before.before.before.before.before.requires in
     let at-if1 = c.before.before.before.before.if1 in
     let a = at-args in
-    let w : Bytes = recordText a.first.now a.req.now a.r.from in (
+    let w : Bytes = record_text a.first.now a.req.now a.r.from in (
       sym (alone-length a.buf.now a.used a.r.len w (omega arith) at_pre.1.1 at-if1.true),
       at-put-fields.ensures ∙ front-alone a.buf.now a.used a.r.len w (omega arith) at_pre.1.1 at-if1.true,
     )
@@ -47,7 +47,7 @@ add-new c =
     let at_pre = c.before.before.before.before.requires in
     let at-if1 = c.if1 in
     let a = at-args in
-    let w : Bytes = recordText a.first.now a.req.now a.r.from in
+    let w : Bytes = record_text a.first.now a.req.now a.r.from in
     omega (arith, front_length a.buf.now a.used a.r.len w (omega arith) at_pre.1.1 (omega (arith, at-if1.false)))
 
 open-space-requires : tie.Need-open-space-requires
@@ -56,7 +56,7 @@ open-space-requires c κs =
     let at_pre = c.before.before.before.before.before.requires in
     let at-if1 = c.before.if1 in
     let a = at-args in
-    let w : Bytes = recordText a.first.now a.req.now a.r.from in
+    let w : Bytes = record_text a.first.now a.req.now a.r.from in
     omega (arith, front_length a.buf.now a.used a.r.len w (omega arith) at_pre.1.1 (omega (arith, at-if1.false)))
 
 put-fields-requires-2 : tie.Need-put-fields-requires-2
@@ -66,7 +66,7 @@ put-fields-requires-2 c κs =
     let at-open-space = c.before.before.before.open-space in
     let at-if1 = c.before.before.before.before.before.if1 in
     let a = at-args in
-    let w : Bytes = recordText a.first.now a.req.now a.r.from in
+    let w : Bytes = record_text a.first.now a.req.now a.r.from in
     (at_pre.1.0, omega (arith, at-open-space.ensures.same, at_pre.1.1, front_length a.buf.now a.used a.r.len w (omega arith) at_pre.1.1 (omega (arith, at-if1.false))))
 
 slice-write-buf : tie.Need-slice-write-buf
@@ -76,7 +76,7 @@ slice-write-buf c =
     let at_pre = c.before.before.before.before.before.before.before.before.before.before.before.before.requires in
     let at-if1 = c.before.before.before.before.before.before.before.before.if1 in
     let a = at-args in
-    let w : Bytes = recordText a.first.now a.req.now a.r.from in
+    let w : Bytes = record_text a.first.now a.req.now a.r.from in
     omega (arith, at-open-space.ensures.same, at_pre.1.1, front_length a.buf.now a.used a.r.len w (omega arith) at_pre.1.1 (omega (arith, at-if1.false)))
 
 add-result : tie.Need-overflow-add-result
@@ -85,7 +85,7 @@ add-result c =
     let at_pre = c.before.before.before.before.before.before.before.before.before.before.before.before.requires in
     let at-if1 = c.before.before.before.before.before.before.before.before.if1 in
     let a = at-args in
-    let w : Bytes = recordText a.first.now a.req.now a.r.from in
+    let w : Bytes = record_text a.first.now a.req.now a.r.from in
     omega (arith, at_pre.1.1, front_length a.buf.now a.used a.r.len w (omega arith) at_pre.1.1 (omega (arith, at-if1.false)))
 
 same-length-2 : tie.Need-same-length-2
@@ -102,7 +102,7 @@ returns-2 c =
     let at-put-fields2 = c.before.before.put-fields2 in
     let a = at-args in
     let b : Bytes = a.buf.now in
-    let w : Bytes = recordText a.first.now a.req.now a.r.from in
+    let w : Bytes = record_text a.first.now a.req.now a.r.from in
     let b' : Bytes = at-open-space.new.0 in
     let l = front_length b a.used a.r.len w (omega arith) at_pre.1.1 (omega (arith, at-if1.false)) in (
       sym l,

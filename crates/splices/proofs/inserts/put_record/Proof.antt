@@ -4,7 +4,7 @@ use mathlib.Core.Path.{ap}
 use mathlib.Core.List.{◌∷◌}
 use lib.ListN.{length, take}
 use Rattle.format.specs.Bytes.{Bytes}
-use Rattle.splices.specs.Space.{recordText}
+use Rattle.splices.specs.Space.{record_text}
 use Rattle.splices.proofs.Opening.{spliced-length}
 use Rattle.splices.proofs.Inserted.{behind-text}
 use borrow.Author.Rules.{rules}
@@ -42,7 +42,7 @@ put-behind-requires c κs =
     let at_pre = c.before.before.before.before.before.before.requires in
     let a = at-args in
     let b : Bytes = a.buf.now in
-    let w : Bytes = recordText a.first.now a.req.now a.r.from in
+    let w : Bytes = record_text a.first.now a.req.now a.r.from in
     let t = behind-text w (take a.used b) a.r.at (omega (arith, at-if1.false)) in
     let l = spliced-length b a.used a.r.at 0 (10 ∷ w) (omega arith) (omega arith) in
     (omega (arith, at_pre.0.2, at_pre.1.1, ap length t, l), (at_pre.1.0, at_pre.1.1))
@@ -57,7 +57,7 @@ returns-2 c =
     let at-put-behind = c.before.before.put-behind in
     let a = at-args in
     let b : Bytes = a.buf.now in
-    let w : Bytes = recordText a.first.now a.req.now a.r.from in
+    let w : Bytes = record_text a.first.now a.req.now a.r.from in
     rw (behind-text w (take a.used b) a.r.at (omega (arith, at-if1.false))) at-put-behind.ensures
 
 pub put-record-spec : {M : Type 1} → statement M

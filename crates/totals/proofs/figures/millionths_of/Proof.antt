@@ -5,7 +5,7 @@ use native.Mathlib.Omega.{arith}
 use mathlib.Core.Path.{◌≡◌, sym, ap, ◌∙◌, subst}
 use lib.ListN.{length, drop, get_or, drop_of_length-le}
 use Rattle.lines.proofs.Cuts.{at-cons}
-use Rattle.totals.specs.Totals.{millionthsOf}
+use Rattle.totals.specs.Totals.{millionths_of}
 use Rattle.totals.specs.Figures.{read_on, Within}
 use Rattle.totals.specs.declared.figures.Figure.{Figure}
 use Rattle.totals.proofs.Folding.{stepped_within, read-millionths}
@@ -17,7 +17,7 @@ use Rattle.totals.proofs.figures.step.Reads as step-reads
 use Rattle.totals.proofs.figures.told.Reads as told-reads
 
 abbrev invariant-loop : tie.invariant-loop
-invariant-loop v f₀ i₀ f i = (i ≤ length v) × Within f × (millionthsOf v ≡ read_on f (drop i v))
+invariant-loop v f₀ i₀ f i = (i ≤ length v) × Within f × (millionths_of v ≡ read_on f (drop i v))
 
 abbrev decreases-loop : tie.decreases-loop
 decreases-loop v f₀ i₀ f i = length v - i

@@ -2,7 +2,7 @@
 use borrow.Author.Rules.{rules}
 use native.Mathlib.Omega.{arith}
 use mathlib.Core.Path.{sym, ap, ◌∙◌, subst}
-use Rattle.totals.specs.Figures.{filledFrom, toldBy, Within}
+use Rattle.totals.specs.Figures.{filled_from, told_by, Within}
 use Rattle.totals.proofs.Bits.{signed-value}
 use Rattle.totals.proofs.Stepping.{power_below}
 use Rattle.totals.proofs.figures.told.Statement.{statement}
@@ -66,44 +66,44 @@ enum-told-4 c = search rules
 
 -- src/figures.rt:200:1
 returns : tie.Need-returns
-unfolding toldBy
-returns c = sym (ap toldBy c.enum_told.given.1)
+unfolding told_by
+returns c = sym (ap told_by c.enum_told.given.1)
 
 -- src/figures.rt:200:1
 returns-2 : tie.Need-returns-2
-unfolding toldBy
-returns-2 c = sym (ap toldBy c.enum-told2.given.1)
+unfolding told_by
+returns-2 c = sym (ap told_by c.enum-told2.given.1)
 
 -- src/figures.rt:200:1
 returns-3 : tie.Need-returns-3
-unfolding toldBy
+unfolding told_by
 returns-3 c =
     let at_f = c.before.before.before.f.given in
-    signed-value at_f.0.0 c.Signed-of.result c.before.filled.result (filledFrom 0 at_f.0.1.1.0) c.before.filled.ensures c.Signed-of.ensures ∙ sym (ap toldBy at_f.1)
+    signed-value at_f.0.0 c.Signed-of.result c.before.filled.result (filled_from 0 at_f.0.1.1.0) c.before.filled.ensures c.Signed-of.ensures ∙ sym (ap told_by at_f.1)
 
 -- src/figures.rt:200:1
 returns-4 : tie.Need-returns-4
-unfolding toldBy
-returns-4 c = sym (ap toldBy c.enum-told3.given.1)
+unfolding told_by
+returns-4 c = sym (ap told_by c.enum-told3.given.1)
 
 -- src/figures.rt:200:1
 returns-5 : tie.Need-returns-5
-unfolding toldBy
+unfolding told_by
 returns-5 c =
     let at_f = c.before.before.before.f2.given in
-    signed-value at_f.0.0 c.signed-of2.result c.before.filled2.result (filledFrom at_f.0.1.0 at_f.0.1.1.0) c.before.filled2.ensures c.signed-of2.ensures ∙ sym (ap toldBy at_f.1)
+    signed-value at_f.0.0 c.signed-of2.result c.before.filled2.result (filled_from at_f.0.1.0 at_f.0.1.1.0) c.before.filled2.ensures c.signed-of2.ensures ∙ sym (ap told_by at_f.1)
 
 -- src/figures.rt:200:1
 returns-6 : tie.Need-returns-6
-unfolding toldBy
+unfolding told_by
 returns-6 c =
     let at_f = c.before.before.before.f3.given in
-    signed-value at_f.0.0 c.signed-of3.result c.before.filled3.result (filledFrom at_f.0.1.0 at_f.0.1.1.0) c.before.filled3.ensures c.signed-of3.ensures ∙ sym (ap toldBy at_f.1)
+    signed-value at_f.0.0 c.signed-of3.result c.before.filled3.result (filled_from at_f.0.1.0 at_f.0.1.1.0) c.before.filled3.ensures c.signed-of3.ensures ∙ sym (ap told_by at_f.1)
 
 -- src/figures.rt:200:1
 returns-7 : tie.Need-returns-7
-unfolding toldBy
-returns-7 c = sym (ap toldBy c.enum-told4.given.1)
+unfolding told_by
+returns-7 c = sym (ap told_by c.enum-told4.given.1)
 
 pub told-spec : {M : Type 1} → statement M
 told-spec =

@@ -4,9 +4,9 @@ use Prim.Native.Nat.{◌-◌}
 use native.Mathlib.Omega.{arith}
 use mathlib.Core.Path.{◌≡◌, sym, ap, ◌∙◌, subst}
 use lib.ListN.{length, drop}
-use Rattle.values.specs.Value.{valueFrom}
+use Rattle.values.specs.Value.{value_from}
 use Rattle.values.proofs.Decoding.{ended, goes_on}
-use Rattle.totals.specs.Totals.{millionthsOf}
+use Rattle.totals.specs.Totals.{millionths_of}
 use Rattle.totals.specs.Figures.{read_on, Within}
 use Rattle.totals.specs.declared.figures.Figure.{Figure}
 use Rattle.totals.proofs.Folding.{stepped_within, read-millionths}
@@ -19,7 +19,7 @@ use Rattle.totals.proofs.figures.told.Reads as told-reads
 use Rattle.values.proofs.value_byte.Reads as value-byte-reads
 
 abbrev invariant-loop : tie.invariant-loop
-invariant-loop s f₀ i₀ f i = Within f × (millionthsOf (valueFrom s) ≡ read_on f (valueFrom (drop i s)))
+invariant-loop s f₀ i₀ f i = Within f × (millionths_of (value_from s) ≡ read_on f (value_from (drop i s)))
 
 abbrev decreases-loop : tie.decreases-loop
 decreases-loop s f₀ i₀ f i = length s - i
@@ -27,7 +27,7 @@ decreases-loop s f₀ i₀ f i = length s - i
 loop-holds : tie.Need-loop-init invariant-loop decreases-loop
 loop-holds c =
     let at-args = c.before.args in
-    (tt, sym (read-millionths (valueFrom at-args.s.now)))
+    (tt, sym (read-millionths (value_from at-args.s.now)))
 
 value-byte-requires : tie.Need-value-byte-requires invariant-loop decreases-loop
 value-byte-requires c κs = search rules
@@ -74,7 +74,7 @@ loop-again c =
     let at-step = c.step in
     let e = goes_on at-args.s.now at-loop.i at-value-byte.result at-value-byte.ensures at-d.given.1 in (
       subst Within (sym at-step.ensures) (stepped_within at-loop.f at-d.given.0.0 at-loop.invariant.0),
-      at-loop.invariant.1 ∙ ap (read_on at-loop.f) e.0 ∙ ap (λ (f : Figure). read_on f (valueFrom (drop at-d.given.0.1.0 at-args.s.now))) (sym at-step.ensures),
+      at-loop.invariant.1 ∙ ap (read_on at-loop.f) e.0 ∙ ap (λ (f : Figure). read_on f (value_from (drop at-d.given.0.1.0 at-args.s.now))) (sym at-step.ensures),
     )
 
 pub value-millionths-spec : {M : Type 1} → statement M

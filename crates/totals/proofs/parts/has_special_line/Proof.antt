@@ -5,7 +5,7 @@ use mathlib.Core.Path.{◌≡◌}
 use mathlib.Core.Bool.{◌||◌}
 use lib.ListN.{length, drop, get_or}
 use borrow.Author.Rules.{rules}
-use Rattle.totals.specs.Parts.{specialLine}
+use Rattle.totals.specs.Parts.{special_line}
 use Rattle.totals.proofs.Specials.{special-start, special-more, special-end}
 use Rattle.totals.proofs.parts.has_special_line.Statement.{statement}
 use Rattle.totals.proofs.parts.has_special_line.Tie as tie
@@ -14,7 +14,7 @@ use Rattle.totals.proofs.parts.has_special_line.Lts as lts
 use Rattle.lines.proofs.byte.Reads as byte-Reads
 
 abbrev invariant-loop : tie.invariant-loop
-invariant-loop s found₀ i₀ found i = (1 ≤ i) × (specialLine 10 s ≡ (found || specialLine (get_or s (i - 1) 0) (drop i s)))
+invariant-loop s found₀ i₀ found i = (1 ≤ i) × (special_line 10 s ≡ (found || special_line (get_or s (i - 1) 0) (drop i s)))
 
 abbrev decreases-loop : tie.decreases-loop
 decreases-loop s found₀ i₀ found i = length s - i

@@ -3,8 +3,8 @@ use Prim.Native.Nat.{ℕ, ◌+◌, ◌-◌, ◌^◌, ◌≤◌, ◌<◌}
 use native.Mathlib.Omega.{arith}
 use mathlib.Core.Path.{◌≡◌, refl, sym, ◌∙◌, subst}
 use borrow.Author.Rules.{rules}
-use Rattle.totals.specs.Totals.{wholeDigits, fractionDigits}
-use Rattle.totals.specs.Figures.{filledFrom}
+use Rattle.totals.specs.Totals.{whole_digits, fraction_digits}
+use Rattle.totals.specs.Figures.{filled_from}
 use Rattle.totals.proofs.Stepping.{power_below, fill_more, fill_end, fill-below}
 use Rattle.totals.proofs.Running.{fill-two}
 use Rattle.totals.proofs.plain.scaled.Statement.{statement}
@@ -13,10 +13,10 @@ use Rattle.totals.proofs.plain.scaled.Reads as reads
 use Rattle.totals.proofs.plain.scaled.Lts as lts
 
 abbrev invariant-loop : tie.invariant-loop
-invariant-loop digits number k₀ m₀ k m = (k ≤ fractionDigits) × (m < 10 ^ (wholeDigits + k)) × (filledFrom digits number ≡ filledFrom k m)
+invariant-loop digits number k₀ m₀ k m = (k ≤ fraction_digits) × (m < 10 ^ (whole_digits + k)) × (filled_from digits number ≡ filled_from k m)
 
 abbrev decreases-loop : tie.decreases-loop
-decreases-loop digits number k₀ m₀ k m = fractionDigits - k
+decreases-loop digits number k₀ m₀ k m = fraction_digits - k
 
 mul-result : tie.Need-overflow-mul-result invariant-loop decreases-loop
 mul-result c =
@@ -42,7 +42,7 @@ loop-holds c =
 mul-m : tie.Need-overflow-mul-m invariant-loop decreases-loop
 mul-m c =
     let at-loop = c.before.loop in
-    record { fits = omega (arith, power_below 14 (wholeDigits + at-loop.k) at-loop.m (omega (arith, at-loop.invariant.0)) at-loop.invariant.1) }
+    record { fits = omega (arith, power_below 14 (whole_digits + at-loop.k) at-loop.m (omega (arith, at-loop.invariant.0)) at-loop.invariant.1) }
 
 add-k : tie.Need-overflow-add-k invariant-loop decreases-loop
 add-k c = search rules
@@ -60,7 +60,7 @@ returns-2 : tie.Need-returns-2 invariant-loop decreases-loop
 returns-2 c =
     let at-loop = c.before.loop in
     let at-loop-test = c.loop-test in
-    (sym (at-loop.invariant.2 ∙ fill_end at-loop.k at-loop.m at-loop-test.false), power_below 14 (wholeDigits + at-loop.k) at-loop.m (omega (arith, at-loop.invariant.0)) at-loop.invariant.1)
+    (sym (at-loop.invariant.2 ∙ fill_end at-loop.k at-loop.m at-loop-test.false), power_below 14 (whole_digits + at-loop.k) at-loop.m (omega (arith, at-loop.invariant.0)) at-loop.invariant.1)
 
 pub scaled-spec : {M : Type 1} → statement M
 scaled-spec =

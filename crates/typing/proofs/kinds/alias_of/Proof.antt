@@ -3,7 +3,7 @@ use mathlib.Core.Path.{sym, ap, ◌∙◌}
 use lib.ListN.{length}
 use Rattle.words.specs.Spans.{span}
 use Rattle.words.proofs.Finding.{found, not_found}
-use Rattle.format.specs.Types.{aliasOf}
+use Rattle.format.specs.Types.{alias_of}
 use Rattle.typing.proofs.TypeHeads.{told-fault}
 use borrow.Author.Rules.{rules}
 use Rattle.typing.proofs.kinds.alias_of.Statement.{statement}
@@ -37,7 +37,7 @@ returns c =
     let at-next-word = c.before.before.next_word in
     let at-enum-told2 = c.enum-told2 in
     let k = found (span at-args.end (length at-args.s.now) at-args.s.now) at-next-word.ensures at-enum-told2.given.1 in
-    told-fault at-args.s.now (ap (aliasOf (span at-args.start at-args.end at-args.s.now)) k.2)
+    told-fault at-args.s.now (ap (alias_of (span at-args.start at-args.end at-args.s.now)) k.2)
 
 sub-is-type-name : tie.Need-overflow-sub-is-type-name
 sub-is-type-name c = search rules
@@ -60,7 +60,7 @@ returns-2 c =
     let at-if1 = c.if1 in
     let at_pre = c.before.before.before.before.before.before.before.before.requires in
     let n = not_found (span at-args.end (length at-args.s.now) at-args.s.now) at-next-word.ensures at-enum-told.given.1 in
-    record { answers = sym (ap (aliasOf (span at-args.start at-args.end at-args.s.now)) n ∙ rw (← at-is-type-name.ensures, at-if1.true)); sound = at_pre }
+    record { answers = sym (ap (alias_of (span at-args.start at-args.end at-args.s.now)) n ∙ rw (← at-is-type-name.ensures, at-if1.true)); sound = at_pre }
 
 returns-3 : tie.Need-returns-3
 returns-3 c =
@@ -70,7 +70,7 @@ returns-3 c =
     let at-is-type-name = c.before.is-type-name in
     let at-if1 = c.if1 in
     let n = not_found (span at-args.end (length at-args.s.now) at-args.s.now) at-next-word.ensures at-enum-told.given.1 in
-    told-fault at-args.s.now (ap (aliasOf (span at-args.start at-args.end at-args.s.now)) n ∙ rw (← at-is-type-name.ensures, at-if1.false))
+    told-fault at-args.s.now (ap (alias_of (span at-args.start at-args.end at-args.s.now)) n ∙ rw (← at-is-type-name.ensures, at-if1.false))
 
 pub alias-of-spec : {M : Type 1} → statement M
 alias-of-spec =

@@ -4,7 +4,7 @@ use mathlib.Core.Path.{◌≡◌}
 use Prim.Native.Nat.{◌+◌, ◌≤◌, ◌-◌}
 use native.Mathlib.Omega.{arith}
 use lib.ListN.{length, drop}
-use Rattle.format.specs.Types.{beforeComment}
+use Rattle.format.specs.Types.{before_comment}
 use borrow.Author.Tests.{eq-eqb, ne_eqb}
 use Rattle.lines.proofs.Heads.{run_more, run-stop, run_end}
 use Rattle.lines.specs.Line.{run}
@@ -15,7 +15,7 @@ use Rattle.typing.proofs.kinds.head_end.Lts as lts
 use Rattle.words.proofs.is_gap.Reads as is-gap-reads
 
 abbrev invariant-loop : tie.invariant-loop
-invariant-loop s e₀ e = (e ≤ length s) × (run beforeComment s ≡ e + run beforeComment (drop e s))
+invariant-loop s e₀ e = (e ≤ length s) × (run before_comment s ≡ e + run before_comment (drop e s))
 
 abbrev decreases-loop : tie.decreases-loop
 decreases-loop s e₀ e = length s - e
@@ -36,7 +36,7 @@ returns c =
     let at-loop-test = c.before.before.before.loop-test in
     let at-is-gap = c.before.is-gap in
     let at-if1 = c.if1 in
-    omega (arith, run-stop beforeComment at-args.s.now at-loop.e at-loop-test.true (rw (← at-is-gap.ensures, at-if1.true)))
+    omega (arith, run-stop before_comment at-args.s.now at-loop.e at-loop-test.true (rw (← at-is-gap.ensures, at-if1.true)))
 
 shared-slice-read-if2 : tie.Need-shared-slice-read-if2 invariant-loop decreases-loop
 shared-slice-read-if2 c = search rules
@@ -49,7 +49,7 @@ returns-2 c =
     let at-is-gap = c.before.before.before.is-gap in
     let at-if1 = c.before.before.if1 in
     let at-if2 = c.if2 in
-    omega (arith, run-stop beforeComment at-args.s.now at-loop.e at-loop-test.true (rw (← at-is-gap.ensures, at-if1.false, eq-eqb _ _ at-if2.true)))
+    omega (arith, run-stop before_comment at-args.s.now at-loop.e at-loop-test.true (rw (← at-is-gap.ensures, at-if1.false, eq-eqb _ _ at-if2.true)))
 
 add-e : tie.Need-overflow-add-e invariant-loop decreases-loop
 add-e c = search rules
@@ -65,14 +65,14 @@ loop-again c =
     let at-is-gap = c.before.before.before.is-gap in
     let at-if1 = c.before.before.if1 in
     let at-if2 = c.if2 in
-    omega (arith, run_more beforeComment at-args.s.now at-loop.e at-loop-test.true (rw (← at-is-gap.ensures, at-if1.false, ne_eqb _ _ at-if2.false)))
+    omega (arith, run_more before_comment at-args.s.now at-loop.e at-loop-test.true (rw (← at-is-gap.ensures, at-if1.false, ne_eqb _ _ at-if2.false)))
 
 returns-3 : tie.Need-returns-3 invariant-loop decreases-loop
 returns-3 c =
     let at-args = c.before.before.before.args in
     let at-loop = c.before.loop in
     let at-loop-test = c.loop-test in
-    omega (arith, run_end beforeComment at-args.s.now at-loop.e at-loop-test.false)
+    omega (arith, run_end before_comment at-args.s.now at-loop.e at-loop-test.false)
 
 pub head-end-spec : {M : Type 1} → statement M
 head-end-spec =

@@ -4,9 +4,9 @@ use native.Mathlib.Omega.{arith}
 use Rattle.words.specs.Spans.{span}
 use Rattle.words.proofs.Finding.{found, not_found}
 use lib.ListN.{length}
-use Rattle.format.specs.Numbers.{intBounds}
+use Rattle.format.specs.Numbers.{int_bounds}
 use Rattle.format.specs.Words.{words}
-use Rattle.format.specs.Types.{plainKind}
+use Rattle.format.specs.Types.{plain_kind}
 use Rattle.typing.proofs.TypeHeads.{told-fault, told_same, told-bare, told-not-bare, told-by-head}
 use borrow.Author.Rules.{rules}
 use Rattle.typing.proofs.kinds.plain_type.Statement.{statement}
@@ -33,7 +33,7 @@ returns c =
     let at-args = c.before.before.before.before.args in
     let at-next-word = c.before.before.next_word in
     let at-enum-told = c.enum_told in
-    told-fault at-args.s.now (ap (plainKind intBounds) (not_found at-args.s.now at-next-word.ensures at-enum-told.given.1))
+    told-fault at-args.s.now (ap (plain_kind int_bounds) (not_found at-args.s.now at-next-word.ensures at-enum-told.given.1))
 
 sub-head-of : tie.Need-overflow-sub-head-of
 sub-head-of c =
@@ -104,7 +104,7 @@ returns-2 c =
     let at-h = c.before.before.before.before.before.h in
     let f = found at-args.s.now at-next-word.ensures at-w.given.1 in
     let k = found (span at-w.given.0.1.0 (length at-args.s.now) at-args.s.now) at-next-word2.ensures at-enum-told3.given.1 in
-    told_same at-args.s.now (ap (plainKind intBounds) f.2) (told-not-bare at-args.s.now (span at-w.given.0.0 at-w.given.0.1.0 at-args.s.now) _ (words (span at-w.given.0.1.0 (length at-args.s.now) at-args.s.now)) _ (sym at-head-of.ensures ∙ at-h.given.1) k.2)
+    told_same at-args.s.now (ap (plain_kind int_bounds) f.2) (told-not-bare at-args.s.now (span at-w.given.0.0 at-w.given.0.1.0 at-args.s.now) _ (words (span at-w.given.0.1.0 (length at-args.s.now) at-args.s.now)) _ (sym at-head-of.ensures ∙ at-h.given.1) k.2)
 
 enum-told-4 : tie.Need-enum-told-4
 enum-told-4 c = search rules
@@ -178,7 +178,7 @@ returns-3 c =
     let at-h = c.before.before.before.before.before.h in
     let f = found at-args.s.now at-next-word.ensures at-w.given.1 in
     let n = not_found (span at-w.given.0.1.0 (length at-args.s.now) at-args.s.now) at-next-word2.ensures at-enum-told2.given.1 in
-    told_same at-args.s.now (ap (plainKind intBounds) f.2) (told-bare at-args.s.now (span at-w.given.0.0 at-w.given.0.1.0 at-args.s.now) (words (span at-w.given.0.1.0 (length at-args.s.now) at-args.s.now)) (sym at-head-of.ensures ∙ at-h.given.1) n)
+    told_same at-args.s.now (ap (plain_kind int_bounds) f.2) (told-bare at-args.s.now (span at-w.given.0.0 at-w.given.0.1.0 at-args.s.now) (words (span at-w.given.0.1.0 (length at-args.s.now) at-args.s.now)) (sym at-head-of.ensures ∙ at-h.given.1) n)
 
 returns-4 : tie.Need-returns-4
 returns-4 c =
@@ -189,7 +189,7 @@ returns-4 c =
     let at-enum-told4 = c.before.before.enum-told4 in
     let at-range-of = c.range-of in
     let f = found at-args.s.now at-next-word.ensures at-w.given.1 in
-    told_same at-args.s.now (ap (plainKind intBounds) f.2) (told-by-head at-args.s.now (span at-w.given.0.0 at-w.given.0.1.0 at-args.s.now) (words (span at-w.given.0.1.0 (length at-args.s.now) at-args.s.now)) (sym at-head-of.ensures ∙ at-enum-told4.given.1) (at-range-of.ensures at-args.s.now))
+    told_same at-args.s.now (ap (plain_kind int_bounds) f.2) (told-by-head at-args.s.now (span at-w.given.0.0 at-w.given.0.1.0 at-args.s.now) (words (span at-w.given.0.1.0 (length at-args.s.now) at-args.s.now)) (sym at-head-of.ensures ∙ at-enum-told4.given.1) (at-range-of.ensures at-args.s.now))
 
 returns-5 : tie.Need-returns-5
 returns-5 c =
@@ -200,7 +200,7 @@ returns-5 c =
     let at-enum-told5 = c.before.before.enum-told5 in
     let at-size-of = c.type_size in
     let f = found at-args.s.now at-next-word.ensures at-w.given.1 in
-    told_same at-args.s.now (ap (plainKind intBounds) f.2) (told-by-head at-args.s.now (span at-w.given.0.0 at-w.given.0.1.0 at-args.s.now) (words (span at-w.given.0.1.0 (length at-args.s.now) at-args.s.now)) (sym at-head-of.ensures ∙ at-enum-told5.given.1) (at-size-of.ensures at-args.s.now))
+    told_same at-args.s.now (ap (plain_kind int_bounds) f.2) (told-by-head at-args.s.now (span at-w.given.0.0 at-w.given.0.1.0 at-args.s.now) (words (span at-w.given.0.1.0 (length at-args.s.now) at-args.s.now)) (sym at-head-of.ensures ∙ at-enum-told5.given.1) (at-size-of.ensures at-args.s.now))
 
 returns-6 : tie.Need-returns-6
 returns-6 c =
@@ -211,7 +211,7 @@ returns-6 c =
     let at-enum-told6 = c.before.enum-told6 in
     let at-alias-of = c.alias-of in
     let f = found at-args.s.now at-next-word.ensures at-w.given.1 in
-    told_same at-args.s.now (ap (plainKind intBounds) f.2) (told-by-head at-args.s.now (span at-w.given.0.0 at-w.given.0.1.0 at-args.s.now) (words (span at-w.given.0.1.0 (length at-args.s.now) at-args.s.now)) (sym at-head-of.ensures ∙ at-enum-told6.given.1) at-alias-of.ensures)
+    told_same at-args.s.now (ap (plain_kind int_bounds) f.2) (told-by-head at-args.s.now (span at-w.given.0.0 at-w.given.0.1.0 at-args.s.now) (words (span at-w.given.0.1.0 (length at-args.s.now) at-args.s.now)) (sym at-head-of.ensures ∙ at-enum-told6.given.1) at-alias-of.ensures)
 
 pub plain-type-spec : {M : Type 1} → statement M
 plain-type-spec =

@@ -7,7 +7,7 @@ use Rattle.format.specs.Bytes.{Bytes}
 use Rattle.words.specs.Spans.{span}
 use Rattle.words.proofs.Finding.{found, not_found}
 use mathlib.Core.Option.{some}
-use Rattle.format.specs.Numbers.{intBounds, plus}
+use Rattle.format.specs.Numbers.{int_bounds, plus}
 use Rattle.format.specs.Types.{range_of, ranged}
 use Rattle.numbers.specs.declared.IntOf.{IntOf}
 use Rattle.numbers.specs.declared.Whole.{Whole}
@@ -35,7 +35,7 @@ returns c =
     let at-args = c.before.before.before.before.args in
     let at-next-word = c.before.before.next_word in
     let at-enum-told = c.enum_told in
-    λ x. told-fault x (ap (range_of intBounds) (not_found at-args.s.now at-next-word.ensures at-enum-told.given.1))
+    λ x. told-fault x (ap (range_of int_bounds) (not_found at-args.s.now at-next-word.ensures at-enum-told.given.1))
 
 sub-end-of : tie.Need-overflow-sub-end-of
 sub-end-of c =
@@ -106,7 +106,7 @@ returns-2 c =
     let at-ranged = c.ranged in
     let f = found at-args.s.now at-next-word.ensures at-w.given.1 in
     let n = not_found (span at-w.given.0.1.0 (length at-args.s.now) at-args.s.now) at-next-word2.ensures at-enum-told2.given.1 in
-    λ x. told-range x (IntOf.Value (Whole.Plus 0)) at_end_of.result at-ranged.ensures (ap (range_of intBounds) (f.2 ∙ ap (λ (l : List Bytes). span at-w.given.0.0 at-w.given.0.1.0 at-args.s.now ∷ l) n) ∙ ap (ranged (some (plus 0))) (sym at_end_of.ensures))
+    λ x. told-range x (IntOf.Value (Whole.Plus 0)) at_end_of.result at-ranged.ensures (ap (range_of int_bounds) (f.2 ∙ ap (λ (l : List Bytes). span at-w.given.0.0 at-w.given.0.1.0 at-args.s.now ∷ l) n) ∙ ap (ranged (some (plus 0))) (sym at_end_of.ensures))
 
 sub-next-word : tie.Need-overflow-sub-next-word
 sub-next-word c =
@@ -151,7 +151,7 @@ returns-3 c =
     let rest = span at-w.given.0.1.0 (length at-args.s.now) at-args.s.now in
     let g = found rest at-next-word2.ensures at-v.given.1 in
     let k = found (span at-v.given.0.1.0 (length rest) rest) at-next-word3.ensures at-enum-told4.given.1 in
-    λ x. told-fault x (ap (range_of intBounds) (f.2 ∙ ap (λ (l : List Bytes). span at-w.given.0.0 at-w.given.0.1.0 at-args.s.now ∷ l) (g.2 ∙ ap (λ (l : List Bytes). span at-v.given.0.0 at-v.given.0.1.0 rest ∷ l) k.2)))
+    λ x. told-fault x (ap (range_of int_bounds) (f.2 ∙ ap (λ (l : List Bytes). span at-w.given.0.0 at-w.given.0.1.0 at-args.s.now ∷ l) (g.2 ∙ ap (λ (l : List Bytes). span at-v.given.0.0 at-v.given.0.1.0 rest ∷ l) k.2)))
 
 sub-end-of-2 : tie.Need-overflow-sub-end-of-2
 sub-end-of-2 c =
@@ -202,7 +202,7 @@ returns-4 c =
     let rest = span at-w.given.0.1.0 (length at-args.s.now) at-args.s.now in
     let g = found rest at-next-word2.ensures at-v.given.1 in
     let n = not_found (span at-v.given.0.1.0 (length rest) rest) at-next-word3.ensures at-enum-told3.given.1 in
-    λ x. told-range x at_end_of.result at-end-of2.result at-ranged2.ensures (ap (range_of intBounds) (f.2 ∙ ap (λ (l : List Bytes). span at-w.given.0.0 at-w.given.0.1.0 at-args.s.now ∷ l) (g.2 ∙ ap (λ (l : List Bytes). span at-v.given.0.0 at-v.given.0.1.0 rest ∷ l) n)) ∙ rw (← at_end_of.ensures, ← at-end-of2.ensures))
+    λ x. told-range x at_end_of.result at-end-of2.result at-ranged2.ensures (ap (range_of int_bounds) (f.2 ∙ ap (λ (l : List Bytes). span at-w.given.0.0 at-w.given.0.1.0 at-args.s.now ∷ l) (g.2 ∙ ap (λ (l : List Bytes). span at-v.given.0.0 at-v.given.0.1.0 rest ∷ l) n)) ∙ rw (← at_end_of.ensures, ← at-end-of2.ensures))
 
 pub range-of-spec : {M : Type 1} → statement M
 range-of-spec =

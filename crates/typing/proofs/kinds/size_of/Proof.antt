@@ -8,9 +8,9 @@ use Rattle.format.specs.Bytes.{Bytes}
 use lib.ListN.{length}
 use Rattle.words.specs.Spans.{span}
 use Rattle.words.proofs.Finding.{found, not_found}
-use Rattle.format.specs.Numbers.{intBounds}
+use Rattle.format.specs.Numbers.{int_bounds}
 use Rattle.format.specs.Types.{Kind, Typed, size_of}
-use Rattle.numbers.specs.Meaning.{naturalAnswer}
+use Rattle.numbers.specs.Meaning.{natural_answer}
 use Rattle.typing.proofs.TypeHeads.{told-fault}
 use borrow.Author.Rules.{rules}
 use Rattle.typing.proofs.kinds.size_of.Statement.{statement}
@@ -34,7 +34,7 @@ returns c =
     let at-args = c.before.before.before.before.args in
     let at-next-word = c.before.before.next_word in
     let at-enum-told = c.enum_told in
-    λ x. told-fault x (ap (size_of intBounds) (not_found at-args.s.now at-next-word.ensures at-enum-told.given.1))
+    λ x. told-fault x (ap (size_of int_bounds) (not_found at-args.s.now at-next-word.ensures at-enum-told.given.1))
 
 sub-next-word : tie.Need-overflow-sub-next-word
 sub-next-word c =
@@ -73,7 +73,7 @@ returns-2 c =
     let at-enum-told3 = c.enum-told3 in
     let f = found at-args.s.now at-next-word.ensures at-w.given.1 in
     let k = found (span at-w.given.0.1.0 (length at-args.s.now) at-args.s.now) at-next-word2.ensures at-enum-told3.given.1 in
-    λ x. told-fault x (ap (size_of intBounds) (f.2 ∙ ap (λ (l : List Bytes). span at-w.given.0.0 at-w.given.0.1.0 at-args.s.now ∷ l) k.2))
+    λ x. told-fault x (ap (size_of int_bounds) (f.2 ∙ ap (λ (l : List Bytes). span at-w.given.0.0 at-w.given.0.1.0 at-args.s.now ∷ l) k.2))
 
 sub-number-of : tie.Need-overflow-sub-number-of
 sub-number-of c =
@@ -119,7 +119,7 @@ returns-3 c =
     let at_x = c.before.x in
     let f = found at-args.s.now at-next-word.ensures at-w.given.1 in
     let n = not_found (span at-w.given.0.1.0 (length at-args.s.now) at-args.s.now) at-next-word2.ensures at-enum-told2.given.1 in
-    λ x. record { answers = sym (ap (size_of intBounds) (f.2 ∙ ap (λ (l : List Bytes). span at-w.given.0.0 at-w.given.0.1.0 at-args.s.now ∷ l) n) ∙ ap (map (λ (n : ℕ). Typed.kind (Kind.size n))) (sym at-number-of.ensures ∙ ap naturalAnswer at_x.given.1)); sound = tt }
+    λ x. record { answers = sym (ap (size_of int_bounds) (f.2 ∙ ap (λ (l : List Bytes). span at-w.given.0.0 at-w.given.0.1.0 at-args.s.now ∷ l) n) ∙ ap (map (λ (n : ℕ). Typed.kind (Kind.size n))) (sym at-number-of.ensures ∙ ap natural_answer at_x.given.1)); sound = tt }
 
 returns-4 : tie.Need-returns-4
 returns-4 c =
@@ -132,7 +132,7 @@ returns-4 c =
     let at-enum-told4 = c.enum-told4 in
     let f = found at-args.s.now at-next-word.ensures at-w.given.1 in
     let n = not_found (span at-w.given.0.1.0 (length at-args.s.now) at-args.s.now) at-next-word2.ensures at-enum-told2.given.1 in
-    λ x. told-fault x (ap (size_of intBounds) (f.2 ∙ ap (λ (l : List Bytes). span at-w.given.0.0 at-w.given.0.1.0 at-args.s.now ∷ l) n) ∙ ap (map (λ (n : ℕ). Typed.kind (Kind.size n))) (sym at-number-of.ensures ∙ ap naturalAnswer at-enum-told4.given.1))
+    λ x. told-fault x (ap (size_of int_bounds) (f.2 ∙ ap (λ (l : List Bytes). span at-w.given.0.0 at-w.given.0.1.0 at-args.s.now ∷ l) n) ∙ ap (map (λ (n : ℕ). Typed.kind (Kind.size n))) (sym at-number-of.ensures ∙ ap natural_answer at-enum-told4.given.1))
 
 pub size-of-spec : {M : Type 1} → statement M
 size-of-spec =

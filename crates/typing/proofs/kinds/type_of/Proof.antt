@@ -1,7 +1,7 @@
 -- `typing::kinds::type_of` meets its contract.
 use mathlib.Core.Path.{sym, ◌∙◌}
 use native.Mathlib.Omega.{arith}
-use Rattle.format.specs.Words.{isGap}
+use Rattle.format.specs.Words.{is_gap}
 use Rattle.words.proofs.Finding.{run-le}
 use Rattle.typing.proofs.TypeHeads.{head-le, told-enum-type, told-plain-type}
 use borrow.Author.Rules.{rules}
@@ -22,13 +22,13 @@ sub-head-end : tie.Need-overflow-sub-head-end
 sub-head-end c =
     let at-args = c.before.before.args in
     let at-gap-end = c.gap-end in
-    omega (arith, run-le isGap at-args.s.now, at-gap-end.ensures)
+    omega (arith, run-le is_gap at-args.s.now, at-gap-end.ensures)
 
 part-head-end-start : tie.Need-slice-bounds-head-end-start
 part-head-end-start c =
     let at-args = c.before.before.args in
     let at-gap-end = c.gap-end in
-    omega (arith, run-le isGap at-args.s.now, at-gap-end.ensures)
+    omega (arith, run-le is_gap at-args.s.now, at-gap-end.ensures)
 
 part-head-end-end : tie.Need-slice-bounds-head-end-end
 part-head-end-end c = search rules

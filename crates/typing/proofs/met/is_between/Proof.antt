@@ -1,8 +1,8 @@
 -- `typing::met::is_between` meets its contract.
 use borrow.Author.Rules.{rules}
 use mathlib.Core.Path.{sym, ap, ◌∙◌}
-use Rattle.format.specs.Types.{isInRange}
-use Rattle.numbers.specs.Meaning.{intIn, intAnswer}
+use Rattle.format.specs.Types.{is_in_range}
+use Rattle.numbers.specs.Meaning.{int_in, int_answer}
 use Rattle.typing.proofs.met.is_between.Statement.{statement}
 use Rattle.typing.proofs.met.is_between.Tie as tie
 use Rattle.typing.proofs.met.is_between.Reads as reads
@@ -19,7 +19,7 @@ returns : tie.Need-returns
 returns c =
     let at-args = c.before.before.args in
     let at-enum-told = c.enum_told in
-    sym (ap (isInRange (intIn at-args.a) (intIn at-args.b)) (ap intAnswer at-enum-told.given.1))
+    sym (ap (is_in_range (int_in at-args.a) (int_in at-args.b)) (ap int_answer at-enum-told.given.1))
 
 at-most-requires : tie.Need-at-most-requires
 at-most-requires c κs = search rules
@@ -34,7 +34,7 @@ returns-2 c =
     let at-at-most = c.before.before.at_most in
     let at-if1 = c.before.if1 in
     let at-at-most2 = c.at-most2 in
-    sym (ap (isInRange (intIn at-args.a) (intIn at-args.b)) (ap intAnswer at_x.given.1) ∙ rw (← at-at-most.ensures, at-if1.true, ← at-at-most2.ensures))
+    sym (ap (is_in_range (int_in at-args.a) (int_in at-args.b)) (ap int_answer at_x.given.1) ∙ rw (← at-at-most.ensures, at-if1.true, ← at-at-most2.ensures))
 
 returns-3 : tie.Need-returns-3
 returns-3 c =
@@ -42,7 +42,7 @@ returns-3 c =
     let at_x = c.before.before.before.x in
     let at-at-most = c.before.at_most in
     let at-if1 = c.if1 in
-    sym (ap (isInRange (intIn at-args.a) (intIn at-args.b)) (ap intAnswer at_x.given.1) ∙ rw (← at-at-most.ensures, at-if1.false))
+    sym (ap (is_in_range (int_in at-args.a) (int_in at-args.b)) (ap int_answer at_x.given.1) ∙ rw (← at-at-most.ensures, at-if1.false))
 
 pub is-between-spec : {M : Type 1} → statement M
 is-between-spec =

@@ -6,12 +6,12 @@ use native.Mathlib.Omega.{arith}
 use lib.Dec.{leb, eqb}
 use lib.ListN.{length}
 use Rattle.format.specs.Bytes.{Bytes, among, is_some}
-use Rattle.format.specs.Lines.{isName}
-use Rattle.format.specs.Numbers.{intBounds, int_of, isReal}
-use Rattle.format.specs.Types.{isInRange, truths, isUuid, uncomment}
+use Rattle.format.specs.Lines.{is_name}
+use Rattle.format.specs.Numbers.{int_bounds, int_of, is_real}
+use Rattle.format.specs.Types.{is_in_range, truths, is_uuid, uncomment}
 use Rattle.words.specs.Spans.{span}
-use Rattle.numbers.specs.Meaning.{intIn}
-use Rattle.typing.specs.Meaning.{symbolsIn}
+use Rattle.numbers.specs.Meaning.{int_in}
+use Rattle.typing.specs.Meaning.{symbols_in}
 use Rattle.typing.proofs.Meeting.{meets-shape, sound-shape, one_line}
 use borrow.Author.Rules.{rules}
 use Rattle.typing.proofs.met.meets.Statement.{statement}
@@ -195,7 +195,7 @@ returns c =
     let at-trimmed = c.before.before.before.before.before.trimmed in
     let at-args = c.before.before.before.before.before.before.before.before.args in
     let at-enum-told = c.before.before.before.enum_told in
-    at-is-int.ensures ∙ (ap is_some (at-int-of.ensures ∙ ap (int_of intBounds) at-trimmed.ensures.2) ∙ meets-shape at-args.text.now at-args.v.now at-enum-told.given.1)
+    at-is-int.ensures ∙ (ap is_some (at-int-of.ensures ∙ ap (int_of int_bounds) at-trimmed.ensures.2) ∙ meets-shape at-args.text.now at-args.v.now at-enum-told.given.1)
 
 returns-2 : tie.Need-returns-2
 returns-2 c =
@@ -204,7 +204,7 @@ returns-2 c =
     let at-trimmed = c.before.before.before.before.before.before.trimmed in
     let at-k = c.before.before.before.before.k in
     let at-args = c.before.before.before.before.before.before.before.before.before.args in
-    at-is-between.ensures ∙ (ap (isInRange (intIn at-k.given.0.0) (intIn at-k.given.0.1.0)) (at-int-of2.ensures ∙ ap (int_of intBounds) at-trimmed.ensures.2) ∙ meets-shape at-args.text.now at-args.v.now at-k.given.1)
+    at-is-between.ensures ∙ (ap (is_in_range (int_in at-k.given.0.0) (int_in at-k.given.0.1.0)) (at-int-of2.ensures ∙ ap (int_of int_bounds) at-trimmed.ensures.2) ∙ meets-shape at-args.text.now at-args.v.now at-k.given.1)
 
 returns-3 : tie.Need-returns-3
 returns-3 c =
@@ -212,7 +212,7 @@ returns-3 c =
     let at-trimmed = c.before.before.before.before.trimmed in
     let at-args = c.before.before.before.before.before.before.before.args in
     let at-enum-told2 = c.before.before.enum-told2 in
-    at-is-real.ensures ∙ (ap (λ (w : Bytes). isReal w) at-trimmed.ensures.2 ∙ meets-shape at-args.text.now at-args.v.now at-enum-told2.given.1)
+    at-is-real.ensures ∙ (ap (λ (w : Bytes). is_real w) at-trimmed.ensures.2 ∙ meets-shape at-args.text.now at-args.v.now at-enum-told2.given.1)
 
 returns-4 : tie.Need-returns-4
 returns-4 c =
@@ -234,7 +234,7 @@ returns-6 c =
     let at-k3 = c.before.before.before.before.k3 in
     let at-args = c.before.before.before.before.before.before.before.before.before.args in
     let at-trimmed = c.before.before.before.before.before.before.trimmed in
-    at-has-symbol.ensures ∙ (ap (λ (w : Bytes). among w (symbolsIn (uncomment false (span at-k3.given.0.0 at-k3.given.0.1.0 at-args.text.now)))) at-trimmed.ensures.2 ∙ meets-shape at-args.text.now at-args.v.now at-k3.given.1)
+    at-has-symbol.ensures ∙ (ap (λ (w : Bytes). among w (symbols_in (uncomment false (span at-k3.given.0.0 at-k3.given.0.1.0 at-args.text.now)))) at-trimmed.ensures.2 ∙ meets-shape at-args.text.now at-args.v.now at-k3.given.1)
 
 returns-7 : tie.Need-returns-7
 returns-7 c =
@@ -250,7 +250,7 @@ returns-8 c =
     let at-trimmed = c.before.before.before.before.trimmed in
     let at-args = c.before.before.before.before.before.before.before.args in
     let at-enum-told5 = c.before.before.enum-told5 in
-    at-is-name.ensures ∙ (ap (λ (w : Bytes). isName w) at-trimmed.ensures.2 ∙ meets-shape at-args.text.now at-args.v.now at-enum-told5.given.1)
+    at-is-name.ensures ∙ (ap (λ (w : Bytes). is_name w) at-trimmed.ensures.2 ∙ meets-shape at-args.text.now at-args.v.now at-enum-told5.given.1)
 
 returns-9 : tie.Need-returns-9
 returns-9 c =
@@ -258,7 +258,7 @@ returns-9 c =
     let at-trimmed = c.before.before.before.before.trimmed in
     let at-args = c.before.before.before.before.before.before.before.args in
     let at-enum-told6 = c.before.before.enum-told6 in
-    at-is-uuid.ensures ∙ (ap (λ (w : Bytes). isUuid w) at-trimmed.ensures.2 ∙ meets-shape at-args.text.now at-args.v.now at-enum-told6.given.1)
+    at-is-uuid.ensures ∙ (ap (λ (w : Bytes). is_uuid w) at-trimmed.ensures.2 ∙ meets-shape at-args.text.now at-args.v.now at-enum-told6.given.1)
 
 returns-10 : tie.Need-returns-10
 returns-10 c =

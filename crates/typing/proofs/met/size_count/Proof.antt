@@ -7,7 +7,7 @@ use mathlib.Core.Path.{◌≡◌, sym, ◌∙◌}
 use mathlib.Core.Logic.{⊎_elim}
 use lib.ListN.{length, drop}
 use borrow.Author.Tests.{not-true, not-false}
-use Rattle.format.specs.Types.{sizeCount}
+use Rattle.format.specs.Types.{size_count}
 use Rattle.typing.proofs.Meeting.{size-counted, size-passed, size-end}
 use Rattle.typing.proofs.met.size_count.Statement.{statement}
 use Rattle.typing.proofs.met.size_count.Tie as tie
@@ -16,7 +16,7 @@ use Rattle.typing.proofs.met.size_count.Lts as lts
 use Rattle.typing.proofs.met.is_continuation.Reads as is-continuation-reads
 
 abbrev invariant-loop : tie.invariant-loop
-invariant-loop v i₀ n₀ i n = (n ≤ i) × (i ≤ length v) × (sizeCount v ≡ n + sizeCount (drop i v))
+invariant-loop v i₀ n₀ i n = (n ≤ i) × (i ≤ length v) × (size_count v ≡ n + size_count (drop i v))
 
 abbrev decreases-loop : tie.decreases-loop
 decreases-loop v i₀ n₀ i n = length v - i

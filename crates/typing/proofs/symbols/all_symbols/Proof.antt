@@ -3,7 +3,7 @@ use borrow.Author.Rules.{rules}
 use mathlib.Core.Path.{◌≡◌, refl, sym, ap, ◌∙◌}
 use native.Mathlib.Omega.{arith}
 use lib.ListN.{length}
-use Rattle.typing.specs.Symbols.{symbolsOf, areSymbols}
+use Rattle.typing.specs.Symbols.{symbols_of, are_symbols}
 use Rattle.typing.proofs.Comments.{told-by, are-more, are-stop}
 use Rattle.typing.proofs.symbols.all_symbols.Statement.{statement}
 use Rattle.typing.proofs.symbols.all_symbols.Tie as tie
@@ -13,7 +13,7 @@ use Rattle.typing.proofs.symbols.is_symbol.Reads as is-symbol-reads
 use Rattle.typing.proofs.symbols.next_symbol.Reads as next-symbol-reads
 
 abbrev invariant-loop : tie.invariant-loop
-invariant-loop table s rest₀ rest = areSymbols (symbolsOf s) ≡ areSymbols (symbolsOf rest)
+invariant-loop table s rest₀ rest = are_symbols (symbols_of s) ≡ are_symbols (symbols_of rest)
 
 abbrev decreases-loop : tie.decreases-loop
 decreases-loop table s rest₀ rest = length rest
@@ -109,7 +109,7 @@ returns-2 c =
     let at-loop = c.before.before.before.loop in
     let at-next-symbol = c.before.before.next-symbol in
     let at-enum-told = c.enum_told in
-    sym (at-loop.invariant ∙ ap areSymbols (told-by at-loop.rest.now at-next-symbol.ensures at-enum-told.given.1))
+    sym (at-loop.invariant ∙ ap are_symbols (told-by at-loop.rest.now at-next-symbol.ensures at-enum-told.given.1))
 
 enum-told-2 : tie.Need-enum-told-2 invariant-loop decreases-loop
 enum-told-2 c = search rules
@@ -119,7 +119,7 @@ returns-3 c =
     let at-loop = c.before.before.before.loop in
     let at-next-symbol = c.before.before.next-symbol in
     let at-enum-told2 = c.enum-told2 in
-    sym (at-loop.invariant ∙ ap areSymbols (told-by at-loop.rest.now at-next-symbol.ensures at-enum-told2.given.1))
+    sym (at-loop.invariant ∙ ap are_symbols (told-by at-loop.rest.now at-next-symbol.ensures at-enum-told2.given.1))
 
 pub all-symbols-spec : {M : Type 1} → statement M
 all-symbols-spec =

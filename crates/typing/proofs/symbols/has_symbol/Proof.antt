@@ -6,8 +6,8 @@ use native.Mathlib.Omega.{arith}
 use lib.ListN.{length}
 use mathlib.Core.Bool.{false}
 use Rattle.format.specs.Types.{uncomment}
-use Rattle.typing.specs.Symbols.{symbolsOf}
-use Rattle.typing.proofs.Comments.{told-by, amongIn, areRead, among_in, read-in, read-on, among-on, among-here}
+use Rattle.typing.specs.Symbols.{symbols_of}
+use Rattle.typing.proofs.Comments.{told-by, among_in, are_read, among_in_lem, read-in, read-on, among-on, among-here}
 use Rattle.typing.proofs.symbols.has_symbol.Statement.{statement}
 use Rattle.typing.proofs.symbols.has_symbol.Tie as tie
 use Rattle.typing.proofs.symbols.has_symbol.Reads as reads
@@ -16,7 +16,7 @@ use Rattle.lines.proofs.same_bytes.Reads as same-bytes-reads
 use Rattle.typing.proofs.symbols.next_symbol.Reads as next-symbol-reads
 
 abbrev invariant-loop : tie.invariant-loop
-invariant-loop s v rest₀ rest = (amongIn v (symbolsOf s) ≡ amongIn v (symbolsOf rest)) × (areRead (symbolsOf rest) ≡ true)
+invariant-loop s v rest₀ rest = (among_in v (symbols_of s) ≡ among_in v (symbols_of rest)) × (are_read (symbols_of rest) ≡ true)
 
 abbrev decreases-loop : tie.decreases-loop
 decreases-loop s v rest₀ rest = length rest
@@ -69,7 +69,7 @@ returns c =
     let at-same-bytes = c.before.same_bytes in
     let at-if1 = c.if1 in
     let t = told-by at-loop.rest.now at-next-symbol.ensures at-w.given.1 in
-    sym (among_in at-args.v.now (uncomment false at-args.s.now) ∙ (at-loop.invariant.0 ∙ among-here at-loop.rest.now at-w.given.0.0 at-w.given.0.1.0 t at-args.v.now (sym at-same-bytes.ensures ∙ at-if1.true) at-loop.invariant.1))
+    sym (among_in_lem at-args.v.now (uncomment false at-args.s.now) ∙ (at-loop.invariant.0 ∙ among-here at-loop.rest.now at-w.given.0.0 at-w.given.0.1.0 t at-args.v.now (sym at-same-bytes.ensures ∙ at-if1.true) at-loop.invariant.1))
 
 sub-rest : tie.Need-overflow-sub-rest invariant-loop decreases-loop
 sub-rest c =
@@ -118,7 +118,7 @@ returns-2 c =
     let at-loop = c.before.before.before.loop in
     let at-next-symbol = c.before.before.next-symbol in
     let at-enum-told = c.enum_told in
-    sym (among_in at-args.v.now (uncomment false at-args.s.now) ∙ (at-loop.invariant.0 ∙ ap (amongIn at-args.v.now) (told-by at-loop.rest.now at-next-symbol.ensures at-enum-told.given.1)))
+    sym (among_in_lem at-args.v.now (uncomment false at-args.s.now) ∙ (at-loop.invariant.0 ∙ ap (among_in at-args.v.now) (told-by at-loop.rest.now at-next-symbol.ensures at-enum-told.given.1)))
 
 enum-told-2 : tie.Need-enum-told-2 invariant-loop decreases-loop
 enum-told-2 c = search rules
@@ -129,7 +129,7 @@ returns-3 c =
     let at-loop = c.before.before.before.loop in
     let at-next-symbol = c.before.before.next-symbol in
     let at-enum-told2 = c.enum-told2 in
-    sym (among_in at-args.v.now (uncomment false at-args.s.now) ∙ (at-loop.invariant.0 ∙ ap (amongIn at-args.v.now) (told-by at-loop.rest.now at-next-symbol.ensures at-enum-told2.given.1)))
+    sym (among_in_lem at-args.v.now (uncomment false at-args.s.now) ∙ (at-loop.invariant.0 ∙ ap (among_in at-args.v.now) (told-by at-loop.rest.now at-next-symbol.ensures at-enum-told2.given.1)))
 
 pub has-symbol-spec : {M : Type 1} → statement M
 has-symbol-spec =

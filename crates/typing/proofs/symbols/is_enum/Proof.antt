@@ -1,6 +1,6 @@
 -- `typing::symbols::is_enum` meets its contract.
 use mathlib.Core.Path.{sym, ap, ◌∙◌}
-use Rattle.typing.specs.Symbols.{isEnum}
+use Rattle.typing.specs.Symbols.{is_enum}
 use Rattle.typing.proofs.Comments.{told-by, enum-word}
 use borrow.Author.Rules.{rules}
 use Rattle.typing.proofs.symbols.is_enum.Statement.{statement}
@@ -43,14 +43,14 @@ returns-2 c =
     let at-args = c.before.before.before.before.before.args in
     let at-next-symbol = c.before.before.next-symbol in
     let at-enum-told2 = c.enum-told2 in
-    sym (ap isEnum (told-by at-args.s.now at-next-symbol.ensures at-enum-told2.given.1))
+    sym (ap is_enum (told-by at-args.s.now at-next-symbol.ensures at-enum-told2.given.1))
 
 returns-3 : tie.Need-returns-3
 returns-3 c =
     let at-args = c.before.before.before.before.before.args in
     let at-next-symbol = c.before.before.next-symbol in
     let at-enum-told3 = c.enum-told3 in
-    sym (ap isEnum (told-by at-args.s.now at-next-symbol.ensures at-enum-told3.given.1))
+    sym (ap is_enum (told-by at-args.s.now at-next-symbol.ensures at-enum-told3.given.1))
 
 pub is-enum-spec : {M : Type 1} → statement M
 is-enum-spec =

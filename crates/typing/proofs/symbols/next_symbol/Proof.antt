@@ -5,8 +5,8 @@ use mathlib.Core.Path.{sym, ◌∙◌}
 use native.Mathlib.Omega.{arith}
 use lib.ListN.{length}
 use Rattle.words.proofs.Finding.{byte_inside}
-use Rattle.format.specs.Words.{isGap}
-use Rattle.values.specs.Stretches.{notParen}
+use Rattle.format.specs.Words.{is_gap}
+use Rattle.values.specs.Stretches.{not_paren}
 use Rattle.typing.specs.Symbols.{is_plain}
 use Rattle.typing.proofs.Comments.{end-at, end-le, Reached, gaps-reached, comment-reached, comment-wrong, close-wrong, word-reached, end-reached}
 use Rattle.typing.proofs.symbols.next_symbol.Statement.{statement}
@@ -99,7 +99,7 @@ add-close c =
     let at-loop = c.before.before.before.before.before.before.before.loop in
     let at-loop-test = c.before.before.before.before.before.before.loop-test in
     let at-paren-at = c.paren-at in
-    omega (arith, end-at notParen at-args.s.now (at-loop.at + 1) at-paren-at.result at-paren-at.ensures, end-le notParen at-args.s.now (at-loop.at + 1) (omega (arith, at-loop-test.true)))
+    omega (arith, end-at not_paren at-args.s.now (at-loop.at + 1) at-paren-at.result at-paren-at.ensures, end-le not_paren at-args.s.now (at-loop.at + 1) (omega (arith, at-loop-test.true)))
 
 byte-requires : tie.Need-byte-requires invariant-loop decreases-loop
 byte-requires c κs = search rules
@@ -113,7 +113,7 @@ returns-3 c =
     let at-if2 = c.before.before.before.before.if2 in
     let at-if3 = c.if3 in
     let at_byte = c.before.byte in
-    comment-wrong at-args.s.now at-loop.at at-loop.invariant at-loop-test.true ((at-loop.at + 1) + at-paren-at.result) at-if2.false (end-at notParen at-args.s.now (at-loop.at + 1) at-paren-at.result at-paren-at.ensures) (λ e. at-if3.true (at_byte.ensures ∙ e))
+    comment-wrong at-args.s.now at-loop.at at-loop.invariant at-loop-test.true ((at-loop.at + 1) + at-paren-at.result) at-if2.false (end-at not_paren at-args.s.now (at-loop.at + 1) at-paren-at.result at-paren-at.ensures) (λ e. at-if3.true (at_byte.ensures ∙ e))
 
 add-behind : tie.Need-overflow-add-behind invariant-loop decreases-loop
 add-behind c =
@@ -157,7 +157,7 @@ add_at c =
     let at-if3 = c.before.before.if3 in
     let at-gap-end2 = c.gap-end2 in
     let inside = byte_inside at-args.s.now ((at-loop.at + 1) + at-paren-at.result) (omega (arith, at_byte.ensures, at-if3.false)) in
-    omega (arith, end-at isGap at-args.s.now (((at-loop.at + 1) + at-paren-at.result) + 1) at-gap-end2.result at-gap-end2.ensures, end-le isGap at-args.s.now (((at-loop.at + 1) + at-paren-at.result) + 1) (omega (arith, inside)))
+    omega (arith, end-at is_gap at-args.s.now (((at-loop.at + 1) + at-paren-at.result) + 1) at-gap-end2.result at-gap-end2.ensures, end-le is_gap at-args.s.now (((at-loop.at + 1) + at-paren-at.result) + 1) (omega (arith, inside)))
 
 loop-less : tie.Need-loop-smaller invariant-loop decreases-loop
 loop-less c =
@@ -179,7 +179,7 @@ loop-again c =
     let at-if2 = c.before.before.before.before.before.before.if2 in
     let at_byte = c.before.before.before.byte in
     let at-if3 = c.before.before.if3 in
-    comment-reached at-args.s.now at-loop.at at-loop.invariant at-loop-test.true ((at-loop.at + 1) + at-paren-at.result) ((((at-loop.at + 1) + at-paren-at.result) + 1) + at-gap-end2.result) at-if2.false (end-at notParen at-args.s.now (at-loop.at + 1) at-paren-at.result at-paren-at.ensures) (sym at_byte.ensures ∙ at-if3.false) (end-at isGap at-args.s.now (((at-loop.at + 1) + at-paren-at.result) + 1) at-gap-end2.result at-gap-end2.ensures)
+    comment-reached at-args.s.now at-loop.at at-loop.invariant at-loop-test.true ((at-loop.at + 1) + at-paren-at.result) ((((at-loop.at + 1) + at-paren-at.result) + 1) + at-gap-end2.result) at-if2.false (end-at not_paren at-args.s.now (at-loop.at + 1) at-paren-at.result at-paren-at.ensures) (sym at_byte.ensures ∙ at-if3.false) (end-at is_gap at-args.s.now (((at-loop.at + 1) + at-paren-at.result) + 1) at-gap-end2.result at-gap-end2.ensures)
 
 returns-4 : tie.Need-returns-4 invariant-loop decreases-loop
 returns-4 c =

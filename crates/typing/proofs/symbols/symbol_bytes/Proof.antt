@@ -5,7 +5,7 @@ use Prim.Native.Nat.{◌≤◌, ◌-◌}
 use native.Mathlib.Omega.{arith}
 use lib.ListN.{length, drop, drop_of_length-le}
 use Rattle.format.specs.Bytes.{all}
-use Rattle.format.specs.Types.{isSymbolByte}
+use Rattle.format.specs.Types.{is_symbol_byte}
 use Rattle.lines.proofs.Cuts.{at-cons}
 use Rattle.typing.proofs.symbols.symbol_bytes.Statement.{statement}
 use Rattle.typing.proofs.symbols.symbol_bytes.Tie as tie
@@ -14,7 +14,7 @@ use Rattle.typing.proofs.symbols.symbol_bytes.Lts as lts
 use Rattle.typing.proofs.symbols.symbol_byte.Reads as symbol-byte-reads
 
 abbrev invariant-loop : tie.invariant-loop
-invariant-loop table s from i₀ i = (i ≤ length s) × (all isSymbolByte (drop from s) ≡ all isSymbolByte (drop i s))
+invariant-loop table s from i₀ i = (i ≤ length s) × (all is_symbol_byte (drop from s) ≡ all is_symbol_byte (drop i s))
 
 abbrev decreases-loop : tie.decreases-loop
 decreases-loop table s from i₀ i = length s - i

@@ -1,7 +1,7 @@
 -- `values::ends::compare` meets its contract: lengths that are unlike decide, and else the bytes.
 use native.Mathlib.Omega.{arith}
 use mathlib.Core.Path.{sym}
-use Rattle.values.specs.Value.{valueFrom}
+use Rattle.values.specs.Value.{value_from}
 use Rattle.values.proofs.Likeness.{likeness-shorter, likeness-longer}
 use borrow.Author.Rules.{rules}
 use Rattle.values.proofs.ends.compare.Statement.{statement}
@@ -23,7 +23,7 @@ returns c =
     let at-measure = c.before.before.before.measure in
     let at-measure2 = c.before.before.measure2 in
     let at-if1 = c.if1 in
-    sym (likeness-shorter (valueFrom at-args.a.now) (valueFrom at-args.b.now) (omega (arith, at-measure.ensures.size, at-measure2.ensures.size, at-if1.true)))
+    sym (likeness-shorter (value_from at-args.a.now) (value_from at-args.b.now) (omega (arith, at-measure.ensures.size, at-measure2.ensures.size, at-if1.true)))
 
 returns-2 : tie.Need-returns-2
 returns-2 c =
@@ -31,7 +31,7 @@ returns-2 c =
     let at-measure = c.before.before.before.before.before.measure in
     let at-measure2 = c.before.before.before.before.measure2 in
     let at-if2 = c.if2 in
-    sym (likeness-longer (valueFrom at-args.a.now) (valueFrom at-args.b.now) (omega (arith, at-measure.ensures.size, at-measure2.ensures.size, at-if2.true)))
+    sym (likeness-longer (value_from at-args.a.now) (value_from at-args.b.now) (omega (arith, at-measure.ensures.size, at-measure2.ensures.size, at-if2.true)))
 
 last-difference-requires : tie.Need-last-difference-requires
 last-difference-requires c κs = search rules

@@ -4,7 +4,7 @@ use Prim.Native.Nat.{◌+◌}
 use native.Mathlib.Omega.{arith}
 use mathlib.Core.Path.{◌≡◌, sym, ap, ◌∙◌}
 use lib.ListN.{length, drop}
-use Rattle.values.specs.Value.{valueFrom, Reaches}
+use Rattle.values.specs.Value.{value_from, Reaches}
 use Rattle.values.proofs.Backwards.{none_before, comes-before}
 use Rattle.values.proofs.Endings.{place-before, first_ended, second_ended, differs, alike-before}
 use Rattle.values.proofs.ends.last_difference.Statement.{statement}
@@ -14,7 +14,7 @@ use Rattle.values.proofs.ends.last_difference.Lts as lts
 use Rattle.values.proofs.byte_before.Reads as byte-before-reads
 
 abbrev invariant-loop : tie.invariant-loop
-invariant-loop a b n i j place₀ p₀ q₀ place p q = Reaches a 0 p × Reaches b 0 q × (valueFrom (drop p a) ≡ valueFrom (drop q b)) × (place + length (valueFrom (drop p a)) ≡ length (valueFrom a))
+invariant-loop a b n i j place₀ p₀ q₀ place p q = Reaches a 0 p × Reaches b 0 q × (value_from (drop p a) ≡ value_from (drop q b)) × (place + length (value_from (drop p a)) ≡ length (value_from a))
 
 abbrev decreases-loop : tie.decreases-loop
 decreases-loop a b n i j place₀ p₀ q₀ place p q = p

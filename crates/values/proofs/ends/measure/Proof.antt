@@ -5,7 +5,7 @@ use native.Mathlib.Nat.{zero-add}
 use native.Mathlib.Omega.{arith}
 use mathlib.Core.Path.{◌≡◌, ap}
 use lib.ListN.{length, drop}
-use Rattle.values.specs.Value.{valueFrom, Reaches, here}
+use Rattle.values.specs.Value.{value_from, Reaches, here}
 use Rattle.values.proofs.Decoding.{ended, goes_on, reaches-on, value-length}
 use Rattle.values.proofs.ends.measure.Statement.{statement}
 use Rattle.values.proofs.ends.measure.Tie as tie
@@ -15,7 +15,7 @@ use Rattle.values.proofs.plain_end.Reads as plain-end-reads
 use Rattle.values.proofs.value_byte.Reads as value-byte-reads
 
 abbrev invariant-loop : tie.invariant-loop
-invariant-loop v i₀ n₀ i n = Reaches v 0 i × (n + length (valueFrom (drop i v)) ≡ length (valueFrom v))
+invariant-loop v i₀ n₀ i n = Reaches v 0 i × (n + length (value_from (drop i v)) ≡ length (value_from v))
 
 abbrev decreases-loop : tie.decreases-loop
 decreases-loop v i₀ n₀ i n = length v - i
@@ -23,7 +23,7 @@ decreases-loop v i₀ n₀ i n = length v - i
 loop-holds : tie.Need-loop-init invariant-loop decreases-loop
 loop-holds c =
     let at-args = c.before.args in
-    (here, zero-add (length (valueFrom at-args.v.now)))
+    (here, zero-add (length (value_from at-args.v.now)))
 
 plain-end-requires : tie.Need-plain-end-requires invariant-loop decreases-loop
 plain-end-requires c κs = search rules

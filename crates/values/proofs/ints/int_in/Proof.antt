@@ -1,7 +1,7 @@
 -- `values::ints::int_in` meets its contract.
 use borrow.Author.Rules.{rules}
 use mathlib.Core.Path.{ap, ◌∙◌}
-use Rattle.format.specs.Numbers.{intBounds, int_of}
+use Rattle.format.specs.Numbers.{int_bounds, int_of}
 use Rattle.values.proofs.ints.int_in.Statement.{statement}
 use Rattle.values.proofs.ints.int_in.Tie as tie
 use Rattle.values.proofs.ints.int_in.Reads as reads
@@ -28,7 +28,7 @@ returns : tie.Need-returns
 returns c =
     let at-int-of = c.Int-of in
     let at-trimmed = c.before.before.trimmed in
-    at-int-of.ensures ∙ ap (int_of intBounds) at-trimmed.ensures.2
+    at-int-of.ensures ∙ ap (int_of int_bounds) at-trimmed.ensures.2
 
 pub int-in-spec : {M : Type 1} → statement M
 int-in-spec =

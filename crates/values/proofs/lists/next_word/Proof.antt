@@ -1,7 +1,7 @@
 -- `values::lists::next_word` meets its contract: behind the gaps stands the word, behind its bytes what follows it.
 use native.Mathlib.Omega.{arith}
 use lib.ListN.{drop}
-use Rattle.values.specs.Value.{valueFrom}
+use Rattle.values.specs.Value.{value_from}
 use Rattle.values.proofs.Decoding.{ended, goes_on}
 use Rattle.values.proofs.Splitting.{words-none, words-next}
 use borrow.Author.Rules.{rules}
@@ -33,7 +33,7 @@ returns c =
     let at-value-byte = c.before.before.value-byte in
     let at-enum-told = c.enum_told in
     let e = ended at-args.s.now at-pass.result at-value-byte.result at-value-byte.ensures at-enum-told.given.1 in
-    words-none (valueFrom (drop at-args.i at-args.s.now)) (valueFrom (drop at-pass.result at-args.s.now)) at-pass.ensures.0 e
+    words-none (value_from (drop at-args.i at-args.s.now)) (value_from (drop at-pass.result at-args.s.now)) at-pass.ensures.0 e
 
 pass-requires-2 : tie.Need-pass-requires-2
 pass-requires-2 c κs =
@@ -53,7 +53,7 @@ returns-2 c =
     let at-pass2 = c.pass2 in
     let s = at-args.s.now in
     let e = goes_on s at-pass.result at-value-byte.result at-value-byte.ensures at-d.given.1 in
-    (words-next (valueFrom (drop at-args.i s)) (valueFrom (drop at-pass.result s)) at-pass.ensures.0 (valueFrom (drop at-d.given.0.1.0 s)) (valueFrom (drop at-pass2.result s)) at-d.given.0.0 e.0 at-pass2.ensures.0, at-pass.ensures.1, omega (arith, e.1, at-pass2.ensures.1), at-pass2.ensures.2)
+    (words-next (value_from (drop at-args.i s)) (value_from (drop at-pass.result s)) at-pass.ensures.0 (value_from (drop at-d.given.0.1.0 s)) (value_from (drop at-pass2.result s)) at-d.given.0.0 e.0 at-pass2.ensures.0, at-pass.ensures.1, omega (arith, e.1, at-pass2.ensures.1), at-pass2.ensures.2)
 
 pub next-word-spec : {M : Type 1} → statement M
 next-word-spec =

@@ -7,11 +7,11 @@ use mathlib.Core.Path.{◌≡◌, refl, sym, ap, ◌∙◌}
 use borrow.Author.Tests.{eq-eqb, ne_eqb}
 use lib.ListN.{length, drop}
 use Rattle.format.specs.Lists.{front}
-use Rattle.format.specs.Words.{notGap}
-use Rattle.values.specs.Value.{valueFrom}
+use Rattle.format.specs.Words.{not_gap}
+use Rattle.values.specs.Value.{value_from}
 use Rattle.values.proofs.Decoding.{ended, goes_on}
 use Rattle.values.proofs.Words.{word-ended, word_on}
-use Rattle.values.specs.Words.{wordFrom, othersFrom}
+use Rattle.values.specs.Words.{word_from, others_from}
 use Rattle.values.proofs.Parts.{parts_none, parts-comma, parts-on}
 use Rattle.values.proofs.lists.part_next.Statement.{statement}
 use Rattle.values.proofs.lists.part_next.Tie as tie
@@ -21,7 +21,7 @@ use Rattle.values.proofs.value_byte.Reads as value-byte-reads
 use Rattle.words.proofs.is_gap.Reads as is-gap-reads
 
 abbrev invariant-loop : tie.invariant-loop
-invariant-loop s i at₀ at = (i ≤ at) × (othersFrom s i ≡ othersFrom s at)
+invariant-loop s i at₀ at = (i ≤ at) × (others_from s i ≡ others_from s at)
 
 abbrev decreases-loop : tie.decreases-loop
 decreases-loop s i at₀ at = length s - at
@@ -46,7 +46,7 @@ returns c =
     let at-enum-told = c.enum_told in
     let s = at-args.s.now in
     let e = ended s at-loop.at at-value-byte.result at-value-byte.ensures at-enum-told.given.1 in
-    at-loop.invariant.1 ∙ (parts_none (wordFrom s at-loop.at) (ap (front notGap) e)).1
+    at-loop.invariant.1 ∙ (parts_none (word_from s at-loop.at) (ap (front not_gap) e)).1
 
 is-gap-requires : tie.Need-is-gap-requires invariant-loop decreases-loop
 is-gap-requires c κs = search rules
@@ -61,8 +61,8 @@ returns-2 c =
     let at-if1 = c.if1 in
     let s = at-args.s.now in
     let e = goes_on s at-loop.at at-value-byte.result at-value-byte.ensures at-d.given.1 in
-    let f = word-ended (valueFrom (drop at-loop.at s)) (valueFrom (drop at-d.given.0.1.0 s)) at-d.given.0.0 e.0 (sym at-is-gap.ensures ∙ at-if1.true) in
-    at-loop.invariant.1 ∙ (parts_none (wordFrom s at-loop.at) f).1
+    let f = word-ended (value_from (drop at-loop.at s)) (value_from (drop at-d.given.0.1.0 s)) at-d.given.0.0 e.0 (sym at-is-gap.ensures ∙ at-if1.true) in
+    at-loop.invariant.1 ∙ (parts_none (word_from s at-loop.at) f).1
 
 returns-3 : tie.Need-returns-3 invariant-loop decreases-loop
 returns-3 c =
@@ -75,8 +75,8 @@ returns-3 c =
     let at-if2 = c.if2 in
     let s = at-args.s.now in
     let e = goes_on s at-loop.at at-value-byte.result at-value-byte.ensures at-d.given.1 in
-    let f = word_on (valueFrom (drop at-loop.at s)) (valueFrom (drop at-d.given.0.1.0 s)) at-d.given.0.0 e.0 (sym at-is-gap.ensures ∙ at-if1.false) in
-    let g = parts-comma (wordFrom s at-loop.at) at-d.given.0.0 (wordFrom s at-d.given.0.1.0) f (eq-eqb _ _ at-if2.true) in
+    let f = word_on (value_from (drop at-loop.at s)) (value_from (drop at-d.given.0.1.0 s)) at-d.given.0.0 e.0 (sym at-is-gap.ensures ∙ at-if1.false) in
+    let g = parts-comma (word_from s at-loop.at) at-d.given.0.0 (word_from s at-d.given.0.1.0) f (eq-eqb _ _ at-if2.true) in
     (omega (arith, at-loop.invariant.0, e.1), e.2, at-loop.invariant.1 ∙ g.1)
 
 loop-less : tie.Need-loop-smaller invariant-loop decreases-loop
@@ -99,8 +99,8 @@ loop-again c =
     let at-if2 = c.if2 in
     let s = at-args.s.now in
     let e = goes_on s at-loop.at at-value-byte.result at-value-byte.ensures at-d.given.1 in
-    let f = word_on (valueFrom (drop at-loop.at s)) (valueFrom (drop at-d.given.0.1.0 s)) at-d.given.0.0 e.0 (sym at-is-gap.ensures ∙ at-if1.false) in
-    let g = parts-on (wordFrom s at-loop.at) at-d.given.0.0 (wordFrom s at-d.given.0.1.0) f (ne_eqb _ _ at-if2.false) in
+    let f = word_on (value_from (drop at-loop.at s)) (value_from (drop at-d.given.0.1.0 s)) at-d.given.0.0 e.0 (sym at-is-gap.ensures ∙ at-if1.false) in
+    let g = parts-on (word_from s at-loop.at) at-d.given.0.0 (word_from s at-d.given.0.1.0) f (ne_eqb _ _ at-if2.false) in
     (omega (arith, at-loop.invariant.0, e.1), at-loop.invariant.1 ∙ g.1)
 
 pub part-next-spec : {M : Type 1} → statement M

@@ -9,8 +9,8 @@ use mathlib.Core.Path.{◌≡◌, refl, sym, ap, ◌∙◌}
 use lib.ListN.{length, drop, length-set}
 use lib.Seq.{sets}
 use Rattle.format.specs.Lists.{front}
-use Rattle.format.specs.Words.{notGap}
-use Rattle.values.specs.Value.{valueFrom}
+use Rattle.format.specs.Words.{not_gap}
+use Rattle.values.specs.Value.{value_from}
 use Rattle.lines.proofs.Over.{over-sets}
 use Rattle.values.proofs.Decoding.{ended, goes_on}
 use Rattle.values.proofs.Words.{word-ended, word_on}
@@ -22,7 +22,7 @@ use Rattle.values.proofs.value_byte.Reads as value-byte-reads
 use Rattle.words.proofs.is_gap.Reads as is-gap-reads
 
 abbrev invariant-loop : tie.invariant-loop
-invariant-loop s i out₀ at₀ n₀ out at n = (length out ≡ length out₀) × (n + length (front notGap (valueFrom (drop at s))) ≡ length (front notGap (valueFrom (drop i s)))) × (sets out n (front notGap (valueFrom (drop at s))) ≡ sets out₀ 0 (front notGap (valueFrom (drop i s))))
+invariant-loop s i out₀ at₀ n₀ out at n = (length out ≡ length out₀) × (n + length (front not_gap (value_from (drop at s))) ≡ length (front not_gap (value_from (drop i s)))) × (sets out n (front not_gap (value_from (drop at s))) ≡ sets out₀ 0 (front not_gap (value_from (drop i s))))
 
 abbrev decreases-loop : tie.decreases-loop
 decreases-loop s i out₀ at₀ n₀ out at n = length s - at
@@ -30,7 +30,7 @@ decreases-loop s i out₀ at₀ n₀ out at n = length s - at
 loop-holds : tie.Need-loop-init invariant-loop decreases-loop
 loop-holds c =
     let at-args = c.before.before.args in
-    (refl, zero-add (length (front notGap (valueFrom (drop at-args.i at-args.s.now)))), refl)
+    (refl, zero-add (length (front not_gap (value_from (drop at-args.i at-args.s.now)))), refl)
 
 value-byte-requires : tie.Need-value-byte-requires invariant-loop decreases-loop
 value-byte-requires c κs = search rules
@@ -51,7 +51,7 @@ returns c =
     let at-value-byte = c.before.before.value-byte in
     let at-enum-told = c.enum_told in
     let at_pre = c.before.before.before.before.before.before.requires in
-    let e = ap (front notGap) (ended at-args.s.now at-loop.at at-value-byte.result at-value-byte.ensures at-enum-told.given.1) in rw e at at-loop.invariant.2 ∙ over-sets (front notGap (valueFrom (drop at-args.i at-args.s.now))) at-args.out.now (at_pre)
+    let e = ap (front not_gap) (ended at-args.s.now at-loop.at at-value-byte.result at-value-byte.ensures at-enum-told.given.1) in rw e at at-loop.invariant.2 ∙ over-sets (front not_gap (value_from (drop at-args.i at-args.s.now))) at-args.out.now (at_pre)
 
 is-gap-requires : tie.Need-is-gap-requires invariant-loop decreases-loop
 is-gap-requires c κs = search rules
@@ -68,7 +68,7 @@ returns-2 c =
     let at-is-gap = c.before.is-gap in
     let at-if1 = c.if1 in
     let at_pre = c.before.before.before.before.before.before.before.before.before.requires in
-    let e = goes_on at-args.s.now at-loop.at at-value-byte.result at-value-byte.ensures at-d.given.1 in let f = word-ended (valueFrom (drop at-loop.at at-args.s.now)) (valueFrom (drop at-d.given.0.1.0 at-args.s.now)) at-d.given.0.0 e.0 (sym at-is-gap.ensures ∙ at-if1.true) in rw f at at-loop.invariant.2 ∙ over-sets (front notGap (valueFrom (drop at-args.i at-args.s.now))) at-args.out.now (at_pre)
+    let e = goes_on at-args.s.now at-loop.at at-value-byte.result at-value-byte.ensures at-d.given.1 in let f = word-ended (value_from (drop at-loop.at at-args.s.now)) (value_from (drop at-d.given.0.1.0 at-args.s.now)) at-d.given.0.0 e.0 (sym at-is-gap.ensures ∙ at-if1.true) in rw f at at-loop.invariant.2 ∙ over-sets (front not_gap (value_from (drop at-args.i at-args.s.now))) at-args.out.now (at_pre)
 
 slice-write-out : tie.Need-slice-write-out invariant-loop decreases-loop
 slice-write-out c =
@@ -78,7 +78,7 @@ slice-write-out c =
     let at-d = c.before.before.before.d in
     let at-is-gap = c.before.is-gap in
     let at-if1 = c.if1 in
-    let e = goes_on at-args.s.now at-loop.at at-value-byte.result at-value-byte.ensures at-d.given.1 in let f = word_on (valueFrom (drop at-loop.at at-args.s.now)) (valueFrom (drop at-d.given.0.1.0 at-args.s.now)) at-d.given.0.0 e.0 (sym at-is-gap.ensures ∙ at-if1.false) in omega (arith, ap length f)
+    let e = goes_on at-args.s.now at-loop.at at-value-byte.result at-value-byte.ensures at-d.given.1 in let f = word_on (value_from (drop at-loop.at at-args.s.now)) (value_from (drop at-d.given.0.1.0 at-args.s.now)) at-d.given.0.0 e.0 (sym at-is-gap.ensures ∙ at-if1.false) in omega (arith, ap length f)
 
 add-n : tie.Need-overflow-add-n invariant-loop decreases-loop
 add-n c =
@@ -88,7 +88,7 @@ add-n c =
     let at-d = c.before.before.before.d in
     let at-is-gap = c.before.is-gap in
     let at-if1 = c.if1 in
-    let e = goes_on at-args.s.now at-loop.at at-value-byte.result at-value-byte.ensures at-d.given.1 in let f = word_on (valueFrom (drop at-loop.at at-args.s.now)) (valueFrom (drop at-d.given.0.1.0 at-args.s.now)) at-d.given.0.0 e.0 (sym at-is-gap.ensures ∙ at-if1.false) in omega (arith, ap length f)
+    let e = goes_on at-args.s.now at-loop.at at-value-byte.result at-value-byte.ensures at-d.given.1 in let f = word_on (value_from (drop at-loop.at at-args.s.now)) (value_from (drop at-d.given.0.1.0 at-args.s.now)) at-d.given.0.0 e.0 (sym at-is-gap.ensures ∙ at-if1.false) in omega (arith, ap length f)
 
 loop-less : tie.Need-loop-smaller invariant-loop decreases-loop
 loop-less c =
@@ -106,7 +106,7 @@ loop-again c =
     let at-d = c.before.before.before.d in
     let at-is-gap = c.before.is-gap in
     let at-if1 = c.if1 in
-    let e = goes_on at-args.s.now at-loop.at at-value-byte.result at-value-byte.ensures at-d.given.1 in let f = word_on (valueFrom (drop at-loop.at at-args.s.now)) (valueFrom (drop at-d.given.0.1.0 at-args.s.now)) at-d.given.0.0 e.0 (sym at-is-gap.ensures ∙ at-if1.false) in (simp length-set at-loop.invariant.0, omega (arith, ap length f), rw add-one (rw f at at-loop.invariant.2))
+    let e = goes_on at-args.s.now at-loop.at at-value-byte.result at-value-byte.ensures at-d.given.1 in let f = word_on (value_from (drop at-loop.at at-args.s.now)) (value_from (drop at-d.given.0.1.0 at-args.s.now)) at-d.given.0.0 e.0 (sym at-is-gap.ensures ∙ at-if1.false) in (simp length-set at-loop.invariant.0, omega (arith, ap length f), rw add-one (rw f at at-loop.invariant.2))
 
 pub copy-word-spec : {M : Type 1} → statement M
 copy-word-spec =

@@ -7,8 +7,8 @@ use mathlib.Core.Path.{◌≡◌, refl, sym, ap, ◌∙◌}
 use lib.ListN.{length, drop}
 use Rattle.format.specs.Lists.{front}
 use Rattle.format.specs.Bytes.{same}
-use Rattle.format.specs.Words.{notGap}
-use Rattle.values.specs.Value.{valueFrom}
+use Rattle.format.specs.Words.{not_gap}
+use Rattle.values.specs.Value.{value_from}
 use Rattle.values.proofs.Decoding.{ended, goes_on}
 use Rattle.values.proofs.Words.{word-ended, word_on, same_ended, same_over, same-other, same_byte}
 use Rattle.values.proofs.starts.word_here.Statement.{statement}
@@ -19,7 +19,7 @@ use Rattle.values.proofs.value_byte.Reads as value-byte-reads
 use Rattle.words.proofs.is_gap.Reads as is-gap-reads
 
 abbrev invariant-loop : tie.invariant-loop
-invariant-loop s i word at₀ n₀ at n = (n ≤ length word) × (same (drop n word) (front notGap (valueFrom (drop at s))) ≡ same word (front notGap (valueFrom (drop i s))))
+invariant-loop s i word at₀ n₀ at n = (n ≤ length word) × (same (drop n word) (front not_gap (value_from (drop at s))) ≡ same word (front not_gap (value_from (drop i s))))
 
 abbrev decreases-loop : tie.decreases-loop
 decreases-loop s i word at₀ n₀ at n = length s - at
@@ -43,7 +43,7 @@ returns c =
     let at-value-byte = c.before.before.value-byte in
     let at-enum-told = c.enum_told in
     let e = ended at-args.s.now at-loop.at at-value-byte.result at-value-byte.ensures at-enum-told.given.1 in
-    sym (same_ended at-args.word.now at-loop.n (front notGap (valueFrom (drop at-loop.at at-args.s.now))) at-loop.invariant.0 (ap (front notGap) e)) ∙ at-loop.invariant.1
+    sym (same_ended at-args.word.now at-loop.n (front not_gap (value_from (drop at-loop.at at-args.s.now))) at-loop.invariant.0 (ap (front not_gap) e)) ∙ at-loop.invariant.1
 
 is-gap-requires : tie.Need-is-gap-requires invariant-loop decreases-loop
 is-gap-requires c κs = search rules
@@ -57,8 +57,8 @@ returns-2 c =
     let at-is-gap = c.before.is-gap in
     let at-if1 = c.if1 in
     let e = goes_on at-args.s.now at-loop.at at-value-byte.result at-value-byte.ensures at-d.given.1 in
-    let f = word-ended (valueFrom (drop at-loop.at at-args.s.now)) (valueFrom (drop at-d.given.0.1.0 at-args.s.now)) at-d.given.0.0 e.0 (sym at-is-gap.ensures ∙ at-if1.true) in
-    sym (same_ended at-args.word.now at-loop.n (front notGap (valueFrom (drop at-loop.at at-args.s.now))) at-loop.invariant.0 f) ∙ at-loop.invariant.1
+    let f = word-ended (value_from (drop at-loop.at at-args.s.now)) (value_from (drop at-d.given.0.1.0 at-args.s.now)) at-d.given.0.0 e.0 (sym at-is-gap.ensures ∙ at-if1.true) in
+    sym (same_ended at-args.word.now at-loop.n (front not_gap (value_from (drop at-loop.at at-args.s.now))) at-loop.invariant.0 f) ∙ at-loop.invariant.1
 
 returns-3 : tie.Need-returns-3 invariant-loop decreases-loop
 returns-3 c =
@@ -70,8 +70,8 @@ returns-3 c =
     let at-if1 = c.before.if1 in
     let at-if2 = c.if2 in
     let e = goes_on at-args.s.now at-loop.at at-value-byte.result at-value-byte.ensures at-d.given.1 in
-    let f = word_on (valueFrom (drop at-loop.at at-args.s.now)) (valueFrom (drop at-d.given.0.1.0 at-args.s.now)) at-d.given.0.0 e.0 (sym at-is-gap.ensures ∙ at-if1.false) in
-    sym (same_over at-args.word.now at-loop.n (front notGap (valueFrom (drop at-loop.at at-args.s.now))) at-d.given.0.0 (front notGap (valueFrom (drop at-d.given.0.1.0 at-args.s.now))) at-if2.true f) ∙ at-loop.invariant.1
+    let f = word_on (value_from (drop at-loop.at at-args.s.now)) (value_from (drop at-d.given.0.1.0 at-args.s.now)) at-d.given.0.0 e.0 (sym at-is-gap.ensures ∙ at-if1.false) in
+    sym (same_over at-args.word.now at-loop.n (front not_gap (value_from (drop at-loop.at at-args.s.now))) at-d.given.0.0 (front not_gap (value_from (drop at-d.given.0.1.0 at-args.s.now))) at-if2.true f) ∙ at-loop.invariant.1
 
 shared-slice-read-if3 : tie.Need-shared-slice-read-if3 invariant-loop decreases-loop
 shared-slice-read-if3 c =
@@ -90,8 +90,8 @@ returns-4 c =
     let at-if2 = c.before.before.if2 in
     let at-if3 = c.if3 in
     let e = goes_on at-args.s.now at-loop.at at-value-byte.result at-value-byte.ensures at-d.given.1 in
-    let f = word_on (valueFrom (drop at-loop.at at-args.s.now)) (valueFrom (drop at-d.given.0.1.0 at-args.s.now)) at-d.given.0.0 e.0 (sym at-is-gap.ensures ∙ at-if1.false) in
-    sym (same-other at-args.word.now at-loop.n (front notGap (valueFrom (drop at-loop.at at-args.s.now))) at-d.given.0.0 (front notGap (valueFrom (drop at-d.given.0.1.0 at-args.s.now))) (omega (arith, at-loop.invariant.0, at-if2.false)) f at-if3.true) ∙ at-loop.invariant.1
+    let f = word_on (value_from (drop at-loop.at at-args.s.now)) (value_from (drop at-d.given.0.1.0 at-args.s.now)) at-d.given.0.0 e.0 (sym at-is-gap.ensures ∙ at-if1.false) in
+    sym (same-other at-args.word.now at-loop.n (front not_gap (value_from (drop at-loop.at at-args.s.now))) at-d.given.0.0 (front not_gap (value_from (drop at-d.given.0.1.0 at-args.s.now))) (omega (arith, at-loop.invariant.0, at-if2.false)) f at-if3.true) ∙ at-loop.invariant.1
 
 add-n : tie.Need-overflow-add-n invariant-loop decreases-loop
 add-n c =
@@ -119,8 +119,8 @@ loop-again c =
     let at-if2 = c.before.before.if2 in
     let at-if3 = c.if3 in
     let e = goes_on at-args.s.now at-loop.at at-value-byte.result at-value-byte.ensures at-d.given.1 in
-    let f = word_on (valueFrom (drop at-loop.at at-args.s.now)) (valueFrom (drop at-d.given.0.1.0 at-args.s.now)) at-d.given.0.0 e.0 (sym at-is-gap.ensures ∙ at-if1.false) in
-    (omega (arith, at-loop.invariant.0, at-if2.false), sym (same_byte at-args.word.now at-loop.n (front notGap (valueFrom (drop at-loop.at at-args.s.now))) at-d.given.0.0 (front notGap (valueFrom (drop at-d.given.0.1.0 at-args.s.now))) (omega (arith, at-loop.invariant.0, at-if2.false)) f at-if3.false) ∙ at-loop.invariant.1)
+    let f = word_on (value_from (drop at-loop.at at-args.s.now)) (value_from (drop at-d.given.0.1.0 at-args.s.now)) at-d.given.0.0 e.0 (sym at-is-gap.ensures ∙ at-if1.false) in
+    (omega (arith, at-loop.invariant.0, at-if2.false), sym (same_byte at-args.word.now at-loop.n (front not_gap (value_from (drop at-loop.at at-args.s.now))) at-d.given.0.0 (front not_gap (value_from (drop at-d.given.0.1.0 at-args.s.now))) (omega (arith, at-loop.invariant.0, at-if2.false)) f at-if3.false) ∙ at-loop.invariant.1)
 
 pub word-here-spec : {M : Type 1} → statement M
 word-here-spec =

@@ -2,7 +2,7 @@
 use mathlib.Core.Path.{ap, ◌∙◌}
 use Rattle.format.specs.Lists.{front}
 use Rattle.format.specs.Bytes.{same}
-use Rattle.format.specs.Words.{notGap}
+use Rattle.format.specs.Words.{not_gap}
 use borrow.Author.Rules.{rules}
 use Rattle.values.proofs.starts.word_is.Statement.{statement}
 use Rattle.values.proofs.starts.word_is.Tie as tie
@@ -22,7 +22,7 @@ returns c =
     let at-word-here = c.word-here in
     let at-args = c.before.before.before.before.args in
     let at-pass = c.before.pass in
-    at-word-here.ensures ∙ ap (λ v. same at-args.word.now (front notGap v)) at-pass.ensures.0
+    at-word-here.ensures ∙ ap (λ v. same at-args.word.now (front not_gap v)) at-pass.ensures.0
 
 pub word-is-spec : {M : Type 1} → statement M
 word-is-spec = tie.close (tie.spec pass-requires word-here-requires returns)

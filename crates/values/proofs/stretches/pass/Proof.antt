@@ -5,7 +5,7 @@ use native.Mathlib.Omega.{arith}
 use mathlib.Core.Path.{◌≡◌, refl, sym, ap, ◌∙◌}
 use lib.ListN.{length, drop}
 use Rattle.format.specs.Lists.{behind}
-use Rattle.values.specs.Value.{valueFrom}
+use Rattle.values.specs.Value.{value_from}
 use Rattle.values.proofs.Decoding.{ended, goes_on}
 use Rattle.values.proofs.Words.{byte-passed, byte_left}
 use Rattle.values.specs.Stretches.{passes}
@@ -17,7 +17,7 @@ use Rattle.values.proofs.value_byte.Reads as value-byte-reads
 use Rattle.values.proofs.stretches.passes_byte.Reads as passes-byte-reads
 
 abbrev invariant-loop : tie.invariant-loop
-invariant-loop s i stretch at₀ at = (i ≤ at) × (at ≤ length s) × (behind (passes stretch) (valueFrom (drop at s)) ≡ behind (passes stretch) (valueFrom (drop i s)))
+invariant-loop s i stretch at₀ at = (i ≤ at) × (at ≤ length s) × (behind (passes stretch) (value_from (drop at s)) ≡ behind (passes stretch) (value_from (drop i s)))
 
 abbrev decreases-loop : tie.decreases-loop
 decreases-loop s i stretch at₀ at = length s - at
@@ -66,7 +66,7 @@ loop-again c =
     let at-passes-byte = c.before.passes-byte in
     let at-if1 = c.if1 in
     let e = goes_on at-args.s.now at-loop.at at-value-byte.result at-value-byte.ensures at-d.given.1 in
-    (omega (arith, at-loop.invariant.0, e.1), e.2, sym (byte-passed (passes at-args.stretch) (valueFrom (drop at-loop.at at-args.s.now)) (valueFrom (drop at-d.given.0.1.0 at-args.s.now)) at-d.given.0.0 e.0 (sym at-passes-byte.ensures ∙ at-if1.true)) ∙ at-loop.invariant.2)
+    (omega (arith, at-loop.invariant.0, e.1), e.2, sym (byte-passed (passes at-args.stretch) (value_from (drop at-loop.at at-args.s.now)) (value_from (drop at-d.given.0.1.0 at-args.s.now)) at-d.given.0.0 e.0 (sym at-passes-byte.ensures ∙ at-if1.true)) ∙ at-loop.invariant.2)
 
 returns-2 : tie.Need-returns-2 invariant-loop decreases-loop
 returns-2 c =
@@ -77,7 +77,7 @@ returns-2 c =
     let at-passes-byte = c.before.passes-byte in
     let at-if1 = c.if1 in
     let e = goes_on at-args.s.now at-loop.at at-value-byte.result at-value-byte.ensures at-d.given.1 in
-    (sym (byte_left (passes at-args.stretch) (valueFrom (drop at-loop.at at-args.s.now)) (valueFrom (drop at-d.given.0.1.0 at-args.s.now)) at-d.given.0.0 e.0 (sym at-passes-byte.ensures ∙ at-if1.false)) ∙ at-loop.invariant.2, at-loop.invariant.0, at-loop.invariant.1)
+    (sym (byte_left (passes at-args.stretch) (value_from (drop at-loop.at at-args.s.now)) (value_from (drop at-d.given.0.1.0 at-args.s.now)) at-d.given.0.0 e.0 (sym at-passes-byte.ensures ∙ at-if1.false)) ∙ at-loop.invariant.2, at-loop.invariant.0, at-loop.invariant.1)
 
 pub pass_spec : {M : Type 1} → statement M
 pass_spec =
