@@ -1,5 +1,7 @@
 // The kinds of a descriptor's `%type` fields, in a table, and a value held against all of them that name its field.
 // A `%type` field is a row: its kind is that at the end of its type, which stands in its own value or in that of a typedef.
+#![tactic(auto)]
+
 ghost use Rattle.std.specs.Prelude.{◌≡◌, true, [], ◌-◌, ◌<◌, ◌≤◌, length};
 ghost use Rattle.std.proofs.Math.Option.{some};
 ghost use Rattle.format.specs.Bytes.{Bytes, is_some};

@@ -1,4 +1,6 @@
 // Descriptors: question 6 of a file, and the size rule of question 14.
+#![tactic(auto)]
+
 mod shapes;
 mod sizes;
 

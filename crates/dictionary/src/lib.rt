@@ -1,5 +1,7 @@
 // The dictionary of a descriptor: what a name is to its set. The words of its lists and the names of its `%type` fields stand in one table, so that a name is
 // looked up once: the answer is a set of tags, one for each list, and one for each `%type` field, its number.
+#![tactic(auto)]
+
 ghost use Rattle.std.specs.Prelude.{◌≡◌, true, [], map, ◌+◌, ◌<◌, ◌≤◌, length, drop};
 ghost use Rattle.format.specs.Bytes.{text, all};
 ghost use Rattle.format.specs.Limits.{file_bytes};

@@ -1,4 +1,6 @@
 // The directory of sets: a lent list of entries, one a set, that is filled from a file, kept right by an edit, and read at a position without the file.
+#![tactic(auto)]
+
 ghost use Rattle.core.specs.Prelude.{◌≡◌, length};
 ghost use Rattle.format.specs.Calls.{answered};
 ghost use Rattle.format.specs.Directory.{fill_answer, kept_answer, count_at_answer};

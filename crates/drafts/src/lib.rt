@@ -1,4 +1,6 @@
 // What a draft of a record still lacks (document 02, order 8): how many of its set's mandatory names, and the key, neither the draft nor an `%auto` list names.
+#![tactic(auto)]
+
 ghost use Rattle.std.specs.Prelude.{true, not, List, [], ◌≡◌, ◌≤◌, length};
 ghost use Rattle.format.specs.Bytes.{Bytes, among, is_some};
 ghost use Rattle.format.specs.Limits.{file_bytes, value_bytes};

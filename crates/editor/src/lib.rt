@@ -1,4 +1,6 @@
 // Edits of a file in a lent buffer: one request, and a run of them.
+#![tactic(auto)]
+
 ghost use Rattle.std.specs.Prelude.{◌≡◌, true, ◌≤◌, length, take};
 ghost use Rattle.format.specs.Limits.{file_bytes};
 ghost use Rattle.format.specs.Requests.{requests_in};

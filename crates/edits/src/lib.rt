@@ -1,4 +1,6 @@
 // Where an edit acts in a text, whether what it makes fits, and the edit carried out.
+#![tactic(auto)]
+
 ghost use Rattle.std.specs.Prelude.{◌≡◌, ◌≤◌, length, take};
 ghost use Rattle.format.specs.Calls.{placed};
 ghost use Rattle.edits.specs.Splices.{made_by, Sound};

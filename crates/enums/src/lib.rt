@@ -1,6 +1,8 @@
 // The symbols of a descriptor's `enum` types in one table: of which of them is a value a symbol? One search answers for all `%type` fields that name a field.
 // A `%type` field is a row. Its text is the value that holds the kind at the end of its type, its own or a typedef's, and is known by the place where it
 // begins; the end of any file stands there for a row whose kind is no `enum`. Rows with one text share its symbols, under the number of the first of them.
+#![tactic(auto)]
+
 ghost use Rattle.std.specs.Prelude.{◌≡◌, true, [], map, ◌+◌, ◌<◌, ◌≤◌, length, drop};
 ghost use Rattle.format.specs.Bytes.{is_some};
 ghost use Rattle.format.specs.Limits.{file_bytes, type_fields};

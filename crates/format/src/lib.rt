@@ -1,4 +1,6 @@
 // What every crate shares: byte classes and their table, the limits, what a call answers and the numbers of refusals. The definitions of the format stand in specs/, the laws about them in proofs/.
+#![tactic(auto)]
+
 ghost use Rattle.std.specs.Prelude.{◌≡◌, ◌&&◌, leb};
 ghost use Rattle.format.specs.Bytes.{class_of, class_table};
 ghost use Rattle.format.specs.Lines.{is_first, is_later};

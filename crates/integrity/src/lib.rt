@@ -1,4 +1,6 @@
 // The questions of a file, in order: 1 to 14 and 30.
+#![tactic(auto)]
+
 ghost use Rattle.std.specs.Prelude.{◌≡◌, true, ◌&&◌, ◌≤◌, ltb, length, take, get_or};
 ghost use Rattle.format.specs.Pieces.{read_of};
 ghost use Rattle.format.proofs.Records.{records};

@@ -1,5 +1,7 @@
 // A text without its bare joints, lines that are a backslash alone. They add nothing to a value, but words are compared where they stand, and each
 // comparison would pass them again.
+#![tactic(auto)]
+
 ghost use Rattle.std.specs.Prelude.{◌≡◌, true, ◌+◌, ◌-◌, ◌≤◌, ◌<◌, length, take, drop};
 ghost use Rattle.std.proofs.Math.Seq.{paste};
 ghost use Rattle.format.specs.Bytes.{pick};

@@ -1,5 +1,7 @@
 // Question 13: are the keys of a set distinct? The values of the fields that its key names are gathered as entries, the entries are sorted and neighbours compared, so no file takes
 // quadratic time. An entry has the place of its value and a number above it: of a key, a fingerprint of the value. Entries with any numbers are told apart here (`distinct_marks`).
+#![tactic(auto)]
+
 ghost use Rattle.std.specs.Prelude.{◌≡◌, true, ◌%◌, ◌<◌, ◌≤◌, length, take, drop};
 ghost use Rattle.format.specs.Bytes.{same, among};
 ghost use Rattle.format.specs.Limits.{file_bytes};

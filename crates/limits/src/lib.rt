@@ -1,4 +1,6 @@
 // Questions 3, 4 and 5 of a file: has every line a form, are the limits held, and does a record with a `%` name have `%rec`, once?
+#![tactic(auto)]
+
 ghost use Rattle.std.specs.Prelude.{◌≡◌, true, ◌&&◌, ◌+◌, ◌*◌, ◌≤◌, leb, eqb, length};
 ghost use Rattle.format.specs.Pieces.{read_of};
 ghost use Rattle.format.proofs.Records.{records};

@@ -1,4 +1,6 @@
 // Reading lines: each reader is given the part of the file that starts at the byte reached.
+#![tactic(auto)]
+
 ghost use Rattle.std.specs.Prelude.{◌≡◌, true, false, ◌+◌, ◌-◌, ◌<◌, ◌≤◌, length, drop, get_or};
 ghost use Rattle.format.specs.Bytes.{class_table, same, pick, is_blank, all};
 ghost use Rattle.format.specs.Lines.{lines, is_ended, is_special};

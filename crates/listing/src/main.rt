@@ -1,4 +1,6 @@
 // Checks the recfile on standard input and, where it passes, lists its sets in file order, each with its number of records.
+#![tactic(auto)]
+
 ghost use Rattle.std.specs.Prelude.{◌≡◌, true};
 ghost use Rattle.records.specs.Places.{is_readable};
 

@@ -1,4 +1,6 @@
 // The calls count, fetch, view and the sets' names, of any buffer: the file's own questions come first.
+#![tactic(auto)]
+
 ghost use Rattle.std.specs.Prelude.{◌≡◌, take};
 ghost use Rattle.format.specs.Calls.{number_in, count_answer, fetch_answer, name_answer, view_answer, answered};
 ghost use Rattle.lookup.specs.Answers.{seen_answer, SeenInside};

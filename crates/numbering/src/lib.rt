@@ -1,4 +1,6 @@
 // The names of `%auto` lists: are they of types that can be numbered (question 7), and which fields does an insert get for those that it omits?
+#![tactic(auto)]
+
 ghost use Rattle.std.specs.Prelude.{◌≡◌, true, ◌≤◌, length};
 ghost use Rattle.format.specs.Bytes.{all, is_some};
 ghost use Rattle.format.specs.Limits.{file_bytes, value_bytes};

@@ -1,4 +1,6 @@
 // Ints and reals, over decoded text.
+#![tactic(auto)]
+
 ghost use Rattle.std.specs.Prelude.{◌≡◌, true, false, ◌<◌, ◌≤◌, drop};
 ghost use Rattle.format.specs.Bytes.{within, is_some};
 ghost use Rattle.format.specs.Numbers.{int_bounds, digit, are_digits, natural, unsigned, int_of, is_at_most, number_of, decimal_in, is_real};

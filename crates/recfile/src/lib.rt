@@ -1,4 +1,6 @@
 // The calls for C: slices are a pointer and a length, a refusal's number goes through a pointer (0: accepted). include/recfile.h says the same in C.
+#![tactic(auto)]
+
 ghost use Rattle.std.specs.Prelude.{◌≡◌, length};
 ghost use Rattle.format.specs.Requests.{tag as tag_of};
 ghost use Rattle.format.specs.Calls.{answered, number_in, value_or, check_answer, count_answer, fetch_answer, view_answer, write_answer, edit_answer, name_answer, field_answer};

@@ -1,4 +1,6 @@
 // Records: the next one of a part of the file, its next field, and the search for a set, a record and an occurrence.
+#![tactic(auto)]
+
 ghost use Rattle.std.specs.Prelude.{◌≡◌, true, ◌≤◌, length, drop};
 ghost use Rattle.format.specs.Pieces.{read_of};
 ghost use Rattle.format.specs.Bytes.{text, same};

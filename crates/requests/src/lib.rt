@@ -1,4 +1,6 @@
 // Requests: tagged fields read from a slice, the six kinds of an edit, and the text of an inserted record.
+#![tactic(auto)]
+
 ghost use Rattle.std.specs.Prelude.{◌≡◌, true, ◌≤◌, length};
 ghost use Rattle.format.specs.Bytes.{is_some};
 ghost use Rattle.format.specs.Limits.{file_bytes};

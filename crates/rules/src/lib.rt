@@ -1,4 +1,6 @@
 // Questions 8 to 14 and 30 of one set. Its descriptor is read into tables; then its records are walked.
+#![tactic(auto)]
+
 ghost use Rattle.std.specs.Prelude.{◌≡◌, true, not, ◌≤◌, eqb, length};
 ghost use Rattle.format.specs.Bytes.{all};
 ghost use Rattle.format.specs.Limits.{file_bytes, value_bytes};

@@ -1,6 +1,8 @@
 // The records of a set that an expression finds (document 02, order 11): the call `find`. The
 // expression is read once into a program; a set's records are then walked, and which of the
 // program's comparisons hold for a record is a set in one number.
+#![tactic(auto)]
+
 ghost use Rattle.std.specs.Prelude.{◌≡◌, true, ◌≤◌, length};
 ghost use Rattle.format.specs.Limits.{file_bytes};
 ghost use Rattle.format.specs.Pieces.{read_of};

@@ -1,4 +1,6 @@
 // Question 30: has no singular name of a set the same value twice? The fields of these names are gathered as entries in one walk over the records, and the entries are told apart as those of keys are.
+#![tactic(auto)]
+
 ghost use Rattle.std.specs.Prelude.{◌≡◌, true, ◌<◌, ◌≤◌, length, drop};
 ghost use Rattle.format.specs.Bytes.{all};
 ghost use Rattle.format.specs.Limits.{file_bytes, list_words};

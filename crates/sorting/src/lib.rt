@@ -1,5 +1,7 @@
 // Entries of texts, sorted in place. A text stands at a place of a file: a value from there to its end, or the word that it begins with. An entry is a
 // number whose lower 16 bits are the place of its text. Nothing is promised of the order that the sort makes: whoever needs it looks whether the entries rise.
+#![tactic(auto)]
+
 ghost use Rattle.std.specs.Prelude.{◌≡◌, true, not, [], ◌∷◌, ◌<◌, ◌≤◌, ◌%◌, length};
 ghost use Rattle.sorting.specs.Texts.{keeps, text_at, TextByte, mixed};
 ghost use Rattle.sorting.specs.Order.{compared_of, first_of, order_of};

@@ -1,4 +1,6 @@
 // One change of a text that stands at the front of a lent buffer: a part of it makes room for another, and what lies behind moves.
+#![tactic(auto)]
+
 ghost use Rattle.std.specs.Prelude.{◌≡◌, [], ◌+◌, ◌-◌, ◌≤◌, length, take};
 ghost use Rattle.format.specs.Limits.{file_bytes};
 ghost use Rattle.format.specs.Written.{written};

@@ -1,5 +1,7 @@
 // Words of a file, each with a tag that says what it is listed for, in a table: which tags has a given word? The entries are sorted, so that halving answers.
 // What is proved does not depend on the sort: a table that was not found to rise is searched from end to end.
+#![tactic(auto)]
+
 ghost use Rattle.std.specs.Prelude.{◌≡◌, true, ◌+◌, ◌<◌, ◌≤◌, ◌^◌, length, get_or, take};
 ghost use Rattle.format.specs.Bytes.{same};
 ghost use Rattle.format.specs.Limits.{file_bytes};

@@ -1,4 +1,6 @@
 // Prints each record of the recfile on standard input, descriptors included: its names and decoded values, and a blank line behind it.
+#![tactic(auto)]
+
 ghost use Rattle.std.specs.Prelude.{◌≡◌, true};
 ghost use Rattle.records.specs.Places.{is_readable};
 

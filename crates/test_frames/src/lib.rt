@@ -1,5 +1,7 @@
 // Test input: frames on standard input, each a size of four bytes, high byte first, and that many bytes. Long texts stand in a frame as runs:
 // how often (two bytes), the size of a text (two bytes), the text.
+#![tactic(auto)]
+
 ghost use Rattle.std.specs.Prelude.{◌<◌, ◌≤◌};
 ghost use Rattle.io.specs.Counts.{IsPrefixLen};
 

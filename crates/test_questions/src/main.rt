@@ -1,5 +1,7 @@
 // Checks each file of its input and prints the number, or, of the files that GNU recfix judged too, whether it passes.
 // A frame is 0 or 1 for that, the buffer's length and the used length, four bytes each, and the file's runs.
+#![tactic(auto)]
+
 fn main() {
     let mut left: usize = 4096;
     while 0 < left {

@@ -7,6 +7,8 @@
 // Of a find the expression stands for the name, the length of its list at 1 and what each entry of that is before at 3.
 // Each call prints its number, a length or count, and the checksum of the buffer that it may write, or of the part that it shows, a total its two sums in place of
 // that; a run of requests also its list of answers, on a line, and a find its list in place of the checksum.
+#![tactic(auto)]
+
 ghost use Rattle.std.specs.Prelude.{◌<◌, nat_abs};
 ghost use Rattle.io.specs.Counts.{IsPrefixLen};
 

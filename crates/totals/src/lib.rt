@@ -1,4 +1,6 @@
 // Totals of a field: the values of one name in a set's records, added exactly.
+#![tactic(auto)]
+
 ghost use Rattle.std.specs.Prelude.{◌≡◌, true, ◌≤◌, ◌<◌, nat_abs, length};
 ghost use Rattle.format.specs.Limits.{file_bytes};
 ghost use Rattle.records.specs.Places.{is_readable};

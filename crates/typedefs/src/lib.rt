@@ -1,4 +1,6 @@
 // Typedefs of a descriptor and question 7: the typedef that each type names, the end of a chain of names, and are all well formed?
+#![tactic(auto)]
+
 ghost use Rattle.std.specs.Prelude.{◌≡◌, true, not, [], ◌+◌, ◌-◌, ◌≤◌, ◌<◌, length, drop, get_or};
 ghost use Rattle.format.specs.Pieces.{read_of};
 ghost use Rattle.format.specs.Records.{fields_of};

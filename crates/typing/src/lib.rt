@@ -1,4 +1,6 @@
 // Types, over decoded text: reading a type, and whether a value meets it.
+#![tactic(auto)]
+
 use numbers::Whole;
 
 mod kinds;

@@ -2,6 +2,8 @@
 // given text, the word that it begins with, the words that it lists, the stretches that are passed
 // over, the int that it is, and how two values compare. Only `copy_value` and `copy_word` decode it
 // to anywhere. It begins where the lent part does, or is looked at from a place of that part on.
+#![tactic(auto)]
+
 ghost use Rattle.std.specs.Prelude.{◌≡◌, ◌+◌, ◌-◌, ◌<◌, ◌≤◌, length, get_or};
 ghost use Rattle.format.specs.Bytes.{same};
 ghost use Rattle.format.specs.Calls.{over};

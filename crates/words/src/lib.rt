@@ -1,4 +1,6 @@
 // Words, names and trimming, over decoded text.
+#![tactic(auto)]
+
 ghost use Rattle.std.specs.Prelude.{◌≡◌, true, false, ◌≤◌, length};
 ghost use Rattle.format.specs.Bytes.{class_table, all};
 ghost use Rattle.format.specs.Lines.{is_later, is_name};
