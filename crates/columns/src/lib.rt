@@ -30,13 +30,13 @@ use typing::{Shape, TypeOf};
 mod readings;
 
 // The kind of a `%type` field.
-#[derive(Drop)]
+#[derive(Clone, Copy)]
 pub struct Row {
     pub kind: Shape,
 }
 
 // The kinds of a descriptor, one row for each `%type` field, and where the text of a row stands if it is an `enum`, the end of any file otherwise.
-#[derive(Drop)]
+#[derive(Clone, Copy)]
 pub struct Kinds {
     pub rows: [Row; Descriptor::TYPES],
     pub texts: [usize; Descriptor::TYPES],
@@ -140,7 +140,7 @@ fn is_symbol(texts: &[usize], from: usize, row: usize, found: u64) -> bool
 }
 
 // What a value is held against: the kinds of a descriptor, and the symbols of those from one row on.
-#[derive(Drop)]
+#[derive(Clone, Copy)]
 pub struct Typed {
     pub kinds: Kinds,
     pub symbols: Symbols,

@@ -99,7 +99,7 @@ fn all_names(s: &[u8], special: bool) -> bool
 }
 
 // What the value of a field has to be. Ordinary names do not begin with `%`.
-#[derive(Drop)]
+#[derive(Clone, Copy)]
 pub enum Content {
     Free,
     TypeName,

@@ -194,7 +194,7 @@ fn add_types(d: &[u8], from: usize, entries: &mut [u32], n: usize) -> Added
 }
 
 // The table of a dictionary, the first `%type` field that it has, and the first behind those.
-#[derive(Drop)]
+#[derive(Clone, Copy)]
 pub struct Dictionary {
     pub table: Table,
     pub from: usize,

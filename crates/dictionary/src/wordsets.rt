@@ -66,7 +66,7 @@ fn add_list(d: &[u8], name: &[u8], entries: &mut [u32]) -> usize
 }
 
 // A table of words, and how many the list has.
-#[derive(Drop)]
+#[derive(Clone, Copy)]
 pub struct Words {
     pub table: Table,
     pub count: usize,
@@ -121,7 +121,7 @@ pub fn place_in(d: &[u8], entries: &[u32], sets: &[u64], w: Words, name: &[u8]) 
 }
 
 // A list in arrays of its own.
-#[derive(Drop)]
+#[derive(Clone, Copy)]
 pub struct Listed {
     pub entries: [u32; Descriptor::WORDS],
     pub sets: [u64; Descriptor::WORDS],

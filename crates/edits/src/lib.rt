@@ -18,7 +18,7 @@ pub use places::locate;
 pub use room::fits;
 
 // What an edit does to a text: bytes at a place become others. Spans are the request's.
-#[derive(Drop)]
+#[derive(Clone, Copy)]
 pub enum Splice {
     // A record is put in where its set ends. The text of its first fields, which the request omits, is the first `own` bytes of the added text.
     Record {

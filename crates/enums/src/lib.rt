@@ -127,7 +127,7 @@ fn add_rows(d: &[u8], texts: &[usize], from: usize, to: usize, entries: &mut [u3
 }
 
 // The table of the symbols of the rows from one on, and the first row behind those that it has.
-#[derive(Drop)]
+#[derive(Clone, Copy)]
 pub struct Symbols {
     pub table: Table,
     pub from: usize,

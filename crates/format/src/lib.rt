@@ -88,7 +88,7 @@ pub fn is_later(table: &[u8; 256], b: u8) -> bool
 }
 
 // What a call answers: a number, or that of its refusal.
-#[derive(Drop)]
+#[derive(Clone, Copy)]
 pub enum Answer {
     Value(usize),
     Refused(u32),

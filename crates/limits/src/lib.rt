@@ -35,7 +35,7 @@ fn value_bound(s: &[u8]) -> usize
 }
 
 // A record that goes on: how many fields it has so far, whether one of them has a `%` name, how many are `%rec`, where the first begins and where the last ends.
-#[derive(Drop)]
+#[derive(Clone, Copy)]
 struct Open {
     fields: usize,
     special: bool,

@@ -33,7 +33,7 @@ impl Limit {
 }
 
 // The ends of a range.
-#[derive(Drop)]
+#[derive(Clone, Copy)]
 struct Range {
     low: Whole,
     high: Whole,
@@ -239,7 +239,7 @@ fn raise_all(d: &[u8], l: Listed, s: &[u8], scratch: &mut [u8], floors: &mut [u6
 }
 
 // The floors and the limits of the names, each at its place in the lists.
-#[derive(Drop)]
+#[derive(Clone, Copy)]
 pub(crate) struct Bounds {
     pub floors: [u64; Descriptor::WORDS],
     pub limits: [u64; Descriptor::WORDS],

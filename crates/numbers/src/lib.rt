@@ -7,7 +7,7 @@ ghost use Rattle.format.specs.Numbers.{int_bounds, digit, are_digits, natural, u
 ghost use Rattle.numbers.specs.Meaning.{int_in, int_answer, natural_answer, bounds_in, up_to_limit};
 
 // An int: below zero, or not.
-#[derive(Drop)]
+#[derive(Clone, Copy)]
 pub enum Whole {
     Minus(u64),
     Plus(u64),
@@ -27,7 +27,7 @@ impl Ends {
     pub const GREATEST: u64 = 9223372036854775807;
 }
 
-#[derive(Drop)]
+#[derive(Clone, Copy)]
 pub enum IntOf {
     Value(Whole),
     NotInt,

@@ -229,7 +229,7 @@ pub fn next_members(s: &[u8]) -> MemberRun
 
 // Where a set stands in a part: its descriptor's first field's first byte and the byte behind its last field; the byte where its records begin, behind the descriptor's block,
 // and the byte behind the last one's block; and how many records there are.
-#[derive(Drop)]
+#[derive(Clone, Copy)]
 pub struct RecordSet {
     pub start: usize,
     pub end: usize,

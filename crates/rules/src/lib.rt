@@ -33,7 +33,7 @@ pub mod tables;
 pub mod tallies;
 
 // What is read of a descriptor once: the kinds of its types, whether only allowed names may occur, and whether there is a key.
-#[derive(Drop)]
+#[derive(Clone, Copy)]
 struct Book {
     kinds: Kinds,
     limited: bool,

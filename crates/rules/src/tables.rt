@@ -13,7 +13,7 @@ use dictionary::{Dictionary, Tag, wordsets};
 use format::Descriptor;
 
 // The tables of a descriptor: its mandatory words, its unique words, and the dictionary from one of its `%type` fields on.
-#[derive(Drop)]
+#[derive(Clone, Copy)]
 pub struct Tables {
     pub mandatory: Words,
     pub unique: Words,
@@ -70,7 +70,7 @@ fn places(d: &[u8], entries: &[u32], sets: &[u64], r: Words, listed: bool, name:
 }
 
 // What is known of a name: its tags, and its places among the mandatory and the unique words.
-#[derive(Drop)]
+#[derive(Clone, Copy)]
 pub struct Seen {
     pub known: u64,
     pub mandatory: u64,
@@ -108,7 +108,7 @@ pub fn look_up(d: &[u8], entries: &[u32], sets: &[u64], t: Tables, name: &[u8]) 
 }
 
 // What is known of the name that stands from one place to another.
-#[derive(Drop)]
+#[derive(Clone, Copy)]
 pub struct SeenName {
     pub at: usize,
     pub end: usize,

@@ -9,7 +9,7 @@ ghost use Rattle.selection.specs.Tokens.{sign_in, front_in, operator_bytes, symb
 
 use numbers::{IntOf, Whole};
 
-#[derive(Drop)]
+#[derive(Clone, Copy)]
 pub(crate) enum Operator {
     Equals,
     Differs,
@@ -32,7 +32,7 @@ pub(crate) enum Symbol {
 
 // What stands at a place: a blank, a name, an int or a string of so many bytes, a sign, or none of
 // these.
-#[derive(Drop)]
+#[derive(Clone, Copy)]
 pub(crate) enum Token {
     Nothing,
     Gap,

@@ -27,14 +27,14 @@ impl Expression {
 }
 
 // An int, or a string at a place of the expression.
-#[derive(Drop)]
+#[derive(Clone, Copy)]
 pub(crate) enum Operand {
     Int(Whole),
     Text { start: usize, end: usize },
 }
 
 // A comparison: where its name stands in the expression, and what a value is held against.
-#[derive(Drop)]
+#[derive(Clone, Copy)]
 pub(crate) struct Comparison {
     pub start: usize,
     pub end: usize,
@@ -43,7 +43,7 @@ pub(crate) struct Comparison {
 }
 
 // The comparisons and the codes of an expression.
-#[derive(Drop)]
+#[derive(Clone, Copy)]
 pub(crate) struct Program {
     pub rows: [Comparison; Expression::COMPARISONS],
     pub count: usize,

@@ -15,7 +15,7 @@ use Rattle.sorting.specs.declared.Compared.{Compared}
 use Rattle.values.specs.declared.ends.Likeness.{Likeness}
 use Rattle.values.proofs.Tests.{three_ways}
 use Rattle.sorting.proofs.Order.{never}
-use Rattle.values.proofs.Likeness.{likeness-shorter, likeness-longer, likeness-last, likeness-same, same-likeness, last-equal, last-same}
+use Rattle.values.proofs.Likenesses.{likeness-shorter, likeness-longer, likeness-last, likeness-same, same-likeness, last-equal, last-same}
 
 first-true : (t : Bool) → first_of t ≡ Compared.Before → t ≡ true
 first-true true e = refl

@@ -8,7 +8,7 @@ ghost use Rattle.splices.specs.Space.{spliced, inserted, record_text};
 use super::space::open_space;
 
 // A record to be put in at the end of a set: the place, where its pairs begin in the request, and the length of its whole text.
-#[derive(Drop)]
+#[derive(Clone, Copy)]
 pub struct NewRecord {
     pub at: usize,
     pub from: usize,

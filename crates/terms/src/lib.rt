@@ -205,7 +205,7 @@ fn rising(s: &[u8], entries: &[u32]) -> bool
 }
 
 // How many entries a table has, and whether they are known to rise.
-#[derive(Drop)]
+#[derive(Clone, Copy)]
 pub struct Table {
     pub count: usize,
     pub sorted: bool,

@@ -74,7 +74,7 @@ fn add_names(d: &[u8], entries: &mut [u32]) -> Places
 }
 
 // The typedefs of a descriptor, to be looked up by name: where their values stand, and their names with their numbers in a table.
-#[derive(Drop)]
+#[derive(Clone, Copy)]
 pub struct Names {
     pub places: [usize; Descriptor::TYPEDEFS],
     pub entries: [u32; Descriptor::TYPEDEFS],
@@ -101,7 +101,7 @@ pub fn read_names(d: &[u8]) -> Names
 }
 
 // Where a type leads: it is a kind, or the name of the typedef of a number. A name that no typedef has and a text that is no type lead nowhere.
-#[derive(Drop)]
+#[derive(Clone, Copy)]
 pub enum Target {
     Kind,
     Alias(u8),
@@ -150,7 +150,7 @@ fn target_in(d: &[u8], names: Names, s: &[u8], t: TypeOf) -> Target
 }
 
 // A typedef, or a `%type` field but for the names that it is about: where its value stands, the type behind the first word of that, and where the type leads.
-#[derive(Drop)]
+#[derive(Clone, Copy)]
 pub struct Typedef {
     pub value: usize,
     pub kind: TypeOf,
@@ -175,19 +175,19 @@ pub fn read_typedef(d: &[u8], names: Names, value: usize, scratch: &mut [u8]) ->
 }
 
 // The targets of a descriptor's typedefs, in order. They go by value down a recursion, for which the typedefs are too large.
-#[derive(Drop)]
+#[derive(Clone, Copy)]
 pub struct Link {
     pub to: Target,
 }
 
-#[derive(Drop)]
+#[derive(Clone, Copy)]
 pub struct Targets {
     pub rows: [Link; Descriptor::TYPEDEFS],
     pub count: usize,
 }
 
 // The typedefs of a descriptor, in order.
-#[derive(Drop)]
+#[derive(Clone, Copy)]
 pub struct Typedefs {
     pub rows: [Typedef; Descriptor::TYPEDEFS],
     pub targets: Targets,

@@ -11,7 +11,7 @@ pub use kinds::type_of;
 pub use met::{is_between, is_int, meets};
 
 // A type's text, read once: where the text behind the word `enum` stands in it, and where a typedef's name does.
-#[derive(Drop)]
+#[derive(Clone, Copy)]
 pub enum Shape {
     Int,
     Range(Whole, Whole),
@@ -25,7 +25,7 @@ pub enum Shape {
     Alias { start: usize, end: usize },
 }
 
-#[derive(Drop)]
+#[derive(Clone, Copy)]
 pub enum TypeOf {
     Is(Shape),
     Fault,

@@ -11,7 +11,7 @@ use Rattle.values.specs.declared.Decoded.{Decoded}
 use Rattle.values.proofs.Backwards.{reaches-value}
 use Rattle.values.specs.Likeness.{last_of, likeness_of}
 use Rattle.values.specs.declared.ends.Likeness.{Likeness}
-use Rattle.values.proofs.Likeness.{likeness-last, same-likeness, last-here}
+use Rattle.values.proofs.Likenesses.{likeness-last, same-likeness, last-here}
 
 -- a text behind nothing
 whole_back : (f v w : Bytes) → w ≡ f ++ v → length w ≡ length v → w ≡ v

@@ -8,5 +8,5 @@ pub mod Splitting
 pub mod Parts
 pub mod Counts
 pub mod Tests
-pub mod Likeness
+pub mod Likenesses
 pub mod Endings

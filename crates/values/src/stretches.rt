@@ -9,7 +9,7 @@ use super::{Decoded, value_byte};
 
 // Gaps; a word, up to a gap; a name or a symbol, up to a byte of neither; of a type's text, what
 // stands before a gap or a comment, and what stands within a comment.
-#[derive(Drop)]
+#[derive(Clone, Copy)]
 pub enum Stretch {
     Gaps,
     Word,

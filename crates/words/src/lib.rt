@@ -89,7 +89,7 @@ pub fn part_end(s: &[u8], d: u8) -> usize
 }
 
 // A part of a text, from start to end.
-#[derive(Drop)]
+#[derive(Clone, Copy)]
 pub struct Span {
     pub start: usize,
     pub end: usize,

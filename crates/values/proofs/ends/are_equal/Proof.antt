@@ -3,7 +3,7 @@ use mathlib.Core.Path.{sym, ap, ◌∙◌}
 use Rattle.format.specs.Bytes.{same}
 use Rattle.values.specs.Value.{value_from}
 use Rattle.values.proofs.Tests.{same_self, same-apart}
-use Rattle.values.proofs.Likeness.{likeness-same, unlike-apart, differ-apart}
+use Rattle.values.proofs.Likenesses.{likeness-same, unlike-apart, differ-apart}
 use borrow.Author.Rules.{rules}
 use Rattle.values.proofs.ends.are_equal.Statement.{statement}
 use Rattle.values.proofs.ends.are_equal.Tie as tie

@@ -2,7 +2,7 @@
 use native.Mathlib.Omega.{arith}
 use mathlib.Core.Path.{sym}
 use Rattle.values.specs.Value.{value_from}
-use Rattle.values.proofs.Likeness.{likeness-shorter, likeness-longer}
+use Rattle.values.proofs.Likenesses.{likeness-shorter, likeness-longer}
 use borrow.Author.Rules.{rules}
 use Rattle.values.proofs.ends.compare.Statement.{statement}
 use Rattle.values.proofs.ends.compare.Tie as tie
