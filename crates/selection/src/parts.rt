@@ -19,7 +19,7 @@ pub(crate) enum Operator {
     AtLeast,
 }
 
-#[derive(Drop)]
+#[derive(Clone, Copy)]
 pub(crate) enum Symbol {
     Comparing(Operator),
     Not,

@@ -53,7 +53,7 @@ pub(crate) struct Program {
 
 // How far the reading is: the stage, how many parentheses are open, and the name and the operator
 // that were read last.
-#[derive(Drop)]
+#[derive(Clone, Copy)]
 struct Reading {
     stage: u8,
     groups: usize,
