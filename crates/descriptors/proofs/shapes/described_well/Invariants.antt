@@ -1,0 +1,13 @@
+-- `descriptors::shapes::described_well` meets its contract. The invariant is the walk's: the n names met so far stand where the arrays say, and the descriptors from row n on are asked
+-- behind them. The measure is the number of rows left.
+use Prim.Native.Nat.{◌-◌}
+use mathlib.Core.Path.{◌≡◌}
+use lib.ListN.{length}
+use Rattle.descriptors.proofs.Walks.{WalkAt}
+use Rattle.descriptors.proofs.shapes.described_well.Given as goal
+
+abbrev pub invariant-loop-n : goal.invariant-loop-n
+invariant-loop-n l = WalkAt l.s l.starts l.ends l.count l.n l.to l.initial.n × (length l.initial.to ≡ length l.initial.scratch)
+
+abbrev pub decreases-loop-n : goal.decreases-loop-n
+decreases-loop-n l = l.count - l.n

@@ -1,0 +1,13 @@
+-- `descriptors::shapes::text_holds` meets its contract: each case asks the function that answers it.
+use mathlib.Core.Path.{sym, ap, ◌∙◌}
+use Rattle.descriptors.specs.Contents.{holds}
+use Rattle.descriptors.specs.declared.shapes.Content.{Content}
+use Rattle.descriptors.proofs.shapes.text_holds.Goals as goal
+
+pub returns-in-Names : goal.returns-in-Names
+returns-in-Names c =
+    c.all_names.ensures ∙ sym (ap (λ (x : Content). holds x c.args.s.now) c.in-Names.is)
+
+pub returns-in-Ordinary : goal.returns-in-Ordinary
+returns-in-Ordinary c =
+    c.all_names-in-Ordinary.ensures ∙ sym (ap (λ (x : Content). holds x c.args.s.now) c.in-Ordinary.is)

@@ -1,0 +1,11 @@
+-- `dictionary::add_words` meets its contract. The invariant: what is left are the words from a place on. The measure is what is left of the text.
+use Prim.Native.Nat.{◌-◌}
+use lib.ListN.{length}
+use Rattle.dictionary.proofs.Reading.{WordsLeft}
+use Rattle.dictionary.proofs.add_words.Given as goal
+
+abbrev pub invariant-loop-start : goal.invariant-loop-start
+invariant-loop-start l = WordsLeft l.d l.initial.entries l.entries l.tag l.i l.k l.initial.from l.from
+
+abbrev pub decreases-loop-start : goal.decreases-loop-start
+decreases-loop-start l = length l.d - l.from

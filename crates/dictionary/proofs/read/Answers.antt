@@ -1,0 +1,47 @@
+-- `dictionary::read` meets its contract: the lists' words, then the names of `%type` fields, and the table of all.
+use native.Mathlib.Omega.{arith}
+use mathlib.Core.Path.{refl, sym}
+use lib.ListN.{drop, length-append, length-drop}
+use lib.Seq.{length-take-le}
+use Rattle.format.specs.Numbers.{int_bounds}
+use Rattle.records.specs.Walk.{record_in}
+use Rattle.dictionary.proofs.Listing.{lists-names}
+use Rattle.dictionary.proofs.Typing.{all-shaped}
+use Rattle.dictionary.proofs.Counting.{lists-few}
+use Rattle.dictionary.proofs.Making.{all-entries, made}
+use Rattle.dictionary.proofs.read.Goals as goal
+
+pub add_lists-n-requires : goal.add_lists-n-requires
+add_lists-n-requires c =
+    let h = c.requires.described in
+    record { d_value = (h.reads, h.short); d_in_bounds = (omega (arith, lists-few c.args.d.now h, c.requires.list_words_in_bounds.1), lists-names int_bounds (record_in c.args.d.now) (all-shaped c.args.d.now h)) }
+
+pub add_types-a-requires : goal.add_types-a-requires
+add_types-a-requires c =
+    let a = c.add_lists-n.ensures in
+    record { described = c.requires.described; from_in_bounds = (c.requires.list_words_in_bounds.0, omega (arith, a.count, a.long, lists-few c.args.d.now c.requires.described, c.requires.list_words_in_bounds.1)) }
+
+pub slice_bounds-build-end : goal.slice_bounds-build-end
+slice_bounds-build-end c =
+    c.add_types-a.ensures.room
+
+pub slice_bounds-build-end-2 : goal.slice_bounds-build-end-2
+slice_bounds-build-end-2 c =
+    sym (length-take-le c.add_types-a.result.count c.add_types-a.new.1.1.0 c.add_types-a.ensures.room)
+
+pub build-t-requires : goal.build-t-requires
+build-t-requires c =
+    all-entries c.args.d.now c.args.from c.args.entries.now c.add_lists-n.new.1.0 c.add_lists-n.result c.add_lists-n.ensures c.add_types-a.new.1.1.0 c.add_types-a.result c.add_types-a.ensures
+
+pub shape_of-entries : goal.shape_of-entries
+shape_of-entries c =
+    let a = c.add_lists-n.ensures.long in
+    let b = c.add_types-a.ensures.adding.long in
+    let r = c.add_types-a.ensures.room in
+    let k = c.build-t.auto in
+    omega (arith, length-append c.build-t.new.1.0 (drop c.add_types-a.result.count c.add_types-a.new.1.1.0), length-drop c.add_types-a.result.count c.add_types-a.new.1.1.0, length-take-le c.add_types-a.result.count c.add_types-a.new.1.1.0 c.add_types-a.ensures.room, k.1.0)
+
+pub returns : goal.returns
+returns c =
+    let a = c.add_lists-n.ensures in
+    (made c.args.d.now c.args.from c.args.entries.now c.add_lists-n.new.1.0 c.add_lists-n.result a c.add_types-a.new.1.1.0 c.add_types-a.result c.add_types-a.ensures c.build-t.new.1.0 c.build-t.result c.build-t.ensures (omega (arith, a.count, a.long, lists-few c.args.d.now c.requires.described, c.requires.list_words_in_bounds.1)), refl)

@@ -1,0 +1,39 @@
+-- `dictionary::wordsets::read` meets its contract: the words of the fields of a name, the table of them, and their sets.
+use native.Mathlib.Omega.{arith}
+use mathlib.Core.Path.{sym}
+use lib.Seq.{length-take-le}
+use Rattle.format.specs.Rules.{listed}
+use Rattle.records.specs.Walk.{record_in}
+use Rattle.dictionary.proofs.Places.{read-room, read-few, read-entries, read_table, read-words}
+use Rattle.dictionary.proofs.wordsets.read.Goals as goal
+
+pub add_list-n-requires : goal.add_list-n-requires
+add_list-n-requires c =
+    record { d_value = (c.requires.described.0.reads, c.requires.described.0.short); d_len_bound = (c.requires.described.1.few, c.requires.list_words_in_bounds.0); d_value_2 = c.requires.described.1.names }
+
+pub slice_bounds-build-end : goal.slice_bounds-build-end
+slice_bounds-build-end c =
+    read-room c.args.d.now (listed c.args.name.now (record_in c.args.d.now)) c.args.entries.now c.add_list-n.new.1.1.0 c.add_list-n.result c.requires.described.1.few c.requires.list_words_in_bounds.0 c.add_list-n.ensures
+
+pub slice_bounds-build-end-2 : goal.slice_bounds-build-end-2
+slice_bounds-build-end-2 c =
+    let h = read-room c.args.d.now (listed c.args.name.now (record_in c.args.d.now)) c.args.entries.now c.add_list-n.new.1.1.0 c.add_list-n.result c.requires.described.1.few c.requires.list_words_in_bounds.0 c.add_list-n.ensures in
+    sym (length-take-le c.add_list-n.result c.add_list-n.new.1.1.0 h)
+
+pub build-t-requires : goal.build-t-requires
+build-t-requires c =
+    read-entries c.args.d.now (listed c.args.name.now (record_in c.args.d.now)) c.args.entries.now c.add_list-n.new.1.1.0 c.add_list-n.result c.requires.described.1.few c.requires.list_words_in_bounds.0 c.add_list-n.ensures
+
+pub join-requires : goal.join-requires
+join-requires c =
+    let h = read-room c.args.d.now (listed c.args.name.now (record_in c.args.d.now)) c.args.entries.now c.add_list-n.new.1.1.0 c.add_list-n.result c.requires.described.1.few c.requires.list_words_in_bounds.0 c.add_list-n.ensures in
+    let n = length-take-le c.add_list-n.result c.add_list-n.new.1.1.0 h in
+    let f = read-few c.args.d.now (listed c.args.name.now (record_in c.args.d.now)) c.args.entries.now c.add_list-n.new.1.1.0 c.add_list-n.result c.requires.described.1.few c.requires.list_words_in_bounds.0 c.add_list-n.ensures in
+    let r = c.build-t.ensures.table.room in
+    let z = c.requires.list_words_in_bounds.1 in
+    let k = c.build-t.auto in
+    (read_table c.args.d.now (listed c.args.name.now (record_in c.args.d.now)) c.args.entries.now c.add_list-n.new.1.1.0 c.add_list-n.result c.requires.described.1.few c.requires.list_words_in_bounds.0 c.add_list-n.ensures c.build-t.new.1.0 c.build-t.result c.build-t.ensures, omega (arith, k.1.0))
+
+pub returns : goal.returns
+returns c =
+    read-words c.args.d.now (listed c.args.name.now (record_in c.args.d.now)) c.args.entries.now c.add_list-n.new.1.1.0 c.add_list-n.result c.requires.described.1.few c.requires.list_words_in_bounds.0 c.add_list-n.ensures c.build-t.new.1.0 c.build-t.result c.build-t.ensures c.join.new.1.1.1.0 c.join.ensures

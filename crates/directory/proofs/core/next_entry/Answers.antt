@@ -1,0 +1,11 @@
+-- `directory::core::next_entry` meets its contract.
+use Rattle.directory.proofs.Blocks.{next-none, next-there}
+use Rattle.directory.proofs.core.next_entry.Goals as goal
+
+pub returns-in_default : goal.returns-in_default
+returns-in_default c =
+    next-none c.args.s.now c.next_set-n.result c.next_set-n.ensures c.in_default.is
+
+pub returns : goal.returns
+returns c =
+    next-there c.args.s.now c.next_set-n.result c.next_set-n.ensures c.in-At.q c.block_start.result c.in-At.is c.block_start.ensures

@@ -1,0 +1,12 @@
+-- `keys::gather` meets its contract. The invariant: n values are entered, those of the fields from i on are to come. The measure is what is left of the text.
+use Prim.Native.Nat.{◌-◌, ◌≤◌}
+use mathlib.Core.Path.{◌≡◌}
+use lib.ListN.{length}
+use Rattle.keys.proofs.Gathering.{Enters}
+use Rattle.keys.proofs.gather.Given as goal
+
+abbrev pub invariant-loop-value : goal.invariant-loop-value
+invariant-loop-value l = (length l.i ≡ length l.initial.entries) × (l.n ≤ l.initial.n) × Enters l.name l.s l.i l.n l.initial.n
+
+abbrev pub decreases-loop-value : goal.decreases-loop-value
+decreases-loop-value l = length l.s - l.initial.n

@@ -1,0 +1,19 @@
+-- `limits::rules_fit` meets its contract. The invariant: c counts the fields before i, and goes on over those from i on; its numbers are small.
+-- The measure is what is left of the part.
+use Prim.Native.Nat.{◌*◌, ◌-◌, ◌≤◌}
+use mathlib.Core.Path.{◌≡◌}
+use mathlib.Core.Bool.{true}
+use lib.ListN.{length, drop}
+use Rattle.format.specs.Pieces.{read_of}
+use Rattle.format.specs.Records.{fields_of}
+use Rattle.records.specs.Places.{is_readable}
+use Rattle.records.specs.Fields.{fields_from}
+use Rattle.limits.specs.Counts.{total}
+use Rattle.limits.proofs.Tallies.{count_from, no_counts}
+use Rattle.limits.proofs.rules_fit.Given as goal
+
+abbrev pub invariant-loop-start : goal.invariant-loop-start
+invariant-loop-start l = (l.initial.c ≤ length l.d) × (is_readable (drop l.initial.c l.d) ≡ true) × (total l.c ≤ 2 * l.initial.c) × (count_from no_counts (fields_of (read_of l.d)) ≡ count_from l.c (fields_from l.d l.initial.c))
+
+abbrev pub decreases-loop-start : goal.decreases-loop-start
+decreases-loop-start l = length l.d - l.initial.c

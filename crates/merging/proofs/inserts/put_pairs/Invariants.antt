@@ -1,0 +1,18 @@
+-- `merging::inserts::put_pairs` meets its contract. The invariant: the fields that are left are to be put at the place reached. The measure is what is left.
+use Prim.Native.Nat.{◌-◌}
+use mathlib.Core.Path.{◌≡◌}
+use mathlib.Core.Bool.{true}
+use lib.ListN.{length}
+use Rattle.format.specs.Bytes.{all}
+use Rattle.format.specs.Calls.{built}
+use Rattle.records.specs.Places.{is_readable}
+use Rattle.records.specs.Walk.{record_in}
+use Rattle.merging.specs.Texts.{fits_value}
+use Rattle.merging.proofs.Requesting.{pairs_in}
+use Rattle.merging.proofs.inserts.put_pairs.Given as goal
+
+abbrev pub invariant-loop-start : goal.invariant-loop-start
+invariant-loop-start l = (is_readable l.initial.at ≡ true) × (all fits_value (record_in l.initial.at) ≡ true) × (length l.initial.rest ≡ length l.initial.scratch) × (length l.rest ≡ length l.scratch) × (built (pairs_in l.own) (record { next = 0; l.rest = l.scratch }) ≡ built (pairs_in l.initial.at) (record { next = l.at; l.rest = l.rest }))
+
+abbrev pub decreases-loop-start : goal.decreases-loop-start
+decreases-loop-start l = length l.initial.at

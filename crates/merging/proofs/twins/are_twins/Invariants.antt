@@ -1,0 +1,14 @@
+-- `merging::twins::are_twins` meets its contract. The invariant: what is left of both is to be compared. The measure is what is left of the first.
+use Prim.Native.Nat.{◌-◌}
+use mathlib.Core.Path.{◌≡◌}
+use mathlib.Core.Bool.{true}
+use lib.ListN.{length}
+use Rattle.records.specs.Places.{is_readable}
+use Rattle.merging.proofs.Twinning.{twins_from}
+use Rattle.merging.proofs.twins.are_twins.Given as goal
+
+abbrev pub invariant-loop-s : goal.invariant-loop-s
+invariant-loop-s l = (is_readable l.initial.q ≡ true) × (is_readable l.q ≡ true) × (twins_from l.a 0 l.b 0 ≡ twins_from l.initial.q 0 l.q 0)
+
+abbrev pub decreases-loop-s : goal.decreases-loop-s
+decreases-loop-s l = length l.initial.q

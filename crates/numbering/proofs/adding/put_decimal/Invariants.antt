@@ -1,0 +1,13 @@
+-- `numbering::adding::put_decimal` meets its contract. The invariant: the digits are those of what is left of the number, and then those written. The measure is the place reached.
+use Prim.Native.Nat.{◌+◌, ◌-◌, ◌≤◌}
+use mathlib.Core.Path.{◌≡◌}
+use mathlib.Core.List.{◌++◌}
+use lib.ListN.{length, drop}
+use Rattle.format.specs.Numbering.{decimal}
+use Rattle.numbering.proofs.adding.put_decimal.Given as goal
+
+abbrev pub invariant-loop-n : goal.invariant-loop-n
+invariant-loop-n l = (length l.n ≡ length l.initial.text) × (l.at ≤ length l.n) × (length (decimal l.initial.at) ≤ l.at) × (decimal l.number ≡ decimal l.initial.at ++ drop l.at l.n)
+
+abbrev pub decreases-loop-n : goal.decreases-loop-n
+decreases-loop-n l = l.at

@@ -1,0 +1,26 @@
+-- `numbering::bounds::exceed_value` meets its contract.
+use native.Mathlib.Omega.{arith}
+use mathlib.Core.Path.{sym, ap, ◌∙◌, subst}
+use mathlib.Core.Option.{Option}
+use Prim.Native.Nat.{max}
+use Rattle.format.specs.Numbers.{Int}
+use Rattle.format.specs.Words.{trim}
+use Rattle.numbers.specs.Meaning.{int_answer}
+use Rattle.numbering.specs.Bounds.{above_in}
+use Rattle.numbering.proofs.Bounding.{IsSmall, small_int}
+use Rattle.numbering.proofs.bounds.exceed_value.Goals as goal
+
+pub returns-in_default : goal.returns-in_default
+returns-in_default c =
+    let z = ap above_in (sym (ap int_answer c.in_default.is) ∙ c.int_in-i.ensures) in
+    omega (arith, z)
+
+pub exceed-requires : goal.exceed-requires
+exceed-requires c =
+    let e = sym (ap int_answer c.in-Value.is) ∙ c.int_in-i.ensures in
+    subst IsSmall (sym e) (small_int (trim c.args.v.now))
+
+pub returns : goal.returns
+returns c =
+    let e = sym (ap int_answer c.in-Value.is) ∙ c.int_in-i.ensures in
+    c.exceed.ensures ∙ ap (λ (x : Option Int). max c.args.floor (above_in x)) e

@@ -1,0 +1,8 @@
+-- `recfile::recfile_to_fill` meets its contract.
+use mathlib.Core.Path.{ap, ◌∙◌}
+use Rattle.format.specs.Calls.{number_in, value_or}
+use Rattle.recfile.proofs.recfile_to_fill.Goals as goal
+
+pub returns : goal.returns
+returns c =
+    (c.tell.ensures.0 ∙ ap (value_or 0) c.to_fill-missing.ensures, c.tell.ensures.1 ∙ ap number_in c.to_fill-missing.ensures)

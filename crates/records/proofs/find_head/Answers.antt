@@ -1,0 +1,80 @@
+use Prim.Native.Nat.{◌-◌}
+use native.Mathlib.Omega.{arith}
+use mathlib.Core.Path.{sym, ap, ◌∙◌}
+use mathlib.Core.Logic.{⊎_elim}
+use mathlib.Core.Bool.{true}
+use Rattle.records.specs.Places.{places_of, descriptor_head}
+use Rattle.records.proofs.Readings.{part-readable, reads-readable}
+use Rattle.records.proofs.Searches.{places-all, meets, head-default, head-named, head-end, head-member, head-here, head-other}
+use Rattle.records.proofs.find_head.Goals as goal
+
+pub returns-then-name-eq0 : goal.returns-then-name-eq0
+returns-then-name-eq0 c =
+    sym (head-default c.args.name.now (places_of c.args.s.now) c.if-name-eq0.true)
+
+pub loop-p-init : goal.loop-p-init
+loop-p-init c =
+    (omega arith, c.requires, head-named c.args.name.now (places_of c.args.s.now) c.if-name-eq0.false ∙ ap (descriptor_head c.args.name.now) (places-all c.args.s.now))
+
+pub next_record-r-requires : goal.next_record-r-requires
+next_record-r-requires c =
+    (part-readable c.args.s.now c.loop-p.i c.loop-p.invariant.1)
+
+pub returns-in_default : goal.returns-in_default
+returns-in_default c =
+    sym (c.loop-p.invariant.2 ∙ head-end c.args.s.now c.loop-p.i c.args.name.now (meets c.args.s.now c.loop-p.i c.next_record-r.result c.loop-p.invariant.0 c.loop-p.invariant.1 c.next_record-r.ensures c.in_default.is))
+
+pub overflow_add-a : goal.overflow_add-a
+overflow_add-a c =
+    let m = meets c.args.s.now c.loop-p.i c.next_record-r.result c.loop-p.invariant.0 c.loop-p.invariant.1 c.next_record-r.ensures c.in-At.is in
+    omega (arith, m.stand.filled, m.stand.within, m.stand.inside)
+
+pub overflow_add-e : goal.overflow_add-e
+overflow_add-e c =
+    let m = meets c.args.s.now c.loop-p.i c.next_record-r.result c.loop-p.invariant.0 c.loop-p.invariant.1 c.next_record-r.ensures c.in-At.is in
+    omega (arith, m.stand.within, m.stand.inside)
+
+pub slice_bounds-opens_set-count : goal.slice_bounds-opens_set-count
+slice_bounds-opens_set-count c =
+    let m = meets c.args.s.now c.loop-p.i c.next_record-r.result c.loop-p.invariant.0 c.loop-p.invariant.1 c.next_record-r.ensures c.in-At.is in
+    omega (arith, m.stand.filled)
+
+pub slice_bounds-opens_set-start : goal.slice_bounds-opens_set-start
+slice_bounds-opens_set-start c =
+    let m = meets c.args.s.now c.loop-p.i c.next_record-r.result c.loop-p.invariant.0 c.loop-p.invariant.1 c.next_record-r.ensures c.in-At.is in
+    omega (arith, m.stand.filled)
+
+pub slice_bounds-opens_set-end : goal.slice_bounds-opens_set-end
+slice_bounds-opens_set-end c =
+    let m = meets c.args.s.now c.loop-p.i c.next_record-r.result c.loop-p.invariant.0 c.loop-p.invariant.1 c.next_record-r.ensures c.in-At.is in
+    omega (arith, m.stand.within, m.stand.inside)
+
+pub opens_set-requires : goal.opens_set-requires
+opens_set-requires c =
+    let m = meets c.args.s.now c.loop-p.i c.next_record-r.result c.loop-p.invariant.0 c.loop-p.invariant.1 c.next_record-r.ensures c.in-At.is in
+    (reads-readable m.stand.own-reads)
+
+pub overflow_add-result : goal.overflow_add-result
+overflow_add-result c =
+    let m = meets c.args.s.now c.loop-p.i c.next_record-r.result c.loop-p.invariant.0 c.loop-p.invariant.1 c.next_record-r.ensures c.in-At.is in
+    omega (arith, m.stand.inside, c.well_formed.1.0.0)
+
+pub returns-then-opens_set : goal.returns-then-opens_set
+returns-then-opens_set c =
+    let m = meets c.args.s.now c.loop-p.i c.next_record-r.result c.loop-p.invariant.0 c.loop-p.invariant.1 c.next_record-r.ensures c.in-At.is in
+    sym (c.loop-p.invariant.2 ∙ head-here c.args.s.now c.loop-p.i c.in-At.p m c.args.name.now c.opens_set.result c.opens_set.ensures c.if-opens_set.true)
+
+pub overflow_add-i : goal.overflow_add-i
+overflow_add-i c =
+    let m = meets c.args.s.now c.loop-p.i c.next_record-r.result c.loop-p.invariant.0 c.loop-p.invariant.1 c.next_record-r.ensures c.in-At.is in
+    omega (arith, m.stand.inside)
+
+pub loop-p-smaller : goal.loop-p-smaller
+loop-p-smaller c =
+    let m = meets c.args.s.now c.loop-p.i c.next_record-r.result c.loop-p.invariant.0 c.loop-p.invariant.1 c.next_record-r.ensures c.in-At.is in
+    omega (arith, m.stand.filled, m.stand.within, m.stand.inside)
+
+pub loop-p-preserved : goal.loop-p-preserved
+loop-p-preserved c =
+    let m = meets c.args.s.now c.loop-p.i c.next_record-r.result c.loop-p.invariant.0 c.loop-p.invariant.1 c.next_record-r.ensures c.in-At.is in
+    (m.stand.inside, m.stand.readable, c.loop-p.invariant.2 ∙ ⊎_elim (λ w. head-other c.args.s.now c.loop-p.i c.in-At.p m c.args.name.now w.4.result w.4.ensures w.5.left) (λ w. head-member c.args.s.now c.loop-p.i c.in-At.p m c.args.name.now w.left) c.if-p.branch)

@@ -1,0 +1,15 @@
+-- `records::find_head` meets its contract. The invariant: the part from i on is readable, and the search for the descriptor goes on there.
+-- The measure is what is left of the length.
+use Prim.Native.Nat.{◌-◌, ◌≤◌}
+use mathlib.Core.Path.{◌≡◌}
+use mathlib.Core.Bool.{true}
+use lib.ListN.{length, drop}
+use Rattle.records.specs.Places.{is_readable, places_of, descriptor_head, head_place}
+use Rattle.records.proofs.Searches.{places_at}
+use Rattle.records.proofs.find_head.Given as goal
+
+abbrev pub invariant-loop-p : goal.invariant-loop-p
+invariant-loop-p l = (l.i ≤ length l.s) × (is_readable (drop l.i l.s) ≡ true) × (head_place l.name (places_of l.s) ≡ descriptor_head l.name (places_at l.s l.i))
+
+abbrev pub decreases-loop-p : goal.decreases-loop-p
+decreases-loop-p l = length l.s - l.i

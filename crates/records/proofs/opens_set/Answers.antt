@@ -1,0 +1,35 @@
+-- `records::opens_set` meets its contract: the first word of the first `%rec` value is compared.
+use native.Mathlib.Omega.{arith}
+use mathlib.Core.Path.{sym, ◌∙◌}
+use Rattle.format.specs.Bytes.{text}
+use Rattle.records.proofs.Fields.{field_told, opens-none, opens-first}
+use Rattle.records.proofs.opens_set.Goals as goal
+
+pub find_field-f-requires : goal.find_field-f-requires
+find_field-f-requires c =
+    (c.requires)
+
+pub returns-in_default : goal.returns-in_default
+returns-in_default c =
+    sym (opens-none c.args.name.now c.args.s.now (field_told (text "%rec") c.args.s.now 0 c.find_field-f.result (c.requires) c.find_field-f.ensures c.in_default.is))
+
+pub slice_bounds-word_is-count : goal.slice_bounds-word_is-count
+slice_bounds-word_is-count c =
+    let p = field_told (text "%rec") c.args.s.now 0 c.find_field-f.result (c.requires) c.find_field-f.ensures c.in-At.is in
+    omega (arith, p.within)
+
+pub slice_bounds-word_is-start : goal.slice_bounds-word_is-start
+slice_bounds-word_is-start c =
+    let p = field_told (text "%rec") c.args.s.now 0 c.find_field-f.result (c.requires) c.find_field-f.ensures c.in-At.is in
+    omega (arith, p.within)
+
+pub slice_bounds-word_is-end : goal.slice_bounds-word_is-end
+slice_bounds-word_is-end c =
+    let p = field_told (text "%rec") c.args.s.now 0 c.find_field-f.result (c.requires) c.find_field-f.ensures c.in-At.is in
+    omega (arith, p.inside)
+
+pub returns : goal.returns
+returns c =
+    let g = c.f-1.given in
+    let p = field_told (text "%rec") c.args.s.now 0 c.find_field-f.result (c.requires) c.find_field-f.ensures g.1 in
+    c.word_is.ensures ∙ sym (opens-first c.args.name.now c.args.s.now g.0.0 g.0.1.0 g.0.1.1.0 p)

@@ -1,0 +1,14 @@
+-- `singulars::gather` meets its contract. The invariant: n fields are entered, those from i on are to come. The measure is what is left of the text.
+use Prim.Native.Nat.{◌-◌, ◌≤◌}
+use mathlib.Core.Path.{◌≡◌}
+use lib.ListN.{length}
+use Rattle.format.specs.Rules.{singular}
+use Rattle.records.specs.Walk.{record_in}
+use Rattle.singulars.proofs.Gathering.{Enters}
+use Rattle.singulars.proofs.gather.Given as goal
+
+abbrev pub invariant-loop-start : goal.invariant-loop-start
+invariant-loop-start l = (length l.i ≡ length l.initial.entries) × (l.n ≤ l.initial.n) × Enters (singular (record_in l.d)) l.s l.i l.n l.initial.n
+
+abbrev pub decreases-loop-start : goal.decreases-loop-start
+decreases-loop-start l = length l.s - l.initial.n

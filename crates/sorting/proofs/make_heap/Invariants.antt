@@ -1,0 +1,12 @@
+-- `sorting::make_heap` meets its contract. The invariant: the entries were only moved. The measure is the place that is sifted next.
+use Prim.Native.Nat.{◌≤◌}
+use mathlib.Core.Path.{◌≡◌}
+use lib.ListN.{length}
+use Rattle.sorting.specs.Moves.{Moved}
+use Rattle.sorting.proofs.make_heap.Given as goal
+
+abbrev pub invariant-loop-top : goal.invariant-loop-top
+invariant-loop-top l = (Moved l.initial.entries l.initial.top) × (l.words ≤ l.top) × (length l.initial.top ≡ length l.initial.entries)
+
+abbrev pub decreases-loop-top : goal.decreases-loop-top
+decreases-loop-top l = l.top

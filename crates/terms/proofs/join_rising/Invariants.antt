@@ -1,0 +1,13 @@
+-- `terms::join_rising` meets its contract. The invariant: the sets from i on are filled, and the last one filled is at hand. The measure is i.
+use Prim.Native.Nat.{◌-◌, ◌≤◌}
+use mathlib.Core.Path.{◌≡◌}
+use lib.ListN.{length}
+use Rattle.terms.specs.Joined.{TagsFrom}
+use Rattle.terms.proofs.Joining.{JoinedFrom}
+use Rattle.terms.proofs.join_rising.Given as goal
+
+abbrev pub invariant-loop-i : goal.invariant-loop-i
+invariant-loop-i l = (l.i ≤ length l.entries) × (length l.set ≡ length l.initial.sets) × TagsFrom l.s l.entries l.i l.initial.i × JoinedFrom l.s l.entries l.set l.i
+
+abbrev pub decreases-loop-i : goal.decreases-loop-i
+decreases-loop-i l = l.i

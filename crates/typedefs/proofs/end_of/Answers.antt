@@ -1,0 +1,31 @@
+-- `typedefs::end_of` meets its contract.
+use native.Mathlib.Omega.{arith}
+use Rattle.typedefs.proofs.Ending.{end-own, end-open, end-there, end_row_lem}
+use Rattle.typedefs.proofs.end_of.Goals as goal
+
+pub returns-in_default : goal.returns-in_default
+returns-in_default c =
+    end-own c.args.t1 c.args.t c.in_default.keys2
+
+pub follow-f-requires : goal.follow-f-requires
+follow-f-requires c =
+    c.requires.0
+
+pub returns-in_default-f : goal.returns-in_default-f
+returns-in_default-f c =
+    end-open c.args.t1 c.args.t c.in-Alias.j c.in-Alias.is c.follow-f.result c.follow-f.ensures c.in_default-f.keys2
+
+pub offset_bounds-defs-number : goal.offset_bounds-defs-number
+offset_bounds-defs-number c =
+    let l = end-there c.args.t1 c.args.t c.in-Alias.j c.in-Alias.is c.follow-f.result c.follow-f.ensures c.in-End.number c.in-End.is c.requires.0 in
+    omega (arith, l, c.requires.0.0)
+
+pub bounds-defs-number : goal.bounds-defs-number
+bounds-defs-number c =
+    let l = end-there c.args.t1 c.args.t c.in-Alias.j c.in-Alias.is c.follow-f.result c.follow-f.ensures c.in-End.number c.in-End.is c.requires.0 in
+    omega (arith, l, c.requires.0.0, c.requires.1)
+
+pub returns : goal.returns
+returns c =
+    let l = end-there c.args.t1 c.args.t c.in-Alias.j c.in-Alias.is c.follow-f.result c.follow-f.ensures c.in-End.number c.in-End.is c.requires.0 in
+    end_row_lem c.args.t1 c.args.t c.in-Alias.j c.in-Alias.is c.follow-f.result c.follow-f.ensures c.in-End.number _ c.in-End.is (omega (arith, l, c.requires.0.0, c.requires.1))

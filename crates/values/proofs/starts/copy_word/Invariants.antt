@@ -1,0 +1,16 @@
+-- `values::starts::copy_word` meets its contract. The invariant: n and the length of the word from at on make up the whole length, and writing that word
+-- at n gives what writing the whole one at the front of out gives. The measure is what is left of the text.
+use Prim.Native.Nat.{◌+◌, ◌-◌}
+use mathlib.Core.Path.{◌≡◌}
+use lib.ListN.{length, drop}
+use lib.Seq.{sets}
+use Rattle.format.specs.Lists.{front}
+use Rattle.format.specs.Words.{not_gap}
+use Rattle.values.specs.Value.{value_from}
+use Rattle.values.proofs.starts.copy_word.Given as goal
+
+abbrev pub invariant-loop-byte : goal.invariant-loop-byte
+invariant-loop-byte l = (length l.at ≡ length l.initial.out) × (l.n + length (front not_gap (value_from (drop l.initial.n l.s))) ≡ length (front not_gap (value_from (drop l.i l.s)))) × (sets l.at l.n (front not_gap (value_from (drop l.initial.n l.s))) ≡ sets l.initial.out 0 (front not_gap (value_from (drop l.i l.s))))
+
+abbrev pub decreases-loop-byte : goal.decreases-loop-byte
+decreases-loop-byte l = length l.s - l.initial.n

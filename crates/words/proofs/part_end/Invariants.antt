@@ -1,0 +1,13 @@
+-- `words::part_end` meets its contract. The invariant: e bytes of the run are passed, the others are the run of the rest.
+use mathlib.Core.Path.{◌≡◌}
+use Prim.Native.Nat.{◌+◌, ◌≤◌, ◌-◌}
+use lib.ListN.{length, drop}
+use Rattle.lines.specs.Line.{run}
+use Rattle.words.specs.Spans.{not_byte}
+use Rattle.words.proofs.part_end.Given as goal
+
+abbrev pub invariant-loop-e : goal.invariant-loop-e
+invariant-loop-e l = (l.e ≤ length l.s) × (run (not_byte l.d) l.s ≡ l.e + run (not_byte l.d) (drop l.e l.s))
+
+abbrev pub decreases-loop-e : goal.decreases-loop-e
+decreases-loop-e l = length l.s - l.e

@@ -1,0 +1,12 @@
+-- `writing::put_bytes` meets its contract. The invariant: storing the rest of s at i gives what storing all of it gives.
+use Prim.Native.Nat.{◌≤◌, ◌-◌}
+use mathlib.Core.Path.{◌≡◌}
+use lib.ListN.{length, drop}
+use lib.Seq.{sets}
+use Rattle.writing.proofs.put_bytes.Given as goal
+
+abbrev pub invariant-loop-i : goal.invariant-loop-i
+invariant-loop-i l = (l.i ≤ length l.out) × (length l.initial.i ≡ length l.initial.out) × (sets l.initial.i l.i (drop l.i l.out) ≡ sets l.initial.out 0 l.out)
+
+abbrev pub decreases-loop-i : goal.decreases-loop-i
+decreases-loop-i l = length l.out - l.i

@@ -1,0 +1,41 @@
+use Prim.Native.Nat.{◌+◌, ◌-◌}
+use native.Mathlib.Omega.{arith}
+use mathlib.Core.Path.{refl, ap, ◌∙◌}
+use mathlib.Core.Logic.{⊎_elim}
+use lib.ListN.{length, drop, get_or, length-set}
+use Rattle.format.specs.Written.{indent}
+use Rattle.writing.proofs.Texts.{indent-some, indent-more, indent-newline, indent-end, sets-byte, sets-newline}
+use Rattle.writing.proofs.put_value.Goals as goal
+
+pub loop-i-init : goal.loop-i-init
+loop-i-init c = (omega arith, refl, refl, refl)
+
+pub bounds-out-n : goal.bounds-out-n
+bounds-out-n c =
+    omega (arith, indent-some c.args.value.now c.loop-i.i c.loop-i-test.true)
+
+pub bounds-out-n-then-b-eq10 : goal.bounds-out-n-then-b-eq10
+bounds-out-n-then-b-eq10 c =
+    simp length-set (omega (arith, ap length (indent-newline c.args.value.now c.loop-i.i c.loop-i-test.true c.if-b-eq10.true)))
+
+pub bounds-out-n-then-b-eq10-2 : goal.bounds-out-n-then-b-eq10-2
+bounds-out-n-then-b-eq10-2 c =
+    simp length-set (omega (arith, ap length (indent-newline c.args.value.now c.loop-i.i c.loop-i-test.true c.if-b-eq10.true)))
+
+pub loop-i-preserved : goal.loop-i-preserved
+loop-i-preserved c =
+    let v = c.args.value.now in
+    let i = c.loop-i.i in
+    let t = indent (drop (i + 1) v) in
+    ⊎_elim
+    (λ w.
+    let e = indent-newline v i c.loop-i-test.true w.0.taken in
+    (omega arith, ap length w.1 ∙ simp length-set c.loop-i.invariant.1, omega (arith, ap length e), rw (w.1, w.2) (sets-newline c.loop-i.out c.loop-i.n (get_or v i 0) t ∙ (rw e at c.loop-i.invariant.3))))
+    (λ w.
+    let e = indent-more v i c.loop-i-test.true w.0.left in
+    (omega arith, ap length w.1 ∙ simp length-set c.loop-i.invariant.1, omega (arith, ap length e), rw (w.1, w.2) (sets-byte c.loop-i.out c.loop-i.n (get_or v i 0) t ∙ (rw e at c.loop-i.invariant.3))))
+    c.if-b-eq10.branch
+
+pub returns : goal.returns
+returns c =
+    let e = indent-end c.args.value.now c.loop-i.i c.loop-i-test.false in (omega (arith, ap length e), rw e at c.loop-i.invariant.3)

@@ -1,0 +1,14 @@
+-- `writing::put_value` meets its contract. The invariant: n and the text of the value from i on end where the whole text ends, and writing that text at n gives
+-- what writing the whole one gives.
+use Prim.Native.Nat.{◌+◌, ◌≤◌, ◌-◌}
+use mathlib.Core.Path.{◌≡◌}
+use lib.ListN.{length, drop}
+use lib.Seq.{sets}
+use Rattle.format.specs.Written.{indent}
+use Rattle.writing.proofs.put_value.Given as goal
+
+abbrev pub invariant-loop-i : goal.invariant-loop-i
+invariant-loop-i l = (l.initial.n ≤ length l.at) × (length l.i ≡ length l.initial.out) × (l.n + length (indent (drop l.initial.n l.at)) ≡ l.out + length (indent l.at)) × (sets l.i l.n (indent (drop l.initial.n l.at)) ≡ sets l.initial.out l.out (indent l.at))
+
+abbrev pub decreases-loop-i : goal.decreases-loop-i
+decreases-loop-i l = length l.at - l.initial.n
