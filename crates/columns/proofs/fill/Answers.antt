@@ -100,4 +100,4 @@ loop-value-preserved c =
     let l = passed-inside d (text "%type") c.loop-value.count c.loop-value.i b _ _ h in
     let few = rows_few d c.requires.described.0 in
     let k = row-kind d c.requires.described.0 c.loop-value.count c.loop-value.i _ _ b h c.args.names c.requires.described.1 c.args.defs c.requires.described.2 c.read_typedef-own.result c.read_typedef-own.ensures c.end_of-t.result c.end_of-t.ensures c.shape_of-kind.result c.text_of.result c.shape_of-kind.ensures c.text_of.ensures in
-    (passed-more d (text "%type") c.loop-value.count c.loop-value.i b _ _ h, omega (arith, l), omega (arith, c.scratch-1.given, c.loop-value.invariant.2), simp length-set c.loop-value.invariant.3, simp length-set c.loop-value.invariant.4, filled_more d c.loop-value.rows c.loop-value.texts c.loop-value.count (record { kind = c.shape_of-kind.result }) c.text_of.result (omega (arith, l, c.loop-value.invariant.3)) (omega (arith, l, c.loop-value.invariant.4)) k c.loop-value.invariant.5)
+    (passed-more d (text "%type") c.loop-value.count c.loop-value.i b _ _ h, omega (arith, l), omega (arith, c.read_typedef-own.auto.scratch, c.loop-value.invariant.2), simp length-set c.loop-value.invariant.3, simp length-set c.loop-value.invariant.4, filled_more d c.loop-value.rows c.loop-value.texts c.loop-value.count (record { kind = c.shape_of-kind.result }) c.text_of.result (omega (arith, l, c.loop-value.invariant.3)) (omega (arith, l, c.loop-value.invariant.4)) k c.loop-value.invariant.5)

@@ -9,7 +9,7 @@ use Rattle.columns.proofs.Filling.{Filled}
 use Rattle.columns.proofs.fill.Given as goal
 
 abbrev pub invariant-loop-value : goal.invariant-loop-value
-invariant-loop-value l = Passed l.d (text "%type") l.count l.initial.count × (l.count ≤ length (values_from l.d (text "%type") 0)) × (length l.texts ≡ length l.initial.scratch) × (length l.initial.i ≡ 32) × (length l.i ≡ 32) × Filled l.d l.initial.i l.i l.count
+invariant-loop-value l = Passed l.d (text "%type") l.count l.i × (l.count ≤ length (values_from l.d (text "%type") 0)) × (length l.scratch ≡ length l.initial.scratch) × (length l.rows ≡ 32) × (length l.texts ≡ 32) × Filled l.d l.rows l.texts l.count
 
 abbrev pub decreases-loop-value : goal.decreases-loop-value
-decreases-loop-value l = length l.d - l.initial.count
+decreases-loop-value l = length l.d - l.i

@@ -14,4 +14,4 @@ read_typedefs-defs-requires c =
 
 pub fill-requires : goal.fill-requires
 fill-requires c =
-    record { described = (c.requires.described, c.read_names-names.ensures, c.read_typedefs-defs.ensures); value_bytes_in_bounds = omega (arith, c.scratch-1.given, c.requires.value_bytes_in_bounds) }
+    record { described = (c.requires.described, c.read_names-names.ensures, c.read_typedefs-defs.ensures); value_bytes_in_bounds = omega (arith, c.read_typedefs-defs.auto.scratch, c.requires.value_bytes_in_bounds) }

@@ -56,7 +56,6 @@ overflow_add-i-then-tag-lt-NONE c =
 pub add_words-n-requires : goal.add_words-n-requires
 add_words-n-requires c =
     let h = next-told c.args.d.now c.loop-start.i c.next_field-f.result c.next_field-f.ensures c.in-At.is in
-    let g = c.f-1.given.0 in
     record { i_in_bounds = (omega (arith, h.value_there), c.requires.d_value.1, c.if-tag-lt-NONE.true); d_in_bounds = lists-room c.args.d.now c.args.entries.now c.loop-start.entries c.loop-start.n c.loop-start.i c.loop-start.invariant _ _ _ _ h c.list_tag-tag.result c.list_tag-tag.ensures c.if-tag-lt-NONE.true; d_value = lists-names c.args.d.now c.args.entries.now c.loop-start.entries c.loop-start.n c.loop-start.i c.loop-start.invariant _ _ _ _ h c.list_tag-tag.result c.list_tag-tag.ensures c.if-tag-lt-NONE.true }
 
 pub overflow_add-i-in-loop-start-2 : goal.overflow_add-i-in-loop-start-2

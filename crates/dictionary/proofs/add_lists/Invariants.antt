@@ -5,7 +5,7 @@ use Rattle.dictionary.proofs.Reading.{ListsLeft}
 use Rattle.dictionary.proofs.add_lists.Given as goal
 
 abbrev pub invariant-loop-start : goal.invariant-loop-start
-invariant-loop-start l = ListsLeft l.d l.initial.entries l.n l.initial.i l.i
+invariant-loop-start l = ListsLeft l.d l.initial.entries l.entries l.n l.i
 
 abbrev pub decreases-loop-start : goal.decreases-loop-start
 decreases-loop-start l = length l.d - l.i

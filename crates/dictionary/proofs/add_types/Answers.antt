@@ -87,9 +87,7 @@ pub loop-value-preserved : goal.loop-value-preserved
 loop-value-preserved c =
     let h = value-told c.args.d.now (text "%type") c.loop-value.i c.next_named-v.result c.next_named-v.ensures c.in-At.is in
     let f = row_fits c.args.d.now c.loop-value.row c.loop-value.i _ _ c.loop-value.invariant.2 h c.requires.described in
-    let g = c.v-1.given.0 in
-    let a = c.add_names-k.ensures in
     let b = passed-inside c.args.d.now (text "%type") c.loop-value.row c.loop-value.i c.loop-value.invariant.2 _ _ h in
     let z = c.if-entries-k-lt-VALUE.false in
     let y = c.loop-value.invariant.3 in
-    (omega (arith, c.loop-value.invariant.0), omega (arith, b), passed-more c.args.d.now (text "%type") c.loop-value.row c.loop-value.i c.loop-value.invariant.2 _ _ h, omega (arith, a.count, a.long, length-map (typed_names (value_from (drop (c.loop-value.i + g.1.0) c.args.d.now))) (term_of c.loop-value.row)), a.long ∙ c.loop-value.invariant.4, (λ e. absurd (omega (arith, c.loop-value.invariant.0))), rows_more c.args.d.now c.loop-value.row c.loop-value.i _ _ c.loop-value.invariant.2 h c.requires.described c.args.from c.args.entries.now c.args.n c.loop-value.entries c.loop-value.k _ _ c.loop-value.invariant.6 a)
+    (omega (arith, c.loop-value.invariant.0), omega (arith, b), passed-more c.args.d.now (text "%type") c.loop-value.row c.loop-value.i c.loop-value.invariant.2 _ _ h, omega (arith, c.add_names-k.ensures.count, c.add_names-k.ensures.long, length-map (typed_names (value_from (drop (c.loop-value.i + c.in-At.value) c.args.d.now))) (term_of c.loop-value.row)), c.add_names-k.ensures.long ∙ c.loop-value.invariant.4, (λ e. absurd (omega (arith, c.loop-value.invariant.0))), rows_more c.args.d.now c.loop-value.row c.loop-value.i _ _ c.loop-value.invariant.2 h c.requires.described c.args.from c.args.entries.now c.args.n c.loop-value.entries c.loop-value.k _ _ c.loop-value.invariant.6 c.add_names-k.ensures)

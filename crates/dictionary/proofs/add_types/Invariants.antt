@@ -10,7 +10,7 @@ use Rattle.typedefs.proofs.Placing.{Passed}
 use Rattle.dictionary.proofs.add_types.Given as goal
 
 abbrev pub invariant-loop-value : goal.invariant-loop-value
-invariant-loop-value l = (l.from ≤ l.initial.i) × (l.initial.i ≤ length (values_from l.d (text "%type") 0)) × Passed l.d (text "%type") l.initial.i l.i × (l.row ≤ length l.initial.row) × (length l.initial.row ≡ length l.initial.entries) × (l.initial.i ≡ l.from → l.row ≡ l.entries) × Adding l.d l.initial.entries l.entries (row_terms l.from (drop l.from (values_from l.d (text "%type") 0))) (row_terms l.initial.i (drop l.initial.i (values_from l.d (text "%type") 0))) l.initial.row l.row
+invariant-loop-value l = (l.from ≤ l.row) × (l.row ≤ length (values_from l.d (text "%type") 0)) × Passed l.d (text "%type") l.row l.i × (l.k ≤ length l.entries) × (length l.entries ≡ length l.initial.entries) × (l.row ≡ l.from → l.k ≡ l.n) × Adding l.d l.initial.entries l.n (row_terms l.from (drop l.from (values_from l.d (text "%type") 0))) (row_terms l.row (drop l.row (values_from l.d (text "%type") 0))) l.entries l.k
 
 abbrev pub decreases-loop-value : goal.decreases-loop-value
 decreases-loop-value l = length l.d - l.i

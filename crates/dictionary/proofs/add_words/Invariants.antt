@@ -5,7 +5,7 @@ use Rattle.dictionary.proofs.Reading.{WordsLeft}
 use Rattle.dictionary.proofs.add_words.Given as goal
 
 abbrev pub invariant-loop-start : goal.invariant-loop-start
-invariant-loop-start l = WordsLeft l.d l.initial.entries l.entries l.tag l.i l.k l.initial.from l.from
+invariant-loop-start l = WordsLeft l.d l.initial.entries l.n l.tag l.i l.entries l.k l.from
 
 abbrev pub decreases-loop-start : goal.decreases-loop-start
 decreases-loop-start l = length l.d - l.from

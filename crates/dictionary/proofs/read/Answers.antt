@@ -18,8 +18,7 @@ add_lists-n-requires c =
 
 pub add_types-a-requires : goal.add_types-a-requires
 add_types-a-requires c =
-    let a = c.add_lists-n.ensures in
-    record { described = c.requires.described; from_in_bounds = (c.requires.list_words_in_bounds.0, omega (arith, a.count, a.long, lists-few c.args.d.now c.requires.described, c.requires.list_words_in_bounds.1)) }
+    record { described = c.requires.described; from_in_bounds = (c.requires.list_words_in_bounds.0, omega (arith, c.add_lists-n.ensures.count, c.add_lists-n.ensures.long, lists-few c.args.d.now c.requires.described, c.requires.list_words_in_bounds.1)) }
 
 pub slice_bounds-build-end : goal.slice_bounds-build-end
 slice_bounds-build-end c =
@@ -27,11 +26,11 @@ slice_bounds-build-end c =
 
 pub slice_bounds-build-end-2 : goal.slice_bounds-build-end-2
 slice_bounds-build-end-2 c =
-    sym (length-take-le c.add_types-a.result.count c.add_types-a.new.1.1.0 c.add_types-a.ensures.room)
+    sym (length-take-le c.add_types-a.result.count c.add_types-a.new.entries c.add_types-a.ensures.room)
 
 pub build-t-requires : goal.build-t-requires
 build-t-requires c =
-    all-entries c.args.d.now c.args.from c.args.entries.now c.add_lists-n.new.1.0 c.add_lists-n.result c.add_lists-n.ensures c.add_types-a.new.1.1.0 c.add_types-a.result c.add_types-a.ensures
+    all-entries c.args.d.now c.args.from c.args.entries.now c.add_lists-n.new.entries c.add_lists-n.result c.add_lists-n.ensures c.add_types-a.new.entries c.add_types-a.result c.add_types-a.ensures
 
 pub shape_of-entries : goal.shape_of-entries
 shape_of-entries c =
@@ -39,9 +38,8 @@ shape_of-entries c =
     let b = c.add_types-a.ensures.adding.long in
     let r = c.add_types-a.ensures.room in
     let k = c.build-t.auto in
-    omega (arith, length-append c.build-t.new.1.0 (drop c.add_types-a.result.count c.add_types-a.new.1.1.0), length-drop c.add_types-a.result.count c.add_types-a.new.1.1.0, length-take-le c.add_types-a.result.count c.add_types-a.new.1.1.0 c.add_types-a.ensures.room, k.1.0)
+    omega (arith, length-append c.build-t.new.entries (drop c.add_types-a.result.count c.add_types-a.new.entries), length-drop c.add_types-a.result.count c.add_types-a.new.entries, length-take-le c.add_types-a.result.count c.add_types-a.new.entries c.add_types-a.ensures.room, k.1.0)
 
 pub returns : goal.returns
 returns c =
-    let a = c.add_lists-n.ensures in
-    (made c.args.d.now c.args.from c.args.entries.now c.add_lists-n.new.1.0 c.add_lists-n.result a c.add_types-a.new.1.1.0 c.add_types-a.result c.add_types-a.ensures c.build-t.new.1.0 c.build-t.result c.build-t.ensures (omega (arith, a.count, a.long, lists-few c.args.d.now c.requires.described, c.requires.list_words_in_bounds.1)), refl)
+    (made c.args.d.now c.args.from c.args.entries.now c.add_lists-n.new.entries c.add_lists-n.result c.add_lists-n.ensures c.add_types-a.new.entries c.add_types-a.result c.add_types-a.ensures c.build-t.new.entries c.build-t.result c.build-t.ensures (omega (arith, c.add_lists-n.ensures.count, c.add_lists-n.ensures.long, lists-few c.args.d.now c.requires.described, c.requires.list_words_in_bounds.1)), refl)

@@ -24,7 +24,7 @@ slice_bounds-count_to_fill-end c =
 
 pub slice_bounds-count_to_fill-end-then-may_join : goal.slice_bounds-count_to_fill-end-then-may_join
 slice_bounds-count_to_fill-end-then-may_join c =
-    sym (length-take-le c.put_dense-n.result c.put_dense-n.new.0 (omega (arith, c.put_dense-n.ensures.0, c.requires.described.0.short, c.requires.described.1)))
+    sym (length-take-le c.put_dense-n.result c.put_dense-n.new.out (omega (arith, c.put_dense-n.ensures.0, c.requires.described.0.short, c.requires.described.1)))
 
 pub count_to_fill-requires : goal.count_to_fill-requires
 count_to_fill-requires c =

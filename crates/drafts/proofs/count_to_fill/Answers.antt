@@ -10,7 +10,6 @@ use Rattle.dictionary.proofs.Granted.{mandatory-lists}
 use Rattle.drafts.specs.Drafts.{is_given}
 use Rattle.drafts.proofs.Listing.{key-lists}
 use Rattle.drafts.proofs.Giving.{parts-few, toFill-parts}
-use borrow.Author.Rules.{rules}
 use Rattle.drafts.proofs.count_to_fill.Goals as goal
 
 pub overflow_add-result : goal.overflow_add-result

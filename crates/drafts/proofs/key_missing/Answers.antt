@@ -9,7 +9,6 @@ use Rattle.requests.specs.Pairs.{pairs_at}
 use Rattle.drafts.specs.Giving.{onto}
 use Rattle.drafts.proofs.Listing.{key-lists}
 use Rattle.drafts.proofs.Giving.{names, key_left}
-use borrow.Author.Rules.{rules}
 use Rattle.drafts.proofs.key_missing.Goals as goal
 
 pub list-l-requires : goal.list-l-requires
@@ -18,7 +17,7 @@ list-l-requires c =
 
 pub give_list-more-requires : goal.give_list-more-requires
 give_list-more-requires c =
-    record { listed = (key (record_in c.args.d.now), c.list-l.ensures); described = (c.requires.described.0, omega (arith, c.scratch-1.given, c.requires.described.1)) }
+    record { listed = (key (record_in c.args.d.now), c.list-l.ensures); described = (c.requires.described.0, omega (arith, c.given_names-given.auto.scratch, c.requires.described.1)) }
 
 pub count_missing-requires : goal.count_missing-requires
 count_missing-requires c =

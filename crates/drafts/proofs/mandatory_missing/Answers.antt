@@ -7,7 +7,6 @@ use Rattle.records.specs.Walk.{record_in}
 use Rattle.requests.specs.Pairs.{pairs_at}
 use Rattle.dictionary.proofs.Granted.{mandatory-lists}
 use Rattle.drafts.proofs.Giving.{names, mandatory-left}
-use borrow.Author.Rules.{rules}
 use Rattle.drafts.proofs.mandatory_missing.Goals as goal
 
 pub list-l-requires : goal.list-l-requires

@@ -81,8 +81,8 @@ loop-rest-preserved c =
     let f = first_found s c.first_request-f.ensures c.in-Ends.is in
     let m : ℕ = length c.args.answers.now - c.loop-rest.i in
     let more = run_room m (requests_in s) q x f.2 c.loop-rest.invariant.4 in
-    let e : Edited = record { number = c.number.result; length = c.value_or-n.result; buffer = c.edit_judged-e.new.0 } in
-    let a : e ≡ edit_of c.loop-rest.buf c.loop-rest.n q = (λ j. record { number = c.number.ensures j; length = c.value_or-n.ensures j; buffer = c.edit_judged-e.new.0 }) ∙ ap (λ (y : Filled). edited_of c.loop-rest.n y) c.edit_judged-e.ensures in
+    let e : Edited = record { number = c.number.result; length = c.value_or-n.result; buffer = c.edit_judged-e.new.buf } in
+    let a : e ≡ edit_of c.loop-rest.buf c.loop-rest.n q = (λ j. record { number = c.number.ensures j; length = c.value_or-n.ensures j; buffer = c.edit_judged-e.new.buf }) ∙ ap (λ (y : Filled). edited_of c.loop-rest.n y) c.edit_judged-e.ensures in
     let less : m - 1 ≡ length c.args.answers.now - (c.loop-rest.i + 1) = omega arith in
     (omega (arith, c.loop-rest.invariant.0), number-stays c.loop-rest.buf c.loop-rest.n q c.args.k c.loop-rest.invariant.1 e a, omega (arith, c.loop-rest.invariant.2), simp length-set (omega (arith, c.loop-rest.invariant.3)), subst (λ (k : ℕ). is_run k x ≡ true) less (sym (run-goes m more (requests_in s) q x f.2) ∙ c.loop-rest.invariant.4), reached-more c.args.buf.now c.args.used (requests_in c.args.run.now) c.args.answers.now q x m c.loop-rest.i c.loop-rest.n c.loop-rest.buf c.loop-rest.answers (subst (λ (y : Option (List Bytes)). Reached c.args.buf.now c.args.used (requests_in c.args.run.now) c.args.answers.now y c.loop-rest.i c.loop-rest.n c.loop-rest.buf c.loop-rest.answers) f.2 c.loop-rest.invariant.5) (ap (is_run m) (sym f.2) ∙ c.loop-rest.invariant.4) (omega arith) e a)
 

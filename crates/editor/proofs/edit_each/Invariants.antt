@@ -11,7 +11,7 @@ use Rattle.editor.proofs.Running.{Reached}
 use Rattle.editor.proofs.edit_each.Given as goal
 
 abbrev pub invariant-loop-rest : goal.invariant-loop-rest
-invariant-loop-rest l = (length l.initial.n ≡ length l.answers) × (check_answer l.initial.rest l.initial.i ≡ l.initial.answers) × (length l.initial.rest ≡ length l.initial.buf) × (length l.rest ≡ length l.run) × (is_run (length l.run - l.i) (requests_in l.n) ≡ true) × Reached l.initial.buf l.buf (requests_in l.used) l.run (requests_in l.n) l.i l.initial.i l.initial.rest l.rest
+invariant-loop-rest l = (length l.copy ≡ length l.initial.copy) × (check_answer l.buf l.n ≡ l.k) × (length l.buf ≡ length l.initial.buf) × (length l.answers ≡ length l.initial.answers) × (is_run (length l.initial.answers - l.i) (requests_in l.rest) ≡ true) × Reached l.initial.buf l.used (requests_in l.run) l.initial.answers (requests_in l.rest) l.i l.n l.buf l.answers
 
 abbrev pub decreases-loop-rest : goal.decreases-loop-rest
-decreases-loop-rest l = length l.n
+decreases-loop-rest l = length l.rest

@@ -8,6 +8,7 @@ use Rattle.format.proofs.Judging.{text_no}
 use Rattle.format.proofs.Results.{raised_no, text-below}
 use Rattle.edits.specs.Splices.{made_by}
 use Rattle.editor.proofs.Making.{number-asked, number-raised, within-file}
+use mathlib.Core.Bool.{not}
 use Rattle.editor.proofs.edit_no.Goals as goal
 
 pub fits-requires : goal.fits-requires
@@ -17,17 +18,17 @@ fits-requires c =
 pub returns-then-not-fits : goal.returns-then-not-fits
 returns-then-not-fits c =
     let t : Bytes = made_by c.args.s.now c.args.req.now c.args.added.now c.args.x in
-    sym (number-asked c.args.room t c.fits.result c.fits.ensures ∙ ap (λ (b : Bool). pick b (raised_no (text_no t)) 26) (not-true c.fits.result c.if-not-fits.true))
+    sym (number-asked c.args.room t c.fits.result c.fits.ensures ∙ ap (λ (b : Bool). pick b (raised_no (text_no t)) 26) (not-true c.fits.result (ap not c.if-not-fits.true)))
 
 pub result_no-n-requires : goal.result_no-n-requires
 result_no-n-requires c =
     let t : Bytes = made_by c.args.s.now c.args.req.now c.args.added.now c.args.x in
-    record { file_bytes_in_bounds = c.requires.file_bytes_in_bounds; sound = c.requires.sound; s_len_bound = (c.requires.s_len_bound.1, within-file c.args.room t c.fits.result c.fits.ensures (not-false c.fits.result c.if-not-fits.false)) }
+    record { file_bytes_in_bounds = c.requires.file_bytes_in_bounds; sound = c.requires.sound; s_len_bound = (c.requires.s_len_bound.1, within-file c.args.room t c.fits.result c.fits.ensures (not-false c.fits.result (ap not c.if-not-fits.false))) }
 
 pub returns-then-n-eq0 : goal.returns-then-n-eq0
 returns-then-n-eq0 c =
     let t : Bytes = made_by c.args.s.now c.args.req.now c.args.added.now c.args.x in
-    sym (number-asked c.args.room t c.fits.result c.fits.ensures ∙ ap (λ (b : Bool). pick b (raised_no (text_no t)) 26) (not-false c.fits.result c.if-not-fits.false) ∙ ap raised_no (sym c.result_no-n.ensures ∙ c.if-n-eq0.true))
+    sym (number-asked c.args.room t c.fits.result c.fits.ensures ∙ ap (λ (b : Bool). pick b (raised_no (text_no t)) 26) (not-false c.fits.result (ap not c.if-not-fits.false)) ∙ ap raised_no (sym c.result_no-n.ensures ∙ c.if-n-eq0.true))
 
 pub overflow_add-result : goal.overflow_add-result
 overflow_add-result c =
@@ -36,4 +37,4 @@ overflow_add-result c =
 pub returns : goal.returns
 returns c =
     let t : Bytes = made_by c.args.s.now c.args.req.now c.args.added.now c.args.x in
-    number-raised c.result_no-n.result c.if-n-eq0.false ∙ ap raised_no c.result_no-n.ensures ∙ sym (number-asked c.args.room t c.fits.result c.fits.ensures ∙ ap (λ (b : Bool). pick b (raised_no (text_no t)) 26) (not-false c.fits.result c.if-not-fits.false))
+    number-raised c.result_no-n.result c.if-n-eq0.false ∙ ap raised_no c.result_no-n.ensures ∙ sym (number-asked c.args.room t c.fits.result c.fits.ensures ∙ ap (λ (b : Bool). pick b (raised_no (text_no t)) 26) (not-false c.fits.result (ap not c.if-not-fits.false)))

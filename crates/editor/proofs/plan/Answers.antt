@@ -31,4 +31,4 @@ locate-requires c =
 pub returns : goal.returns
 returns c =
     let e = ap (request_answer c.args.req.now) (sym c.in-Is.is) ∙ c.request_of-r.ensures.0 in
-    subst (λ (o : Option Request). planned_by o (take c.args.used c.args.buf.now) c.args.req.now c.locate.new.1.1.1.1.0 c.locate.result) e c.locate.ensures
+    subst (λ (o : Option Request). planned_by o (take c.args.used c.args.buf.now) c.args.req.now c.locate.new.added c.locate.result) e c.locate.ensures

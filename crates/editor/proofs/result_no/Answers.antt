@@ -8,12 +8,12 @@ use Rattle.editor.proofs.result_no.Goals as goal
 
 pub carry_out-n-requires : goal.carry_out-n-requires
 carry_out-n-requires c =
-    record { used_in_bounds = (omega arith, copied-sound c.args.s.now _ c.put_bytes.new.0 c.args.req.now c.args.added.now c.args.x c.put_bytes.ensures c.requires.sound); x_in_bounds = omega (arith, ap length (copied-made c.args.s.now _ c.put_bytes.new.0 c.args.req.now c.args.added.now c.args.x c.put_bytes.ensures), c.requires.file_bytes_in_bounds, c.requires.s_len_bound.1) }
+    record { used_in_bounds = (omega arith, copied-sound c.args.s.now _ c.put_bytes.new.out c.args.req.now c.args.added.now c.args.x c.put_bytes.ensures c.requires.sound); x_in_bounds = omega (arith, ap length (copied-made c.args.s.now _ c.put_bytes.new.out c.args.req.now c.args.added.now c.args.x c.put_bytes.ensures), c.requires.file_bytes_in_bounds, c.requires.s_len_bound.1) }
 
 pub judge_spent-requires : goal.judge_spent-requires
 judge_spent-requires c =
-    let n = c.carry_out-n.ensures.0 ∙ ap length (copied-made c.args.s.now _ c.put_bytes.new.0 c.args.req.now c.args.added.now c.args.x c.put_bytes.ensures) in ((omega (arith, n, c.requires.file_bytes_in_bounds, c.requires.s_len_bound.1), omega (arith, n, c.requires.s_len_bound.1)))
+    let n = c.carry_out-n.ensures.0 ∙ ap length (copied-made c.args.s.now _ c.put_bytes.new.out c.args.req.now c.args.added.now c.args.x c.put_bytes.ensures) in ((omega (arith, n, c.requires.file_bytes_in_bounds, c.requires.s_len_bound.1), omega (arith, n, c.requires.s_len_bound.1)))
 
 pub returns : goal.returns
 returns c =
-    c.judge_spent.ensures ∙ ap text_no (copied-judged c.args.s.now _ c.put_bytes.new.0 c.args.req.now c.args.added.now c.args.x c.put_bytes.ensures c.carry_out-n.result c.carry_out-n.new.1.0 c.carry_out-n.ensures.0 c.carry_out-n.ensures.1)
+    c.judge_spent.ensures ∙ ap text_no (copied-judged c.args.s.now _ c.put_bytes.new.out c.args.req.now c.args.added.now c.args.x c.put_bytes.ensures c.carry_out-n.result c.carry_out-n.new.buf c.carry_out-n.ensures.0 c.carry_out-n.ensures.1)

@@ -53,4 +53,4 @@ pub returns-in-At : goal.returns-in-At
 unfolding check_answer
 returns-in-At c =
     let p = subst (Planned (take c.args.used c.args.buf.now) c.args.req.now c.args.added.now) c.in-At.is c.requires.used_value.1 in
-    plan-done c.args.buf.now c.args.used c.requires.used_value.0 c.args.req.now c.args.added.now c.in-At.x p (sym c.if-n-ne0.false ∙ c.edit_no-n.ensures) c.carry_out-new.result c.carry_out-new.new.1.0 c.carry_out-new.ensures.0 c.carry_out-new.ensures.1
+    plan-done c.args.buf.now c.args.used c.requires.used_value.0 c.args.req.now c.args.added.now c.in-At.x p (sym c.if-n-ne0.false ∙ c.edit_no-n.ensures) c.carry_out-new.result c.carry_out-new.new.buf c.carry_out-new.ensures.0 c.carry_out-new.ensures.1

@@ -71,8 +71,7 @@ loop-row-preserved-then-leader-row c =
     let g = t.fits in
     let y = c.loop-row.invariant.2 in
     let z = c.if-entries-n-lt-VALUE.false in
-    let a = c.add_symbols-n.ensures in
-    (omega (arith, c.loop-row.invariant.0), omega (arith, c.loop-row-test.true), omega (arith, a.count, a.long, length-map (enum_in c.args.d.now (get_or c.args.texts.now c.loop-row.row 0)) (term_of c.loop-row.row)), a.long ∙ c.loop-row.invariant.3, (λ e. absurd (omega (arith, c.loop-row.invariant.0))), row_more c.args.d.now c.args.texts.now c.args.from c.args.to c.loop-row.row c.loop-row-test.true c.args.entries.now c.loop-row.entries c.loop-row.n c.loop-row.invariant.5 (first-is c.args.texts.now c.args.from c.loop-row.row c.if-v-lt-BYTES.true (sym c.leader.ensures.0 ∙ c.if-leader-row.true)) _ _ a)
+    (omega (arith, c.loop-row.invariant.0), omega (arith, c.loop-row-test.true), omega (arith, c.add_symbols-n.ensures.count, c.add_symbols-n.ensures.long, length-map (enum_in c.args.d.now (get_or c.args.texts.now c.loop-row.row 0)) (term_of c.loop-row.row)), c.add_symbols-n.ensures.long ∙ c.loop-row.invariant.3, (λ e. absurd (omega (arith, c.loop-row.invariant.0))), row_more c.args.d.now c.args.texts.now c.args.from c.args.to c.loop-row.row c.loop-row-test.true c.args.entries.now c.loop-row.entries c.loop-row.n c.loop-row.invariant.5 (first-is c.args.texts.now c.args.from c.loop-row.row c.if-v-lt-BYTES.true (sym c.leader.ensures.0 ∙ c.if-leader-row.true)) _ _ c.add_symbols-n.ensures)
 
 pub overflow_add-row-else-leader-row : goal.overflow_add-row-else-leader-row
 overflow_add-row-else-leader-row c =

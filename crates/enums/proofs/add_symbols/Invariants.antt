@@ -5,7 +5,7 @@ use Rattle.enums.proofs.Reading.{SymbolsLeft}
 use Rattle.enums.proofs.add_symbols.Given as goal
 
 abbrev pub invariant-loop-byte : goal.invariant-loop-byte
-invariant-loop-byte l = SymbolsLeft l.d l.initial.entries l.entries l.tag l.v l.k l.initial.at l.at
+invariant-loop-byte l = SymbolsLeft l.d l.initial.entries l.n l.tag l.v l.entries l.k l.at
 
 abbrev pub decreases-loop-byte : goal.decreases-loop-byte
 decreases-loop-byte l = length l.d - l.at

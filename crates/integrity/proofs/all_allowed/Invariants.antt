@@ -7,7 +7,7 @@ use Rattle.format.specs.Bytes.{is_allowed, all}
 use Rattle.integrity.proofs.all_allowed.Given as goal
 
 abbrev pub invariant-loop-i : goal.invariant-loop-i
-invariant-loop-i l = (l.initial.ok ≤ length l.s) × (all is_allowed l.s ≡ (l.ok && all is_allowed (drop l.initial.ok l.s)))
+invariant-loop-i l = (l.i ≤ length l.s) × (all is_allowed l.s ≡ (l.ok && all is_allowed (drop l.i l.s)))
 
 abbrev pub decreases-loop-i : goal.decreases-loop-i
-decreases-loop-i l = length l.s - l.initial.ok
+decreases-loop-i l = length l.s - l.i

@@ -11,6 +11,7 @@ use Rattle.format.proofs.Dense.{dense-text}
 use Rattle.format.proofs.Judging.{text_no}
 use Rattle.integrity.proofs.Staging.{text-no, text-ended, lines-no}
 use Rattle.integrity.proofs.Densing.{number-dense}
+use mathlib.Core.Bool.{not}
 use Rattle.integrity.proofs.judge_dense.Goals as goal
 
 pub slice_bounds-is_text-end-2 : goal.slice_bounds-is_text-end-2
@@ -19,7 +20,7 @@ slice_bounds-is_text-end-2 c =
 
 pub returns-then-not-is_text : goal.returns-then-not-is_text
 returns-then-not-is_text c =
-    text-no (take c.args.used c.args.text.now) (sym c.is_text.ensures ∙ not-true _ c.if-not-is_text.true)
+    text-no (take c.args.used c.args.text.now) (sym c.is_text.ensures ∙ not-true _ (ap not c.if-not-is_text.true))
 
 pub slice_bounds-is_readable-end-2 : goal.slice_bounds-is_readable-end-2
 slice_bounds-is_readable-end-2 c =
@@ -27,11 +28,11 @@ slice_bounds-is_readable-end-2 c =
 
 pub returns-then-not-is_readable : goal.returns-then-not-is_readable
 returns-then-not-is_readable c =
-    lines-no (take c.args.used c.args.text.now) (sym c.is_text.ensures ∙ not-false _ c.if-not-is_text.false) (sym c.is_readable.ensures ∙ not-true _ c.if-not-is_readable.true)
+    lines-no (take c.args.used c.args.text.now) (sym c.is_text.ensures ∙ not-false _ (ap not c.if-not-is_text.false)) (sym c.is_readable.ensures ∙ not-true _ (ap not c.if-not-is_readable.true))
 
 pub make_dense-n-requires : goal.make_dense-n-requires
 make_dense-n-requires c =
-    (c.requires.0, text-ended (take c.args.used c.args.text.now) (sym c.is_text.ensures ∙ not-false _ c.if-not-is_text.false))
+    (c.requires.0, text-ended (take c.args.used c.args.text.now) (sym c.is_text.ensures ∙ not-false _ (ap not c.if-not-is_text.false)))
 
 pub slice_bounds-judge_lines-end-2 : goal.slice_bounds-judge_lines-end-2
 slice_bounds-judge_lines-end-2 c =
@@ -39,8 +40,8 @@ slice_bounds-judge_lines-end-2 c =
 
 pub judge_lines-requires : goal.judge_lines-requires
 judge_lines-requires c =
-    record { s_value = subst (λ (s : Bytes). (all is_allowed s && is_ended s) ≡ true) (sym c.make_dense-n.ensures.2) (dense-text (take c.args.used c.args.text.now) (sym c.is_text.ensures ∙ not-false _ c.if-not-is_text.false)); s_len_bound = omega (arith, c.make_dense-n.ensures.0, c.make_dense-n.ensures.1 ∙ sym (ap length c.make_dense-n.ensures.2), c.requires.1) }
+    record { s_value = subst (λ (s : Bytes). (all is_allowed s && is_ended s) ≡ true) (sym c.make_dense-n.ensures.2) (dense-text (take c.args.used c.args.text.now) (sym c.is_text.ensures ∙ not-false _ (ap not c.if-not-is_text.false))); s_len_bound = omega (arith, c.make_dense-n.ensures.0, c.make_dense-n.ensures.1 ∙ sym (ap length c.make_dense-n.ensures.2), c.requires.1) }
 
 pub returns : goal.returns
 returns c =
-    c.judge_lines.ensures ∙ ap text_no c.make_dense-n.ensures.2 ∙ number-dense (take c.args.used c.args.text.now) (sym c.is_text.ensures ∙ not-false _ c.if-not-is_text.false) (sym c.is_readable.ensures ∙ not-false _ c.if-not-is_readable.false)
+    c.judge_lines.ensures ∙ ap text_no c.make_dense-n.ensures.2 ∙ number-dense (take c.args.used c.args.text.now) (sym c.is_text.ensures ∙ not-false _ (ap not c.if-not-is_text.false)) (sym c.is_readable.ensures ∙ not-false _ (ap not c.if-not-is_readable.false))

@@ -12,20 +12,20 @@ bounds_of-b-requires c =
 
 pub judge_described-requires : goal.judge_described-requires
 judge_described-requires c =
-    let rs = records (read_of c.args.s.now) in let t = subst (BoundedAs c.args.s.now c.bounds_of-b.new.1.0 c.bounds_of-b.new.1.1.0 c.bounds_of-b.new.1.1.1.0) c.in-Heads.is c.bounds_of-b.ensures in record { s_len_bound = c.requires.s_len_bound; s_value = (t.1, t.2); head_rows = (t.4, few-heads rs t.1 _ t.3) }
+    let rs = records (read_of c.args.s.now) in let t = subst (BoundedAs c.args.s.now c.bounds_of-b.new.starts c.bounds_of-b.new.ends c.bounds_of-b.new.afters) c.in-Heads.is c.bounds_of-b.ensures in record { s_len_bound = c.requires.s_len_bound; s_value = (t.1, t.2); head_rows = (t.4, few-heads rs t.1 _ t.3) }
 
 pub returns-in-Fault : goal.returns-in-Fault
 returns-in-Fault c =
-    let rs = records (read_of c.args.s.now) in let t = subst (BoundedAs c.args.s.now c.bounds_of-b.new.1.0 c.bounds_of-b.new.1.1.0 c.bounds_of-b.new.1.1.1.0) c.in-Fault.is c.bounds_of-b.ensures in lines-no c.args.s.now c.requires.s_value t
+    let rs = records (read_of c.args.s.now) in let t = subst (BoundedAs c.args.s.now c.bounds_of-b.new.starts c.bounds_of-b.new.ends c.bounds_of-b.new.afters) c.in-Fault.is c.bounds_of-b.ensures in lines-no c.args.s.now c.requires.s_value t
 
 pub returns-in-Past : goal.returns-in-Past
 returns-in-Past c =
-    let rs = records (read_of c.args.s.now) in let t = subst (BoundedAs c.args.s.now c.bounds_of-b.new.1.0 c.bounds_of-b.new.1.1.0 c.bounds_of-b.new.1.1.1.0) c.in-Past.is c.bounds_of-b.ensures in limits-no rs t.1 ∙ sym (text-records c.args.s.now c.requires.s_value t.0)
+    let rs = records (read_of c.args.s.now) in let t = subst (BoundedAs c.args.s.now c.bounds_of-b.new.starts c.bounds_of-b.new.ends c.bounds_of-b.new.afters) c.in-Past.is c.bounds_of-b.ensures in limits-no rs t.1 ∙ sym (text-records c.args.s.now c.requires.s_value t.0)
 
 pub returns-in-Unnamed : goal.returns-in-Unnamed
 returns-in-Unnamed c =
-    let rs = records (read_of c.args.s.now) in let t = subst (BoundedAs c.args.s.now c.bounds_of-b.new.1.0 c.bounds_of-b.new.1.1.0 c.bounds_of-b.new.1.1.1.0) c.in-Unnamed.is c.bounds_of-b.ensures in once-no rs t.1 t.2 ∙ sym (text-records c.args.s.now c.requires.s_value t.0)
+    let rs = records (read_of c.args.s.now) in let t = subst (BoundedAs c.args.s.now c.bounds_of-b.new.starts c.bounds_of-b.new.ends c.bounds_of-b.new.afters) c.in-Unnamed.is c.bounds_of-b.ensures in once-no rs t.1 t.2 ∙ sym (text-records c.args.s.now c.requires.s_value t.0)
 
 pub returns-in-Heads : goal.returns-in-Heads
 returns-in-Heads c =
-    let rs = records (read_of c.args.s.now) in let t = subst (BoundedAs c.args.s.now c.bounds_of-b.new.1.0 c.bounds_of-b.new.1.1.0 c.bounds_of-b.new.1.1.1.0) c.in-Heads.is c.bounds_of-b.ensures in c.judge_described.ensures ∙ sym (text-records c.args.s.now c.requires.s_value t.0)
+    let rs = records (read_of c.args.s.now) in let t = subst (BoundedAs c.args.s.now c.bounds_of-b.new.starts c.bounds_of-b.new.ends c.bounds_of-b.new.afters) c.in-Heads.is c.bounds_of-b.ensures in c.judge_described.ensures ∙ sym (text-records c.args.s.now c.requires.s_value t.0)

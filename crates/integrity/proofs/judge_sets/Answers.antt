@@ -58,7 +58,7 @@ judge_set-n-requires c =
 
 pub loop-k-preserved : goal.loop-k-preserved
 loop-k-preserved c =
-    (sets-on c.loop-k.invariant.0 c.loop-k-test.true c.members_end-next.result c.members_end-next.ensures c.judge_set-n.result c.lesser-worst.result c.judge_set-n.ensures c.lesser-worst.ensures, omega (arith, c.scratch-1.given, c.loop-k.invariant.1), omega (arith, c.entries-in-loop-k-1.given, c.loop-k.invariant.2))
+    (sets-on c.loop-k.invariant.0 c.loop-k-test.true c.members_end-next.result c.members_end-next.ensures c.judge_set-n.result c.lesser-worst.result c.judge_set-n.ensures c.lesser-worst.ensures, omega (arith, c.judge_set-n.auto.scratch, c.loop-k.invariant.1), omega (arith, c.judge_set-n.auto.entries, c.loop-k.invariant.2))
 
 pub shape_of-scratch : goal.shape_of-scratch
 shape_of-scratch c =

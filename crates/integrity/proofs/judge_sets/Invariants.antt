@@ -7,7 +7,7 @@ use Rattle.integrity.proofs.Granting.{SetsAt}
 use Rattle.integrity.proofs.judge_sets.Given as goal
 
 abbrev pub invariant-loop-k : goal.invariant-loop-k
-invariant-loop-k l = SetsAt l.s l.starts l.ends l.afters l.count l.initial.worst l.worst × (length l.initial.k ≡ length l.initial.scratch) × (length l.k ≡ 16384)
+invariant-loop-k l = SetsAt l.s l.starts l.ends l.afters l.count l.k l.worst × (length l.scratch ≡ length l.initial.scratch) × (length l.entries ≡ 16384)
 
 abbrev pub decreases-loop-k : goal.decreases-loop-k
-decreases-loop-k l = l.count - l.initial.worst
+decreases-loop-k l = l.count - l.k

@@ -11,6 +11,7 @@ use Rattle.format.proofs.Limits.{rules-few}
 use Rattle.records.specs.Walk.{record_in}
 use Rattle.integrity.proofs.Granting.{defined-part}
 use Rattle.integrity.proofs.Holding.{values-fit}
+use mathlib.Core.Bool.{not}
 use Rattle.integrity.proofs.typed_well.Goals as goal
 
 pub types_well-requires : goal.types_well-requires
@@ -23,14 +24,14 @@ types_well-requires c =
 pub returns-then-not-types_well : goal.returns-then-not-types_well
 returns-then-not-types_well c =
     let d = record_in c.args.d.now in
-    sym (ap (λ (b : Bool). b && autos_counted int_bounds d) (sym c.types_well.ensures ∙ not-true c.types_well.result c.if-not-types_well.true))
+    sym (ap (λ (b : Bool). b && autos_counted int_bounds d) (sym c.types_well.ensures ∙ not-true c.types_well.result (ap not c.if-not-types_well.true)))
 
 pub autos_counted-requires : goal.autos_counted-requires
 autos_counted-requires c =
-    (defined-part c.args.d.now c.requires.formed.0 c.requires.formed.1 (sym c.types_well.ensures ∙ not-false c.types_well.result c.if-not-types_well.false), omega (arith, c.scratch-1.given, c.requires.value_bytes_in_bounds))
+    (defined-part c.args.d.now c.requires.formed.0 c.requires.formed.1 (sym c.types_well.ensures ∙ not-false c.types_well.result (ap not c.if-not-types_well.false)), omega (arith, c.types_well.auto.scratch, c.requires.value_bytes_in_bounds))
 
 pub returns : goal.returns
 returns c =
     let d = record_in c.args.d.now in
     c.autos_counted.ensures
-    ∙ sym (ap (λ (b : Bool). b && autos_counted int_bounds d) (sym c.types_well.ensures ∙ not-false c.types_well.result c.if-not-types_well.false))
+    ∙ sym (ap (λ (b : Bool). b && autos_counted int_bounds d) (sym c.types_well.ensures ∙ not-false c.types_well.result (ap not c.if-not-types_well.false)))

@@ -5,6 +5,8 @@ use mathlib.Core.Path.{refl}
 use lib.ListN.{get_or}
 use Rattle.words.proofs.Spans.{span-length}
 use Rattle.integrity.proofs.Granting.{types-start, types-end, types-row, types-formed, types-stop, types-on}
+use mathlib.Core.Bool.{not}
+use mathlib.Core.Path.{ap}
 use Rattle.integrity.proofs.types_defined.Goals as goal
 
 pub loop-k-init : goal.loop-k-init
@@ -41,15 +43,15 @@ typed_well-requires c =
 
 pub shape_of-scratch-then-not-typed_well : goal.shape_of-scratch-then-not-typed_well
 shape_of-scratch-then-not-typed_well c =
-    omega (arith, c.scratch-1.given, c.loop-k.invariant.1)
+    omega (arith, c.typed_well.auto.scratch, c.loop-k.invariant.1)
 
 pub returns-then-not-typed_well : goal.returns-then-not-typed_well
 returns-then-not-typed_well c =
-    types-stop c.loop-k.invariant.0 c.loop-k-test.true c.typed_well.result c.typed_well.ensures (not-true c.typed_well.result c.if-not-typed_well.true)
+    types-stop c.loop-k.invariant.0 c.loop-k-test.true c.typed_well.result c.typed_well.ensures (not-true c.typed_well.result (ap not c.if-not-typed_well.true))
 
 pub loop-k-preserved : goal.loop-k-preserved
 loop-k-preserved c =
-    (types-on c.loop-k.invariant.0 c.loop-k-test.true c.typed_well.result c.typed_well.ensures (not-false c.typed_well.result c.if-not-typed_well.false), omega (arith, c.scratch-1.given, c.loop-k.invariant.1))
+    (types-on c.loop-k.invariant.0 c.loop-k-test.true c.typed_well.result c.typed_well.ensures (not-false c.typed_well.result (ap not c.if-not-typed_well.false)), omega (arith, c.typed_well.auto.scratch, c.loop-k.invariant.1))
 
 pub shape_of-scratch : goal.shape_of-scratch
 shape_of-scratch c =

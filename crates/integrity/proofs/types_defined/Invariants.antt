@@ -6,7 +6,7 @@ use Rattle.integrity.proofs.Granting.{TypesAt}
 use Rattle.integrity.proofs.types_defined.Given as goal
 
 abbrev pub invariant-loop-k : goal.invariant-loop-k
-invariant-loop-k l = TypesAt l.s l.starts l.ends l.count l.k × (length l.initial.k ≡ length l.initial.scratch)
+invariant-loop-k l = TypesAt l.s l.starts l.ends l.count l.k × (length l.scratch ≡ length l.initial.scratch)
 
 abbrev pub decreases-loop-k : goal.decreases-loop-k
 decreases-loop-k l = l.count - l.k

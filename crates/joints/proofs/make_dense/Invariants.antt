@@ -5,7 +5,7 @@ use Rattle.joints.proofs.Joints.{DenseAt}
 use Rattle.joints.proofs.make_dense.Given as goal
 
 abbrev pub invariant-loop-i : goal.invariant-loop-i
-invariant-loop-i l = DenseAt l.initial.text l.text l.i l.initial.n l.n
+invariant-loop-i l = DenseAt l.initial.text l.used l.text l.i l.n
 
 abbrev pub decreases-loop-i : goal.decreases-loop-i
-decreases-loop-i l = l.text - l.initial.n
+decreases-loop-i l = l.used - l.i

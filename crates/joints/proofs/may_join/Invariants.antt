@@ -4,7 +4,7 @@ use lib.ListN.{length}
 use Rattle.joints.proofs.may_join.Given as goal
 
 abbrev pub invariant-loop-i : goal.invariant-loop-i
-invariant-loop-i l = 1 ≤ l.initial.found
+invariant-loop-i l = 1 ≤ l.i
 
 abbrev pub decreases-loop-i : goal.decreases-loop-i
-decreases-loop-i l = length l.s - l.initial.found
+decreases-loop-i l = length l.s - l.i

@@ -17,12 +17,12 @@ distinct_pairs-requires c =
 
 pub returns-in-Equal : goal.returns-in-Equal
 returns-in-Equal c =
-    let d = distinct (marks_of c.args.s.now c.sort.new.1.0) in
+    let d = distinct (marks_of c.args.s.now c.sort.new.entries) in
     sym (subst (λ (r : Compared). Tells r d) c.in-Equal.is c.neighbours-c.ensures) ∙ moved-distinct (mark_at c.args.s.now) c.sort.ensures
 
 pub returns-in-Before : goal.returns-in-Before
 returns-in-Before c =
-    let d = distinct (marks_of c.args.s.now c.sort.new.1.0) in
+    let d = distinct (marks_of c.args.s.now c.sort.new.entries) in
     sym (subst (λ (r : Compared). Tells r d) c.in-Before.is c.neighbours-c.ensures) ∙ moved-distinct (mark_at c.args.s.now) c.sort.ensures
 
 pub returns-in-Behind : goal.returns-in-Behind

@@ -13,5 +13,4 @@ pub returns : goal.returns
 unfolding print_of
 returns c =
     let p : c.narrow-p.result / 65536 ≡ print_of (value_from (drop c.args.at c.args.s.now)) = ap (λ (z : ℕ). z / 65536) (c.narrow-p.ensures ∙ c.mix.ensures.0 ∙ ap (mixed 2166136261) (text-whole c.args.s.now c.args.at)) in
-    let q = c.narrow.ensures in
     omega arith

@@ -6,7 +6,7 @@ use Rattle.keys.proofs.Gathering.{Enters}
 use Rattle.keys.proofs.gather.Given as goal
 
 abbrev pub invariant-loop-value : goal.invariant-loop-value
-invariant-loop-value l = (length l.i ≡ length l.initial.entries) × (l.n ≤ l.initial.n) × Enters l.name l.s l.i l.n l.initial.n
+invariant-loop-value l = (length l.entries ≡ length l.initial.entries) × (l.n ≤ l.i) × Enters l.name l.s l.entries l.n l.i
 
 abbrev pub decreases-loop-value : goal.decreases-loop-value
-decreases-loop-value l = length l.s - l.initial.n
+decreases-loop-value l = length l.s - l.i

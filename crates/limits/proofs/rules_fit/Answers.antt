@@ -13,8 +13,7 @@ use Rattle.limits.proofs.rules_fit.Goals as goal
 
 pub loop-start-init : goal.loop-start-init
 loop-start-init c =
-    let e = c.new-c.ensures in
-    (omega arith, c.requires.d_value, omega (arith, e.0, e.1, e.2, e.3, e.4, e.5, e.6, e.7), ap (λ (x : Descriptor). count_from x (fields_of (read_of c.args.d.now))) (counts-path no_counts c.new-c.result (sym e.0) (sym e.1) (sym e.2) (sym e.3) (sym e.4) (sym e.5) (sym e.6) (sym e.7)))
+    (omega arith, c.requires.d_value, omega (arith, c.new-c.ensures.0, c.new-c.ensures.1, c.new-c.ensures.2, c.new-c.ensures.3, c.new-c.ensures.4, c.new-c.ensures.5, c.new-c.ensures.6, c.new-c.ensures.7), ap (λ (x : Descriptor). count_from x (fields_of (read_of c.args.d.now))) (counts-path no_counts c.new-c.result (sym c.new-c.ensures.0) (sym c.new-c.ensures.1) (sym c.new-c.ensures.2) (sym c.new-c.ensures.3) (sym c.new-c.ensures.4) (sym c.new-c.ensures.5) (sym c.new-c.ensures.6) (sym c.new-c.ensures.7)))
 
 pub next_field-n-requires : goal.next_field-n-requires
 next_field-n-requires c =
@@ -91,8 +90,7 @@ loop-start-smaller c =
 
 pub loop-start-preserved : goal.loop-start-preserved
 loop-start-preserved c =
-    let g = c.n-1.given in
     let f = next-told c.args.d.now c.loop-start.i c.next_field-n.result c.next_field-n.ensures c.in-At.is in
     let i = c.loop-start.i in
-    let rest = fields_from c.args.d.now (i + g.0.1.1.1.0) in
-    (f.inside, f.readable, omega (arith, c.loop-start.invariant.2, c.counted-c.ensures.1, span-length c.args.d.now _ _ f.value-inside f.inside, f.begins, f.moves, f.value-behind), c.loop-start.invariant.3 ∙ ap (count_from c.loop-start.c) f.fields ∙ count-on c.loop-start.c (field_between c.args.d.now (i + g.0.0) (i + g.0.1.0) (i + g.0.1.1.0) (i + g.0.1.1.1.0)) rest ∙ ap (λ (x : Descriptor). count_from x rest) (sym c.counted-c.ensures.0))
+    let rest = fields_from c.args.d.now (i + c.in-At.end) in
+    (f.inside, f.readable, omega (arith, c.loop-start.invariant.2, c.counted-c.ensures.1, span-length c.args.d.now _ _ f.value-inside f.inside, f.begins, f.moves, f.value-behind), c.loop-start.invariant.3 ∙ ap (count_from c.loop-start.c) f.fields ∙ count-on c.loop-start.c (field_between c.args.d.now (i + c.in-At.start) (i + c.in-At.named) (i + c.in-At.value) (i + c.in-At.end)) rest ∙ ap (λ (x : Descriptor). count_from x rest) (sym c.counted-c.ensures.0))

@@ -13,7 +13,7 @@ use Rattle.limits.proofs.Tallies.{count_from, no_counts}
 use Rattle.limits.proofs.rules_fit.Given as goal
 
 abbrev pub invariant-loop-start : goal.invariant-loop-start
-invariant-loop-start l = (l.initial.c ≤ length l.d) × (is_readable (drop l.initial.c l.d) ≡ true) × (total l.c ≤ 2 * l.initial.c) × (count_from no_counts (fields_of (read_of l.d)) ≡ count_from l.c (fields_from l.d l.initial.c))
+invariant-loop-start l = (l.i ≤ length l.d) × (is_readable (drop l.i l.d) ≡ true) × (total l.c ≤ 2 * l.i) × (count_from no_counts (fields_of (read_of l.d)) ≡ count_from l.c (fields_from l.d l.i))
 
 abbrev pub decreases-loop-start : goal.decreases-loop-start
-decreases-loop-start l = length l.d - l.initial.c
+decreases-loop-start l = length l.d - l.i

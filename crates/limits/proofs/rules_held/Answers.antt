@@ -11,6 +11,7 @@ use Rattle.words.proofs.Spans.{span-length}
 use Rattle.records.specs.Heads.{row_from}
 use Rattle.records.proofs.Cuts.{records_from}
 use Rattle.records.proofs.Rows.{row-heads}
+use mathlib.Core.Bool.{not}
 use Rattle.limits.proofs.rules_held.Goals as goal
 
 pub loop-k-init : goal.loop-k-init
@@ -43,11 +44,11 @@ rules_fit-requires c =
 
 pub returns-then-not-rules_fit : goal.returns-then-not-rules_fit
 returns-then-not-rules_fit c =
-    sym (c.loop-k.invariant.2 ∙ ap (all fits_rules) (row-heads c.loop-k.invariant.0.1 c.loop-k.k c.loop-k-test.true) ∙ ap (λ (b : Bool). b && all fits_rules (heads (records_from c.args.s.now (row_from c.loop-k.invariant.0.0 (c.loop-k.k + 1))))) (sym c.rules_fit.ensures ∙ not-true c.rules_fit.result c.if-not-rules_fit.true))
+    sym (c.loop-k.invariant.2 ∙ ap (all fits_rules) (row-heads c.loop-k.invariant.0.1 c.loop-k.k c.loop-k-test.true) ∙ ap (λ (b : Bool). b && all fits_rules (heads (records_from c.args.s.now (row_from c.loop-k.invariant.0.0 (c.loop-k.k + 1))))) (sym c.rules_fit.ensures ∙ not-true c.rules_fit.result (ap not c.if-not-rules_fit.true)))
 
 pub loop-k-preserved : goal.loop-k-preserved
 loop-k-preserved c =
-    (c.loop-k.invariant.0, omega (arith, c.loop-k-test.true), c.loop-k.invariant.2 ∙ ap (all fits_rules) (row-heads c.loop-k.invariant.0.1 c.loop-k.k c.loop-k-test.true) ∙ ap (λ (b : Bool). b && all fits_rules (heads (records_from c.args.s.now (row_from c.loop-k.invariant.0.0 (c.loop-k.k + 1))))) (sym c.rules_fit.ensures ∙ not-false c.rules_fit.result c.if-not-rules_fit.false))
+    (c.loop-k.invariant.0, omega (arith, c.loop-k-test.true), c.loop-k.invariant.2 ∙ ap (all fits_rules) (row-heads c.loop-k.invariant.0.1 c.loop-k.k c.loop-k-test.true) ∙ ap (λ (b : Bool). b && all fits_rules (heads (records_from c.args.s.now (row_from c.loop-k.invariant.0.0 (c.loop-k.k + 1))))) (sym c.rules_fit.ensures ∙ not-false c.rules_fit.result (ap not c.if-not-rules_fit.false)))
 
 pub returns : goal.returns
 returns c =

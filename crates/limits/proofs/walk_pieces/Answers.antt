@@ -15,6 +15,7 @@ use Rattle.limits.specs.declared.Open.{Open}
 use Rattle.limits.proofs.Opens.{one-most, none-most}
 use Rattle.limits.proofs.Runs.{stop-blank, stop-end}
 use Rattle.limits.proofs.Walked.{Walked, Shut, walked_none, walked-comment, walked-past, walked-field, walked-blank, walked_end, field_told, field-few, past-scanned}
+use mathlib.Core.Bool.{not}
 use Rattle.limits.proofs.walk_pieces.Goals as goal
 
 pub loop-size-init : goal.loop-size-init
@@ -87,7 +88,7 @@ shape_of-afters-then-not-field_fits c =
 
 pub returns-then-not-field_fits : goal.returns-then-not-field_fits
 returns-then-not-field_fits c =
-    let p = (looks c.args.s.now c.loop-size.i c.next_piece-n.result c.requires.s_value.0 c.next_piece-n.ensures c.in-Field.is) in let g = c.n-in-Field-1.given.0 in past-scanned c.args.s.now c.loop-size.starts c.loop-size.ends c.loop-size.afters c.past.result (c.loop-size.i + g.1.1.0) (c.loop-size.invariant.1 ∙ p.0) c.past.ensures (λ r. walked-past (c.loop-size.invariant.8 r) g.0 g.1.0 g.1.1.0 (steps c.args.s.now c.loop-size.i c.next_piece-n.result (sym c.loop-size.invariant.1 ∙ r) c.next_piece-n.ensures c.in-Field.is) c.field_fits.result c.field_fits.ensures (not-true c.field_fits.result c.if-not-field_fits.true))
+    let p = (looks c.args.s.now c.loop-size.i c.next_piece-n.result c.requires.s_value.0 c.next_piece-n.ensures c.in-Field.is) in let g = c.next_piece-n.auto.n in past-scanned c.args.s.now c.loop-size.starts c.loop-size.ends c.loop-size.afters c.past.result (c.loop-size.i + g.1.1.0) (c.loop-size.invariant.1 ∙ p.0) c.past.ensures (λ r. walked-past (c.loop-size.invariant.8 r) g.0 g.1.0 g.1.1.0 (steps c.args.s.now c.loop-size.i c.next_piece-n.result (sym c.loop-size.invariant.1 ∙ r) c.next_piece-n.ensures c.in-Field.is) c.field_fits.result c.field_fits.ensures (not-true c.field_fits.result (ap not c.if-not-field_fits.true)))
 
 pub slice_bounds-with_field-count : goal.slice_bounds-with_field-count
 slice_bounds-with_field-count c =
@@ -111,9 +112,9 @@ loop-size-smaller-in-Field c =
 
 pub loop-size-preserved-in-Field : goal.loop-size-preserved-in-Field
 loop-size-preserved-in-Field c =
-    let p = (looks c.args.s.now c.loop-size.i c.next_piece-n.result c.requires.s_value.0 c.next_piece-n.ensures c.in-Field.is) in let g = c.n-in-Field-1.given.0 in let e = c.with_field-o.ensures in
-    let few = field-few c.loop-size.o.fields (leb g.0 name_bytes) (leb (length (value_from (take ((c.loop-size.i + g.1.1.0) - (c.loop-size.i + g.1.0)) (drop (c.loop-size.i + g.1.0) c.args.s.now)))) value_bytes) c.field_fits.result c.field_fits.ensures (not-false c.field_fits.result c.if-not-field_fits.false) in
-    (p.2, c.loop-size.invariant.1 ∙ p.0, omega (arith, ap (λ (x : Open). x.fields) e, few), omega (arith, ap (λ (x : Open). x.fields) e, ap (λ (x : Open). x.recs) e, c.loop-size.invariant.3, one-most (same (text "%rec") (take ((c.loop-size.i + g.0) - c.loop-size.i) (drop c.loop-size.i c.args.s.now)))), omega (arith, c.loop-size.invariant.4), c.loop-size.invariant.5, c.loop-size.invariant.6, c.loop-size.invariant.7, λ r. walked-field (c.loop-size.invariant.8 r) g.0 g.1.0 g.1.1.0 (steps c.args.s.now c.loop-size.i c.next_piece-n.result (sym c.loop-size.invariant.1 ∙ r) c.next_piece-n.ensures c.in-Field.is) c.field_fits.result c.field_fits.ensures (not-false c.field_fits.result c.if-not-field_fits.false) c.with_field-o.result e)
+    let p = (looks c.args.s.now c.loop-size.i c.next_piece-n.result c.requires.s_value.0 c.next_piece-n.ensures c.in-Field.is) in let g = c.next_piece-n.auto.n in let e = c.with_field-o.ensures in
+    let few = field-few c.loop-size.o.fields (leb g.0 name_bytes) (leb (length (value_from (take ((c.loop-size.i + g.1.1.0) - (c.loop-size.i + g.1.0)) (drop (c.loop-size.i + g.1.0) c.args.s.now)))) value_bytes) c.field_fits.result c.field_fits.ensures (not-false c.field_fits.result (ap not c.if-not-field_fits.false)) in
+    (p.2, c.loop-size.invariant.1 ∙ p.0, omega (arith, ap (λ (x : Open). x.fields) e, few), omega (arith, ap (λ (x : Open). x.fields) e, ap (λ (x : Open). x.recs) e, c.loop-size.invariant.3, one-most (same (text "%rec") (take ((c.loop-size.i + g.0) - c.loop-size.i) (drop c.loop-size.i c.args.s.now)))), omega (arith, c.loop-size.invariant.4), c.loop-size.invariant.5, c.loop-size.invariant.6, c.loop-size.invariant.7, λ r. walked-field (c.loop-size.invariant.8 r) g.0 g.1.0 g.1.1.0 (steps c.args.s.now c.loop-size.i c.next_piece-n.result (sym c.loop-size.invariant.1 ∙ r) c.next_piece-n.ensures c.in-Field.is) c.field_fits.result c.field_fits.ensures (not-false c.field_fits.result (ap not c.if-not-field_fits.false)) c.with_field-o.result e)
 
 pub count_head-count-requires : goal.count_head-count-requires
 count_head-count-requires c =
@@ -135,13 +136,13 @@ loop-size-preserved c =
       omega (arith, ap (λ (x : Open). x.fields) u),
       omega (arith, ap (λ (x : Open). x.fields) u, ap (λ (x : Open). x.recs) u),
       omega (arith, c.loop-size.invariant.4, c.count_head-count.ensures.value, none-most (eqb c.loop-size.o.recs 0), p.1),
-      c.starts-1.given ∙ c.loop-size.invariant.5,
-      c.ends-1.given ∙ c.loop-size.invariant.6,
-      c.afters-1.given ∙ c.loop-size.invariant.7,
+      c.count_head-count.auto.starts ∙ c.loop-size.invariant.5,
+      c.count_head-count.auto.ends ∙ c.loop-size.invariant.6,
+      c.count_head-count.auto.afters ∙ c.loop-size.invariant.7,
       λ r.
           let w = c.loop-size.invariant.8 r in
           let q = steps c.args.s.now c.loop-size.i c.next_piece-n.result (sym c.loop-size.invariant.1 ∙ r) c.next_piece-n.ensures c.in-Blank.is in
-          let z : Shut w c.count_head-count.result c.is_once-here.result c.count_head-count.new.1.1.1.0 c.count_head-count.new.1.1.1.1.0 c.count_head-count.new.1.1.1.1.1.0 = record {
+          let z : Shut w c.count_head-count.result c.is_once-here.result c.count_head-count.new.starts c.count_head-count.new.ends c.count_head-count.new.afters = record {
             few = c.loop-size.invariant.2;
             once-told = c.is_once-here.ensures;
             number = c.count_head-count.ensures.value;
@@ -159,22 +160,22 @@ count_head-all-requires c =
 
 pub shape_of-starts-in-End : goal.shape_of-starts-in-End
 shape_of-starts-in-End c =
-    c.starts-in-End-1.given ∙ c.loop-size.invariant.5
+    c.count_head-all.auto.starts ∙ c.loop-size.invariant.5
 
 pub shape_of-ends-in-End : goal.shape_of-ends-in-End
 shape_of-ends-in-End c =
-    c.ends-in-End-1.given ∙ c.loop-size.invariant.6
+    c.count_head-all.auto.ends ∙ c.loop-size.invariant.6
 
 pub shape_of-afters-in-End : goal.shape_of-afters-in-End
 shape_of-afters-in-End c =
-    c.afters-in-End-1.given ∙ c.loop-size.invariant.7
+    c.count_head-all.auto.afters ∙ c.loop-size.invariant.7
 
 pub returns-in-End : goal.returns-in-End
 returns-in-End c =
     let y = (looks c.args.s.now c.loop-size.i c.next_piece-n.result c.requires.s_value.0 c.next_piece-n.ensures c.in-End.is) in let r = c.loop-size.invariant.1 ∙ y in
     let w = c.loop-size.invariant.8 r in
     let q = steps c.args.s.now c.loop-size.i c.next_piece-n.result (sym c.loop-size.invariant.1 ∙ r) c.next_piece-n.ensures c.in-End.is in
-    let z : Shut w c.count_head-all.result c.is_once-here-in-End.result c.count_head-all.new.1.1.1.0 c.count_head-all.new.1.1.1.1.0 c.count_head-all.new.1.1.1.1.1.0 = record {
+    let z : Shut w c.count_head-all.result c.is_once-here-in-End.result c.count_head-all.new.starts c.count_head-all.new.ends c.count_head-all.new.afters = record {
       few = c.loop-size.invariant.2;
       once-told = c.is_once-here-in-End.ensures;
       number = c.count_head-all.ensures.value;

@@ -10,7 +10,7 @@ use Rattle.limits.proofs.Walked.{Walked}
 use Rattle.limits.proofs.walk_pieces.Given as goal
 
 abbrev pub invariant-loop-size : goal.invariant-loop-size
-invariant-loop-size l = (l.initial.count ≤ length l.s) × (is_readable l.s ≡ is_readable (drop l.initial.count l.s)) × (l.count.fields ≤ record_fields) × (l.count.recs ≤ l.count.fields) × (l.initial.once ≤ l.initial.count) × (length l.i ≡ length l.initial.starts) × (length l.initial.o ≡ length l.starts) × (length l.o ≡ length l.initial.ends) × (is_readable l.s ≡ true → Walked l.s l.initial.count l.count l.initial.once l.once l.i l.initial.o l.o)
+invariant-loop-size l = (l.i ≤ length l.s) × (is_readable l.s ≡ is_readable (drop l.i l.s)) × (l.o.fields ≤ record_fields) × (l.o.recs ≤ l.o.fields) × (l.count ≤ l.i) × (length l.starts ≡ length l.initial.starts) × (length l.ends ≡ length l.initial.ends) × (length l.afters ≡ length l.initial.afters) × (is_readable l.s ≡ true → Walked l.s l.i l.o l.count l.once l.starts l.ends l.afters)
 
 abbrev pub decreases-loop-size : goal.decreases-loop-size
-decreases-loop-size l = length l.s - l.initial.count
+decreases-loop-size l = length l.s - l.i

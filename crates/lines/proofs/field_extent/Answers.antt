@@ -6,6 +6,8 @@ use lib.Dec.{eqb}
 use lib.ListN.{length, get_or}
 use Rattle.lines.proofs.Cuts.{line-le, line-inside, line-at-inside}
 use Rattle.lines.proofs.Extents.{extent-step, extent-end, extent-plus, extent-past, extent-from, newline-before}
+use mathlib.Core.Bool.{not}
+use mathlib.Core.Path.{ap}
 use Rattle.lines.proofs.field_extent.Goals as goal
 
 pub loop-i-init : goal.loop-i-init
@@ -46,7 +48,7 @@ bounds-s-i c =
 
 pub returns-then-s-i-ne43 : goal.returns-then-s-i-ne43
 returns-then-s-i-ne43 c =
-    rw (c.loop-i.invariant.3, extent-past c.args.s.now c.loop-i.i c.line_end-e.result c.loop-i.invariant.0 c.loop-i.invariant.1 c.loop-i.invariant.2 c.line_end-e.ensures.0, not-true (eqb (get_or c.args.s.now (c.line_end-e.result - 1) 0) 92) c.if-not-taken.true, extent-step c.args.s.now false (c.line_end-e.result + 1) (omega (arith, c.line_end-e.ensures.0, c.if-i-s.false, line-at-inside c.args.s.now c.loop-i.i c.requires.s_value c.loop-i.invariant.0)), ne_eqb _ _ c.if-s-i-ne43.true)
+    rw (c.loop-i.invariant.3, extent-past c.args.s.now c.loop-i.i c.line_end-e.result c.loop-i.invariant.0 c.loop-i.invariant.1 c.loop-i.invariant.2 c.line_end-e.ensures.0, not-true (eqb (get_or c.args.s.now (c.line_end-e.result - 1) 0) 92) (ap not c.if-not-taken.true), extent-step c.args.s.now false (c.line_end-e.result + 1) (omega (arith, c.line_end-e.ensures.0, c.if-i-s.false, line-at-inside c.args.s.now c.loop-i.i c.requires.s_value c.loop-i.invariant.0)), ne_eqb _ _ c.if-s-i-ne43.true)
 
 pub loop-i-smaller-else-s-i-ne43 : goal.loop-i-smaller-else-s-i-ne43
 loop-i-smaller-else-s-i-ne43 c =
@@ -55,7 +57,7 @@ loop-i-smaller-else-s-i-ne43 c =
 pub loop-i-preserved-else-s-i-ne43 : goal.loop-i-preserved-else-s-i-ne43
 loop-i-preserved-else-s-i-ne43 c =
     let h : c.line_end-e.result + 1 < length c.args.s.now = omega (arith, c.line_end-e.ensures.0, c.if-i-s.false, line-at-inside c.args.s.now c.loop-i.i c.requires.s_value c.loop-i.invariant.0) in
-    (h, omega arith, newline-before c.args.s.now c.line_end-e.result c.line_end-e.ensures.1, rw (c.loop-i.invariant.3, extent-past c.args.s.now c.loop-i.i c.line_end-e.result c.loop-i.invariant.0 c.loop-i.invariant.1 c.loop-i.invariant.2 c.line_end-e.ensures.0, not-true (eqb (get_or c.args.s.now (c.line_end-e.result - 1) 0) 92) c.if-not-taken.true, extent-plus c.args.s.now (c.line_end-e.result + 1) h c.if-s-i-ne43.false))
+    (h, omega arith, newline-before c.args.s.now c.line_end-e.result c.line_end-e.ensures.1, rw (c.loop-i.invariant.3, extent-past c.args.s.now c.loop-i.i c.line_end-e.result c.loop-i.invariant.0 c.loop-i.invariant.1 c.loop-i.invariant.2 c.line_end-e.ensures.0, not-true (eqb (get_or c.args.s.now (c.line_end-e.result - 1) 0) 92) (ap not c.if-not-taken.true), extent-plus c.args.s.now (c.line_end-e.result + 1) h c.if-s-i-ne43.false))
 
 pub loop-i-smaller : goal.loop-i-smaller
 loop-i-smaller c =
@@ -63,4 +65,4 @@ loop-i-smaller c =
 
 pub loop-i-preserved : goal.loop-i-preserved
 loop-i-preserved c =
-    (omega (arith, c.line_end-e.ensures.0, c.if-i-s.false, line-at-inside c.args.s.now c.loop-i.i c.requires.s_value c.loop-i.invariant.0), omega arith, newline-before c.args.s.now c.line_end-e.result c.line_end-e.ensures.1, rw (c.loop-i.invariant.3, extent-past c.args.s.now c.loop-i.i c.line_end-e.result c.loop-i.invariant.0 c.loop-i.invariant.1 c.loop-i.invariant.2 c.line_end-e.ensures.0, not-false (eqb (get_or c.args.s.now (c.line_end-e.result - 1) 0) 92) c.if-not-taken.false))
+    (omega (arith, c.line_end-e.ensures.0, c.if-i-s.false, line-at-inside c.args.s.now c.loop-i.i c.requires.s_value c.loop-i.invariant.0), omega arith, newline-before c.args.s.now c.line_end-e.result c.line_end-e.ensures.1, rw (c.loop-i.invariant.3, extent-past c.args.s.now c.loop-i.i c.line_end-e.result c.loop-i.invariant.0 c.loop-i.invariant.1 c.loop-i.invariant.2 c.line_end-e.ensures.0, not-false (eqb (get_or c.args.s.now (c.line_end-e.result - 1) 0) 92) (ap not c.if-not-taken.false)))

@@ -23,8 +23,7 @@ mark_pairs-seen-requires c =
 
 pub add_lists-r-requires : goal.add_lists-r-requires
 add_lists-r-requires c =
-    let b = c.bounds_of-b.ensures in
-    record { listed = c.requires.described.1; described = (c.requires.described.0, omega (arith, c.scratch-2-1.given), c.requires.described.2); limited = (b.floor-room, b.limit-room, limits-are c.args.d.now c.args.part.now c.bounds_of-b.result.floors c.bounds_of-b.result.limits c.bounds_of-b.ensures.floors c.bounds_of-b.ensures.limits); seen = (pair_names (pairs_at c.args.req.now c.args.from), c.mark_pairs-seen.ensures) }
+    record { listed = c.requires.described.1; described = (c.requires.described.0, omega (arith, c.bounds_of-b.auto.scratch), c.requires.described.2); limited = (c.bounds_of-b.ensures.floor-room, c.bounds_of-b.ensures.limit-room, limits-are c.args.d.now c.args.part.now c.bounds_of-b.result.floors c.bounds_of-b.result.limits c.bounds_of-b.ensures.floors c.bounds_of-b.ensures.limits); seen = (pair_names (pairs_at c.args.req.now c.args.from), c.mark_pairs-seen.ensures) }
 
 pub returns : goal.returns
 returns c =
@@ -32,5 +31,5 @@ returns c =
     let f = pair_by ws c.bounds_of-b.result.floors c.bounds_of-b.result.limits in
     let new = pairs_at c.args.req.now c.args.from in
     let s = step_all f (unadded (pair_names new)) ws in
-    subst (λ (x : Option (List Pair)). AddedAs x c.add_lists-r.new.1.1.1.1.1.0 c.told.result) (added_is c.args.d.now c.args.part.now c.bounds_of-b.result.floors c.bounds_of-b.result.limits c.bounds_of-b.ensures.floors c.bounds_of-b.ensures.limits new)
-    (c.told.ensures ws s c.add_lists-r.new.1.1.1.1.1.0 (c.add_lists-r.ensures (pair_names new) c.mark_pairs-seen.ensures) (omega (arith, step-passed f (unadded (pair_names new)) ws, c.requires.described.1.few)) (omega (arith, c.out-1.given, c.requires.described.2)))
+    subst (λ (x : Option (List Pair)). AddedAs x c.add_lists-r.new.out c.told.result) (added_is c.args.d.now c.args.part.now c.bounds_of-b.result.floors c.bounds_of-b.result.limits c.bounds_of-b.ensures.floors c.bounds_of-b.ensures.limits new)
+    (c.told.ensures ws s c.add_lists-r.new.out (c.add_lists-r.ensures (pair_names new) c.mark_pairs-seen.ensures) (omega (arith, step-passed f (unadded (pair_names new)) ws, c.requires.described.1.few)) (omega (arith, c.add_lists-r.auto.out, c.requires.described.2)))

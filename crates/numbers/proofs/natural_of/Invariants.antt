@@ -8,7 +8,7 @@ use Rattle.numbers.proofs.Reading.{natural_on}
 use Rattle.numbers.proofs.natural_of.Given as goal
 
 abbrev pub invariant-loop-i : goal.invariant-loop-i
-invariant-loop-i l = (l.initial.m ≤ length l.s) × (l.m ≤ l.limit) × (up_to_limit l.limit (natural l.base (drop l.from l.s)) ≡ natural_on l.limit l.base l.m (drop l.initial.m l.s))
+invariant-loop-i l = (l.i ≤ length l.s) × (l.m ≤ l.limit) × (up_to_limit l.limit (natural l.base (drop l.from l.s)) ≡ natural_on l.limit l.base l.m (drop l.i l.s))
 
 abbrev pub decreases-loop-i : goal.decreases-loop-i
-decreases-loop-i l = length l.s - l.initial.m
+decreases-loop-i l = length l.s - l.i

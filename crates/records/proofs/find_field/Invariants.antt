@@ -9,7 +9,7 @@ use Rattle.records.specs.Named.{occurrence}
 use Rattle.records.proofs.find_field.Given as goal
 
 abbrev pub invariant-loop-start : goal.invariant-loop-start
-invariant-loop-start l = (l.initial.left ≤ length l.s) × (is_readable (drop l.initial.left l.s) ≡ true) × (field_place l.name l.s l.o ≡ occurrence l.s l.name l.initial.left l.left)
+invariant-loop-start l = (l.i ≤ length l.s) × (is_readable (drop l.i l.s) ≡ true) × (field_place l.name l.s l.o ≡ occurrence l.s l.name l.i l.left)
 
 abbrev pub decreases-loop-start : goal.decreases-loop-start
-decreases-loop-start l = length l.s - l.initial.left
+decreases-loop-start l = length l.s - l.i

@@ -62,8 +62,7 @@ overflow_add-result-in-Field-2 c =
 
 pub returns-in-Field : goal.returns-in-Field
 returns-in-Field c =
-    let g = c.n-in-Field-1.given in
-    field-here c.args.s.now c.loop-size.i g.0.0 g.0.1.0 g.0.1.1.0 (steps c.args.s.now c.loop-size.i c.read_piece-n.result c.loop-size.invariant.1 c.read_piece-n.ensures g.1) c.loop-size.invariant.1 c.loop-size.invariant.2
+    field-here c.args.s.now c.loop-size.i c.in-Field.name c.in-Field.value c.in-Field.size (steps c.args.s.now c.loop-size.i c.read_piece-n.result c.loop-size.invariant.1 c.read_piece-n.ensures c.in-Field.is) c.loop-size.invariant.1 c.loop-size.invariant.2
 
 pub returns-in-End : goal.returns-in-End
 returns-in-End c =

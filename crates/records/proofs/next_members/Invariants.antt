@@ -10,7 +10,7 @@ use Rattle.records.proofs.Searches.{places_at}
 use Rattle.records.proofs.next_members.Given as goal
 
 abbrev pub invariant-loop-p : goal.invariant-loop-p
-invariant-loop-p l = (l.initial.count ≤ length l.s) × (is_readable (drop l.initial.count l.s) ≡ true) × (l.count ≤ l.initial.count) × (count_before (places_of l.s) ≡ l.count + count_before (places_at l.s l.initial.count)) × (set_end 0 (places_of l.s) ≡ set_end l.initial.count (places_at l.s l.initial.count))
+invariant-loop-p l = (l.end ≤ length l.s) × (is_readable (drop l.end l.s) ≡ true) × (l.count ≤ l.end) × (count_before (places_of l.s) ≡ l.count + count_before (places_at l.s l.end)) × (set_end 0 (places_of l.s) ≡ set_end l.end (places_at l.s l.end))
 
 abbrev pub decreases-loop-p : goal.decreases-loop-p
-decreases-loop-p l = length l.s - l.initial.count
+decreases-loop-p l = length l.s - l.end

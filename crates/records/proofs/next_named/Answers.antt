@@ -61,8 +61,7 @@ overflow_add-result-then-same_bytes-2 c =
 
 pub returns-then-same_bytes : goal.returns-then-same_bytes
 returns-then-same_bytes c =
-    let g = c.f-1.given in
-    let h = next-told c.args.s.now c.loop-start.i c.next_field-f.result c.next_field-f.ensures g.1 in
+    let h = next-told c.args.s.now c.loop-start.i c.next_field-f.result c.next_field-f.ensures c.in-At.is in
     named_here c.args.s.now c.args.name.now c.loop-start.i c.loop-start.invariant.2 _ _ _ _ h (sym c.same_bytes.ensures ∙ c.if-same_bytes.true)
 
 pub overflow_add-i-in-loop-start-2 : goal.overflow_add-i-in-loop-start-2
@@ -77,6 +76,5 @@ loop-start-smaller c =
 
 pub loop-start-preserved : goal.loop-start-preserved
 loop-start-preserved c =
-    let g = c.f-1.given in
-    let h = next-told c.args.s.now c.loop-start.i c.next_field-f.result c.next_field-f.ensures g.1 in
+    let h = next-told c.args.s.now c.loop-start.i c.next_field-f.result c.next_field-f.ensures c.in-At.is in
     (h.inside, h.readable, unnamed-on c.args.s.now c.args.name.now c.loop-start.i c.loop-start.invariant.2 _ _ _ _ h (sym c.same_bytes.ensures ∙ c.if-same_bytes.false))

@@ -30,6 +30,5 @@ slice_bounds-word_is-end c =
 
 pub returns : goal.returns
 returns c =
-    let g = c.f-1.given in
-    let p = field_told (text "%rec") c.args.s.now 0 c.find_field-f.result (c.requires) c.find_field-f.ensures g.1 in
-    c.word_is.ensures ∙ sym (opens-first c.args.name.now c.args.s.now g.0.0 g.0.1.0 g.0.1.1.0 p)
+    let p = field_told (text "%rec") c.args.s.now 0 c.find_field-f.result (c.requires) c.find_field-f.ensures c.in-At.is in
+    c.word_is.ensures ∙ sym (opens-first c.args.name.now c.args.s.now c.in-At.start c.in-At.value c.in-At.end p)

@@ -50,10 +50,9 @@ loop-size-smaller c =
 
 pub loop-size-preserved : goal.loop-size-preserved
 loop-size-preserved c =
-    let g = c.n-in-Field-1.given in
     let s = c.args.s.now in
     let i = c.loop-size.i in
-    let p = steps s i c.read_piece-n.result c.loop-size.invariant.1 c.read_piece-n.ensures g.1 in
+    let p = steps s i c.read_piece-n.result c.loop-size.invariant.1 c.read_piece-n.ensures c.in-Field.is in
     (p.passed.inside, p.passed.readable, c.loop-size.invariant.2 ∙ run-field s i c.loop-size.end c.loop-size.descriptor _ _ _ c.is_rec-here.result p c.is_rec-here.ensures)
 
 pub returns-in-Blank : goal.returns-in-Blank

@@ -10,7 +10,7 @@ use Rattle.records.specs.Walk.{run_from}
 use Rattle.records.proofs.record_run.Given as goal
 
 abbrev pub invariant-loop-size : goal.invariant-loop-size
-invariant-loop-size l = (l.initial.descriptor ≤ length l.s) × (is_readable (drop l.initial.descriptor l.s) ≡ true) × (run_from 0 0 l.described (read_of l.s) ≡ run_from l.initial.descriptor l.i l.descriptor (read_of (drop l.initial.descriptor l.s)))
+invariant-loop-size l = (l.i ≤ length l.s) × (is_readable (drop l.i l.s) ≡ true) × (run_from 0 0 l.described (read_of l.s) ≡ run_from l.i l.end l.descriptor (read_of (drop l.i l.s)))
 
 abbrev pub decreases-loop-size : goal.decreases-loop-size
-decreases-loop-size l = length l.s - l.initial.descriptor
+decreases-loop-size l = length l.s - l.i

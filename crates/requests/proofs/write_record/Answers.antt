@@ -31,4 +31,4 @@ put_pairs-requires c =
 
 pub returns : goal.returns
 returns c =
-    filled-written c.write_no-n.result c.put_pairs.result (written_all (pairs_at c.args.req.now c.in-Insert.start)) c.args.out.now c.put_pairs.new.1.1.0 c.put_pairs.ensures.0 c.put_pairs.ensures.1 c.if-n-ne0.false ∙ ap (λ (n : ℕ). filled_as n (written_all (pairs_at c.args.req.now c.in-Insert.start)) c.args.out.now) c.write_no-n.ensures ∙ write-insert c.args.req.now c.args.out.now c.in-Is.request (request-found c.args.req.now c.request_of-q.result c.in-Is.request c.request_of-q.ensures.0 c.in-Is.is) c.in-Insert.start c.in-Insert.is
+    filled-written c.write_no-n.result c.put_pairs.result (written_all (pairs_at c.args.req.now c.in-Insert.start)) c.args.out.now c.put_pairs.new.out c.put_pairs.ensures.0 c.put_pairs.ensures.1 c.if-n-ne0.false ∙ ap (λ (n : ℕ). filled_as n (written_all (pairs_at c.args.req.now c.in-Insert.start)) c.args.out.now) c.write_no-n.ensures ∙ write-insert c.args.req.now c.args.out.now c.in-Is.request (request-found c.args.req.now c.request_of-q.result c.in-Is.request c.request_of-q.ensures.0 c.in-Is.is) c.in-Insert.start c.in-Insert.is

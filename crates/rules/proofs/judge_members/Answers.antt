@@ -18,8 +18,8 @@ has_field-keyed-requires c =
 
 pub judge_records-requires : goal.judge_records-requires
 judge_records-requires c =
-    record { book = record { described = c.requires.described; kinds-are = c.read-kinds.ensures; limited-is = c.has_field-limited.ensures; keyed-is = key-there c.args.d.now c.requires.described c.has_field-keyed.result c.has_field-keyed.ensures }; part_value = (c.requires.part_value.0, c.requires.part_value.1, subst (λ (n : ℕ). all (fits_in n) (record_in c.args.part.now) ≡ true) (sym c.scratch-1.given) c.requires.part_value.2); entries_end_in_bounds = c.requires.value_bytes_in_bounds.1 }
+    record { book = record { described = c.requires.described; kinds-are = c.read-kinds.ensures; limited-is = c.has_field-limited.ensures; keyed-is = key-there c.args.d.now c.requires.described c.has_field-keyed.result c.has_field-keyed.ensures }; part_value = (c.requires.part_value.0, c.requires.part_value.1, subst (λ (n : ℕ). all (fits_in n) (record_in c.args.part.now) ≡ true) (sym c.read-kinds.auto.scratch) c.requires.part_value.2); entries_end_in_bounds = c.requires.value_bytes_in_bounds.1 }
 
 pub shape_of-scratch : goal.shape_of-scratch
 shape_of-scratch c =
-    c.scratch-2-1.given ∙ c.scratch-1.given
+    c.judge_records.auto.scratch ∙ c.read-kinds.auto.scratch

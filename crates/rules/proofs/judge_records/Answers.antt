@@ -20,11 +20,11 @@ judge_rows-c-requires c =
 
 pub shape_of-scratch-then-count-c : goal.shape_of-scratch-then-count-c
 shape_of-scratch-then-count-c c =
-    c.scratch-1.given ∙ c.loop-b.invariant.0
+    c.judge_rows-c.auto.scratch ∙ c.loop-b.invariant.0
 
 pub shape_of-entries-then-count-c : goal.shape_of-entries-then-count-c
 shape_of-entries-then-count-c c =
-    c.entries-1.given ∙ c.loop-b.invariant.1
+    c.judge_rows-c.auto.entries ∙ c.loop-b.invariant.1
 
 pub returns-then-count-c : goal.returns-then-count-c
 returns-then-count-c c =
@@ -43,4 +43,4 @@ pub loop-b-preserved : goal.loop-b-preserved
 loop-b-preserved c =
     let d = c.args.d.now in
     let rs = records (read_of c.args.part.now) in
-    (c.scratch-1.given ∙ c.loop-b.invariant.0, c.entries-1.given ∙ c.loop-b.invariant.1, c.judge_rows-c.ensures.within, chunk-more d rs c.args.b.kinds.count c.loop-b.worst c.loop-b.from c.loop-b.invariant.3 c.judge_rows-c.result c.judge_rows-c.ensures c.lesser-worst.result c.lesser-worst.ensures)
+    (c.judge_rows-c.auto.scratch ∙ c.loop-b.invariant.0, c.judge_rows-c.auto.entries ∙ c.loop-b.invariant.1, c.judge_rows-c.ensures.within, chunk-more d rs c.args.b.kinds.count c.loop-b.worst c.loop-b.from c.loop-b.invariant.3 c.judge_rows-c.result c.judge_rows-c.ensures c.lesser-worst.result c.lesser-worst.ensures)

@@ -9,7 +9,7 @@ use Rattle.rules.specs.Members.{part_no}
 use Rattle.rules.proofs.judge_records.Given as goal
 
 abbrev pub invariant-loop-b : goal.invariant-loop-b
-invariant-loop-b l = (length l.initial.from ≡ length l.initial.scratch) × (length l.from ≡ length l.scratch) × (l.initial.worst ≤ l.b.kinds.count) × (least l.worst (part_no l.d l.initial.worst (l.b.kinds.count - l.initial.worst) (records (read_of l.part))) ≡ part_no l.d 0 l.b.kinds.count (records (read_of l.part)))
+invariant-loop-b l = (length l.scratch ≡ length l.initial.scratch) × (length l.entries ≡ length l.initial.entries) × (l.from ≤ l.b.kinds.count) × (least l.worst (part_no l.d l.from (l.b.kinds.count - l.from) (records (read_of l.part))) ≡ part_no l.d 0 l.b.kinds.count (records (read_of l.part)))
 
 abbrev pub decreases-loop-b : goal.decreases-loop-b
-decreases-loop-b l = l.b.kinds.count - l.initial.worst
+decreases-loop-b l = l.b.kinds.count - l.from

@@ -20,7 +20,7 @@ returns-then-a-ne0 c =
 
 pub judge_whole-requires : goal.judge_whole-requires
 judge_whole-requires c =
-    record { rules = (c.requires.rules.0, c.requires.rules.1, c.judge_members-a.ensures.count-is); part_value = (c.requires.part_value.0, c.requires.part_value.1, have-keys (record_in c.args.d.now) (records (read_of c.args.part.now)) c.judge_members-a.result.number c.judge_members-a.ensures.number_is c.if-a-ne0.false); value_bytes_in_bounds = (omega (arith, c.scratch-1.given, c.requires.value_bytes_in_bounds.0), omega (arith, c.entries-1.given, c.requires.value_bytes_in_bounds.1)) }
+    record { rules = (c.requires.rules.0, c.requires.rules.1, c.judge_members-a.ensures.count-is); part_value = (c.requires.part_value.0, c.requires.part_value.1, have-keys (record_in c.args.d.now) (records (read_of c.args.part.now)) c.judge_members-a.result.number c.judge_members-a.ensures.number_is c.if-a-ne0.false); value_bytes_in_bounds = (omega (arith, c.judge_members-a.auto.scratch, c.requires.value_bytes_in_bounds.0), omega (arith, c.judge_members-a.auto.entries, c.requires.value_bytes_in_bounds.1)) }
 
 pub returns : goal.returns
 returns c =

@@ -47,20 +47,18 @@ pub slice_bounds-next_word-end : goal.slice_bounds-next_word-end
 slice_bounds-next_word-end c =
     let h = (subst (NamedNext c.args.d.now (text "%key") 0) c.in-At.is c.next_named-v.ensures).value in
     let f = fits-at c.args.d.now (described-by c.args.d.now c.requires.rules.0 c.requires.rules.1) (text "%key") 0 in
-    let g = c.v-1.given.0 in
-    let fit : length (value_from (span g.1.0 g.1.1.0 c.args.d.now)) ≤ length c.args.scratch.now = omega (arith, f, ap (λ (vs : List Bytes). length (get_or vs 0 [])) h.values, c.requires.value_bytes_in_bounds.0) in
-    decoded-inside (value_from (span g.1.0 g.1.1.0 c.args.d.now)) c.args.scratch.now _ c.copy_value-n.result c.copy_value-n.ensures.0 c.copy_value-n.ensures.1 fit
+    let fit : length (value_from (span c.in-At.value c.in-At.end c.args.d.now)) ≤ length c.args.scratch.now = omega (arith, f, ap (λ (vs : List Bytes). length (get_or vs 0 [])) h.values, c.requires.value_bytes_in_bounds.0) in
+    decoded-inside (value_from (span c.in-At.value c.in-At.end c.args.d.now)) c.args.scratch.now _ c.copy_value-n.result c.copy_value-n.ensures.0 c.copy_value-n.ensures.1 fit
 
 pub slice_bounds-next_word-end-2 : goal.slice_bounds-next_word-end-2
 slice_bounds-next_word-end-2 c =
-    let g = c.v-1.given.0 in decoded-length (value_from (span g.1.0 g.1.1.0 c.args.d.now)) c.args.scratch.now _ c.copy_value-n.result c.copy_value-n.ensures.0 c.copy_value-n.ensures.1
+    let g = c.next_named-v.auto.v in decoded-length (value_from (span g.1.0 g.1.1.0 c.args.d.now)) c.args.scratch.now _ c.copy_value-n.result c.copy_value-n.ensures.0 c.copy_value-n.ensures.1
 
 pub returns-in_default-w : goal.returns-in_default-w
 returns-in_default-w c =
     let h = (subst (NamedNext c.args.d.now (text "%key") 0) c.in-At.is c.next_named-v.ensures).value in
-    let g = c.v-1.given.0 in
-    let q = decoded-all (value_from (span g.1.0 g.1.1.0 c.args.d.now)) c.args.scratch.now _ c.copy_value-n.result c.copy_value-n.ensures.0 c.copy_value-n.ensures.1 in
-    no_word c.args.d.now c.args.part.now g.1.0 g.1.1.0 h _ q (key-once-named c.args.d.now c.requires.rules.0) (not_found _ c.next_word-w.ensures c.in_default-w.is)
+    let q = decoded-all (value_from (span c.in-At.value c.in-At.end c.args.d.now)) c.args.scratch.now _ c.copy_value-n.result c.copy_value-n.ensures.0 c.copy_value-n.ensures.1 in
+    no_word c.args.d.now c.args.part.now c.in-At.value c.in-At.end h _ q (key-once-named c.args.d.now c.requires.rules.0) (not_found _ c.next_word-w.ensures c.in_default-w.is)
 
 pub slice_bounds-keys_distinct-count : goal.slice_bounds-keys_distinct-count
 slice_bounds-keys_distinct-count c =
@@ -74,32 +72,27 @@ pub slice_bounds-keys_distinct-end : goal.slice_bounds-keys_distinct-end
 slice_bounds-keys_distinct-end c =
     let h = (subst (NamedNext c.args.d.now (text "%key") 0) c.in-At.is c.next_named-v.ensures).value in
     let f = fits-at c.args.d.now (described-by c.args.d.now c.requires.rules.0 c.requires.rules.1) (text "%key") 0 in
-    let g = c.v-1.given.0 in
-    let fit : length (value_from (span g.1.0 g.1.1.0 c.args.d.now)) ≤ length c.args.scratch.now = omega (arith, f, ap (λ (vs : List Bytes). length (get_or vs 0 [])) h.values, c.requires.value_bytes_in_bounds.0) in
-    let inside = decoded-inside (value_from (span g.1.0 g.1.1.0 c.args.d.now)) c.args.scratch.now _ c.copy_value-n.result c.copy_value-n.ensures.0 c.copy_value-n.ensures.1 fit in
-    let long = decoded-length (value_from (span g.1.0 g.1.1.0 c.args.d.now)) c.args.scratch.now _ c.copy_value-n.result c.copy_value-n.ensures.0 c.copy_value-n.ensures.1 in
+    let fit : length (value_from (span c.in-At.value c.in-At.end c.args.d.now)) ≤ length c.args.scratch.now = omega (arith, f, ap (λ (vs : List Bytes). length (get_or vs 0 [])) h.values, c.requires.value_bytes_in_bounds.0) in
+    let inside = decoded-inside (value_from (span c.in-At.value c.in-At.end c.args.d.now)) c.args.scratch.now _ c.copy_value-n.result c.copy_value-n.ensures.0 c.copy_value-n.ensures.1 fit in
+    let long = decoded-length (value_from (span c.in-At.value c.in-At.end c.args.d.now)) c.args.scratch.now _ c.copy_value-n.result c.copy_value-n.ensures.0 c.copy_value-n.ensures.1 in
     let q = found _ c.next_word-w.ensures c.in-At-w.is in
     omega (arith, q.1, inside, long)
 
 pub keys_distinct-requires : goal.keys_distinct-requires
 keys_distinct-requires c =
     let h = (subst (NamedNext c.args.d.now (text "%key") 0) c.in-At.is c.next_named-v.ensures).value in
-    let g = c.v-1.given.0 in
-    let x = c.w-1.given.0 in
-    let u = decoded-all (value_from (span g.1.0 g.1.1.0 c.args.d.now)) c.args.scratch.now _ c.copy_value-n.result c.copy_value-n.ensures.0 c.copy_value-n.ensures.1 in
-    let long = decoded-length (value_from (span g.1.0 g.1.1.0 c.args.d.now)) c.args.scratch.now _ c.copy_value-n.result c.copy_value-n.ensures.0 c.copy_value-n.ensures.1 in
+    let u = decoded-all (value_from (span c.in-At.value c.in-At.end c.args.d.now)) c.args.scratch.now _ c.copy_value-n.result c.copy_value-n.ensures.0 c.copy_value-n.ensures.1 in
+    let long = decoded-length (value_from (span c.in-At.value c.in-At.end c.args.d.now)) c.args.scratch.now _ c.copy_value-n.result c.copy_value-n.ensures.0 c.copy_value-n.ensures.1 in
     let q = found _ c.next_word-w.ensures c.in-At-w.is in
-    let here = word-span _ c.copy_value-n.result x.0 x.1.0 (omega (arith, q.1, long)) q.2 in
-    let room = key-room c.args.d.now c.args.part.now g.1.0 g.1.1.0 h _ u _ _ here (key-few c.args.d.now (described-by c.args.d.now c.requires.rules.0 c.requires.rules.1)) c.requires.part_value.0 c.requires.part_value.1 c.requires.part_value.2 in
+    let here = word-span _ c.copy_value-n.result c.in-At-w.start c.in-At-w.e (omega (arith, q.1, long)) q.2 in
+    let room = key-room c.args.d.now c.args.part.now c.in-At.value c.in-At.end h _ u _ _ here (key-few c.args.d.now (described-by c.args.d.now c.requires.rules.0 c.requires.rules.1)) c.requires.part_value.0 c.requires.part_value.1 c.requires.part_value.2 in
     record { s_value = (c.requires.part_value.0, c.requires.part_value.1); s_in_bounds = omega (arith, room, c.requires.value_bytes_in_bounds.1) }
 
 pub returns : goal.returns
 returns c =
     let h = (subst (NamedNext c.args.d.now (text "%key") 0) c.in-At.is c.next_named-v.ensures).value in
-    let g = c.v-1.given.0 in
-    let x = c.w-1.given.0 in
-    let u = decoded-all (value_from (span g.1.0 g.1.1.0 c.args.d.now)) c.args.scratch.now _ c.copy_value-n.result c.copy_value-n.ensures.0 c.copy_value-n.ensures.1 in
-    let long = decoded-length (value_from (span g.1.0 g.1.1.0 c.args.d.now)) c.args.scratch.now _ c.copy_value-n.result c.copy_value-n.ensures.0 c.copy_value-n.ensures.1 in
+    let u = decoded-all (value_from (span c.in-At.value c.in-At.end c.args.d.now)) c.args.scratch.now _ c.copy_value-n.result c.copy_value-n.ensures.0 c.copy_value-n.ensures.1 in
+    let long = decoded-length (value_from (span c.in-At.value c.in-At.end c.args.d.now)) c.args.scratch.now _ c.copy_value-n.result c.copy_value-n.ensures.0 c.copy_value-n.ensures.1 in
     let q = found _ c.next_word-w.ensures c.in-At-w.is in
-    let here = word-span _ c.copy_value-n.result x.0 x.1.0 (omega (arith, q.1, long)) q.2 in
-    key-values c.args.d.now c.args.part.now g.1.0 g.1.1.0 h _ u _ _ here (key-few c.args.d.now (described-by c.args.d.now c.requires.rules.0 c.requires.rules.1)) c.keys_distinct.result c.keys_distinct.ensures
+    let here = word-span _ c.copy_value-n.result c.in-At-w.start c.in-At-w.e (omega (arith, q.1, long)) q.2 in
+    key-values c.args.d.now c.args.part.now c.in-At.value c.in-At.end h _ u _ _ here (key-few c.args.d.now (described-by c.args.d.now c.requires.rules.0 c.requires.rules.1)) c.keys_distinct.result c.keys_distinct.ensures

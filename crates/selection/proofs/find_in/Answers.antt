@@ -45,7 +45,7 @@ slice_bounds-list_found-end-then-c-3 c =
 
 pub list_found-requires : goal.list_found-requires
 list_found-requires c =
-    let t = set_told c.args.s.now c.args.set.now c.find_set-f.result c.requires.0 c.find_set-f.ensures c.in-At.is in let g = passing-set c.args.s.now c.args.set.now c.in-At.p t c.requires.1 c.requires.2 in (c.read-c.ensures.1, t.members-readable, g.members-short, values-fit _ (omega (arith, c.scratch-then-c-1.given)) (span c.in-At.p.begin c.in-At.p.after c.args.s.now) g.members-fit)
+    let t = set_told c.args.s.now c.args.set.now c.find_set-f.result c.requires.0 c.find_set-f.ensures c.in-At.is in let g = passing-set c.args.s.now c.args.set.now c.in-At.p t c.requires.1 c.requires.2 in (c.read-c.ensures.1, t.members-readable, g.members-short, values-fit _ (omega (arith, c.list_found-n.auto.scratch)) (span c.in-At.p.begin c.in-At.p.after c.args.s.now) g.members-fit)
 
 pub returns-then-c : goal.returns-then-c
 returns-then-c c =

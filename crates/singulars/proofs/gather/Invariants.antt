@@ -8,7 +8,7 @@ use Rattle.singulars.proofs.Gathering.{Enters}
 use Rattle.singulars.proofs.gather.Given as goal
 
 abbrev pub invariant-loop-start : goal.invariant-loop-start
-invariant-loop-start l = (length l.i ≡ length l.initial.entries) × (l.n ≤ l.initial.n) × Enters (singular (record_in l.d)) l.s l.i l.n l.initial.n
+invariant-loop-start l = (length l.entries ≡ length l.initial.entries) × (l.n ≤ l.i) × Enters (singular (record_in l.d)) l.s l.entries l.n l.i
 
 abbrev pub decreases-loop-start : goal.decreases-loop-start
-decreases-loop-start l = length l.s - l.initial.n
+decreases-loop-start l = length l.s - l.i

@@ -27,15 +27,15 @@ list-l-requires c =
 
 pub distinct_marks-requires : goal.distinct_marks-requires
 distinct_marks-requires c =
-    let g = subst (λ (x : Gathered). GatheredAs (singular (record_in c.args.d.now)) c.args.s.now (record_in c.args.s.now) c.gather-g.new.1.1.1.0 x) c.in-All.is c.gather-g.ensures in
+    let g = subst (λ (x : Gathered). GatheredAs (singular (record_in c.args.d.now)) c.args.s.now (record_in c.args.s.now) c.gather-g.new.entries x) c.in-All.is c.gather-g.ensures in
     record { n_in_bounds = g.0; inside = g.1 }
 
 pub returns-in-All : goal.returns-in-All
 returns-in-All c =
-    let g = subst (λ (x : Gathered). GatheredAs (singular (record_in c.args.d.now)) c.args.s.now (record_in c.args.s.now) c.gather-g.new.1.1.1.0 x) c.in-All.is c.gather-g.ensures in
+    let g = subst (λ (x : Gathered). GatheredAs (singular (record_in c.args.d.now)) c.args.s.now (record_in c.args.s.now) c.gather-g.new.entries x) c.in-All.is c.gather-g.ensures in
     c.distinct_marks.ensures ∙ ap distinct g.2 ∙ marks-distinct (singular (record_in c.args.d.now)) (record_in c.args.s.now)
 
 pub returns-in-More : goal.returns-in-More
 returns-in-More c =
-    let g = subst (λ (x : Gathered). GatheredAs (singular (record_in c.args.d.now)) c.args.s.now (record_in c.args.s.now) c.gather-g.new.1.1.1.0 x) c.in-More.is c.gather-g.ensures in
-    sym (many-alike (singular (record_in c.args.d.now)) c.args.s.now c.requires.s_value.0 c.requires.s_value.1 (singular-lists c.args.d.now c.requires.described).few (omega (arith, g, c.entries-1.given, c.requires.entries_room_in_bounds)))
+    let g = subst (λ (x : Gathered). GatheredAs (singular (record_in c.args.d.now)) c.args.s.now (record_in c.args.s.now) c.gather-g.new.entries x) c.in-More.is c.gather-g.ensures in
+    sym (many-alike (singular (record_in c.args.d.now)) c.args.s.now c.requires.s_value.0 c.requires.s_value.1 (singular-lists c.args.d.now c.requires.described).few (omega (arith, g, c.gather-g.auto.entries, c.requires.entries_room_in_bounds)))

@@ -8,7 +8,7 @@ use Rattle.sorting.specs.Order.{compared_of}
 use Rattle.sorting.proofs.compare_words.Given as goal
 
 abbrev pub invariant-loop-c : goal.invariant-loop-c
-invariant-loop-c l = compared_of (text_at true l.s l.initial.b) (text_at true l.s l.b) ≡ compared_of (text_at true l.s l.i) (text_at true l.s l.j)
+invariant-loop-c l = compared_of (text_at true l.s l.a) (text_at true l.s l.b) ≡ compared_of (text_at true l.s l.i) (text_at true l.s l.j)
 
 abbrev pub decreases-loop-c : goal.decreases-loop-c
-decreases-loop-c l = length l.s - l.initial.b
+decreases-loop-c l = length l.s - l.a

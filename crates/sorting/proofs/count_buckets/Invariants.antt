@@ -5,7 +5,7 @@ use lib.ListN.{length}
 use Rattle.sorting.proofs.count_buckets.Given as goal
 
 abbrev pub invariant-loop-i : goal.invariant-loop-i
-invariant-loop-i l = length l.initial.i ≡ length l.initial.counts
+invariant-loop-i l = length l.counts ≡ length l.initial.counts
 
 abbrev pub decreases-loop-i : goal.decreases-loop-i
 decreases-loop-i l = length l.entries - l.i

@@ -29,19 +29,19 @@ settle-requires c =
 
 pub shape_of-entries-then-not-settle : goal.shape_of-entries-then-not-settle
 shape_of-entries-then-not-settle c =
-    moved_length c.args.entries.now c.settle.new.0 (moved_on c.args.entries.now c.loop-left.entries c.settle.new.0 c.loop-left.invariant.0 c.settle.ensures)
+    moved_length c.args.entries.now c.settle.new.entries (moved_on c.args.entries.now c.loop-left.entries c.settle.new.entries c.loop-left.invariant.0 c.settle.ensures)
 
 pub shape_of-next-then-not-settle : goal.shape_of-next-then-not-settle
 shape_of-next-then-not-settle c =
-    c.next-1.given ∙ c.loop-left.invariant.1
+    c.settle.auto.next ∙ c.loop-left.invariant.1
 
 pub returns-then-not-settle : goal.returns-then-not-settle
 returns-then-not-settle c =
-    moved_on c.args.entries.now c.loop-left.entries c.settle.new.0 c.loop-left.invariant.0 c.settle.ensures
+    moved_on c.args.entries.now c.loop-left.entries c.settle.new.entries c.loop-left.invariant.0 c.settle.ensures
 
 pub loop-left-preserved : goal.loop-left-preserved
 loop-left-preserved c =
-    (moved_on c.args.entries.now c.loop-left.entries c.settle.new.0 c.loop-left.invariant.0 c.settle.ensures, c.next-1.given ∙ c.loop-left.invariant.1)
+    (moved_on c.args.entries.now c.loop-left.entries c.settle.new.entries c.loop-left.invariant.0 c.settle.ensures, c.settle.auto.next ∙ c.loop-left.invariant.1)
 
 pub shape_of-entries : goal.shape_of-entries
 shape_of-entries c =

@@ -14,7 +14,7 @@ fill_bucket-requires c =
 
 pub loop-b-preserved : goal.loop-b-preserved
 loop-b-preserved c =
-    (moved_on c.args.entries.now c.loop-b.entries c.fill_bucket.new.0 c.loop-b.invariant.0 c.fill_bucket.ensures, c.next-1.given ∙ c.loop-b.invariant.1, omega arith)
+    (moved_on c.args.entries.now c.loop-b.entries c.fill_bucket.new.entries c.loop-b.invariant.0 c.fill_bucket.ensures, c.fill_bucket.auto.next ∙ c.loop-b.invariant.1, omega arith)
 
 pub shape_of-entries : goal.shape_of-entries
 shape_of-entries c =

@@ -12,9 +12,9 @@ loop-at-init c =
 pub loop-at-preserved : goal.loop-at-preserved
 loop-at-preserved c =
     let l = c.loop-at.entries in
-    let m = moved-swapped l c.swap.new.0 c.loop-at.at (c.loop-at.at - 1) c.loop-at.invariant.1 (omega (arith, c.loop-at.invariant.1)) c.swap.ensures in
-    let v = moved_on c.args.entries.now l c.swap.new.0 c.loop-at.invariant.0 m in
-    (v, omega (arith, moved_length l c.swap.new.0 m, c.loop-at.invariant.1), moved_length c.args.entries.now c.swap.new.0 v)
+    let m = moved-swapped l c.swap.new.entries c.loop-at.at (c.loop-at.at - 1) c.loop-at.invariant.1 (omega (arith, c.loop-at.invariant.1)) c.swap.ensures in
+    let v = moved_on c.args.entries.now l c.swap.new.entries c.loop-at.invariant.0 m in
+    (v, omega (arith, moved_length l c.swap.new.entries m, c.loop-at.invariant.1), moved_length c.args.entries.now c.swap.new.entries v)
 
 pub shape_of-entries-else-is_before : goal.shape_of-entries-else-is_before
 shape_of-entries-else-is_before c =

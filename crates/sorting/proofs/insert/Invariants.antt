@@ -6,7 +6,7 @@ use Rattle.sorting.specs.Moves.{Moved}
 use Rattle.sorting.proofs.insert.Given as goal
 
 abbrev pub invariant-loop-at : goal.invariant-loop-at
-invariant-loop-at l = (Moved l.initial.entries l.initial.at) × (l.at < length l.initial.at) × (length l.initial.at ≡ length l.initial.entries)
+invariant-loop-at l = (Moved l.initial.entries l.entries) × (l.at < length l.entries) × (length l.entries ≡ length l.initial.entries)
 
 abbrev pub decreases-loop-at : goal.decreases-loop-at
 decreases-loop-at l = l.at

@@ -6,7 +6,7 @@ use Rattle.sorting.specs.Moves.{Moved}
 use Rattle.sorting.proofs.make_heap.Given as goal
 
 abbrev pub invariant-loop-top : goal.invariant-loop-top
-invariant-loop-top l = (Moved l.initial.entries l.initial.top) × (l.words ≤ l.top) × (length l.initial.top ≡ length l.initial.entries)
+invariant-loop-top l = (Moved l.initial.entries l.entries) × (l.lo ≤ l.top) × (length l.entries ≡ length l.initial.entries)
 
 abbrev pub decreases-loop-top : goal.decreases-loop-top
 decreases-loop-top l = l.top

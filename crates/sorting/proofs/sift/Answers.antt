@@ -21,7 +21,6 @@ pub loop-root-preserved : goal.loop-root-preserved
 loop-root-preserved c =
     let n = c.loop-root.invariant.2 in
     let h = c.requires.1 in
-    let g = c.last_child-child.ensures in
     let l = c.loop-root.entries in
     let v = moved_on c.args.entries.now l _ c.loop-root.invariant.0 (moved-swapped l _ c.loop-root.root c.last_child-child.result (omega arith) (omega arith) c.swap.ensures) in
     (v, omega arith, moved_length c.args.entries.now _ v)

@@ -6,7 +6,7 @@ use Rattle.sorting.specs.Moves.{Moved}
 use Rattle.sorting.proofs.sift.Given as goal
 
 abbrev pub invariant-loop-root : goal.invariant-loop-root
-invariant-loop-root l = (Moved l.initial.entries l.initial.root) × (l.words ≤ l.root) × (length l.initial.root ≡ length l.initial.entries)
+invariant-loop-root l = (Moved l.initial.entries l.entries) × (l.lo ≤ l.root) × (length l.entries ≡ length l.initial.entries)
 
 abbrev pub decreases-loop-root : goal.decreases-loop-root
-decreases-loop-root l = l.from - l.root
+decreases-loop-root l = l.end - l.root

@@ -4,7 +4,7 @@ use Rattle.sorting.specs.Moves.{Moved}
 use Rattle.sorting.proofs.sort_buckets.Given as goal
 
 abbrev pub invariant-loop-b : goal.invariant-loop-b
-invariant-loop-b l = (Moved l.initial.entries l.initial.b) × (l.b ≤ 1024)
+invariant-loop-b l = (Moved l.initial.entries l.entries) × (l.b ≤ 1024)
 
 abbrev pub decreases-loop-b : goal.decreases-loop-b
 decreases-loop-b l = 1024 - l.b

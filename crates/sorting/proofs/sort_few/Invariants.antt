@@ -6,7 +6,7 @@ use Rattle.sorting.specs.Moves.{Moved}
 use Rattle.sorting.proofs.sort_few.Given as goal
 
 abbrev pub invariant-loop-i : goal.invariant-loop-i
-invariant-loop-i l = (Moved l.initial.entries l.initial.i) × (length l.initial.i ≡ length l.initial.entries)
+invariant-loop-i l = (Moved l.initial.entries l.entries) × (length l.entries ≡ length l.initial.entries)
 
 abbrev pub decreases-loop-i : goal.decreases-loop-i
-decreases-loop-i l = l.lo - l.i
+decreases-loop-i l = l.hi - l.i

@@ -5,7 +5,7 @@ use Rattle.sorting.specs.Moves.{Moved}
 use Rattle.sorting.proofs.sort_part.Given as goal
 
 abbrev pub invariant-loop-end : goal.invariant-loop-end
-invariant-loop-end l = (Moved l.initial.entries l.initial.end) × (l.words ≤ l.end) × (l.end ≤ length l.initial.end)
+invariant-loop-end l = (Moved l.initial.entries l.entries) × (l.lo ≤ l.end) × (l.end ≤ length l.entries)
 
 abbrev pub decreases-loop-end : goal.decreases-loop-end
 decreases-loop-end l = l.end

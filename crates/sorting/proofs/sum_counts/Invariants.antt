@@ -5,7 +5,7 @@ use lib.ListN.{length}
 use Rattle.sorting.proofs.sum_counts.Given as goal
 
 abbrev pub invariant-loop-b : goal.invariant-loop-b
-invariant-loop-b l = (length l.total ≡ length l.initial.counts) × (l.initial.b < 32768)
+invariant-loop-b l = (length l.counts ≡ length l.initial.counts) × (l.total < 32768)
 
 abbrev pub decreases-loop-b : goal.decreases-loop-b
-decreases-loop-b l = length l.total - l.b
+decreases-loop-b l = length l.counts - l.b

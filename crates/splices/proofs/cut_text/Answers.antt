@@ -10,4 +10,4 @@ pub returns : goal.returns
 returns c =
     let a = c.args in
     let b : Bytes = a.buf.now in
-    (sym (spliced-length b a.used a.at a.old [] (omega arith) (omega arith) ∙ omega arith), placed-cut b a.used a.at a.old c.open_space.new.0 (omega arith) (omega arith) c.open_space.ensures)
+    (sym (spliced-length b a.used a.at a.old [] (omega arith) (omega arith) ∙ omega arith), placed-cut b a.used a.at a.old c.open_space.new.buf (omega arith) (omega arith) c.open_space.ensures)

@@ -13,7 +13,7 @@ returns c =
     let a = c.args in
     let b : Bytes = a.buf.now in
     let t : Bytes = written a.name.now a.value.now in
-    let b' : Bytes = c.open_space.new.0 in (
+    let b' : Bytes = c.open_space.new.buf in (
       sym (spliced-length b a.used a.at a.old t (omega arith) (omega arith) ∙ omega (arith, c.written_len-new.ensures)),
       rw c.put_field.ensures.1 (over-part b' t a.at (length b' - a.at) (omega arith) refl ∙ placed-spliced b a.used a.at a.old c.written_len-new.result b' t (omega arith) (omega arith) (sym c.written_len-new.ensures) c.open_space.ensures),
     )

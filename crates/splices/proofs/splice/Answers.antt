@@ -12,8 +12,7 @@ returns c =
     let a = c.args in
     let b : Bytes = a.buf.now in
     let t : Bytes = a.text.now in
-    let o = c.open_space.ensures in
-    let b' : Bytes = c.open_space.new.0 in (
+    let b' : Bytes = c.open_space.new.buf in (
       sym (spliced-length b a.used a.at a.old t (omega arith) (omega arith)),
-      rw c.put_bytes.ensures (over-part b' t a.at (length b' - a.at) (omega arith) refl ∙ placed-spliced b a.used a.at a.old (length t) b' t (omega arith) (omega arith) refl o),
+      rw c.put_bytes.ensures (over-part b' t a.at (length b' - a.at) (omega arith) refl ∙ placed-spliced b a.used a.at a.old (length t) b' t (omega arith) (omega arith) refl c.open_space.ensures),
     )

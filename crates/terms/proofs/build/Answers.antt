@@ -8,15 +8,15 @@ use Rattle.terms.proofs.build.Goals as goal
 
 pub merge-count-requires : goal.merge-count-requires
 merge-count-requires c =
-    moved-entries c.args.s.now c.args.entries.now c.sort.new.1.0 c.sort.ensures (c.requires)
+    moved-entries c.args.s.now c.args.entries.now c.sort.new.entries c.sort.ensures (c.requires)
 
 pub slice_bounds-rising-end-2 : goal.slice_bounds-rising-end-2
 slice_bounds-rising-end-2 c =
-    sym (length-take-le c.merge-count.result c.merge-count.new.1.0 c.merge-count.ensures.0)
+    sym (length-take-le c.merge-count.result c.merge-count.new.entries c.merge-count.ensures.0)
 
 pub rising-sorted-requires : goal.rising-sorted-requires
 rising-sorted-requires c =
-    entries-front c.args.s.now c.merge-count.new.1.0 c.merge-count.result c.merge-count.ensures.0 c.merge-count.ensures.1
+    entries-front c.args.s.now c.merge-count.new.entries c.merge-count.result c.merge-count.ensures.0 c.merge-count.ensures.1
 
 pub returns : goal.returns
 returns c =
@@ -24,7 +24,7 @@ returns c =
       table = record {
         room = c.merge-count.ensures.0;
         entries = c.merge-count.ensures.1;
-        rising = λ e. rising-back c.args.s.now c.merge-count.new.1.0 c.merge-count.result c.merge-count.ensures.0 (c.rising-sorted.ensures e);
+        rising = λ e. rising-back c.args.s.now c.merge-count.new.entries c.merge-count.result c.merge-count.ensures.0 (c.rising-sorted.ensures e);
       };
-      kept = λ w k. c.merge-count.ensures.2 w k ∙ moved-kept c.args.s.now c.args.entries.now c.sort.new.1.0 c.sort.ensures w k;
+      kept = λ w k. c.merge-count.ensures.2 w k ∙ moved-kept c.args.s.now c.args.entries.now c.sort.new.entries c.sort.ensures w k;
     }

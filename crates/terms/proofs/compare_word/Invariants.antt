@@ -8,7 +8,7 @@ use Rattle.sorting.specs.Order.{compared_of}
 use Rattle.terms.proofs.compare_word.Given as goal
 
 abbrev pub invariant-loop-byte : goal.invariant-loop-byte
-invariant-loop-byte l = (l.n ≤ length l.w) × (compared_of (text_at true l.s l.initial.n) (drop l.n l.w) ≡ compared_of (text_at true l.s l.at) l.w)
+invariant-loop-byte l = (l.n ≤ length l.w) × (compared_of (text_at true l.s l.i) (drop l.n l.w) ≡ compared_of (text_at true l.s l.at) l.w)
 
 abbrev pub decreases-loop-byte : goal.decreases-loop-byte
-decreases-loop-byte l = length l.s - l.initial.n
+decreases-loop-byte l = length l.s - l.i

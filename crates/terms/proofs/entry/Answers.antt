@@ -15,6 +15,5 @@ returns c =
     let at = c.args.at in
     let t = c.args.tag in
     let p : c.narrow-p.result / print_unit ≡ print_of (text_at true s at) = ap (λ (z : ℕ). z / print_unit) (c.narrow-p.ensures ∙ c.mix.ensures.0) in
-    let q = c.narrow.ensures in
     let r : c.narrow.result + tag_unit * t + print_unit * (c.narrow-p.result / print_unit) ≡ entry_of at t (text_at true s at) = omega arith in
     (r, subst (IsEntry s) (sym r) (entry-is s at t c.requires.0 c.requires.1), ap (term_at s) r ∙ entry-term s at t c.requires.0 c.requires.1)

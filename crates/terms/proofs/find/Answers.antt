@@ -16,8 +16,7 @@ slice_bounds-find_sorted-end c =
 pub find_sorted-requires : goal.find_sorted-requires
 find_sorted-requires c =
     let l = c.args.entries.now in
-    let t = c.requires in
-    record { entries = entries-front c.args.s.now l c.args.t.count t.room t.entries; print_value = (c.word_print-print.ensures, rising-front c.args.s.now l c.args.t.count t.room (t.rising c.if-t.true)) }
+    record { entries = entries-front c.args.s.now l c.args.t.count c.requires.room c.requires.entries; print_value = (c.word_print-print.ensures, rising-front c.args.s.now l c.args.t.count c.requires.room (c.requires.rising c.if-t.true)) }
 
 pub returns-then-t : goal.returns-then-t
 returns-then-t c =
@@ -30,8 +29,7 @@ slice_bounds-find_all-end c =
 pub find_all-requires : goal.find_all-requires
 find_all-requires c =
     let l = c.args.entries.now in
-    let t = c.requires in
-    record { entries = entries-front c.args.s.now l c.args.t.count t.room t.entries; print_value = c.word_print-print.ensures }
+    record { entries = entries-front c.args.s.now l c.args.t.count c.requires.room c.requires.entries; print_value = c.word_print-print.ensures }
 
 pub returns : goal.returns
 returns c =

@@ -5,7 +5,7 @@ use Rattle.terms.proofs.Search.{Left}
 use Rattle.terms.proofs.find_from.Given as goal
 
 abbrev pub invariant-loop-i : goal.invariant-loop-i
-invariant-loop-i l = (l.i ≤ length l.entries) × Left l.s l.entries l.w l.initial.i l.i
+invariant-loop-i l = (l.i ≤ length l.entries) × Left l.s l.entries l.w l.set l.i
 
 abbrev pub decreases-loop-i : goal.decreases-loop-i
 decreases-loop-i l = length l.entries - l.i

@@ -6,7 +6,7 @@ use Rattle.terms.specs.Order.{NotBehind, Low}
 use Rattle.terms.proofs.first_of.Given as goal
 
 abbrev pub invariant-loop-lo : goal.invariant-loop-lo
-invariant-loop-lo l = (l.initial.hi ≤ l.hi) × (l.hi ≤ length l.entries) × Low l.s l.entries l.w l.initial.hi × (l.hi < length l.entries → NotBehind l.w (word_at l.s (get_or l.entries l.hi 0)))
+invariant-loop-lo l = (l.lo ≤ l.hi) × (l.hi ≤ length l.entries) × Low l.s l.entries l.w l.lo × (l.hi < length l.entries → NotBehind l.w (word_at l.s (get_or l.entries l.hi 0)))
 
 abbrev pub decreases-loop-lo : goal.decreases-loop-lo
-decreases-loop-lo l = l.hi - l.initial.hi
+decreases-loop-lo l = l.hi - l.lo

@@ -7,7 +7,7 @@ use Rattle.terms.proofs.Joining.{JoinedFrom}
 use Rattle.terms.proofs.join_rising.Given as goal
 
 abbrev pub invariant-loop-i : goal.invariant-loop-i
-invariant-loop-i l = (l.i ≤ length l.entries) × (length l.set ≡ length l.initial.sets) × TagsFrom l.s l.entries l.i l.initial.i × JoinedFrom l.s l.entries l.set l.i
+invariant-loop-i l = (l.i ≤ length l.entries) × (length l.sets ≡ length l.initial.sets) × TagsFrom l.s l.entries l.i l.set × JoinedFrom l.s l.entries l.sets l.i
 
 abbrev pub decreases-loop-i : goal.decreases-loop-i
 decreases-loop-i l = l.i

@@ -5,7 +5,7 @@ use Rattle.terms.proofs.Merging.{Merged}
 use Rattle.terms.proofs.merge.Given as goal
 
 abbrev pub invariant-loop-i : goal.invariant-loop-i
-invariant-loop-i l = Merged l.s l.initial.entries l.last l.initial.i l.i
+invariant-loop-i l = Merged l.s l.initial.entries l.entries l.last l.i
 
 abbrev pub decreases-loop-i : goal.decreases-loop-i
-decreases-loop-i l = length l.last - l.i
+decreases-loop-i l = length l.entries - l.i

@@ -6,7 +6,7 @@ use Rattle.sorting.specs.Texts.{mixed}
 use Rattle.terms.proofs.mix_word.Given as goal
 
 abbrev pub invariant-loop-i : goal.invariant-loop-i
-invariant-loop-i l = (mixed l.initial.i (drop l.i l.w) ≡ mixed 2166136261 l.w) × (l.initial.i < 4294967296)
+invariant-loop-i l = (mixed l.h (drop l.i l.w) ≡ mixed 2166136261 l.w) × (l.h < 4294967296)
 
 abbrev pub decreases-loop-i : goal.decreases-loop-i
 decreases-loop-i l = length l.w - l.i

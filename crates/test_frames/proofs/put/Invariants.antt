@@ -5,7 +5,7 @@ use lib.ListN.{length}
 use Rattle.test_frames.proofs.put.Given as goal
 
 abbrev pub invariant-loop-i : goal.invariant-loop-i
-invariant-loop-i l = length l.at ≡ length l.initial.out
+invariant-loop-i l = length l.out ≡ length l.initial.out
 
 abbrev pub decreases-loop-i : goal.decreases-loop-i
-decreases-loop-i l = length l.from - l.i
+decreases-loop-i l = length l.text - l.i

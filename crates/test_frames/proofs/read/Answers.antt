@@ -20,4 +20,4 @@ slice_bounds-read_full-end-3 c =
 
 pub returns : goal.returns
 returns c =
-    prefix_len_of_le c.read_full.result _ (omega (arith, length-append c.read_full.new.1.0 (drop c.four-size.result c.args.out.now), c.read_full.ensures.0))
+    prefix_len_of_le c.read_full.result _ (omega (arith, length-append c.read_full.new.buf (drop c.four-size.result c.args.out.now), c.read_full.ensures.0))

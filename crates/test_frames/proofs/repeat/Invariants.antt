@@ -5,7 +5,7 @@ use lib.ListN.{length}
 use Rattle.test_frames.proofs.repeat.Given as goal
 
 abbrev pub invariant-loop-n : goal.invariant-loop-n
-invariant-loop-n l = length l.at ≡ length l.initial.out
+invariant-loop-n l = length l.out ≡ length l.initial.out
 
 abbrev pub decreases-loop-n : goal.decreases-loop-n
-decreases-loop-n l = l.text - l.n
+decreases-loop-n l = l.times - l.n

@@ -8,7 +8,7 @@ use Rattle.typedefs.proofs.Placing.{Placed}
 use Rattle.typedefs.proofs.add_names.Given as goal
 
 abbrev pub invariant-loop-value : goal.invariant-loop-value
-invariant-loop-value l = Placed l.d l.initial.entries l.i l.initial.i l.count l.initial.count × (l.count ≤ length (values_from l.d (text "%typedef") 0)) × (length l.initial.i ≡ length l.initial.entries)
+invariant-loop-value l = Placed l.d l.initial.entries l.rows l.entries l.count l.i × (l.count ≤ length (values_from l.d (text "%typedef") 0)) × (length l.entries ≡ length l.initial.entries)
 
 abbrev pub decreases-loop-value : goal.decreases-loop-value
-decreases-loop-value l = length l.d - l.initial.count
+decreases-loop-value l = length l.d - l.i

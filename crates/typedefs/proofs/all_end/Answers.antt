@@ -8,6 +8,7 @@ use Rattle.format.specs.Bytes.{all}
 use Rattle.typedefs.specs.Targets.{targets_in, leads}
 use Rattle.typedefs.proofs.Chains.{targets-length, target_at}
 use Rattle.typedefs.proofs.Good.{ends-done, ends-cut}
+use mathlib.Core.Bool.{not}
 use Rattle.typedefs.proofs.all_end.Goals as goal
 
 pub loop-i-init : goal.loop-i-init
@@ -30,7 +31,7 @@ returns-then-not-target_ends c =
     let ts = targets_in c.args.t1 in
     let e = c.target_ends.ensures ∙ ap (leads ts) (sym (target_at c.args.t1 c.requires c.loop-i.i _ c.loop-i-test.true)) in
     sym (c.loop-i.invariant.1 ∙ ends-cut ts c.loop-i.i c.target_ends.result (omega (arith, c.loop-i-test.true, targets-length c.args.t1 c.requires)) e
-    ∙ ap (λ (b : Bool). b && all (leads ts) (drop (c.loop-i.i + 1) ts)) (not-true c.target_ends.result c.if-not-target_ends.true))
+    ∙ ap (λ (b : Bool). b && all (leads ts) (drop (c.loop-i.i + 1) ts)) (not-true c.target_ends.result (ap not c.if-not-target_ends.true)))
 
 pub overflow_add-i : goal.overflow_add-i
 overflow_add-i c =
@@ -42,7 +43,7 @@ loop-i-preserved c =
     let e = c.target_ends.ensures ∙ ap (leads ts) (sym (target_at c.args.t1 c.requires c.loop-i.i _ c.loop-i-test.true)) in (
       omega arith,
       c.loop-i.invariant.1 ∙ ends-cut ts c.loop-i.i c.target_ends.result (omega (arith, c.loop-i-test.true, targets-length c.args.t1 c.requires)) e
-          ∙ ap (λ (b : Bool). b && all (leads ts) (drop (c.loop-i.i + 1) ts)) (not-false c.target_ends.result c.if-not-target_ends.false),
+          ∙ ap (λ (b : Bool). b && all (leads ts) (drop (c.loop-i.i + 1) ts)) (not-false c.target_ends.result (ap not c.if-not-target_ends.false)),
     )
 
 pub returns : goal.returns

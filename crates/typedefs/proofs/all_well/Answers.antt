@@ -14,6 +14,7 @@ use Rattle.records.proofs.Readings.{part-readable}
 use Rattle.records.proofs.Named.{value-told}
 use Rattle.typedefs.proofs.Filling.{fit-here}
 use Rattle.typedefs.proofs.Deciding.{all-cut}
+use mathlib.Core.Bool.{not}
 use Rattle.typedefs.proofs.all_well.Goals as goal
 
 pub loop-value-init : goal.loop-value-init
@@ -36,29 +37,26 @@ returns-in_default c =
 pub overflow_add-i : goal.overflow_add-i
 overflow_add-i c =
     let d = c.args.d.now in
-    let g = c.v-1.given in
-    let h = value-told d (text "%type") c.loop-value.i c.next_named-v.result c.next_named-v.ensures g.1 in
+    let h = value-told d (text "%type") c.loop-value.i c.next_named-v.result c.next_named-v.ensures c.in-At.is in
     omega (arith, h.value_there)
 
 pub type_well-requires : goal.type_well-requires
 type_well-requires c =
     let d = c.args.d.now in
-    let g = c.v-1.given in
-    let h = value-told d (text "%type") c.loop-value.i c.next_named-v.result c.next_named-v.ensures g.1 in
-    let f = fit-here (length c.args.scratch.now) (values_from d (text "%type") c.loop-value.i) (value_from (span (c.loop-value.i + g.0.1.0) (c.loop-value.i + g.0.1.1.0) d)) (values_from d (text "%type") (c.loop-value.i + g.0.1.1.0)) c.loop-value.invariant.3 h.values in
+    let h = value-told d (text "%type") c.loop-value.i c.next_named-v.result c.next_named-v.ensures c.in-At.is in
+    let f = fit-here (length c.args.scratch.now) (values_from d (text "%type") c.loop-value.i) (value_from (span (c.loop-value.i + c.in-At.value) (c.loop-value.i + c.in-At.end) d)) (values_from d (text "%type") (c.loop-value.i + c.in-At.end)) c.loop-value.invariant.3 h.values in
     record { are_names = (c.requires.d_value.1, c.requires.d_value.2); value_in_bounds = (omega (arith, h.value_there), omega (arith, f.0, c.loop-value.invariant.2, ap length h.ends-itself)) }
 
 pub shape_of-scratch-then-not-type_well : goal.shape_of-scratch-then-not-type_well
 shape_of-scratch-then-not-type_well c =
-    omega (arith, c.scratch-1.given, c.loop-value.invariant.2)
+    omega (arith, c.type_well.auto.scratch, c.loop-value.invariant.2)
 
 pub returns-then-not-type_well : goal.returns-then-not-type_well
 returns-then-not-type_well c =
     let d = c.args.d.now in
-    let g = c.v-1.given in
     let p = well_by (names_from d 0) (targets_in c.args.targets) in
-    let h = value-told d (text "%type") c.loop-value.i c.next_named-v.result c.next_named-v.ensures g.1 in
-    sym (c.loop-value.invariant.4 ∙ all-cut p d (text "%type") c.loop-value.i (c.loop-value.i + g.0.1.0) (c.loop-value.i + g.0.1.1.0) c.type_well.result h c.type_well.ensures ∙ ap (λ (b : Bool). b && all p (values_from d (text "%type") (c.loop-value.i + g.0.1.1.0))) (not-true c.type_well.result c.if-not-type_well.true))
+    let h = value-told d (text "%type") c.loop-value.i c.next_named-v.result c.next_named-v.ensures c.in-At.is in
+    sym (c.loop-value.invariant.4 ∙ all-cut p d (text "%type") c.loop-value.i (c.loop-value.i + c.in-At.value) (c.loop-value.i + c.in-At.end) c.type_well.result h c.type_well.ensures ∙ ap (λ (b : Bool). b && all p (values_from d (text "%type") (c.loop-value.i + c.in-At.end))) (not-true c.type_well.result (ap not c.if-not-type_well.true)))
 
 pub overflow_add-i-in-loop-value : goal.overflow_add-i-in-loop-value
 overflow_add-i-in-loop-value c =
@@ -73,8 +71,7 @@ loop-value-smaller c =
 pub loop-value-preserved : goal.loop-value-preserved
 loop-value-preserved c =
     let d = c.args.d.now in
-    let g = c.v-1.given in
     let p = well_by (names_from d 0) (targets_in c.args.targets) in
-    let h = value-told d (text "%type") c.loop-value.i c.next_named-v.result c.next_named-v.ensures g.1 in
-    let f = fit-here (length c.args.scratch.now) (values_from d (text "%type") c.loop-value.i) (value_from (span (c.loop-value.i + g.0.1.0) (c.loop-value.i + g.0.1.1.0) d)) (values_from d (text "%type") (c.loop-value.i + g.0.1.1.0)) c.loop-value.invariant.3 h.values in
-    (h.inside, h.readable, omega (arith, c.scratch-1.given, c.loop-value.invariant.2), f.1, c.loop-value.invariant.4 ∙ all-cut p d (text "%type") c.loop-value.i (c.loop-value.i + g.0.1.0) (c.loop-value.i + g.0.1.1.0) c.type_well.result h c.type_well.ensures ∙ ap (λ (b : Bool). b && all p (values_from d (text "%type") (c.loop-value.i + g.0.1.1.0))) (not-false c.type_well.result c.if-not-type_well.false))
+    let h = value-told d (text "%type") c.loop-value.i c.next_named-v.result c.next_named-v.ensures c.in-At.is in
+    let f = fit-here (length c.args.scratch.now) (values_from d (text "%type") c.loop-value.i) (value_from (span (c.loop-value.i + c.in-At.value) (c.loop-value.i + c.in-At.end) d)) (values_from d (text "%type") (c.loop-value.i + c.in-At.end)) c.loop-value.invariant.3 h.values in
+    (h.inside, h.readable, omega (arith, c.type_well.auto.scratch, c.loop-value.invariant.2), f.1, c.loop-value.invariant.4 ∙ all-cut p d (text "%type") c.loop-value.i (c.loop-value.i + c.in-At.value) (c.loop-value.i + c.in-At.end) c.type_well.result h c.type_well.ensures ∙ ap (λ (b : Bool). b && all p (values_from d (text "%type") (c.loop-value.i + c.in-At.end))) (not-false c.type_well.result (ap not c.if-not-type_well.false)))

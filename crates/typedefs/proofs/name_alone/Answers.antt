@@ -59,7 +59,7 @@ returns-in-Missing c =
     let d = c.args.d.now in
     let p = get_or c.args.names.places c.args.k 0 in
     let ns = names_from d 0 in
-    let q = ap first_word (decoded-all (value_from (span p (length d) d)) c.args.scratch.now c.copy_value-n.new.1.0 c.copy_value-n.result c.copy_value-n.ensures.0 c.copy_value-n.ensures.1 ∙ ap value_from (rest d p)) ∙ place-name d c.args.names c.requires.are_names.0 c.args.k c.requires.are_names.1 in
+    let q = ap first_word (decoded-all (value_from (span p (length d) d)) c.args.scratch.now c.copy_value-n.new.out c.copy_value-n.result c.copy_value-n.ensures.0 c.copy_value-n.ensures.1 ∙ ap value_from (rest d p)) ∙ place-name d c.args.names c.requires.are_names.0 c.args.k c.requires.are_names.1 in
     ap is_missing (sym c.in-Missing.is ∙ c.first_index-t.ensures ∙ ap (λ (u : Bytes). index_from (c.args.k + 1) u (drop (c.args.k + 1) ns)) q) ∙ among-index (c.args.k + 1) (get_or ns c.args.k []) (drop (c.args.k + 1) ns)
 
 pub returns-in_default : goal.returns-in_default
@@ -67,5 +67,5 @@ returns-in_default c =
     let d = c.args.d.now in
     let p = get_or c.args.names.places c.args.k 0 in
     let ns = names_from d 0 in
-    let q = ap first_word (decoded-all (value_from (span p (length d) d)) c.args.scratch.now c.copy_value-n.new.1.0 c.copy_value-n.result c.copy_value-n.ensures.0 c.copy_value-n.ensures.1 ∙ ap value_from (rest d p)) ∙ place-name d c.args.names c.requires.are_names.0 c.args.k c.requires.are_names.1 in
+    let q = ap first_word (decoded-all (value_from (span p (length d) d)) c.args.scratch.now c.copy_value-n.new.out c.copy_value-n.result c.copy_value-n.ensures.0 c.copy_value-n.ensures.1 ∙ ap value_from (rest d p)) ∙ place-name d c.args.names c.requires.are_names.0 c.args.k c.requires.are_names.1 in
     not-missing c.first_index-t.result c.in_default.keys2 ∙ ap is_missing (c.first_index-t.ensures ∙ ap (λ (u : Bytes). index_from (c.args.k + 1) u (drop (c.args.k + 1) ns)) q) ∙ among-index (c.args.k + 1) (get_or ns c.args.k []) (drop (c.args.k + 1) ns)

@@ -34,7 +34,7 @@ pub returns-then-not-is_type_name : goal.returns-then-not-is_type_name
 returns-then-not-is_type_name c =
     let n = span c.in-At.start c.in-At.end c.args.s.now in
     let e = first_found c.args.s.now c.next_word-w.result c.in-At.start c.in-At.end c.next_word-w.ensures c.in-At.is in
-    sym (ap is_typedef_name e ∙ ap (λ (t : Bool). t && not (among n reserved)) (sym c.is_type_name.ensures ∙ not-true c.is_type_name.result c.if-not-is_type_name.true))
+    sym (ap is_typedef_name e ∙ ap (λ (t : Bool). t && not (among n reserved)) (sym c.is_type_name.ensures ∙ not-true c.is_type_name.result (ap not c.if-not-is_type_name.true)))
 
 pub slice_bounds-is_reserved-count : goal.slice_bounds-is_reserved-count
 slice_bounds-is_reserved-count c =
@@ -52,4 +52,4 @@ pub returns : goal.returns
 returns c =
     let n = span c.in-At.start c.in-At.end c.args.s.now in
     let e = first_found c.args.s.now c.next_word-w.result c.in-At.start c.in-At.end c.next_word-w.ensures c.in-At.is in
-    ap not c.is_reserved.ensures ∙ sym (ap is_typedef_name e ∙ ap (λ (t : Bool). t && not (among n reserved)) (sym c.is_type_name.ensures ∙ not-false c.is_type_name.result c.if-not-is_type_name.false))
+    ap not c.is_reserved.ensures ∙ sym (ap is_typedef_name e ∙ ap (λ (t : Bool). t && not (among n reserved)) (sym c.is_type_name.ensures ∙ not-false c.is_type_name.result (ap not c.if-not-is_type_name.false)))

@@ -17,6 +17,7 @@ use Rattle.records.proofs.Readings.{part-readable}
 use Rattle.records.proofs.Named.{value-told}
 use Rattle.typedefs.proofs.Filling.{fit-here}
 use Rattle.typedefs.proofs.Good.{good-cut}
+use mathlib.Core.Bool.{not}
 use Rattle.typedefs.proofs.names_good.Goals as goal
 
 pub loop-value-init : goal.loop-value-init
@@ -62,36 +63,32 @@ slice_bounds-copy_value-end c =
 
 pub copy_value-n-requires : goal.copy_value-n-requires
 copy_value-n-requires c =
-    let g = c.v-1.given in
-    let h = value-told c.args.d.now (text "%typedef") c.loop-value.i c.next_named-v.result c.next_named-v.ensures g.1 in
-    let f = fit-here (length c.args.scratch.now) (values_from c.args.d.now (text "%typedef") c.loop-value.i) (value_from (span (c.loop-value.i + g.0.1.0) (c.loop-value.i + g.0.1.1.0) c.args.d.now)) (values_from c.args.d.now (text "%typedef") (c.loop-value.i + g.0.1.1.0)) c.loop-value.invariant.3 h.values in
+    let h = value-told c.args.d.now (text "%typedef") c.loop-value.i c.next_named-v.result c.next_named-v.ensures c.in-At.is in
+    let f = fit-here (length c.args.scratch.now) (values_from c.args.d.now (text "%typedef") c.loop-value.i) (value_from (span (c.loop-value.i + c.in-At.value) (c.loop-value.i + c.in-At.end) c.args.d.now)) (values_from c.args.d.now (text "%typedef") (c.loop-value.i + c.in-At.end)) c.loop-value.invariant.3 h.values in
     omega (arith, f.0, c.loop-value.invariant.2)
 
 pub slice_bounds-name_good-end : goal.slice_bounds-name_good-end
 slice_bounds-name_good-end c =
-    let g = c.v-1.given in
-    let h = value-told c.args.d.now (text "%typedef") c.loop-value.i c.next_named-v.result c.next_named-v.ensures g.1 in
-    let v = value_from (span (c.loop-value.i + g.0.1.0) (c.loop-value.i + g.0.1.1.0) c.args.d.now) in
-    let f = fit-here (length c.args.scratch.now) (values_from c.args.d.now (text "%typedef") c.loop-value.i) v (values_from c.args.d.now (text "%typedef") (c.loop-value.i + g.0.1.1.0)) c.loop-value.invariant.3 h.values in
+    let h = value-told c.args.d.now (text "%typedef") c.loop-value.i c.next_named-v.result c.next_named-v.ensures c.in-At.is in
+    let v = value_from (span (c.loop-value.i + c.in-At.value) (c.loop-value.i + c.in-At.end) c.args.d.now) in
+    let f = fit-here (length c.args.scratch.now) (values_from c.args.d.now (text "%typedef") c.loop-value.i) v (values_from c.args.d.now (text "%typedef") (c.loop-value.i + c.in-At.end)) c.loop-value.invariant.3 h.values in
     decoded-inside v c.loop-value.scratch _ c.copy_value-n.result c.copy_value-n.ensures.0 c.copy_value-n.ensures.1 (omega (arith, f.0, c.loop-value.invariant.2))
 
 pub slice_bounds-name_good-end-in-loop-value : goal.slice_bounds-name_good-end-in-loop-value
 slice_bounds-name_good-end-in-loop-value c =
-    let g = c.v-1.given in
-    decoded-length (value_from (span (c.loop-value.i + g.0.1.0) (c.loop-value.i + g.0.1.1.0) c.args.d.now)) c.loop-value.scratch _ c.copy_value-n.result c.copy_value-n.ensures.0 c.copy_value-n.ensures.1
+    decoded-length (value_from (span (c.loop-value.i + c.in-At.value) (c.loop-value.i + c.in-At.end) c.args.d.now)) c.loop-value.scratch _ c.copy_value-n.result c.copy_value-n.ensures.0 c.copy_value-n.ensures.1
 
 pub shape_of-scratch-then-not-name_good : goal.shape_of-scratch-then-not-name_good
 shape_of-scratch-then-not-name_good c =
-    omega (arith, c.scratch-1.given, c.loop-value.invariant.2)
+    omega (arith, c.copy_value-n.auto.scratch, c.loop-value.invariant.2)
 
 pub returns-then-not-name_good : goal.returns-then-not-name_good
 returns-then-not-name_good c =
-    let g = c.v-1.given in
     let d = c.args.d.now in
-    let h = value-told d (text "%typedef") c.loop-value.i c.next_named-v.result c.next_named-v.ensures g.1 in
-    let v = value_from (span (c.loop-value.i + g.0.1.0) (c.loop-value.i + g.0.1.1.0) d) in
+    let h = value-told d (text "%typedef") c.loop-value.i c.next_named-v.result c.next_named-v.ensures c.in-At.is in
+    let v = value_from (span (c.loop-value.i + c.in-At.value) (c.loop-value.i + c.in-At.end) d) in
     let q = c.name_good.ensures ∙ ap (λ (u : Bytes). is_typedef_name (first_word u)) (decoded-all v c.loop-value.scratch _ c.copy_value-n.result c.copy_value-n.ensures.0 c.copy_value-n.ensures.1) in
-    sym (c.loop-value.invariant.4 ∙ good-cut d c.loop-value.i (c.loop-value.i + g.0.1.0) (c.loop-value.i + g.0.1.1.0) c.name_good.result h q ∙ ap (λ (b : Bool). b && all is_typedef_name (names_from d (c.loop-value.i + g.0.1.1.0))) (not-true c.name_good.result c.if-not-name_good.true))
+    sym (c.loop-value.invariant.4 ∙ good-cut d c.loop-value.i (c.loop-value.i + c.in-At.value) (c.loop-value.i + c.in-At.end) c.name_good.result h q ∙ ap (λ (b : Bool). b && all is_typedef_name (names_from d (c.loop-value.i + c.in-At.end))) (not-true c.name_good.result (ap not c.if-not-name_good.true)))
 
 pub overflow_add-i-in-loop-value-2 : goal.overflow_add-i-in-loop-value-2
 overflow_add-i-in-loop-value-2 c =
@@ -105,10 +102,9 @@ loop-value-smaller c =
 
 pub loop-value-preserved : goal.loop-value-preserved
 loop-value-preserved c =
-    let g = c.v-1.given in
     let d = c.args.d.now in
-    let h = value-told d (text "%typedef") c.loop-value.i c.next_named-v.result c.next_named-v.ensures g.1 in
-    let v = value_from (span (c.loop-value.i + g.0.1.0) (c.loop-value.i + g.0.1.1.0) d) in
-    let f = fit-here (length c.args.scratch.now) (values_from d (text "%typedef") c.loop-value.i) v (values_from d (text "%typedef") (c.loop-value.i + g.0.1.1.0)) c.loop-value.invariant.3 h.values in
+    let h = value-told d (text "%typedef") c.loop-value.i c.next_named-v.result c.next_named-v.ensures c.in-At.is in
+    let v = value_from (span (c.loop-value.i + c.in-At.value) (c.loop-value.i + c.in-At.end) d) in
+    let f = fit-here (length c.args.scratch.now) (values_from d (text "%typedef") c.loop-value.i) v (values_from d (text "%typedef") (c.loop-value.i + c.in-At.end)) c.loop-value.invariant.3 h.values in
     let q = c.name_good.ensures ∙ ap (λ (u : Bytes). is_typedef_name (first_word u)) (decoded-all v c.loop-value.scratch _ c.copy_value-n.result c.copy_value-n.ensures.0 c.copy_value-n.ensures.1) in
-    (h.inside, h.readable, omega (arith, c.scratch-1.given, c.loop-value.invariant.2), f.1, c.loop-value.invariant.4 ∙ good-cut d c.loop-value.i (c.loop-value.i + g.0.1.0) (c.loop-value.i + g.0.1.1.0) c.name_good.result h q ∙ ap (λ (b : Bool). b && all is_typedef_name (names_from d (c.loop-value.i + g.0.1.1.0))) (not-false c.name_good.result c.if-not-name_good.false))
+    (h.inside, h.readable, omega (arith, c.copy_value-n.auto.scratch, c.loop-value.invariant.2), f.1, c.loop-value.invariant.4 ∙ good-cut d c.loop-value.i (c.loop-value.i + c.in-At.value) (c.loop-value.i + c.in-At.end) c.name_good.result h q ∙ ap (λ (b : Bool). b && all is_typedef_name (names_from d (c.loop-value.i + c.in-At.end))) (not-false c.name_good.result (ap not c.if-not-name_good.false)))

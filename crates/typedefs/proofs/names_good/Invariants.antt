@@ -10,7 +10,7 @@ use Rattle.typedefs.specs.Walks.{names_from, fit_from}
 use Rattle.typedefs.proofs.names_good.Given as goal
 
 abbrev pub invariant-loop-value : goal.invariant-loop-value
-invariant-loop-value l = (l.i ≤ length l.d) × (is_readable (drop l.i l.d) ≡ true) × (length l.initial.i ≡ length l.initial.scratch) × (fit_from (length l.initial.scratch) l.d (text "%typedef") l.i ≡ true) × (all is_typedef_name (names_from l.d 0) ≡ all is_typedef_name (names_from l.d l.i))
+invariant-loop-value l = (l.i ≤ length l.d) × (is_readable (drop l.i l.d) ≡ true) × (length l.scratch ≡ length l.initial.scratch) × (fit_from (length l.initial.scratch) l.d (text "%typedef") l.i ≡ true) × (all is_typedef_name (names_from l.d 0) ≡ all is_typedef_name (names_from l.d l.i))
 
 abbrev pub decreases-loop-value : goal.decreases-loop-value
 decreases-loop-value l = length l.d - l.i

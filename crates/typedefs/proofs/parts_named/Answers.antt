@@ -6,6 +6,8 @@ use Rattle.format.specs.Lines.{is_name}
 use Rattle.words.specs.Spans.{not_byte}
 use Rattle.words.proofs.Finding.{run-le}
 use Rattle.typedefs.proofs.Deciding.{part-bad, part-last, part-more}
+use mathlib.Core.Bool.{not}
+use mathlib.Core.Path.{ap}
 use Rattle.typedefs.proofs.parts_named.Goals as goal
 
 pub loop-rest-init : goal.loop-rest-init
@@ -21,11 +23,11 @@ is_name-requires c =
 
 pub returns-then-not-is_name : goal.returns-then-not-is_name
 returns-then-not-is_name c =
-    sym (c.loop-rest.invariant.1 ∙ part-bad c.loop-rest.rest.now c.part_end-e.result c.part_end-e.ensures (sym c.is_name.ensures ∙ not-true c.is_name.result c.if-not-is_name.true))
+    sym (c.loop-rest.invariant.1 ∙ part-bad c.loop-rest.rest.now c.part_end-e.result c.part_end-e.ensures (sym c.is_name.ensures ∙ not-true c.is_name.result (ap not c.if-not-is_name.true)))
 
 pub returns-then-e-rest : goal.returns-then-e-rest
 returns-then-e-rest c =
-    sym (c.loop-rest.invariant.1 ∙ part-last c.loop-rest.rest.now c.part_end-e.result c.part_end-e.ensures (sym c.is_name.ensures ∙ not-false c.is_name.result c.if-not-is_name.false) c.if-e-rest.true)
+    sym (c.loop-rest.invariant.1 ∙ part-last c.loop-rest.rest.now c.part_end-e.result c.part_end-e.ensures (sym c.is_name.ensures ∙ not-false c.is_name.result (ap not c.if-not-is_name.false)) c.if-e-rest.true)
 
 pub overflow_add-rest : goal.overflow_add-rest
 overflow_add-rest c =
@@ -45,4 +47,4 @@ loop-rest-smaller c =
 
 pub loop-rest-preserved : goal.loop-rest-preserved
 loop-rest-preserved c =
-    (omega arith, c.loop-rest.invariant.1 ∙ part-more c.loop-rest.rest.now c.part_end-e.result c.part_end-e.ensures (sym c.is_name.ensures ∙ not-false c.is_name.result c.if-not-is_name.false) (omega (arith, c.part_end-e.ensures, c.if-e-rest.false, run-le (not_byte 44) c.loop-rest.rest.now)))
+    (omega arith, c.loop-rest.invariant.1 ∙ part-more c.loop-rest.rest.now c.part_end-e.result c.part_end-e.ensures (sym c.is_name.ensures ∙ not-false c.is_name.result (ap not c.if-not-is_name.false)) (omega (arith, c.part_end-e.ensures, c.if-e-rest.false, run-le (not_byte 44) c.loop-rest.rest.now)))

@@ -11,16 +11,16 @@ add_names-p-requires c =
 
 pub slice_bounds-entries-end : goal.slice_bounds-entries-end
 slice_bounds-entries-end c =
-    names-room c.args.d.now _ c.add_names-p.new.1.0 c.add_names-p.result.rows c.add_names-p.result.count c.add_names-p.ensures.0 c.add_names-p.ensures.1 (omega arith)
+    names-room c.args.d.now _ c.add_names-p.new.entries c.add_names-p.result.rows c.add_names-p.result.count c.add_names-p.ensures.0 c.add_names-p.ensures.1 (omega arith)
 
 pub slice_bounds-build-end : goal.slice_bounds-build-end
 slice_bounds-build-end c =
-    sym (length-take-le c.add_names-p.result.count c.add_names-p.new.1.0 (names-room c.args.d.now _ c.add_names-p.new.1.0 c.add_names-p.result.rows c.add_names-p.result.count c.add_names-p.ensures.0 c.add_names-p.ensures.1 (omega arith)))
+    sym (length-take-le c.add_names-p.result.count c.add_names-p.new.entries (names-room c.args.d.now _ c.add_names-p.new.entries c.add_names-p.result.rows c.add_names-p.result.count c.add_names-p.ensures.0 c.add_names-p.ensures.1 (omega arith)))
 
 pub build-t-requires : goal.build-t-requires
 build-t-requires c =
-    names-entries c.args.d.now _ c.add_names-p.new.1.0 c.add_names-p.result.rows c.add_names-p.result.count c.add_names-p.ensures.0 c.add_names-p.ensures.1 (omega arith)
+    names-entries c.args.d.now _ c.add_names-p.new.entries c.add_names-p.result.rows c.add_names-p.result.count c.add_names-p.ensures.0 c.add_names-p.ensures.1 (omega arith)
 
 pub returns : goal.returns
 returns c =
-    names-made c.args.d.now _ c.add_names-p.new.1.0 c.add_names-p.result.rows c.add_names-p.result.count c.add_names-p.ensures.0 c.add_names-p.ensures.1 (omega arith) c.build-t.new.1.0 c.build-t.result c.build-t.ensures
+    names-made c.args.d.now _ c.add_names-p.new.entries c.add_names-p.result.rows c.add_names-p.result.count c.add_names-p.ensures.0 c.add_names-p.ensures.1 (omega arith) c.build-t.new.entries c.build-t.result c.build-t.ensures

@@ -49,15 +49,14 @@ pub loop-k-preserved : goal.loop-k-preserved
 loop-k-preserved c =
     let h = c.requires.are_names in
     let d = c.args.d.now in
-    let is = c.read_typedef-t.ensures in
     let v = h.values.places c.loop-k.k c.loop-k-test.true in (
       omega arith,
-      omega (arith, c.scratch-1.given, c.loop-k.invariant.1),
+      omega (arith, c.read_typedef-t.auto.scratch, c.loop-k.invariant.1),
       simp length-set c.loop-k.invariant.2,
       simp length-set c.loop-k.invariant.3,
-      rows_more d c.args.names.places c.loop-k.rows c.loop-k.k c.read_typedef-t.result (omega (arith, c.loop-k.invariant.2, h.values.few)) is c.loop-k.invariant.4,
+      rows_more d c.args.names.places c.loop-k.rows c.loop-k.k c.read_typedef-t.result (omega (arith, c.loop-k.invariant.2, h.values.few)) c.read_typedef-t.ensures c.loop-k.invariant.4,
       targets-more (target_in (names_from d 0)) (values_from d (text "%typedef") 0) c.loop-k.links c.loop-k.k (record { to = c.read_typedef-t.result.target })
-          (omega (arith, c.loop-k.invariant.3, h.values.few)) (omega (arith, h.values.count)) (is.target_is ∙ ap (target_in (names_from d 0)) v.1) c.loop-k.invariant.5,
+          (omega (arith, c.loop-k.invariant.3, h.values.few)) (omega (arith, h.values.count)) (c.read_typedef-t.ensures.target_is ∙ ap (target_in (names_from d 0)) v.1) c.loop-k.invariant.5,
     )
 
 pub shape_of-scratch : goal.shape_of-scratch

@@ -12,8 +12,8 @@ use Rattle.typedefs.specs.declared.Link.{Link}
 use Rattle.typedefs.proofs.read_typedefs.Given as goal
 
 abbrev pub invariant-loop-k : goal.invariant-loop-k
-invariant-loop-k l = (l.k ≤ l.names.count) × (length l.initial.links ≡ length l.initial.scratch) × (length l.links ≡ 32) × (length l.initial.k ≡ 32) × Typed l.d l.names.places l.links l.k
-    × (map (λ (x : Link). x.to) (take l.k l.initial.k) ≡ map (target_in (names_from l.d 0)) (take l.k (values_from l.d (text "%typedef") 0)))
+invariant-loop-k l = (l.k ≤ l.names.count) × (length l.scratch ≡ length l.initial.scratch) × (length l.rows ≡ 32) × (length l.links ≡ 32) × Typed l.d l.names.places l.rows l.k
+    × (map (λ (x : Link). x.to) (take l.k l.links) ≡ map (target_in (names_from l.d 0)) (take l.k (values_from l.d (text "%typedef") 0)))
 
 abbrev pub decreases-loop-k : goal.decreases-loop-k
 decreases-loop-k l = l.names.count - l.k

@@ -14,6 +14,7 @@ use Rattle.words.specs.Spans.{span}
 use Rattle.words.proofs.Decoded.{decoded-all, decoded-length, decoded-inside}
 use Rattle.typedefs.specs.Walks.{names_from}
 use Rattle.typedefs.specs.Targets.{target_in, targets_in, leads}
+use mathlib.Core.Bool.{not}
 use Rattle.typedefs.proofs.type_well.Goals as goal
 
 pub copy_value-n-requires : goal.copy_value-n-requires
@@ -33,12 +34,12 @@ returns-then-not-names_well c =
     let d = c.args.d.now in
     let v = value_from (drop c.args.value d) in
     let a = decoded-all (value_from (span c.args.value (length d) d)) c.args.scratch.now _ c.copy_value-n.result c.copy_value-n.ensures.0 c.copy_value-n.ensures.1 ∙ ap value_from (rest d c.args.value) in
-    let e = sym (ap (λ (u : Bytes). all is_name (typed_names u)) a) ∙ sym c.names_well.ensures ∙ not-true c.names_well.result c.if-not-names_well.true in
+    let e = sym (ap (λ (u : Bytes). all is_name (typed_names u)) a) ∙ sym c.names_well.ensures ∙ not-true c.names_well.result (ap not c.if-not-names_well.true) in
     sym (ap (λ (b : Bool). b && leads (targets_in c.args.targets) (target_in (names_from d 0) v)) e)
 
 pub read_typedef-t-requires : goal.read_typedef-t-requires
 read_typedef-t-requires c =
-    record { are_names = c.requires.are_names.0; value_in_bounds = (c.requires.value_in_bounds.0, omega (arith, c.scratch-1.given, c.requires.value_in_bounds.1)) }
+    record { are_names = c.requires.are_names.0; value_in_bounds = (c.requires.value_in_bounds.0, omega (arith, c.copy_value-n.auto.scratch, c.requires.value_in_bounds.1)) }
 
 pub target_ends-requires : goal.target_ends-requires
 target_ends-requires c =
@@ -50,5 +51,5 @@ returns c =
     let v = value_from (drop c.args.value d) in
     let ts = targets_in c.args.targets in
     let a = decoded-all (value_from (span c.args.value (length d) d)) c.args.scratch.now _ c.copy_value-n.result c.copy_value-n.ensures.0 c.copy_value-n.ensures.1 ∙ ap value_from (rest d c.args.value) in
-    let e = sym (ap (λ (u : Bytes). all is_name (typed_names u)) a) ∙ sym c.names_well.ensures ∙ not-false c.names_well.result c.if-not-names_well.false in
+    let e = sym (ap (λ (u : Bytes). all is_name (typed_names u)) a) ∙ sym c.names_well.ensures ∙ not-false c.names_well.result (ap not c.if-not-names_well.false) in
     c.target_ends.ensures ∙ ap (leads ts) c.read_typedef-t.ensures.target_is ∙ sym (ap (λ (b : Bool). b && leads ts (target_in (names_from d 0) v)) e)

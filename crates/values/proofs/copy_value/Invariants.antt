@@ -8,7 +8,7 @@ use Rattle.values.specs.Value.{value_from}
 use Rattle.values.proofs.copy_value.Given as goal
 
 abbrev pub invariant-loop-byte : goal.invariant-loop-byte
-invariant-loop-byte l = (length l.i ≡ length l.initial.out) × (l.n + length (value_from (drop l.initial.n l.s)) ≡ length (value_from l.s)) × (sets l.i l.n (value_from (drop l.initial.n l.s)) ≡ sets l.initial.out 0 (value_from l.s))
+invariant-loop-byte l = (length l.out ≡ length l.initial.out) × (l.n + length (value_from (drop l.i l.s)) ≡ length (value_from l.s)) × (sets l.out l.n (value_from (drop l.i l.s)) ≡ sets l.initial.out 0 (value_from l.s))
 
 abbrev pub decreases-loop-byte : goal.decreases-loop-byte
-decreases-loop-byte l = length l.s - l.initial.n
+decreases-loop-byte l = length l.s - l.i

@@ -8,7 +8,7 @@ use Rattle.values.specs.Value.{value_from}
 use Rattle.values.proofs.is_text.Given as goal
 
 abbrev pub invariant-loop-byte : goal.invariant-loop-byte
-invariant-loop-byte l = (l.n ≤ length l.text) × (same (drop l.n l.text) (value_from (drop l.initial.n l.s)) ≡ same l.text (value_from l.s))
+invariant-loop-byte l = (l.n ≤ length l.text) × (same (drop l.n l.text) (value_from (drop l.at l.s)) ≡ same l.text (value_from l.s))
 
 abbrev pub decreases-loop-byte : goal.decreases-loop-byte
-decreases-loop-byte l = length l.s - l.initial.n
+decreases-loop-byte l = length l.s - l.at

@@ -7,7 +7,7 @@ use Rattle.values.specs.Value.{value_from}
 use Rattle.values.proofs.value_len.Given as goal
 
 abbrev pub invariant-loop-next : goal.invariant-loop-next
-invariant-loop-next l = l.n + length (value_from (drop l.initial.n l.s)) ≡ length (value_from l.s)
+invariant-loop-next l = l.n + length (value_from (drop l.i l.s)) ≡ length (value_from l.s)
 
 abbrev pub decreases-loop-next : goal.decreases-loop-next
-decreases-loop-next l = length l.s - l.initial.n
+decreases-loop-next l = length l.s - l.i

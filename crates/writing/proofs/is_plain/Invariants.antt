@@ -7,7 +7,7 @@ use Rattle.writing.specs.Value.{is_plain_from}
 use Rattle.writing.proofs.is_plain.Given as goal
 
 abbrev pub invariant-loop-i : goal.invariant-loop-i
-invariant-loop-i l = (l.initial.slash ≤ length l.s) × (is_plain_from false l.s ≡ is_plain_from l.slash (drop l.initial.slash l.s))
+invariant-loop-i l = (l.i ≤ length l.s) × (is_plain_from false l.s ≡ is_plain_from l.slash (drop l.i l.s))
 
 abbrev pub decreases-loop-i : goal.decreases-loop-i
-decreases-loop-i l = length l.s - l.initial.slash
+decreases-loop-i l = length l.s - l.i

@@ -6,7 +6,7 @@ use lib.Seq.{sets}
 use Rattle.writing.proofs.put_bytes.Given as goal
 
 abbrev pub invariant-loop-i : goal.invariant-loop-i
-invariant-loop-i l = (l.i ≤ length l.out) × (length l.initial.i ≡ length l.initial.out) × (sets l.initial.i l.i (drop l.i l.out) ≡ sets l.initial.out 0 l.out)
+invariant-loop-i l = (l.i ≤ length l.s) × (length l.out ≡ length l.initial.out) × (sets l.out l.i (drop l.i l.s) ≡ sets l.initial.out 0 l.s)
 
 abbrev pub decreases-loop-i : goal.decreases-loop-i
-decreases-loop-i l = length l.out - l.i
+decreases-loop-i l = length l.s - l.i

@@ -8,7 +8,7 @@ use Rattle.format.specs.Written.{indent}
 use Rattle.writing.proofs.put_value.Given as goal
 
 abbrev pub invariant-loop-i : goal.invariant-loop-i
-invariant-loop-i l = (l.initial.n ≤ length l.at) × (length l.i ≡ length l.initial.out) × (l.n + length (indent (drop l.initial.n l.at)) ≡ l.out + length (indent l.at)) × (sets l.i l.n (indent (drop l.initial.n l.at)) ≡ sets l.initial.out l.out (indent l.at))
+invariant-loop-i l = (l.i ≤ length l.value) × (length l.out ≡ length l.initial.out) × (l.n + length (indent (drop l.i l.value)) ≡ l.at + length (indent l.value)) × (sets l.out l.n (indent (drop l.i l.value)) ≡ sets l.initial.out l.at (indent l.value))
 
 abbrev pub decreases-loop-i : goal.decreases-loop-i
-decreases-loop-i l = length l.at - l.initial.n
+decreases-loop-i l = length l.value - l.i

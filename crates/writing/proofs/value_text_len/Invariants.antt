@@ -6,7 +6,7 @@ use Rattle.format.specs.Written.{indent}
 use Rattle.writing.proofs.value_text_len.Given as goal
 
 abbrev pub invariant-loop-i : goal.invariant-loop-i
-invariant-loop-i l = (l.initial.n ≤ length l.value) × (l.n ≤ 3 * l.initial.n) × (l.n + length (indent (drop l.initial.n l.value)) ≡ length (indent l.value))
+invariant-loop-i l = (l.i ≤ length l.value) × (l.n ≤ 3 * l.i) × (l.n + length (indent (drop l.i l.value)) ≡ length (indent l.value))
 
 abbrev pub decreases-loop-i : goal.decreases-loop-i
-decreases-loop-i l = length l.value - l.initial.n
+decreases-loop-i l = length l.value - l.i

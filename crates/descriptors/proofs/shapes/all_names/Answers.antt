@@ -16,6 +16,5 @@ returns-in_default c =
 pub returns : goal.returns
 returns c =
     let s = c.args.s.now in
-    let g = c.enum_told-1.given in
-    let f = found s c.next_word-w.ensures g.1 in
-    c.each_name.ensures ∙ sym (several-some (words s) (span g.0.0 g.0.1.0 s) (words (span g.0.1.0 (length s) s)) f.2 (listable c.args.special))
+    let f = found s c.next_word-w.ensures c.in-At.is in
+    c.each_name.ensures ∙ sym (several-some (words s) (span c.in-At.start c.in-At.end s) (words (span c.in-At.end (length s) s)) f.2 (listable c.args.special))

@@ -7,7 +7,7 @@ use Rattle.descriptors.proofs.Walks.{WalkAt}
 use Rattle.descriptors.proofs.shapes.described_well.Given as goal
 
 abbrev pub invariant-loop-n : goal.invariant-loop-n
-invariant-loop-n l = WalkAt l.s l.starts l.ends l.count l.n l.to l.initial.n × (length l.initial.to ≡ length l.initial.scratch)
+invariant-loop-n l = WalkAt l.s l.starts l.ends l.count l.n l.from l.to × (length l.scratch ≡ length l.initial.scratch)
 
 abbrev pub decreases-loop-n : goal.decreases-loop-n
 decreases-loop-n l = l.count - l.n

@@ -8,6 +8,7 @@ use Rattle.words.specs.Spans.{span}
 use Rattle.words.proofs.Finding.{found, not_found}
 use Rattle.descriptors.specs.Contents.{listable}
 use Rattle.descriptors.proofs.Folds.{all_more, all-stop}
+use mathlib.Core.Bool.{not}
 use Rattle.descriptors.proofs.shapes.each_name.Goals as goal
 
 pub loop-start-init : goal.loop-start-init
@@ -32,9 +33,8 @@ slice_bounds-is_listable-end c =
 pub returns-then-not-is_listable : goal.returns-then-not-is_listable
 returns-then-not-is_listable c =
     let s = c.loop-start.rest.now in
-    let g = c.w-1.given in
-    let f = found s c.next_word-w.ensures g.1 in
-    sym (c.loop-start.invariant ∙ all-stop (listable c.args.special) (words s) (span g.0.0 g.0.1.0 s) (words (span g.0.1.0 (length s) s)) f.2 (sym c.is_listable.ensures ∙ not-true c.is_listable.result c.if-not-is_listable.true))
+    let f = found s c.next_word-w.ensures c.in-At.is in
+    sym (c.loop-start.invariant ∙ all-stop (listable c.args.special) (words s) (span c.in-At.start c.in-At.end s) (words (span c.in-At.end (length s) s)) f.2 (sym c.is_listable.ensures ∙ not-true c.is_listable.result (ap not c.if-not-is_listable.true)))
 
 pub slice_bounds-rest-count : goal.slice_bounds-rest-count
 slice_bounds-rest-count c =
@@ -51,6 +51,5 @@ loop-start-smaller c =
 pub loop-start-preserved : goal.loop-start-preserved
 loop-start-preserved c =
     let s = c.loop-start.rest.now in
-    let g = c.w-1.given in
-    let f = found s c.next_word-w.ensures g.1 in
-    c.loop-start.invariant ∙ all_more (listable c.args.special) (words s) (span g.0.0 g.0.1.0 s) (words (span g.0.1.0 (length s) s)) f.2 (sym c.is_listable.ensures ∙ not-false c.is_listable.result c.if-not-is_listable.false)
+    let f = found s c.next_word-w.ensures c.in-At.is in
+    c.loop-start.invariant ∙ all_more (listable c.args.special) (words s) (span c.in-At.start c.in-At.end s) (words (span c.in-At.end (length s) s)) f.2 (sym c.is_listable.ensures ∙ not-false c.is_listable.result (ap not c.if-not-is_listable.false))

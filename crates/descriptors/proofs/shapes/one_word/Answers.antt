@@ -24,17 +24,14 @@ slice_bounds-next_word-start c =
 pub returns-in-At-v : goal.returns-in-At-v
 returns-in-At-v c =
     let s = c.args.s.now in
-    let g = c.w-1.given in
-    let h = c.enum_told-in-At-v-1.given in
-    let f = found s c.next_word-w.ensures g.1 in
-    let r = span g.0.1.0 (length s) s in
-    let b = found r c.next_word-v.ensures h.1 in
-    λ p. ap (one p) (words-then (words s) (span g.0.0 g.0.1.0 s) (words r) f.2 (span h.0.0 h.0.1.0 r ∷ words (span h.0.1.0 (length r) r)) b.2)
+    let f = found s c.next_word-w.ensures c.in-At.is in
+    let r = span c.in-At.end (length s) s in
+    let b = found r c.next_word-v.ensures c.in-At-v.is in
+    λ p. ap (one p) (words-then (words s) (span c.in-At.start c.in-At.end s) (words r) f.2 (span c.in-At-v.start c.in-At-v.end r ∷ words (span c.in-At-v.end (length r) r)) b.2)
 
 pub returns-in-Nothing : goal.returns-in-Nothing
 returns-in-Nothing c =
     let s = c.args.s.now in
-    let g = c.w-1.given in
-    let f = found s c.next_word-w.ensures g.1 in
-    let r = span g.0.1.0 (length s) s in
-    (f.0, f.1, words-then (words s) (span g.0.0 g.0.1.0 s) (words r) f.2 [] (not_found r c.next_word-v.ensures c.in-Nothing.is))
+    let f = found s c.next_word-w.ensures c.in-At.is in
+    let r = span c.in-At.end (length s) s in
+    (f.0, f.1, words-then (words s) (span c.in-At.start c.in-At.end s) (words r) f.2 [] (not_found r c.next_word-v.ensures c.in-Nothing.is))

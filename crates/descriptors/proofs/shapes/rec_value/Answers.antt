@@ -6,8 +6,7 @@ use Rattle.descriptors.proofs.shapes.rec_value.Goals as goal
 
 pub returns-in-At : goal.returns-in-At
 returns-in-At c =
-    let g = c.f-1.given in
-    rec-found c.args.d.now g.0.0 g.0.1.0 g.0.1.1.0 (field_told (text "%rec") c.args.d.now 0 c.find_field-f.result (c.requires) c.find_field-f.ensures g.1)
+    rec-found c.args.d.now c.in-At.start c.in-At.value c.in-At.end (field_told (text "%rec") c.args.d.now 0 c.find_field-f.result (c.requires) c.find_field-f.ensures c.in-At.is)
 
 pub returns-in-Missing : goal.returns-in-Missing
 returns-in-Missing c =

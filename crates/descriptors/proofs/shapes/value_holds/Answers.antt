@@ -13,4 +13,4 @@ returns-then-is_free c =
 pub returns : goal.returns
 returns c =
     let v = value_from c.args.value.now in
-    ((c.text_holds.ensures ∙ ap (holds c.args.c) (decoded-all v c.args.scratch.now c.copy_value-n.new.1.0 c.copy_value-n.result c.copy_value-n.ensures.0 c.copy_value-n.ensures.1)), scratch-length v c.args.scratch.now c.copy_value-n.new.1.0 c.copy_value-n.result c.copy_value-n.ensures.0 c.copy_value-n.ensures.1 c.requires)
+    ((c.text_holds.ensures ∙ ap (holds c.args.c) (decoded-all v c.args.scratch.now c.copy_value-n.new.out c.copy_value-n.result c.copy_value-n.ensures.0 c.copy_value-n.ensures.1)), scratch-length v c.args.scratch.now c.copy_value-n.new.out c.copy_value-n.result c.copy_value-n.ensures.0 c.copy_value-n.ensures.1 c.requires)

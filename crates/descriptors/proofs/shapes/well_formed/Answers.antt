@@ -11,6 +11,8 @@ use Rattle.records.proofs.NextFields.{next-told}
 use Rattle.descriptors.proofs.Folds.{all_both}
 use Rattle.descriptors.proofs.Judging.{formed-done, formed-stop, formed-twice, formed-more}
 use Rattle.descriptors.proofs.Limits.{fits-fields, fits-value}
+use mathlib.Core.Bool.{not}
+use mathlib.Core.Path.{ap}
 use Rattle.descriptors.proofs.shapes.well_formed.Goals as goal
 
 pub loop-start-init : goal.loop-start-init
@@ -84,10 +86,9 @@ pub value_holds-requires : goal.value_holds-requires
 value_holds-requires c =
     let d = c.args.d.now in
     let i = c.loop-start.i in
-    let g = c.n-1.given.0 in
     let f = next-told d i c.next_field-n.result c.next_field-n.ensures c.in-At.is in
-    let x = field_between d (i + g.0) (i + g.1.0) (i + g.1.1.0) (i + g.1.1.1.0) in
-    let rest = fields_from d (i + g.1.1.1.0) in
+    let x = field_between d (i + c.in-At.start) (i + c.in-At.named) (i + c.in-At.value) (i + c.in-At.end) in
+    let rest = fields_from d (i + c.in-At.end) in
     let h = all_both fits_field (fields_from d i) x rest f.fields c.loop-start.invariant.2 in
     omega (arith, fits-value x h.0, c.requires.value_bytes_in_bounds, c.loop-start.invariant.3)
 
@@ -99,11 +100,10 @@ pub returns-then-not-value_holds : goal.returns-then-not-value_holds
 returns-then-not-value_holds c =
     let d = c.args.d.now in
     let i = c.loop-start.i in
-    let g = c.n-1.given.0 in
     let f = next-told d i c.next_field-n.result c.next_field-n.ensures c.in-At.is in
-    let x = field_between d (i + g.0) (i + g.1.0) (i + g.1.1.0) (i + g.1.1.1.0) in
-    let rest = fields_from d (i + g.1.1.1.0) in
-    (sym (c.loop-start.invariant.4 ∙ formed-stop c.loop-start.keyed c.loop-start.sized (fields_from d i) x rest f.fields (c.content_of-c.ensures.shaped x.value x.count ∙ sym c.value_holds.ensures.0 ∙ not-true c.value_holds.result c.if-not-value_holds.true)), c.value_holds.ensures.1 ∙ c.loop-start.invariant.3)
+    let x = field_between d (i + c.in-At.start) (i + c.in-At.named) (i + c.in-At.value) (i + c.in-At.end) in
+    let rest = fields_from d (i + c.in-At.end) in
+    (sym (c.loop-start.invariant.4 ∙ formed-stop c.loop-start.keyed c.loop-start.sized (fields_from d i) x rest f.fields (c.content_of-c.ensures.shaped x.value x.count ∙ sym c.value_holds.ensures.0 ∙ not-true c.value_holds.result (ap not c.if-not-value_holds.true))), c.value_holds.ensures.1 ∙ c.loop-start.invariant.3)
 
 pub shape_of-scratch-then-keyed-key : goal.shape_of-scratch-then-keyed-key
 shape_of-scratch-then-keyed-key c =
@@ -113,10 +113,9 @@ pub returns-then-keyed-key : goal.returns-then-keyed-key
 returns-then-keyed-key c =
     let d = c.args.d.now in
     let i = c.loop-start.i in
-    let g = c.n-1.given.0 in
     let f = next-told d i c.next_field-n.result c.next_field-n.ensures c.in-At.is in
-    let x = field_between d (i + g.0) (i + g.1.0) (i + g.1.1.0) (i + g.1.1.1.0) in
-    let rest = fields_from d (i + g.1.1.1.0) in
+    let x = field_between d (i + c.in-At.start) (i + c.in-At.named) (i + c.in-At.value) (i + c.in-At.end) in
+    let rest = fields_from d (i + c.in-At.end) in
     (sym (c.loop-start.invariant.4 ∙ formed-twice c.loop-start.keyed c.loop-start.sized (fields_from d i) x rest f.fields c.asks_name-key.result c.asks_size-size.result (c.content_of-c.ensures.key ∙ sym c.asks_name-key.ensures) (c.content_of-c.ensures.size ∙ sym c.asks_size-size.ensures) c.if-keyed-key.true), c.value_holds.ensures.1 ∙ c.loop-start.invariant.3)
 
 pub overflow_add-i-in-loop-start-4 : goal.overflow_add-i-in-loop-start-4
@@ -133,9 +132,8 @@ pub loop-start-preserved : goal.loop-start-preserved
 loop-start-preserved c =
     let d = c.args.d.now in
     let i = c.loop-start.i in
-    let g = c.n-1.given.0 in
     let f = next-told d i c.next_field-n.result c.next_field-n.ensures c.in-At.is in
-    let x = field_between d (i + g.0) (i + g.1.0) (i + g.1.1.0) (i + g.1.1.1.0) in
-    let rest = fields_from d (i + g.1.1.1.0) in
+    let x = field_between d (i + c.in-At.start) (i + c.in-At.named) (i + c.in-At.value) (i + c.in-At.end) in
+    let rest = fields_from d (i + c.in-At.end) in
     let h = all_both fits_field (fields_from d i) x rest f.fields c.loop-start.invariant.2 in
-    (f.inside, f.readable, h.1, c.value_holds.ensures.1 ∙ c.loop-start.invariant.3, c.loop-start.invariant.4 ∙ formed-more c.loop-start.keyed c.loop-start.sized (fields_from d i) x rest f.fields c.asks_name-key.result c.asks_size-size.result (c.content_of-c.ensures.key ∙ sym c.asks_name-key.ensures) (c.content_of-c.ensures.size ∙ sym c.asks_size-size.ensures) (c.content_of-c.ensures.shaped x.value x.count ∙ sym c.value_holds.ensures.0 ∙ not-false c.value_holds.result c.if-not-value_holds.false) c.if-keyed-key.false)
+    (f.inside, f.readable, h.1, c.value_holds.ensures.1 ∙ c.loop-start.invariant.3, c.loop-start.invariant.4 ∙ formed-more c.loop-start.keyed c.loop-start.sized (fields_from d i) x rest f.fields c.asks_name-key.result c.asks_size-size.result (c.content_of-c.ensures.key ∙ sym c.asks_name-key.ensures) (c.content_of-c.ensures.size ∙ sym c.asks_size-size.ensures) (c.content_of-c.ensures.shaped x.value x.count ∙ sym c.value_holds.ensures.0 ∙ not-false c.value_holds.result (ap not c.if-not-value_holds.false)) c.if-keyed-key.false)

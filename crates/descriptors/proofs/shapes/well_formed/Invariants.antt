@@ -15,7 +15,7 @@ use Rattle.descriptors.proofs.Judging.{formed_from}
 use Rattle.descriptors.proofs.shapes.well_formed.Given as goal
 
 abbrev pub invariant-loop-start : goal.invariant-loop-start
-invariant-loop-start l = (l.keyed ≤ length l.d) × (is_readable (drop l.keyed l.d) ≡ true) × (all fits_field (fields_from l.d l.keyed) ≡ true) × (length l.initial.keyed ≡ length l.initial.scratch) × (is_well_formed int_bounds (record_in l.d) ≡ formed_from l.initial.sized l.sized (fields_from l.d l.keyed))
+invariant-loop-start l = (l.i ≤ length l.d) × (is_readable (drop l.i l.d) ≡ true) × (all fits_field (fields_from l.d l.i) ≡ true) × (length l.scratch ≡ length l.initial.scratch) × (is_well_formed int_bounds (record_in l.d) ≡ formed_from l.keyed l.sized (fields_from l.d l.i))
 
 abbrev pub decreases-loop-start : goal.decreases-loop-start
-decreases-loop-start l = length l.d - l.keyed
+decreases-loop-start l = length l.d - l.i

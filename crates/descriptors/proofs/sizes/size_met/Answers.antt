@@ -14,6 +14,7 @@ use Rattle.records.proofs.Readings.{part-readable}
 use Rattle.records.proofs.Named.{value-told}
 use Rattle.descriptors.proofs.Folds.{all_more, all-stop, all_both}
 use Rattle.descriptors.proofs.Limits.{fits-fields, is_short, values-short}
+use mathlib.Core.Bool.{not}
 use Rattle.descriptors.proofs.sizes.size_met.Invariants.{is_met}
 use Rattle.descriptors.proofs.sizes.size_met.Goals as goal
 
@@ -63,8 +64,7 @@ pub value_met-requires : goal.value_met-requires
 value_met-requires c =
     let v = value-told c.args.d.now (text "%size") c.loop-value.i c.next_named-f.result c.next_named-f.ensures c.in-At.is in
     let h = all_both is_short (values_from c.args.d.now (text "%size") c.loop-value.i) _ _ v.values c.loop-value.invariant.2 in
-    let g = c.f-1.given.0 in
-    omega (arith, leb-true (length (value_from (span (c.loop-value.i + g.1.0) (c.loop-value.i + g.1.1.0) c.args.d.now))) value_bytes h.0, c.requires.value_bytes_in_bounds, c.loop-value.invariant.3)
+    omega (arith, leb-true (length (value_from (span (c.loop-value.i + c.in-At.value) (c.loop-value.i + c.in-At.end) c.args.d.now))) value_bytes h.0, c.requires.value_bytes_in_bounds, c.loop-value.invariant.3)
 
 pub shape_of-scratch-then-not-value_met : goal.shape_of-scratch-then-not-value_met
 shape_of-scratch-then-not-value_met c =
@@ -73,7 +73,7 @@ shape_of-scratch-then-not-value_met c =
 pub returns-then-not-value_met : goal.returns-then-not-value_met
 returns-then-not-value_met c =
     let v = value-told c.args.d.now (text "%size") c.loop-value.i c.next_named-f.result c.next_named-f.ensures c.in-At.is in
-    (sym (c.loop-value.invariant.4 ∙ all-stop (is_met c.args.count) (values_from c.args.d.now (text "%size") c.loop-value.i) _ _ v.values (sym c.value_met.ensures.0 ∙ not-true c.value_met.result c.if-not-value_met.true)), c.value_met.ensures.1 ∙ c.loop-value.invariant.3)
+    (sym (c.loop-value.invariant.4 ∙ all-stop (is_met c.args.count) (values_from c.args.d.now (text "%size") c.loop-value.i) _ _ v.values (sym c.value_met.ensures.0 ∙ not-true c.value_met.result (ap not c.if-not-value_met.true))), c.value_met.ensures.1 ∙ c.loop-value.invariant.3)
 
 pub overflow_add-i-in-loop-value-2 : goal.overflow_add-i-in-loop-value-2
 overflow_add-i-in-loop-value-2 c =
@@ -90,4 +90,4 @@ loop-value-preserved c =
     let v = value-told c.args.d.now (text "%size") c.loop-value.i c.next_named-f.result c.next_named-f.ensures c.in-At.is in
     let vs = values_from c.args.d.now (text "%size") c.loop-value.i in
     let h = all_both is_short vs _ _ v.values c.loop-value.invariant.2 in
-    (v.inside, v.readable, h.1, c.value_met.ensures.1 ∙ c.loop-value.invariant.3, c.loop-value.invariant.4 ∙ all_more (is_met c.args.count) vs _ _ v.values (sym c.value_met.ensures.0 ∙ not-false c.value_met.result c.if-not-value_met.false))
+    (v.inside, v.readable, h.1, c.value_met.ensures.1 ∙ c.loop-value.invariant.3, c.loop-value.invariant.4 ∙ all_more (is_met c.args.count) vs _ _ v.values (sym c.value_met.ensures.0 ∙ not-false c.value_met.result (ap not c.if-not-value_met.false)))

@@ -17,7 +17,7 @@ abbrev is_met : ℕ → Bytes → Bool
 is_met n v = meets_size (size_rule int_bounds (words v)) n
 
 abbrev pub invariant-loop-value : goal.invariant-loop-value
-invariant-loop-value l = (l.i ≤ length l.d) × (is_readable (drop l.i l.d) ≡ true) × (all is_short (values_from l.d (text "%size") l.i) ≡ true) × (length l.initial.i ≡ length l.initial.scratch) × (all (is_met l.count) (values_from l.d (text "%size") 0) ≡ all (is_met l.count) (values_from l.d (text "%size") l.i))
+invariant-loop-value l = (l.i ≤ length l.d) × (is_readable (drop l.i l.d) ≡ true) × (all is_short (values_from l.d (text "%size") l.i) ≡ true) × (length l.scratch ≡ length l.initial.scratch) × (all (is_met l.count) (values_from l.d (text "%size") 0) ≡ all (is_met l.count) (values_from l.d (text "%size") l.i))
 
 abbrev pub decreases-loop-value : goal.decreases-loop-value
 decreases-loop-value l = length l.d - l.i

@@ -39,9 +39,8 @@ pub returns-in_default-x : goal.returns-in_default-x
 returns-in_default-x c =
     let f = found c.args.s.now c.next_word-w.ensures c.in-At.is in
     let s = c.args.s.now in
-    let v = c.w-1.given.0 in
-    let t = span v.1.0 (length s) s in
-    c.size_exactly.ensures ∙ sym (ap (size_rule int_bounds) (words-then (words s) (span v.0 v.1.0 s) (words t) f.2 [] (not_found t c.next_word-x.ensures c.in_default-x.is)))
+    let t = span c.in-At.end (length s) s in
+    c.size_exactly.ensures ∙ sym (ap (size_rule int_bounds) (words-then (words s) (span c.in-At.start c.in-At.end s) (words t) f.2 [] (not_found t c.next_word-x.ensures c.in_default-x.is)))
 
 pub slice_bounds-next_word-count : goal.slice_bounds-next_word-count
 slice_bounds-next_word-count c =
@@ -80,22 +79,17 @@ returns-in-At-y c =
     let f = found c.args.s.now c.next_word-w.ensures c.in-At.is in
     let g = found (span c.in-At.end (length c.args.s.now) c.args.s.now) c.next_word-x.ensures c.in-At-x.is in
     let s = c.args.s.now in
-    let v = c.w-1.given.0 in
-    let t = span v.1.0 (length s) s in
-    let y = c.x-1.given.0 in
-    let z = c.enum_told-in-At-y-1.given.0 in
-    let u = span y.1.0 (length t) t in
+    let t = span c.in-At.end (length s) s in
+    let u = span c.in-At-x.e (length t) t in
     let h = found u c.next_word-y.ensures c.in-At-y.is in
-    sym (ap (size_rule int_bounds) (words-then (words s) (span v.0 v.1.0 s) (words t) f.2 (span y.0 y.1.0 t ∷ span z.0 z.1.0 u ∷ words (span z.1.0 (length u) u)) (words-then (words t) (span y.0 y.1.0 t) (words u) g.2 (span z.0 z.1.0 u ∷ words (span z.1.0 (length u) u)) h.2)))
+    sym (ap (size_rule int_bounds) (words-then (words s) (span c.in-At.start c.in-At.end s) (words t) f.2 (span c.in-At-x.a c.in-At-x.e t ∷ span c.in-At-y.start c.in-At-y.end u ∷ words (span c.in-At-y.end (length u) u)) (words-then (words t) (span c.in-At-x.a c.in-At-x.e t) (words u) g.2 (span c.in-At-y.start c.in-At-y.end u ∷ words (span c.in-At-y.end (length u) u)) h.2)))
 
 pub returns-in-Nothing : goal.returns-in-Nothing
 returns-in-Nothing c =
     let f = found c.args.s.now c.next_word-w.ensures c.in-At.is in
     let g = found (span c.in-At.end (length c.args.s.now) c.args.s.now) c.next_word-x.ensures c.in-At-x.is in
     let s = c.args.s.now in
-    let v = c.w-1.given.0 in
-    let t = span v.1.0 (length s) s in
-    let y = c.x-1.given.0 in
-    let u = span y.1.0 (length t) t in
-    let e = words-then (words t) (span y.0 y.1.0 t) (words u) g.2 [] (not_found u c.next_word-y.ensures c.in-Nothing.is) in
-    c.size_signed.ensures ∙ sym (ap (size_rule int_bounds) (words-then (words s) (span v.0 v.1.0 s) (words t) f.2 (span y.0 y.1.0 t ∷ []) e))
+    let t = span c.in-At.end (length s) s in
+    let u = span c.in-At-x.e (length t) t in
+    let e = words-then (words t) (span c.in-At-x.a c.in-At-x.e t) (words u) g.2 [] (not_found u c.next_word-y.ensures c.in-Nothing.is) in
+    c.size_signed.ensures ∙ sym (ap (size_rule int_bounds) (words-then (words s) (span c.in-At.start c.in-At.end s) (words t) f.2 (span c.in-At-x.a c.in-At-x.e t ∷ []) e))

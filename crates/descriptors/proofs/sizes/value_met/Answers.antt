@@ -13,8 +13,8 @@ use Rattle.descriptors.proofs.sizes.value_met.Goals as goal
 
 pub slice_bounds-size_rule-end-2 : goal.slice_bounds-size_rule-end-2
 slice_bounds-size_rule-end-2 c =
-    decoded-length (value_from c.args.value.now) c.args.scratch.now c.copy_value-m.new.1.0 c.copy_value-m.result c.copy_value-m.ensures.0 c.copy_value-m.ensures.1
+    decoded-length (value_from c.args.value.now) c.args.scratch.now c.copy_value-m.new.out c.copy_value-m.result c.copy_value-m.ensures.0 c.copy_value-m.ensures.1
 
 pub returns : goal.returns
 returns c =
-    (c.size_holds.ensures ∙ ap (λ (z : Option (ℕ → Bool)). meets_size z c.args.n) (c.size_rule-r.ensures ∙ ap (λ (x : Bytes). size_rule int_bounds (words x)) (decoded-all (value_from c.args.value.now) c.args.scratch.now c.copy_value-m.new.1.0 c.copy_value-m.result c.copy_value-m.ensures.0 c.copy_value-m.ensures.1)), scratch-length (value_from c.args.value.now) c.args.scratch.now c.copy_value-m.new.1.0 c.copy_value-m.result c.copy_value-m.ensures.0 c.copy_value-m.ensures.1 c.requires)
+    (c.size_holds.ensures ∙ ap (λ (z : Option (ℕ → Bool)). meets_size z c.args.n) (c.size_rule-r.ensures ∙ ap (λ (x : Bytes). size_rule int_bounds (words x)) (decoded-all (value_from c.args.value.now) c.args.scratch.now c.copy_value-m.new.out c.copy_value-m.result c.copy_value-m.ensures.0 c.copy_value-m.ensures.1)), scratch-length (value_from c.args.value.now) c.args.scratch.now c.copy_value-m.new.out c.copy_value-m.result c.copy_value-m.ensures.0 c.copy_value-m.ensures.1 c.requires)

@@ -30,7 +30,6 @@ overflow_add-i c =
 pub add_value-n-requires : goal.add_value-n-requires
 add_value-n-requires c =
     let h = value-told c.args.d.now c.args.name.now c.loop-value.i c.next_named-v.result c.next_named-v.ensures c.in-At.is in
-    let g = c.v-1.given.0 in
     record { i_in_bounds = (omega (arith, h.value_there), c.requires.d_value.1); d_bound = (list-few c.args.d.now c.args.name.now c.args.entries.now c.loop-value.entries c.loop-value.n c.loop-value.i c.loop-value.invariant _ _ h, list-room c.args.d.now c.args.name.now c.args.entries.now c.loop-value.entries c.loop-value.n c.loop-value.i c.loop-value.invariant _ _ h); d_value = list-names c.args.d.now c.args.name.now c.args.entries.now c.loop-value.entries c.loop-value.n c.loop-value.i c.loop-value.invariant _ _ h }
 
 pub overflow_add-i-in-loop-value : goal.overflow_add-i-in-loop-value
@@ -46,5 +45,4 @@ loop-value-smaller c =
 pub loop-value-preserved : goal.loop-value-preserved
 loop-value-preserved c =
     let h = value-told c.args.d.now c.args.name.now c.loop-value.i c.next_named-v.result c.next_named-v.ensures c.in-At.is in
-    let g = c.v-1.given.0 in
     list-more c.args.d.now c.args.name.now c.args.entries.now c.loop-value.entries c.loop-value.n c.loop-value.i c.loop-value.invariant _ _ h _ _ c.add_value-n.ensures

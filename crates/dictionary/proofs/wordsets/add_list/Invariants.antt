@@ -5,7 +5,7 @@ use Rattle.dictionary.proofs.Places.{ListLeft}
 use Rattle.dictionary.proofs.wordsets.add_list.Given as goal
 
 abbrev pub invariant-loop-value : goal.invariant-loop-value
-invariant-loop-value l = ListLeft l.d l.name l.initial.entries l.n l.initial.i l.i
+invariant-loop-value l = ListLeft l.d l.name l.initial.entries l.entries l.n l.i
 
 abbrev pub decreases-loop-value : goal.decreases-loop-value
 decreases-loop-value l = length l.d - l.i

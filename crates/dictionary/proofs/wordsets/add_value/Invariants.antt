@@ -5,7 +5,7 @@ use Rattle.dictionary.proofs.Places.{ValueLeft}
 use Rattle.dictionary.proofs.wordsets.add_value.Given as goal
 
 abbrev pub invariant-loop-start : goal.invariant-loop-start
-invariant-loop-start l = ValueLeft l.d l.initial.entries l.entries l.i l.k l.initial.from l.from
+invariant-loop-start l = ValueLeft l.d l.initial.entries l.n l.i l.entries l.k l.from
 
 abbrev pub decreases-loop-start : goal.decreases-loop-start
 decreases-loop-start l = length l.d - l.from

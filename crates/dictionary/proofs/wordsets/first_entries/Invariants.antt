@@ -11,7 +11,7 @@ use Rattle.dictionary.specs.Numbered.{is_first}
 use Rattle.dictionary.proofs.wordsets.first_entries.Given as goal
 
 abbrev pub invariant-loop-k : goal.invariant-loop-k
-invariant-loop-k l = (l.k ≤ length l.entries) × ((j : ℕ) → in_set j l.initial.k ≡ (ltb j l.k && is_first j (map (word_at l.d) l.entries)))
+invariant-loop-k l = (l.k ≤ length l.entries) × ((j : ℕ) → in_set j l.set ≡ (ltb j l.k && is_first j (map (word_at l.d) l.entries)))
 
 abbrev pub decreases-loop-k : goal.decreases-loop-k
 decreases-loop-k l = length l.entries - l.k

@@ -14,5 +14,4 @@ first_place-requires c =
 
 pub returns : goal.returns
 returns c =
-    let f = c.first_place.ensures in
-    λ ws h. place_found ws c.args.name.now c.places_in-set.result (c.places_in-set.ensures ws h) c.first_place.result (omega (arith, f.0, h.count)) (λ l. f.1 (omega (arith, l, h.count))) f.2
+    λ ws h. place_found ws c.args.name.now c.places_in-set.result (c.places_in-set.ensures ws h) c.first_place.result (omega (arith, c.first_place.ensures.0, h.count)) (λ l. c.first_place.ensures.1 (omega (arith, l, h.count))) c.first_place.ensures.2

@@ -8,7 +8,7 @@ use Rattle.directory.proofs.Blocks.{block_at}
 use Rattle.directory.proofs.core.block_start.Given as goal
 
 abbrev pub invariant-loop-size : goal.invariant-loop-size
-invariant-loop-size l = (l.i ≤ length l.s) × (is_readable (drop l.i l.s) ≡ true) × (block_from 0 0 (read_of l.s) ≡ block_at l.s l.initial.i l.i)
+invariant-loop-size l = (l.i ≤ length l.s) × (is_readable (drop l.i l.s) ≡ true) × (block_from 0 0 (read_of l.s) ≡ block_at l.s l.start l.i)
 
 abbrev pub decreases-loop-size : goal.decreases-loop-size
 decreases-loop-size l = length l.s - l.i

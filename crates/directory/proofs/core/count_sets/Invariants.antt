@@ -4,7 +4,7 @@ use Rattle.directory.proofs.Entries.{Counted}
 use Rattle.directory.proofs.core.count_sets.Given as goal
 
 abbrev pub invariant-loop-q : goal.invariant-loop-q
-invariant-loop-q l = Counted l.s l.n l.initial.n
+invariant-loop-q l = Counted l.s l.n l.i
 
 abbrev pub decreases-loop-q : goal.decreases-loop-q
-decreases-loop-q l = length l.s - l.initial.n
+decreases-loop-q l = length l.s - l.i

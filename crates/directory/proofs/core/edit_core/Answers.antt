@@ -39,5 +39,5 @@ pub returns : goal.returns
 returns c =
     let v = checked-passes c.args.buf.now c.args.used c.check_with-k.result c.check_with-k.ensures c.if-k-ne0.false in
     let fits = subst (λ (n : ℕ). n ≤ c.args.room) c.count_sets-n.ensures c.if-room-n.false in
-    let done = does-edit c.args.buf.now c.args.used c.args.req.now c.args.room v fits c.settle-answer.result c.settle-answer.new.1.0 c.settle-answer.ensures in
-    subst (Does c.args.buf.now c.args.used c.args.req.now c.args.room c.settle-answer.new.1.0) (λ i. record { answer = c.settle-answer.result; used = sym c.value_or.ensures i; sets = sym c.count_sets-n.ensures i }) done
+    let done = does-edit c.args.buf.now c.args.used c.args.req.now c.args.room v fits c.settle-answer.result c.settle-answer.new.buf c.settle-answer.ensures in
+    subst (Does c.args.buf.now c.args.used c.args.req.now c.args.room c.settle-answer.new.buf) (λ i. record { answer = c.settle-answer.result; used = sym c.value_or.ensures i; sets = sym c.count_sets-n.ensures i }) done

@@ -11,7 +11,7 @@ use Rattle.drafts.proofs.Listing.{words_from, ShortFrom}
 use Rattle.drafts.proofs.given.give_list.Given as goal
 
 abbrev pub invariant-loop-value : goal.invariant-loop-value
-invariant-loop-value l = (l.i ≤ length l.d) × (is_readable (drop l.i l.d) ≡ true) × ShortFrom l.d l.name l.i × (length l.given ≡ length l.initial.scratch) × Going l.d l.l (listed l.name (record_in l.d)) l.set l.initial.i (words_from l.d l.name l.i)
+invariant-loop-value l = (l.i ≤ length l.d) × (is_readable (drop l.i l.d) ≡ true) × ShortFrom l.d l.name l.i × (length l.scratch ≡ length l.initial.scratch) × Going l.d l.l (listed l.name (record_in l.d)) l.set l.given (words_from l.d l.name l.i)
 
 abbrev pub decreases-loop-value : goal.decreases-loop-value
 decreases-loop-value l = length l.d - l.i

@@ -10,7 +10,7 @@ use Rattle.drafts.proofs.Giving.{Going}
 use Rattle.drafts.proofs.given.give_pairs.Given as goal
 
 abbrev pub invariant-loop-name : goal.invariant-loop-name
-invariant-loop-name l = (l.i ≤ length l.req) × (is_some (pairs_from l.req l.i) ≡ true) × Going l.d l.l (pair_names (pairs_at l.req l.from)) l.set l.initial.i (pair_names (pairs_at l.req l.i))
+invariant-loop-name l = (l.i ≤ length l.req) × (is_some (pairs_from l.req l.i) ≡ true) × Going l.d l.l (pair_names (pairs_at l.req l.from)) l.set l.given (pair_names (pairs_at l.req l.i))
 
 abbrev pub decreases-loop-name : goal.decreases-loop-name
 decreases-loop-name l = length l.req - l.i

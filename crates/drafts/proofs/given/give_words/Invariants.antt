@@ -5,7 +5,7 @@ use Rattle.drafts.proofs.Giving.{Going}
 use Rattle.drafts.proofs.given.give_words.Given as goal
 
 abbrev pub invariant-loop-start : goal.invariant-loop-start
-invariant-loop-start l = Going l.d l.l (words_of l.s) l.set l.initial.rest (words_of l.rest)
+invariant-loop-start l = Going l.d l.l (words_of l.s) l.set l.given (words_of l.rest)
 
 abbrev pub decreases-loop-start : goal.decreases-loop-start
 decreases-loop-start l = length l.rest

@@ -7,7 +7,7 @@ use Rattle.editor.specs.Runs.{is_run}
 use Rattle.editor.proofs.runs.is_run.Given as goal
 
 abbrev pub invariant-loop-rest : goal.invariant-loop-rest
-invariant-loop-rest l = is_run l.most (requests_in l.run) ≡ is_run l.left (requests_in l.initial.left)
+invariant-loop-rest l = is_run l.most (requests_in l.run) ≡ is_run l.left (requests_in l.rest)
 
 abbrev pub decreases-loop-rest : goal.decreases-loop-rest
-decreases-loop-rest l = length l.initial.left
+decreases-loop-rest l = length l.rest

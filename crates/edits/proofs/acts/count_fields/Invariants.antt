@@ -9,7 +9,7 @@ use Rattle.records.specs.Walk.{record_in}
 use Rattle.edits.proofs.acts.count_fields.Given as goal
 
 abbrev pub invariant-loop-end : goal.invariant-loop-end
-invariant-loop-end l = (l.initial.n ≤ length l.s) × (is_readable (drop l.initial.n l.s) ≡ true) × (l.n ≤ l.initial.n) × (length (record_in l.s) ≡ l.n + length (record_in (drop l.initial.n l.s)))
+invariant-loop-end l = (l.i ≤ length l.s) × (is_readable (drop l.i l.s) ≡ true) × (l.n ≤ l.i) × (length (record_in l.s) ≡ l.n + length (record_in (drop l.i l.s)))
 
 abbrev pub decreases-loop-end : goal.decreases-loop-end
-decreases-loop-end l = length l.s - l.initial.n
+decreases-loop-end l = length l.s - l.i

@@ -13,6 +13,8 @@ use Rattle.edits.specs.declared.Located.{Located}
 use Rattle.edits.specs.declared.Splice.{Splice}
 use Rattle.edits.specs.Places.{LocatesIn}
 use Rattle.edits.proofs.Acting.{act-as, record-placed, record-missing, record-inside, record-readable, delete-located, add-illegal, add-located, field-missing, field-inside, change-located}
+use mathlib.Core.Bool.{not}
+use mathlib.Core.Path.{ap}
 use Rattle.edits.proofs.acts.locate_act.Goals as goal
 
 pub find_record-f-requires : goal.find_record-f-requires
@@ -57,18 +59,16 @@ pub returns-then-not-is_legal_pair : goal.returns-then-not-is_legal_pair
 returns-then-not-is_legal_pair c =
     let a = c.args in
     let p = c.requires.s_value in
-    let h = c.act-1.given in
     let g = record-placed a.s.now a.head.begin a.row c.find_record-f.result c.find_record-f.ensures c.in-At.is in
-    act-as a.s.now a.req.now a.head a.row (Located.Refused 25) h.1 (add-illegal a.s.now a.head a.row p.0 p.1 p.2 c.in-At.p g a.req.now (pair_of a.req.now h.0.0 h.0.1.0) (sym c.is_legal_pair.ensures ∙ not-true c.is_legal_pair.result c.if-not-is_legal_pair.true))
+    act-as a.s.now a.req.now a.head a.row (Located.Refused 25) c.in-Add.is (add-illegal a.s.now a.head a.row p.0 p.1 p.2 c.in-At.p g a.req.now (pair_of a.req.now c.in-Add.name c.in-Add.value) (sym c.is_legal_pair.ensures ∙ not-true c.is_legal_pair.result (ap not c.if-not-is_legal_pair.true)))
 
 pub returns-in-Add : goal.returns-in-Add
 returns-in-Add c =
     let a = c.args in
     let p = c.requires.s_value in
-    let h = c.act-1.given in
     let g = record-placed a.s.now a.head.begin a.row c.find_record-f.result c.find_record-f.ensures c.in-At.is in
-    let i = subst (InAct a.req.now) h.1 c.requires.req_len_bound.1 in
-    act-as a.s.now a.req.now a.head a.row (Located.At (Splice.Field (a.head.begin + c.in-At.p.end) 0 h.0.0 h.0.1.0)) h.1 (add-located a.s.now a.head a.row p.0 p.1 p.2 c.in-At.p g a.req.now h.0.0 h.0.1.0 c.requires.req_len_bound.0 i.0 i.1 (sym c.is_legal_pair.ensures ∙ not-false c.is_legal_pair.result c.if-not-is_legal_pair.false))
+    let i = subst (InAct a.req.now) c.in-Add.is c.requires.req_len_bound.1 in
+    act-as a.s.now a.req.now a.head a.row (Located.At (Splice.Field (a.head.begin + c.in-At.p.end) 0 c.in-Add.name c.in-Add.value)) c.in-Add.is (add-located a.s.now a.head a.row p.0 p.1 p.2 c.in-At.p g a.req.now c.in-Add.name c.in-Add.value c.requires.req_len_bound.0 i.0 i.1 (sym c.is_legal_pair.ensures ∙ not-false c.is_legal_pair.result (ap not c.if-not-is_legal_pair.false)))
 
 pub slice_bounds-find_field-count : goal.slice_bounds-find_field-count
 slice_bounds-find_field-count c =
@@ -117,28 +117,23 @@ pub returns-in_default-g : goal.returns-in_default-g
 returns-in_default-g c =
     let a = c.args in
     let p = c.requires.s_value in
-    let h = c.act-in-Change-1.given in
     let g = record-placed a.s.now a.head.begin a.row c.find_record-f.result c.find_record-f.ensures c.in-At.is in
-    act-as a.s.now a.req.now a.head a.row (Located.Refused 23) h.1 (field-missing a.s.now a.head a.row p.0 p.1 p.2 c.in-At.p g a.req.now (bytes_of a.req.now h.0.0) h.0.1.0 (change_of a.req.now h.0.1.1.0) (sym c.find_field-g.ensures ∙ c.in_default-g.is))
+    act-as a.s.now a.req.now a.head a.row (Located.Refused 23) c.in-Change.is (field-missing a.s.now a.head a.row p.0 p.1 p.2 c.in-At.p g a.req.now (bytes_of a.req.now c.in-Change.name) c.in-Change.occurrence (change_of a.req.now c.in-Change.change) (sym c.find_field-g.ensures ∙ c.in_default-g.is))
 
 pub overflow_add-field : goal.overflow_add-field
 overflow_add-field c =
     let a = c.args in
     let p = c.requires.s_value in
-    let h = c.act-in-Change-1.given in
-    let k = c.g-1.given in
     let g = record-placed a.s.now a.head.begin a.row c.find_record-f.result c.find_record-f.ensures c.in-At.is in
-    let i = field-inside a.s.now a.head a.row p.0 p.1 p.2 c.in-At.p g (bytes_of a.req.now h.0.0) h.0.1.0 k.0.0 k.0.1.0 k.0.1.1.0 (sym c.find_field-g.ensures ∙ k.1) in
+    let i = field-inside a.s.now a.head a.row p.0 p.1 p.2 c.in-At.p g (bytes_of a.req.now c.in-Change.name) c.in-Change.occurrence c.in-At-g.start c.in-At-g.value c.in-At-g.end (sym c.find_field-g.ensures ∙ c.in-At-g.is) in
     omega (arith, c.well_formed.1.0.0, i.0, i.1)
 
 pub overflow_add-field-in-Change : goal.overflow_add-field-in-Change
 overflow_add-field-in-Change c =
     let a = c.args in
     let p = c.requires.s_value in
-    let h = c.act-in-Change-1.given in
-    let k = c.g-1.given in
     let g = record-placed a.s.now a.head.begin a.row c.find_record-f.result c.find_record-f.ensures c.in-At.is in
-    let i = field-inside a.s.now a.head a.row p.0 p.1 p.2 c.in-At.p g (bytes_of a.req.now h.0.0) h.0.1.0 k.0.0 k.0.1.0 k.0.1.1.0 (sym c.find_field-g.ensures ∙ k.1) in
+    let i = field-inside a.s.now a.head a.row p.0 p.1 p.2 c.in-At.p g (bytes_of a.req.now c.in-Change.name) c.in-Change.occurrence c.in-At-g.start c.in-At-g.value c.in-At-g.end (sym c.find_field-g.ensures ∙ c.in-At-g.is) in
     omega (arith, c.well_formed.1.0.0, i.0, i.1)
 
 pub slice_bounds-locate_change-count : goal.slice_bounds-locate_change-count
@@ -169,19 +164,15 @@ pub locate_change-requires : goal.locate_change-requires
 locate_change-requires c =
     let a = c.args in
     let p = c.requires.s_value in
-    let h = c.act-in-Change-1.given in
-    let k = c.g-1.given in
     let g = record-placed a.s.now a.head.begin a.row c.find_record-f.result c.find_record-f.ensures c.in-At.is in
-    let i = field-inside a.s.now a.head a.row p.0 p.1 p.2 c.in-At.p g (bytes_of a.req.now h.0.0) h.0.1.0 k.0.0 k.0.1.0 k.0.1.1.0 (sym c.find_field-g.ensures ∙ k.1) in
-    let j = subst (InAct a.req.now) h.1 c.requires.req_len_bound.1 in
+    let i = field-inside a.s.now a.head a.row p.0 p.1 p.2 c.in-At.p g (bytes_of a.req.now c.in-Change.name) c.in-Change.occurrence c.in-At-g.start c.in-At-g.value c.in-At-g.end (sym c.find_field-g.ensures ∙ c.in-At-g.is) in
+    let j = subst (InAct a.req.now) c.in-Change.is c.requires.req_len_bound.1 in
     record { own_value = (record-readable a.s.now a.head a.row p.0 p.1 p.2 c.in-At.p g, omega (arith, i.0)); in_span = j }
 
 pub returns-in-Change : goal.returns-in-Change
 returns-in-Change c =
     let a = c.args in
     let p = c.requires.s_value in
-    let h = c.act-in-Change-1.given in
-    let k = c.g-1.given in
     let g = record-placed a.s.now a.head.begin a.row c.find_record-f.result c.find_record-f.ensures c.in-At.is in
-    let j = subst (InAct a.req.now) h.1 c.requires.req_len_bound.1 in
-    act-as a.s.now a.req.now a.head a.row c.locate_change.result h.1 (subst (LocatesIn a.s.now a.req.now a.head (Edit.on a.row (act_of a.req.now (ReadAct.Change h.0.0 h.0.1.0 h.0.1.1.0)))) (sym c.locate_change.ensures) (change-located a.s.now a.head a.row p.0 p.1 p.2 c.in-At.p g a.req.now h.0.0 h.0.1.0 k.0.0 k.0.1.0 k.0.1.1.0 j.0 (sym c.find_field-g.ensures ∙ k.1) h.0.1.1.0 c.requires.req_len_bound.0 j.1))
+    let j = subst (InAct a.req.now) c.in-Change.is c.requires.req_len_bound.1 in
+    act-as a.s.now a.req.now a.head a.row c.locate_change.result c.in-Change.is (subst (LocatesIn a.s.now a.req.now a.head (Edit.on a.row (act_of a.req.now (ReadAct.Change c.in-Change.name c.in-Change.occurrence c.in-Change.change)))) (sym c.locate_change.ensures) (change-located a.s.now a.head a.row p.0 p.1 p.2 c.in-At.p g a.req.now c.in-Change.name c.in-Change.occurrence c.in-At-g.start c.in-At-g.value c.in-At-g.end j.0 (sym c.find_field-g.ensures ∙ c.in-At-g.is) c.in-Change.change c.requires.req_len_bound.0 j.1))

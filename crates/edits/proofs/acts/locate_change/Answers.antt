@@ -11,6 +11,7 @@ use Rattle.requests.specs.Kinds.{InChange}
 use Rattle.edits.specs.Places.{change_at}
 use Rattle.edits.specs.declared.Located.{Located}
 use Rattle.edits.specs.declared.Splice.{Splice}
+use mathlib.Core.Bool.{not}
 use Rattle.edits.proofs.acts.locate_change.Goals as goal
 
 pub slice_bounds-is_legal_value-count : goal.slice_bounds-is_legal_value-count
@@ -29,13 +30,13 @@ pub returns-then-not-is_legal_value : goal.returns-then-not-is_legal_value
 returns-then-not-is_legal_value c =
     let a = c.args in
     let f = a.field in
-    sym (ap (change_at a.own.now a.req.now a.name f) c.in-Value.is ∙ ap (λ (b : Bool). pick b (Located.At (Splice.Field f.start (f.end - f.start) a.name c.in-Value.value)) (Located.Refused 25)) (sym c.is_legal_value.ensures ∙ not-true c.is_legal_value.result c.if-not-is_legal_value.true))
+    sym (ap (change_at a.own.now a.req.now a.name f) c.in-Value.is ∙ ap (λ (b : Bool). pick b (Located.At (Splice.Field f.start (f.end - f.start) a.name c.in-Value.value)) (Located.Refused 25)) (sym c.is_legal_value.ensures ∙ not-true c.is_legal_value.result (ap not c.if-not-is_legal_value.true)))
 
 pub returns-in-Value : goal.returns-in-Value
 returns-in-Value c =
     let a = c.args in
     let f = a.field in
-    sym (ap (change_at a.own.now a.req.now a.name f) c.in-Value.is ∙ ap (λ (b : Bool). pick b (Located.At (Splice.Field f.start (f.end - f.start) a.name c.in-Value.value)) (Located.Refused 25)) (sym c.is_legal_value.ensures ∙ not-false c.is_legal_value.result c.if-not-is_legal_value.false))
+    sym (ap (change_at a.own.now a.req.now a.name f) c.in-Value.is ∙ ap (λ (b : Bool). pick b (Located.At (Splice.Field f.start (f.end - f.start) a.name c.in-Value.value)) (Located.Refused 25)) (sym c.is_legal_value.ensures ∙ not-false c.is_legal_value.result (ap not c.if-not-is_legal_value.false)))
 
 pub count_fields-requires : goal.count_fields-requires
 count_fields-requires c =
@@ -72,11 +73,11 @@ returns-then-not-is_legal_name c =
     let a = c.args in
     let f = a.field in
     let n = a.name in
-    sym (ap (change_at a.own.now a.req.now n f) c.in-Name.is ∙ ap (λ (b : Bool). pick b (Located.At (Splice.Name f.start (n.end - n.start) c.in-Name.new)) (Located.Refused 25)) (sym c.is_legal_name.ensures ∙ not-true c.is_legal_name.result c.if-not-is_legal_name.true))
+    sym (ap (change_at a.own.now a.req.now n f) c.in-Name.is ∙ ap (λ (b : Bool). pick b (Located.At (Splice.Name f.start (n.end - n.start) c.in-Name.new)) (Located.Refused 25)) (sym c.is_legal_name.ensures ∙ not-true c.is_legal_name.result (ap not c.if-not-is_legal_name.true)))
 
 pub returns-in-Name : goal.returns-in-Name
 returns-in-Name c =
     let a = c.args in
     let f = a.field in
     let n = a.name in
-    sym (ap (change_at a.own.now a.req.now n f) c.in-Name.is ∙ ap (λ (b : Bool). pick b (Located.At (Splice.Name f.start (n.end - n.start) c.in-Name.new)) (Located.Refused 25)) (sym c.is_legal_name.ensures ∙ not-false c.is_legal_name.result c.if-not-is_legal_name.false))
+    sym (ap (change_at a.own.now a.req.now n f) c.in-Name.is ∙ ap (λ (b : Bool). pick b (Located.At (Splice.Name f.start (n.end - n.start) c.in-Name.new)) (Located.Refused 25)) (sym c.is_legal_name.ensures ∙ not-false c.is_legal_name.result (ap not c.if-not-is_legal_name.false)))

@@ -30,7 +30,7 @@ slice_bounds-add_numbers-end c =
 
 pub slice_bounds-add_numbers-end-then-may_join : goal.slice_bounds-add_numbers-end-then-may_join
 slice_bounds-add_numbers-end-then-may_join c =
-    sym (length-take-le c.put_dense-n.result c.put_dense-n.new.0 (omega (arith, c.put_dense-n.ensures.0, c.requires.numberable.0.0.short, c.requires.numberable.1)))
+    sym (length-take-le c.put_dense-n.result c.put_dense-n.new.out (omega (arith, c.put_dense-n.ensures.0, c.requires.numberable.0.0.short, c.requires.numberable.1)))
 
 pub add_numbers-requires : goal.add_numbers-requires
 add_numbers-requires c =
@@ -48,7 +48,7 @@ returns-then-may_join c =
     let ms = records (read_of a.part.now) in
     let new = pairs_at a.req.now a.from in
     let e = ap (λ (x : Bytes). added_by int_bounds (ruled (record_in x) ms) new) c.put_dense-n.ensures.2 ∙ dense-added d c.requires.numberable.0.0 ms new in
-    subst (λ (x : Option _). AddedAs x c.add_numbers.new.1.1.1.1.0 c.add_numbers.result) e c.add_numbers.ensures
+    subst (λ (x : Option _). AddedAs x c.add_numbers.new.out c.add_numbers.result) e c.add_numbers.ensures
 
 pub add_numbers-requires-2 : goal.add_numbers-requires-2
 add_numbers-requires-2 c =

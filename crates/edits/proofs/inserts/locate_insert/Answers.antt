@@ -78,8 +78,7 @@ returns c =
     let s : Bytes = a.s.now in
     let req : Bytes = a.req.now in
     let k = c.requires.s_value in
-    let g = c.w-1.given in
-    let w = subst (Weighs (pairs_at req a.from)) g.1 c.weigh-w.ensures in
-    let out : Bytes = c.complete-a.new.1.1.1.1.1.0 in
+    let w = subst (Weighs (pairs_at req a.from)) c.in-Sums.is c.weigh-w.ensures in
+    let out : Bytes = c.complete-a.new.added in
     λ set found. subst (Locates s req out (record { set = set; edit = Edit.insert (pairs_at req a.from) })) (sym c.located.ensures)
-    (insert-located s k.0 a.head set found k.1 k.2 c.set_behind-p.result c.set_behind-p.ensures req out a.from g.0.0 g.0.1.0 c.complete-a.result c.requires.req_len_bound.1.1 w c.complete-a.ensures)
+    (insert-located s k.0 a.head set found k.1 k.2 c.set_behind-p.result c.set_behind-p.ensures req out a.from c.in-Sums.len c.in-Sums.count c.complete-a.result c.requires.req_len_bound.1.1 w c.complete-a.ensures)

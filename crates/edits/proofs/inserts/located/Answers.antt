@@ -23,22 +23,20 @@ long-by used b n = pick b (Located.Over n) (Located.Over (made_len used n))
 pub returns-then-whole-gt-BYTES : goal.returns-then-whole-gt-BYTES
 returns-then-whole-gt-BYTES c =
     let a = c.args in
-    let own = c.in-Text.own in
     let n = c.capped_len-whole.result in
     sym (
     ap (located_by a.used a.at a.from a.len) c.in-Text.is
-    ∙ ap (λ (m : ℕ). text-by a.at a.from own (ltb file_bytes m) m) (sym c.capped_len-whole.ensures)
-    ∙ ap (λ (b : Bool). text-by a.at a.from own b n) (lt-ltb file_bytes n (omega (arith, c.if-whole-gt-BYTES.true))))
+    ∙ ap (λ (m : ℕ). text-by a.at a.from c.in-Text.own (ltb file_bytes m) m) (sym c.capped_len-whole.ensures)
+    ∙ ap (λ (b : Bool). text-by a.at a.from c.in-Text.own b n) (lt-ltb file_bytes n (omega (arith, c.if-whole-gt-BYTES.true))))
 
 pub returns-in-Text : goal.returns-in-Text
 returns-in-Text c =
     let a = c.args in
-    let own = c.in-Text.own in
     let n = c.capped_len-whole.result in
     sym (
     ap (located_by a.used a.at a.from a.len) c.in-Text.is
-    ∙ ap (λ (m : ℕ). text-by a.at a.from own (ltb file_bytes m) m) (sym c.capped_len-whole.ensures)
-    ∙ ap (λ (b : Bool). text-by a.at a.from own b n) (le-ltb file_bytes n (omega (arith, c.if-whole-gt-BYTES.false))))
+    ∙ ap (λ (m : ℕ). text-by a.at a.from c.in-Text.own (ltb file_bytes m) m) (sym c.capped_len-whole.ensures)
+    ∙ ap (λ (b : Bool). text-by a.at a.from c.in-Text.own b n) (le-ltb file_bytes n (omega (arith, c.if-whole-gt-BYTES.false))))
 
 pub returns-then-whole-gt-BYTES-2 : goal.returns-then-whole-gt-BYTES-2
 returns-then-whole-gt-BYTES-2 c =

@@ -27,7 +27,7 @@ returns-in-Insert c =
     let a = c.args in
     let req = a.req.now in
     let set = bytes_of req a.q.set in
-    edit-as a.s.now req c.locate_insert.new.1.1.1.1.1.0 set c.locate_insert.result c.in-Insert.is (c.locate_insert.ensures set (sym c.find_head-f.ensures ∙ c.in-At.is))
+    edit-as a.s.now req c.locate_insert.new.added set c.locate_insert.result c.in-Insert.is (c.locate_insert.ensures set (sym c.find_head-f.ensures ∙ c.in-At.is))
 
 pub locate_act-requires : goal.locate_act-requires
 locate_act-requires c =

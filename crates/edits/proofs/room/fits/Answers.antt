@@ -18,197 +18,164 @@ use Rattle.edits.proofs.room.fits.Goals as goal
 pub returns-then-new-gt-BYTES : goal.returns-then-new-gt-BYTES
 returns-then-new-gt-BYTES c =
     let a = c.args in
-    let g = c.x-1.given in
     let s = a.s.now in
     let req = a.req.now in
     let added = a.added.now in
-    let h = sound-as s req added g.1 c.requires.sound in
-    let t = record_text (take g.0.1.0 added) req g.0.0.from in
-    fits-as s req added g.1 a.room (over-file a.room (length (inserted s g.0.0.at t)) (omega (arith, c.if-new-gt-BYTES.true, inserted-least s g.0.0.at t h.0, h.3)))
+    let h = sound-as s req added c.in-Record.is c.requires.sound in
+    let t = record_text (take c.in-Record.own added) req c.in-Record.new.from in
+    fits-as s req added c.in-Record.is a.room (over-file a.room (length (inserted s c.in-Record.new.at t)) (omega (arith, c.if-new-gt-BYTES.true, inserted-least s c.in-Record.new.at t h.0, h.3)))
 
 pub returns-in-Record : goal.returns-in-Record
 returns-in-Record c =
     let a = c.args in
-    let g = c.x-1.given in
     let s = a.s.now in
     let req = a.req.now in
     let added = a.added.now in
-    let h = sound-as s req added g.1 c.requires.sound in
-    let t = record_text (take g.0.1.0 added) req g.0.0.from in
-    fits-as s req added g.1 a.room (ap (is_within a.room) (inserted-length s g.0.0.at t h.0 ∙ ap (made_len (length s)) (sym h.3) ∙ sym c.made_len.ensures) ∙ sym (c.fits.ensures ∙ ap (is_within a.room) c.new-f.ensures))
+    let h = sound-as s req added c.in-Record.is c.requires.sound in
+    let t = record_text (take c.in-Record.own added) req c.in-Record.new.from in
+    fits-as s req added c.in-Record.is a.room (ap (is_within a.room) (inserted-length s c.in-Record.new.at t h.0 ∙ ap (made_len (length s)) (sym h.3) ∙ sym c.made_len.ensures) ∙ sym (c.fits.ensures ∙ ap (is_within a.room) c.new-f.ensures))
 
 pub slice_bounds-written_len-count : goal.slice_bounds-written_len-count
 slice_bounds-written_len-count c =
     let a = c.args in
-    let g = c.x-in-Field-1.given in
     let s = a.s.now in
     let req = a.req.now in
     let added = a.added.now in
-    let h = sound-as s req added g.1 c.requires.sound in
+    let h = sound-as s req added c.in-Field.is c.requires.sound in
     omega (arith, h.2.0)
 
 pub slice_bounds-written_len-start : goal.slice_bounds-written_len-start
 slice_bounds-written_len-start c =
     let a = c.args in
-    let g = c.x-in-Field-1.given in
     let s = a.s.now in
     let req = a.req.now in
     let added = a.added.now in
-    let h = sound-as s req added g.1 c.requires.sound in
+    let h = sound-as s req added c.in-Field.is c.requires.sound in
     omega (arith, h.2.0)
 
 pub slice_bounds-written_len-end : goal.slice_bounds-written_len-end
 slice_bounds-written_len-end c =
     let a = c.args in
-    let g = c.x-in-Field-1.given in
     let s = a.s.now in
     let req = a.req.now in
     let added = a.added.now in
-    let h = sound-as s req added g.1 c.requires.sound in
+    let h = sound-as s req added c.in-Field.is c.requires.sound in
     omega (arith, h.2.1)
 
 pub slice_bounds-written_len-count-in-Field : goal.slice_bounds-written_len-count-in-Field
 slice_bounds-written_len-count-in-Field c =
     let a = c.args in
-    let g = c.x-in-Field-1.given in
     let s = a.s.now in
     let req = a.req.now in
     let added = a.added.now in
-    let h = sound-as s req added g.1 c.requires.sound in
+    let h = sound-as s req added c.in-Field.is c.requires.sound in
     omega (arith, h.3.0)
 
 pub slice_bounds-written_len-start-in-Field : goal.slice_bounds-written_len-start-in-Field
 slice_bounds-written_len-start-in-Field c =
     let a = c.args in
-    let g = c.x-in-Field-1.given in
     let s = a.s.now in
     let req = a.req.now in
     let added = a.added.now in
-    let h = sound-as s req added g.1 c.requires.sound in
+    let h = sound-as s req added c.in-Field.is c.requires.sound in
     omega (arith, h.3.0)
 
 pub slice_bounds-written_len-end-in-Field : goal.slice_bounds-written_len-end-in-Field
 slice_bounds-written_len-end-in-Field c =
     let a = c.args in
-    let g = c.x-in-Field-1.given in
     let s = a.s.now in
     let req = a.req.now in
     let added = a.added.now in
-    let h = sound-as s req added g.1 c.requires.sound in
+    let h = sound-as s req added c.in-Field.is c.requires.sound in
     omega (arith, h.3.1)
 
 pub written_len-new-requires : goal.written_len-new-requires
 written_len-new-requires c =
     let a = c.args in
-    let g = c.x-in-Field-1.given in
     let s = a.s.now in
     let req = a.req.now in
     let added = a.added.now in
-    let h = sound-as s req added g.1 c.requires.sound in
-    let n = g.0.1.1.0 in
-    let v = g.0.1.1.1.0 in
-    (omega (arith, span-length req n h.2, h.1, h.2.1), omega (arith, span-length req v h.3, h.1, h.3.1))
+    let h = sound-as s req added c.in-Field.is c.requires.sound in
+    (omega (arith, span-length req c.in-Field.name h.2, h.1, h.2.1), omega (arith, span-length req c.in-Field.value h.3, h.1, h.3.1))
 
 pub overflow_sub-used : goal.overflow_sub-used
 overflow_sub-used c =
     let a = c.args in
-    let g = c.x-in-Field-1.given in
     let s = a.s.now in
     let req = a.req.now in
     let added = a.added.now in
-    let h = sound-as s req added g.1 c.requires.sound in
+    let h = sound-as s req added c.in-Field.is c.requires.sound in
     omega (arith, h.0)
 
 pub overflow_add-used : goal.overflow_add-used
 overflow_add-used c =
     let a = c.args in
-    let g = c.x-in-Field-1.given in
     let s = a.s.now in
     let req = a.req.now in
     let added = a.added.now in
-    let h = sound-as s req added g.1 c.requires.sound in
-    let n = g.0.1.1.0 in
-    let v = g.0.1.1.1.0 in
-    omega (arith, c.written_len-new.ensures, written-length (bytes_of req n) (bytes_of req v), indent-length (bytes_of req v), span-length req n h.2, span-length req v h.3, h.1, h.2.1, h.3.1, c.requires.s_len_bound.1)
+    let h = sound-as s req added c.in-Field.is c.requires.sound in
+    omega (arith, c.written_len-new.ensures, written-length (bytes_of req c.in-Field.name) (bytes_of req c.in-Field.value), indent-length (bytes_of req c.in-Field.value), span-length req c.in-Field.name h.2, span-length req c.in-Field.value h.3, h.1, h.2.1, h.3.1, c.requires.s_len_bound.1)
 
 pub returns-in-Field : goal.returns-in-Field
 returns-in-Field c =
     let a = c.args in
-    let g = c.x-in-Field-1.given in
     let s = a.s.now in
     let req = a.req.now in
     let added = a.added.now in
-    let h = sound-as s req added g.1 c.requires.sound in
-    let at = g.0.0 in
-    let old = g.0.1.0 in
-    let n = g.0.1.1.0 in
-    let v = g.0.1.1.1.0 in
-    let w = written (bytes_of req n) (bytes_of req v) in
-    fits-as s req added g.1 a.room (ap (is_within a.room) (exchanged-length s at old w h.0 ∙ ap (λ k. (length s - old) + k) (sym c.written_len-new.ensures)) ∙ sym (c.fits-in-Field.ensures ∙ ap (is_within a.room) c.new-f-in-Field.ensures))
+    let h = sound-as s req added c.in-Field.is c.requires.sound in
+    let w = written (bytes_of req c.in-Field.name) (bytes_of req c.in-Field.value) in
+    fits-as s req added c.in-Field.is a.room (ap (is_within a.room) (exchanged-length s c.in-Field.at c.in-Field.old w h.0 ∙ ap (λ k. (length s - c.in-Field.old) + k) (sym c.written_len-new.ensures)) ∙ sym (c.fits-in-Field.ensures ∙ ap (is_within a.room) c.new-f-in-Field.ensures))
 
 pub overflow_sub-new : goal.overflow_sub-new
 overflow_sub-new c =
     let a = c.args in
-    let g = c.x-in-Name-1.given in
     let s = a.s.now in
     let req = a.req.now in
     let added = a.added.now in
-    let h = sound-as s req added g.1 c.requires.sound in
+    let h = sound-as s req added c.in-Name.is c.requires.sound in
     omega (arith, h.1.0)
 
 pub overflow_sub-used-in-Name : goal.overflow_sub-used-in-Name
 overflow_sub-used-in-Name c =
     let a = c.args in
-    let g = c.x-in-Name-1.given in
     let s = a.s.now in
     let req = a.req.now in
     let added = a.added.now in
-    let h = sound-as s req added g.1 c.requires.sound in
+    let h = sound-as s req added c.in-Name.is c.requires.sound in
     omega (arith, h.0)
 
 pub overflow_add-used-in-Name : goal.overflow_add-used-in-Name
 overflow_add-used-in-Name c =
     let a = c.args in
-    let g = c.x-in-Name-1.given in
     let s = a.s.now in
     let req = a.req.now in
     let added = a.added.now in
-    let h = sound-as s req added g.1 c.requires.sound in
+    let h = sound-as s req added c.in-Name.is c.requires.sound in
     omega (arith, h.1.1, c.well_formed, c.requires.s_len_bound.1)
 
 pub returns-in-Name : goal.returns-in-Name
 returns-in-Name c =
     let a = c.args in
-    let g = c.x-in-Name-1.given in
     let s = a.s.now in
     let req = a.req.now in
     let added = a.added.now in
-    let h = sound-as s req added g.1 c.requires.sound in
-    let at = g.0.0 in
-    let old = g.0.1.0 in
-    let n = g.0.1.1.0 in
-    fits-as s req added g.1 a.room (ap (is_within a.room) (exchanged-length s at old (bytes_of req n) h.0 ∙ ap (λ k. (length s - old) + k) (span-length req n h.1)) ∙ sym (c.fits-in-Name.ensures ∙ ap (is_within a.room) c.new-f-in-Name.ensures))
+    let h = sound-as s req added c.in-Name.is c.requires.sound in
+    fits-as s req added c.in-Name.is a.room (ap (is_within a.room) (exchanged-length s c.in-Name.at c.in-Name.old (bytes_of req c.in-Name.name) h.0 ∙ ap (λ k. (length s - c.in-Name.old) + k) (span-length req c.in-Name.name h.1)) ∙ sym (c.fits-in-Name.ensures ∙ ap (is_within a.room) c.new-f-in-Name.ensures))
 
 pub returns-in-Cut : goal.returns-in-Cut
 returns-in-Cut c =
     let a = c.args in
-    let g = c.enum_told-1.given in
     let s = a.s.now in
     let req = a.req.now in
     let added = a.added.now in
-    let h = sound-as s req added g.1 c.requires.sound in
-    let at = g.0.0 in
-    let old = g.0.1.0 in
-    fits-as s req added g.1 a.room (not-longer a.room (length (spliced s at old [])) (length s) (omega (arith, exchanged-length s at old [] h)) c.requires.s_len_bound.0 c.requires.s_len_bound.1)
+    let h = sound-as s req added c.in-Cut.is c.requires.sound in
+    fits-as s req added c.in-Cut.is a.room (not-longer a.room (length (spliced s c.in-Cut.at c.in-Cut.old [])) (length s) (omega (arith, exchanged-length s c.in-Cut.at c.in-Cut.old [] h)) c.requires.s_len_bound.0 c.requires.s_len_bound.1)
 
 pub returns-in-Unfield : goal.returns-in-Unfield
 returns-in-Unfield c =
     let a = c.args in
-    let g = c.enum_told-in-Unfield-1.given in
     let s = a.s.now in
     let req = a.req.now in
     let added = a.added.now in
-    let h = sound-as s req added g.1 c.requires.sound in
-    let start = g.0.0 in
-    let end = g.0.1.0 in
-    fits-as s req added g.1 a.room (not-longer a.room (length (spliced s start (end - start) (left_of (span start end s)))) (length s) (unfielded-length s start end h.0 h.1 h.2) c.requires.s_len_bound.0 c.requires.s_len_bound.1)
+    let h = sound-as s req added c.in-Unfield.is c.requires.sound in
+    fits-as s req added c.in-Unfield.is a.room (not-longer a.room (length (spliced s c.in-Unfield.start (c.in-Unfield.end - c.in-Unfield.start) (left_of (span c.in-Unfield.start c.in-Unfield.end s)))) (length s) (unfielded-length s c.in-Unfield.start c.in-Unfield.end h.0 h.1 h.2) c.requires.s_len_bound.0 c.requires.s_len_bound.1)

@@ -10,7 +10,7 @@ use Rattle.lookup.specs.Names.{descriptor_at}
 use Rattle.lookup.proofs.inside.find_descriptor.Given as goal
 
 abbrev pub invariant-loop-p : goal.invariant-loop-p
-invariant-loop-p l = (l.initial.left ≤ length l.s) × (is_readable (drop l.initial.left l.s) ≡ true) × (descriptor_at (places_of l.s) l.k ≡ descriptor_at (places_at l.s l.initial.left) l.left)
+invariant-loop-p l = (l.i ≤ length l.s) × (is_readable (drop l.i l.s) ≡ true) × (descriptor_at (places_of l.s) l.k ≡ descriptor_at (places_at l.s l.i) l.left)
 
 abbrev pub decreases-loop-p : goal.decreases-loop-p
-decreases-loop-p l = length l.s - l.initial.left
+decreases-loop-p l = length l.s - l.i

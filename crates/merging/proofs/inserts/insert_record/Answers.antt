@@ -65,7 +65,7 @@ put_pairs-n-requires c =
 
 pub returns-then-n-gt-BYTES : goal.returns-then-n-gt-BYTES
 returns-then-n-gt-BYTES c =
-    inserted-long c.args.text.now c.args.used c.args.room c.args.set.now (map pair_of (record_in c.args.own.now)) (skipped-set (take c.args.used c.args.text.now) c.args.set.now c.set_behind-p.result (set-stands (take c.args.used c.args.text.now) c.requires.appendable.0 c.in-At.head c.args.set.now (sym c.find_head-f.ensures ∙ c.in-At.is) c.set_behind-p.result c.set_behind-p.ensures) (map pair_of (record_in c.args.own.now)) ∙ sym c.is_skipped.ensures ∙ c.if-is_skipped.false) (omega (arith, request-length c.args.set.now c.args.own.now, pairs-over c.args.own.now c.args.request.now c.put_pairs-n.new.1.1.0 c.put_pairs-n.result c.requires.value_bytes_in_bounds.1 c.put_pairs-n.ensures (omega (arith, c.if-n-gt-BYTES.true))))
+    inserted-long c.args.text.now c.args.used c.args.room c.args.set.now (map pair_of (record_in c.args.own.now)) (skipped-set (take c.args.used c.args.text.now) c.args.set.now c.set_behind-p.result (set-stands (take c.args.used c.args.text.now) c.requires.appendable.0 c.in-At.head c.args.set.now (sym c.find_head-f.ensures ∙ c.in-At.is) c.set_behind-p.result c.set_behind-p.ensures) (map pair_of (record_in c.args.own.now)) ∙ sym c.is_skipped.ensures ∙ c.if-is_skipped.false) (omega (arith, request-length c.args.set.now c.args.own.now, pairs-over c.args.own.now c.args.request.now c.put_pairs-n.new.out c.put_pairs-n.result c.requires.value_bytes_in_bounds.1 c.put_pairs-n.ensures (omega (arith, c.if-n-gt-BYTES.true))))
 
 pub overflow_add-set : goal.overflow_add-set
 overflow_add-set c =
@@ -77,20 +77,20 @@ overflow_add-set-2 c =
 
 pub returns-then-set-n-gt-BYTES : goal.returns-then-set-n-gt-BYTES
 returns-then-set-n-gt-BYTES c =
-    inserted-long c.args.text.now c.args.used c.args.room c.args.set.now (map pair_of (record_in c.args.own.now)) (skipped-set (take c.args.used c.args.text.now) c.args.set.now c.set_behind-p.result (set-stands (take c.args.used c.args.text.now) c.requires.appendable.0 c.in-At.head c.args.set.now (sym c.find_head-f.ensures ∙ c.in-At.is) c.set_behind-p.result c.set_behind-p.ensures) (map pair_of (record_in c.args.own.now)) ∙ sym c.is_skipped.ensures ∙ c.if-is_skipped.false) (omega (arith, request-length c.args.set.now c.args.own.now, pairs-length c.args.own.now c.args.request.now c.put_pairs-n.new.1.1.0 c.put_pairs-n.result c.requires.value_bytes_in_bounds.1 c.put_pairs-n.ensures (omega (arith, c.if-n-gt-BYTES.false)), c.if-set-n-gt-BYTES.true))
+    inserted-long c.args.text.now c.args.used c.args.room c.args.set.now (map pair_of (record_in c.args.own.now)) (skipped-set (take c.args.used c.args.text.now) c.args.set.now c.set_behind-p.result (set-stands (take c.args.used c.args.text.now) c.requires.appendable.0 c.in-At.head c.args.set.now (sym c.find_head-f.ensures ∙ c.in-At.is) c.set_behind-p.result c.set_behind-p.ensures) (map pair_of (record_in c.args.own.now)) ∙ sym c.is_skipped.ensures ∙ c.if-is_skipped.false) (omega (arith, request-length c.args.set.now c.args.own.now, pairs-length c.args.own.now c.args.request.now c.put_pairs-n.new.out c.put_pairs-n.result c.requires.value_bytes_in_bounds.1 c.put_pairs-n.ensures (omega (arith, c.if-n-gt-BYTES.false)), c.if-set-n-gt-BYTES.true))
 
 pub slice_bounds-place-end : goal.slice_bounds-place-end
 slice_bounds-place-end c =
-    omega (arith, c.if-n-gt-BYTES.false, c.request-1.given, c.requires.value_bytes_in_bounds.1)
+    omega (arith, c.if-n-gt-BYTES.false, c.put_pairs-n.auto.request, c.requires.value_bytes_in_bounds.1)
 
 pub slice_bounds-place-end-2 : goal.slice_bounds-place-end-2
 slice_bounds-place-end-2 c =
-    sym (length-take-le c.put_pairs-n.result c.put_pairs-n.new.1.1.0 (omega (arith, c.if-n-gt-BYTES.false, c.request-1.given, c.requires.value_bytes_in_bounds.1)))
+    sym (length-take-le c.put_pairs-n.result c.put_pairs-n.new.out (omega (arith, c.if-n-gt-BYTES.false, c.put_pairs-n.auto.request, c.requires.value_bytes_in_bounds.1)))
 
 pub place-requires : goal.place-requires
 place-requires c =
-    record { appendable = (c.requires.appendable.0, c.requires.appendable.1, c.requires.appendable.2, (c.args.set.now, (c.in-At.head, ((sym c.find_head-f.ensures ∙ c.in-At.is), c.set_behind-p.ensures)))); request_len_bound = (omega (arith, c.if-n-gt-BYTES.false, length-take-le c.put_pairs-n.result c.put_pairs-n.new.1.1.0 (omega (arith, c.if-n-gt-BYTES.false, c.request-1.given, c.requires.value_bytes_in_bounds.1))), ap is_some (pairs-read c.args.own.now c.args.request.now c.put_pairs-n.new.1.1.0 c.put_pairs-n.result c.requires.value_bytes_in_bounds.1 c.put_pairs-n.ensures (omega (arith, c.if-n-gt-BYTES.false))), subst Filled (sym (ap list_of (pairs-read c.args.own.now c.args.request.now c.put_pairs-n.new.1.1.0 c.put_pairs-n.result c.requires.value_bytes_in_bounds.1 c.put_pairs-n.ensures (omega (arith, c.if-n-gt-BYTES.false))))) (filled-pairs (record_in c.args.own.now) c.requires.own_value.2), c.requires.value_bytes_in_bounds.2) }
+    record { appendable = (c.requires.appendable.0, c.requires.appendable.1, c.requires.appendable.2, (c.args.set.now, (c.in-At.head, ((sym c.find_head-f.ensures ∙ c.in-At.is), c.set_behind-p.ensures)))); request_len_bound = (omega (arith, c.if-n-gt-BYTES.false, length-take-le c.put_pairs-n.result c.put_pairs-n.new.out (omega (arith, c.if-n-gt-BYTES.false, c.put_pairs-n.auto.request, c.requires.value_bytes_in_bounds.1))), ap is_some (pairs-read c.args.own.now c.args.request.now c.put_pairs-n.new.out c.put_pairs-n.result c.requires.value_bytes_in_bounds.1 c.put_pairs-n.ensures (omega (arith, c.if-n-gt-BYTES.false))), subst Filled (sym (ap list_of (pairs-read c.args.own.now c.args.request.now c.put_pairs-n.new.out c.put_pairs-n.result c.requires.value_bytes_in_bounds.1 c.put_pairs-n.ensures (omega (arith, c.if-n-gt-BYTES.false))))) (filled-pairs (record_in c.args.own.now) c.requires.own_value.2), c.requires.value_bytes_in_bounds.2) }
 
 pub returns : goal.returns
 returns c =
-    inserted-placed c.args.text.now c.args.used c.args.room c.args.set.now (map pair_of (record_in c.args.own.now)) (list_of (pairs_from (take c.put_pairs-n.result c.put_pairs-n.new.1.1.0) 0)) c.place.new.0 c.place.result (skipped-set (take c.args.used c.args.text.now) c.args.set.now c.set_behind-p.result (set-stands (take c.args.used c.args.text.now) c.requires.appendable.0 c.in-At.head c.args.set.now (sym c.find_head-f.ensures ∙ c.in-At.is) c.set_behind-p.result c.set_behind-p.ensures) (map pair_of (record_in c.args.own.now)) ∙ sym c.is_skipped.ensures ∙ c.if-is_skipped.false) (omega (arith, request-length c.args.set.now c.args.own.now, pairs-length c.args.own.now c.args.request.now c.put_pairs-n.new.1.1.0 c.put_pairs-n.result c.requires.value_bytes_in_bounds.1 c.put_pairs-n.ensures (omega (arith, c.if-n-gt-BYTES.false)), c.if-set-n-gt-BYTES.false)) (ap list_of (pairs-read c.args.own.now c.args.request.now c.put_pairs-n.new.1.1.0 c.put_pairs-n.result c.requires.value_bytes_in_bounds.1 c.put_pairs-n.ensures (omega (arith, c.if-n-gt-BYTES.false)))) (c.place.ensures c.args.set.now c.in-At.head (sym c.find_head-f.ensures ∙ c.in-At.is) c.set_behind-p.ensures)
+    inserted-placed c.args.text.now c.args.used c.args.room c.args.set.now (map pair_of (record_in c.args.own.now)) (list_of (pairs_from (take c.put_pairs-n.result c.put_pairs-n.new.out) 0)) c.place.new.text c.place.result (skipped-set (take c.args.used c.args.text.now) c.args.set.now c.set_behind-p.result (set-stands (take c.args.used c.args.text.now) c.requires.appendable.0 c.in-At.head c.args.set.now (sym c.find_head-f.ensures ∙ c.in-At.is) c.set_behind-p.result c.set_behind-p.ensures) (map pair_of (record_in c.args.own.now)) ∙ sym c.is_skipped.ensures ∙ c.if-is_skipped.false) (omega (arith, request-length c.args.set.now c.args.own.now, pairs-length c.args.own.now c.args.request.now c.put_pairs-n.new.out c.put_pairs-n.result c.requires.value_bytes_in_bounds.1 c.put_pairs-n.ensures (omega (arith, c.if-n-gt-BYTES.false)), c.if-set-n-gt-BYTES.false)) (ap list_of (pairs-read c.args.own.now c.args.request.now c.put_pairs-n.new.out c.put_pairs-n.result c.requires.value_bytes_in_bounds.1 c.put_pairs-n.ensures (omega (arith, c.if-n-gt-BYTES.false)))) (c.place.ensures c.args.set.now c.in-At.head (sym c.find_head-f.ensures ∙ c.in-At.is) c.set_behind-p.ensures)

@@ -36,8 +36,8 @@ number-a-requires c =
 
 pub put-requires : goal.put-requires
 put-requires c =
-    let f = set-stands (take c.args.used c.args.text.now) c.requires.appendable.0 c.requires.appendable.3.1.0 c.requires.appendable.3.0 c.requires.appendable.3.1.1.0 c.args.p c.requires.appendable.3.1.1.1 in let g = subst (Weighs (pairs_at c.args.request.now 0)) c.in-Sums.is c.weigh-w.ensures in record { at_le_used = (omega (arith, f.inside, length-take-le c.args.used c.args.text.now (omega (arith, c.requires.appendable.1, c.requires.appendable.2))), c.requires.appendable.1, c.requires.appendable.2); request_value = (c.requires.request_len_bound.1, g.1, added-inside (added_by int_bounds (ruled (record_in (span c.args.p.start c.args.p.end (take c.args.used c.args.text.now))) (records (read_of (span c.args.p.begin c.args.p.after (take c.args.used c.args.text.now))))) (pairs_at c.args.request.now 0)) c.number-a.new.1.1.1.0 c.number-a.result c.number-a.ensures) }
+    let f = set-stands (take c.args.used c.args.text.now) c.requires.appendable.0 c.requires.appendable.3.1.0 c.requires.appendable.3.0 c.requires.appendable.3.1.1.0 c.args.p c.requires.appendable.3.1.1.1 in let g = subst (Weighs (pairs_at c.args.request.now 0)) c.in-Sums.is c.weigh-w.ensures in record { at_le_used = (omega (arith, f.inside, length-take-le c.args.used c.args.text.now (omega (arith, c.requires.appendable.1, c.requires.appendable.2))), c.requires.appendable.1, c.requires.appendable.2); request_value = (c.requires.request_len_bound.1, g.1, added-inside (added_by int_bounds (ruled (record_in (span c.args.p.start c.args.p.end (take c.args.used c.args.text.now))) (records (read_of (span c.args.p.begin c.args.p.after (take c.args.used c.args.text.now))))) (pairs_at c.args.request.now 0)) c.number-a.new.added c.number-a.result c.number-a.ensures) }
 
 pub returns : goal.returns
 returns c =
-    let g = subst (Weighs (pairs_at c.args.request.now 0)) c.in-Sums.is c.weigh-w.ensures in λ set head found is. placed-told c.args.text.now c.args.used c.args.room (omega (arith, c.requires.appendable.1, c.requires.appendable.2)) c.requires.appendable.0 head set found c.args.p is c.args.request.now c.number-a.new.1.1.1.0 c.put.new.0 c.requires.request_len_bound.2 g.0 c.in-Sums.len g.1 c.number-a.result c.number-a.ensures c.put.result c.put.ensures
+    let g = subst (Weighs (pairs_at c.args.request.now 0)) c.in-Sums.is c.weigh-w.ensures in λ set head found is. placed-told c.args.text.now c.args.used c.args.room (omega (arith, c.requires.appendable.1, c.requires.appendable.2)) c.requires.appendable.0 head set found c.args.p is c.args.request.now c.number-a.new.added c.put.new.text c.requires.request_len_bound.2 g.0 c.in-Sums.len g.1 c.number-a.result c.number-a.ensures c.put.result c.put.ensures

@@ -8,7 +8,7 @@ use Rattle.merging.proofs.Twinning.{twins_from}
 use Rattle.merging.proofs.twins.are_twins.Given as goal
 
 abbrev pub invariant-loop-s : goal.invariant-loop-s
-invariant-loop-s l = (is_readable l.initial.q ≡ true) × (is_readable l.q ≡ true) × (twins_from l.a 0 l.b 0 ≡ twins_from l.initial.q 0 l.q 0)
+invariant-loop-s l = (is_readable l.p ≡ true) × (is_readable l.q ≡ true) × (twins_from l.a 0 l.b 0 ≡ twins_from l.p 0 l.q 0)
 
 abbrev pub decreases-loop-s : goal.decreases-loop-s
-decreases-loop-s l = length l.initial.q
+decreases-loop-s l = length l.p

@@ -76,28 +76,28 @@ add_words-y-requires c =
     let ws = auto (record_in c.args.d.now) in
     let f = pair_by ws c.args.bounds.floors c.args.bounds.limits in
     let h = value-told c.args.d.now (text "%auto") c.loop-value.i c.next_named-v.result c.next_named-v.ensures c.in-At.is in
-    let x = take c.copy_value-n.result c.copy_value-n.new.1.0 in
-    let q = decoded-all (value_from (span (c.loop-value.i + c.in-At.value) (length c.args.d.now) c.args.d.now)) c.loop-value.scratch c.copy_value-n.new.1.0 c.copy_value-n.result c.copy_value-n.ensures.0 c.copy_value-n.ensures.1 ∙ ap value_from (rest c.args.d.now (c.loop-value.i + c.in-At.value)) in
+    let x = take c.copy_value-n.result c.copy_value-n.new.out in
+    let q = decoded-all (value_from (span (c.loop-value.i + c.in-At.value) (length c.args.d.now) c.args.d.now)) c.loop-value.scratch c.copy_value-n.new.out c.copy_value-n.result c.copy_value-n.ensures.0 c.copy_value-n.ensures.1 ∙ ap value_from (rest c.args.d.now (c.loop-value.i + c.in-At.value)) in
     let go = c.loop-value.invariant.5 c.requires.seen.0 c.requires.seen.1 in
     record { listed = c.requires.listed; limited = c.requires.limited; s_value = (listed_here c.args.d.now c.loop-value.i _ _ h x q c.loop-value.invariant.2, listed-fits c.args.d.now c.loop-value.i _ _ h x q c.loop-value.invariant.2, omega (arith, c.loop-value.invariant.4, c.requires.described.2)); sums = (go.reached, go.sums, words-room c.args.d.now c.loop-value.i _ _ h x q go.reached.passed go.few) }
 
 pub shape_of-scratch-in_default-y : goal.shape_of-scratch-in_default-y
 shape_of-scratch-in_default-y c =
-    c.scratch-1.given ∙ c.loop-value.invariant.3
+    c.copy_value-n.auto.scratch ∙ c.loop-value.invariant.3
 
 pub shape_of-out-in_default-y : goal.shape_of-out-in_default-y
 shape_of-out-in_default-y c =
-    c.out-1.given ∙ c.loop-value.invariant.4
+    c.add_words-y.auto.out ∙ c.loop-value.invariant.4
 
 pub returns-in_default-y : goal.returns-in_default-y
 returns-in_default-y c =
     let ws = auto (record_in c.args.d.now) in
     let f = pair_by ws c.args.bounds.floors c.args.bounds.limits in
     let h = value-told c.args.d.now (text "%auto") c.loop-value.i c.next_named-v.result c.next_named-v.ensures c.in-At.is in
-    let x = take c.copy_value-n.result c.copy_value-n.new.1.0 in
-    let q = decoded-all (value_from (span (c.loop-value.i + c.in-At.value) (length c.args.d.now) c.args.d.now)) c.loop-value.scratch c.copy_value-n.new.1.0 c.copy_value-n.result c.copy_value-n.ensures.0 c.copy_value-n.ensures.1 ∙ ap value_from (rest c.args.d.now (c.loop-value.i + c.in-At.value)) in
+    let x = take c.copy_value-n.result c.copy_value-n.new.out in
+    let q = decoded-all (value_from (span (c.loop-value.i + c.in-At.value) (length c.args.d.now) c.args.d.now)) c.loop-value.scratch c.copy_value-n.new.out c.copy_value-n.result c.copy_value-n.ensures.0 c.copy_value-n.ensures.1 ∙ ap value_from (rest c.args.d.now (c.loop-value.i + c.in-At.value)) in
     λ ns g. let go = c.loop-value.invariant.5 ns g in
-    going-none f ws c.loop-value.out c.loop-value.sums (words_from c.args.d.now c.loop-value.i) (step_all f (unadded ns) ws) go (words_of x) (words_from c.args.d.now (c.loop-value.i + c.in-At.end)) (words-cut c.args.d.now c.loop-value.i _ _ h x q) c.add_words-y.new.1.1.1.1.1.0 c.add_words-y.result (c.add_words-y.ensures go.reached go.sums (words-room c.args.d.now c.loop-value.i _ _ h x q go.reached.passed go.few)) c.in_default-y.is
+    going-none f ws c.loop-value.out c.loop-value.sums (words_from c.args.d.now c.loop-value.i) (step_all f (unadded ns) ws) go (words_of x) (words_from c.args.d.now (c.loop-value.i + c.in-At.end)) (words-cut c.args.d.now c.loop-value.i _ _ h x q) c.add_words-y.new.out c.add_words-y.result (c.add_words-y.ensures go.reached go.sums (words-room c.args.d.now c.loop-value.i _ _ h x q go.reached.passed go.few)) c.in_default-y.is
 
 pub overflow_add-i-in-loop-value : goal.overflow_add-i-in-loop-value
 overflow_add-i-in-loop-value c =
@@ -114,13 +114,13 @@ loop-value-preserved c =
     let ws = auto (record_in c.args.d.now) in
     let f = pair_by ws c.args.bounds.floors c.args.bounds.limits in
     let h = value-told c.args.d.now (text "%auto") c.loop-value.i c.next_named-v.result c.next_named-v.ensures c.in-At.is in
-    let x = take c.copy_value-n.result c.copy_value-n.new.1.0 in
-    let q = decoded-all (value_from (span (c.loop-value.i + c.in-At.value) (length c.args.d.now) c.args.d.now)) c.loop-value.scratch c.copy_value-n.new.1.0 c.copy_value-n.result c.copy_value-n.ensures.0 c.copy_value-n.ensures.1 ∙ ap value_from (rest c.args.d.now (c.loop-value.i + c.in-At.value)) in (
+    let x = take c.copy_value-n.result c.copy_value-n.new.out in
+    let q = decoded-all (value_from (span (c.loop-value.i + c.in-At.value) (length c.args.d.now) c.args.d.now)) c.loop-value.scratch c.copy_value-n.new.out c.copy_value-n.result c.copy_value-n.ensures.0 c.copy_value-n.ensures.1 ∙ ap value_from (rest c.args.d.now (c.loop-value.i + c.in-At.value)) in (
       h.inside,
       h.readable,
       listed-on c.args.d.now c.loop-value.i _ _ h x q c.loop-value.invariant.2,
-      c.scratch-1.given ∙ c.loop-value.invariant.3,
-      c.out-1.given ∙ c.loop-value.invariant.4,
+      c.copy_value-n.auto.scratch ∙ c.loop-value.invariant.3,
+      c.add_words-y.auto.out ∙ c.loop-value.invariant.4,
       λ ns g. let go = c.loop-value.invariant.5 ns g in
-          going_on f ws c.loop-value.out c.loop-value.sums (words_from c.args.d.now c.loop-value.i) (step_all f (unadded ns) ws) go (words_of x) (words_from c.args.d.now (c.loop-value.i + c.in-At.end)) (words-cut c.args.d.now c.loop-value.i _ _ h x q) c.add_words-y.new.1.1.1.1.1.0 c.add_words-y.result (c.add_words-y.ensures go.reached go.sums (words-room c.args.d.now c.loop-value.i _ _ h x q go.reached.passed go.few)) c.in-Is.next c.in-Is.is,
+          going_on f ws c.loop-value.out c.loop-value.sums (words_from c.args.d.now c.loop-value.i) (step_all f (unadded ns) ws) go (words_of x) (words_from c.args.d.now (c.loop-value.i + c.in-At.end)) (words-cut c.args.d.now c.loop-value.i _ _ h x q) c.add_words-y.new.out c.add_words-y.result (c.add_words-y.ensures go.reached go.sums (words-room c.args.d.now c.loop-value.i _ _ h x q go.reached.passed go.few)) c.in-Is.next c.in-Is.is,
     )

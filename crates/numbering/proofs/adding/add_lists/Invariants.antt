@@ -14,7 +14,7 @@ use Rattle.numbering.proofs.Lists.{words_from, ListedFrom}
 use Rattle.numbering.proofs.adding.add_lists.Given as goal
 
 abbrev pub invariant-loop-value : goal.invariant-loop-value
-invariant-loop-value l = (l.i ≤ length l.d) × (is_readable (drop l.i l.d) ≡ true) × ListedFrom l.d l.i × (length l.initial.sums ≡ length l.initial.scratch) × (length l.sums ≡ length l.scratch) × ((ns : List Bytes) → Seen (auto (record_in l.d)) ns l.seen → Going (pair_by (auto (record_in l.d)) l.bounds.floors l.bounds.limits) (auto (record_in l.d)) l.sums l.initial.i (words_from l.d l.i) (step_all (pair_by (auto (record_in l.d)) l.bounds.floors l.bounds.limits) (unadded ns) (auto (record_in l.d))))
+invariant-loop-value l = (l.i ≤ length l.d) × (is_readable (drop l.i l.d) ≡ true) × ListedFrom l.d l.i × (length l.scratch ≡ length l.initial.scratch) × (length l.out ≡ length l.initial.out) × ((ns : List Bytes) → Seen (auto (record_in l.d)) ns l.seen → Going (pair_by (auto (record_in l.d)) l.bounds.floors l.bounds.limits) (auto (record_in l.d)) l.out l.sums (words_from l.d l.i) (step_all (pair_by (auto (record_in l.d)) l.bounds.floors l.bounds.limits) (unadded ns) (auto (record_in l.d))))
 
 abbrev pub decreases-loop-value : goal.decreases-loop-value
 decreases-loop-value l = length l.d - l.i

@@ -100,4 +100,4 @@ returns c =
     let l = place_inside ws c.args.name.now c.place_in-k.result p c.requires.d_value.0 in
     let number = get_or c.args.bounds.floors c.place_in-k.result 0 in
     let small = small-floor ws c.args.bounds.limits c.requires.limited.2 c.args.name.now c.requires.d_value.0 c.place_in-k.result p number c.if-limits-k.false in
-    λ s h. sums-more ws f s c.args.out.now c.args.sum h c.args.name.now c.requires.d_value.0 c.place_in-k.result p (sym c.has.ensures ∙ c.if-has.false) number small (pair-some ws c.args.bounds.floors c.args.bounds.limits c.args.name.now c.place_in-k.result p c.if-limits-k.false) c.requires.d_value.1 c.put_number-len.result c.put_number-len.ensures.0 c.stays_short-short.result c.stays_short-short.ensures c.mark-seen.result c.mark-seen.ensures c.put_number-len.new.1.1.1.1.0 c.put_number-len.ensures.1
+    λ s h. sums-more ws f s c.args.out.now c.args.sum h c.args.name.now c.requires.d_value.0 c.place_in-k.result p (sym c.has.ensures ∙ c.if-has.false) number small (pair-some ws c.args.bounds.floors c.args.bounds.limits c.args.name.now c.place_in-k.result p c.if-limits-k.false) c.requires.d_value.1 c.put_number-len.result c.put_number-len.ensures.0 c.stays_short-short.result c.stays_short-short.ensures c.mark-seen.result c.mark-seen.ensures c.put_number-len.new.out c.put_number-len.ensures.1

@@ -53,7 +53,7 @@ add_word-y-requires c =
 
 pub shape_of-out-in_default-y : goal.shape_of-out-in_default-y
 shape_of-out-in_default-y c =
-    c.out-1.given ∙ c.loop-start.invariant.2
+    c.add_word-y.auto.out ∙ c.loop-start.invariant.2
 
 pub returns-in_default-y : goal.returns-in_default-y
 returns-in_default-y c =
@@ -61,7 +61,7 @@ returns-in_default-y c =
     let f = pair_by ws c.args.bounds.floors c.args.bounds.limits in
     let w = found c.loop-start.rest.now c.next_word-x.ensures c.in-At.is in
     λ t h l. let go = c.loop-start.invariant.3 t h l in
-    going-none f ws c.loop-start.out c.loop-start.sums (words_of c.loop-start.rest.now) (step_all f t (words_of c.args.s.now)) go (span c.in-At.start c.in-At.end c.loop-start.rest.now ∷ []) (words_of (span c.in-At.end (length c.loop-start.rest.now) c.loop-start.rest.now)) w.2 c.add_word-y.new.1.1.1.1.1.0 c.add_word-y.result (c.add_word-y.ensures go.reached go.sums) c.in_default-y.is
+    going-none f ws c.loop-start.out c.loop-start.sums (words_of c.loop-start.rest.now) (step_all f t (words_of c.args.s.now)) go (span c.in-At.start c.in-At.end c.loop-start.rest.now ∷ []) (words_of (span c.in-At.end (length c.loop-start.rest.now) c.loop-start.rest.now)) w.2 c.add_word-y.new.out c.add_word-y.result (c.add_word-y.ensures go.reached go.sums) c.in_default-y.is
 
 pub slice_bounds-rest-count : goal.slice_bounds-rest-count
 slice_bounds-rest-count c =
@@ -86,7 +86,7 @@ loop-start-preserved c =
     let g = first_passes (λ (n : Bytes). among n ws) (words_of c.loop-start.rest.now) _ _ w.2 c.loop-start.invariant.1 in (
       omega (arith, c.loop-start.invariant.0),
       g.1,
-      c.out-1.given ∙ c.loop-start.invariant.2,
+      c.add_word-y.auto.out ∙ c.loop-start.invariant.2,
       λ t h l. let go = c.loop-start.invariant.3 t h l in
-          going_on f ws c.loop-start.out c.loop-start.sums (words_of c.loop-start.rest.now) (step_all f t (words_of c.args.s.now)) go (span c.in-At.start c.in-At.end c.loop-start.rest.now ∷ []) (words_of (span c.in-At.end (length c.loop-start.rest.now) c.loop-start.rest.now)) w.2 c.add_word-y.new.1.1.1.1.1.0 c.add_word-y.result (c.add_word-y.ensures go.reached go.sums) c.in-Is.next c.in-Is.is,
+          going_on f ws c.loop-start.out c.loop-start.sums (words_of c.loop-start.rest.now) (step_all f t (words_of c.args.s.now)) go (span c.in-At.start c.in-At.end c.loop-start.rest.now ∷ []) (words_of (span c.in-At.end (length c.loop-start.rest.now) c.loop-start.rest.now)) w.2 c.add_word-y.new.out c.add_word-y.result (c.add_word-y.ensures go.reached go.sums) c.in-Is.next c.in-Is.is,
     )

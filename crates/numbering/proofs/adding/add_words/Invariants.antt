@@ -12,7 +12,7 @@ use Rattle.numbering.proofs.Stepping.{Going}
 use Rattle.numbering.proofs.adding.add_words.Given as goal
 
 abbrev pub invariant-loop-start : goal.invariant-loop-start
-invariant-loop-start l = (length l.rest ≤ length l.s) × (all (λ (n : Bytes). among n (auto (record_in l.d))) (words_of l.rest) ≡ true) × (length l.sums ≡ length l.initial.out) × ((t : State) → Sums (auto (record_in l.d)) t l.initial.out l.out → t.passed + length (words_of l.s) ≤ 64 → Going (pair_by (auto (record_in l.d)) l.bounds.floors l.bounds.limits) (auto (record_in l.d)) l.sums l.initial.rest (words_of l.rest) (step_all (pair_by (auto (record_in l.d)) l.bounds.floors l.bounds.limits) t (words_of l.s)))
+invariant-loop-start l = (length l.rest ≤ length l.s) × (all (λ (n : Bytes). among n (auto (record_in l.d))) (words_of l.rest) ≡ true) × (length l.out ≡ length l.initial.out) × ((t : State) → Sums (auto (record_in l.d)) t l.initial.out l.initial.sums → t.passed + length (words_of l.s) ≤ 64 → Going (pair_by (auto (record_in l.d)) l.bounds.floors l.bounds.limits) (auto (record_in l.d)) l.out l.sums (words_of l.rest) (step_all (pair_by (auto (record_in l.d)) l.bounds.floors l.bounds.limits) t (words_of l.s)))
 
 abbrev pub decreases-loop-start : goal.decreases-loop-start
 decreases-loop-start l = length l.rest

@@ -11,7 +11,7 @@ use Rattle.numbering.proofs.Marking.{MarksLeft}
 use Rattle.numbering.proofs.adding.mark_pairs.Given as goal
 
 abbrev pub invariant-loop-name : goal.invariant-loop-name
-invariant-loop-name l = (l.i ≤ length l.req) × (is_some (pairs_from l.req l.i) ≡ true) × MarksLeft (auto (record_in l.d)) (pairs_at l.req l.from) (pairs_at l.req l.i) l.initial.i
+invariant-loop-name l = (l.i ≤ length l.req) × (is_some (pairs_from l.req l.i) ≡ true) × MarksLeft (auto (record_in l.d)) (pairs_at l.req l.from) (pairs_at l.req l.i) l.seen
 
 abbrev pub decreases-loop-name : goal.decreases-loop-name
 decreases-loop-name l = length l.req - l.i

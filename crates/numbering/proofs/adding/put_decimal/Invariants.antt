@@ -7,7 +7,7 @@ use Rattle.format.specs.Numbering.{decimal}
 use Rattle.numbering.proofs.adding.put_decimal.Given as goal
 
 abbrev pub invariant-loop-n : goal.invariant-loop-n
-invariant-loop-n l = (length l.n ≡ length l.initial.text) × (l.at ≤ length l.n) × (length (decimal l.initial.at) ≤ l.at) × (decimal l.number ≡ decimal l.initial.at ++ drop l.at l.n)
+invariant-loop-n l = (length l.text ≡ length l.initial.text) × (l.at ≤ length l.text) × (length (decimal l.n) ≤ l.at) × (decimal l.number ≡ decimal l.n ++ drop l.at l.text)
 
 abbrev pub decreases-loop-n : goal.decreases-loop-n
 decreases-loop-n l = l.at

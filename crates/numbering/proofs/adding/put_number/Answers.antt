@@ -14,10 +14,10 @@ use Rattle.numbering.proofs.adding.put_number.Goals as goal
 
 pub put_text-requires : goal.put_text-requires
 put_text-requires c =
-    let e = rest c.put_decimal-at.new.1.0 c.put_decimal-at.result ∙ c.put_decimal-at.ensures.1 in
+    let e = rest c.put_decimal-at.new.text c.put_decimal-at.result ∙ c.put_decimal-at.ensures.1 in
     record { name_len_bound = (omega (arith, c.requires.name_len_bound.0), subst (λ (x : Bytes). length x ≤ file_bytes) (sym e) (omega (arith, number_short c.args.number c.requires.name_len_bound.1)), c.requires.name_len_bound.2); value_in_bounds = subst (λ (x : Bytes). c.args.short ≡ true → c.args.len + length (written c.args.name.now x) ≤ length c.args.out.now) (sym e) c.requires.number_in_bounds }
 
 pub returns : goal.returns
 returns c =
-    let e = rest c.put_decimal-at.new.1.0 c.put_decimal-at.result ∙ c.put_decimal-at.ensures.1 in
-    subst (λ (x : Bytes). (c.put_text.result ≡ c.args.len + length (written c.args.name.now x)) × (c.args.short ≡ true → take c.put_text.result c.put_text.new.1.1.1.1.0 ≡ take c.args.len c.args.out.now ++ written c.args.name.now x)) e c.put_text.ensures
+    let e = rest c.put_decimal-at.new.text c.put_decimal-at.result ∙ c.put_decimal-at.ensures.1 in
+    subst (λ (x : Bytes). (c.put_text.result ≡ c.args.len + length (written c.args.name.now x)) × (c.args.short ≡ true → take c.put_text.result c.put_text.new.out ≡ take c.args.len c.args.out.now ++ written c.args.name.now x)) e c.put_text.ensures

@@ -32,7 +32,7 @@ overflow_add-result c =
 pub returns-then-short : goal.returns-then-short
 returns-then-short c =
     let h = c.requires.value_in_bounds c.if-short.true in
-    (ap (λ (n : ℕ). c.args.len + n) c.put_field.ensures.0, λ s. put-behind c.args.out.now (written c.args.name.now c.args.value.now) c.put_field.new.0 c.args.len c.put_field.result h c.put_field.ensures.0 c.put_field.ensures.1)
+    (ap (λ (n : ℕ). c.args.len + n) c.put_field.ensures.0, λ s. put-behind c.args.out.now (written c.args.name.now c.args.value.now) c.put_field.new.out c.args.len c.put_field.result h c.put_field.ensures.0 c.put_field.ensures.1)
 
 pub overflow_add-result-2 : goal.overflow_add-result-2
 overflow_add-result-2 c =

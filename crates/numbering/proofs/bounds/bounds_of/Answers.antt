@@ -19,7 +19,7 @@ raise_all-requires c =
 pub narrow_all-requires : goal.narrow_all-requires
 narrow_all-requires c =
     let ws = auto (record_in c.args.d.now) in
-    record { described = (c.requires.described.0, c.requires.described.1, omega (arith, c.scratch-1.given, c.requires.described.2)); list_words_in_bounds = (omega (arith, c.floors-2-1.given), omega arith, λ n h. omega (arith, all_hold ws numbers (repeated 64 numbers) refl c.requires.described.1.few n h)) }
+    record { described = (c.requires.described.0, c.requires.described.1, omega (arith, c.raise_all.auto.scratch, c.requires.described.2)); list_words_in_bounds = (omega (arith, c.raise_all.auto.floors), omega arith, λ n h. omega (arith, all_hold ws numbers (repeated 64 numbers) refl c.requires.described.1.few n h)) }
 
 pub returns : goal.returns
 returns c =
@@ -29,6 +29,6 @@ returns c =
     record {
       floors = λ n h. c.narrow_all.ensures.0 n h ∙ ap (λ (x : ℕ). max x (largest (type_floor c.args.d.now n) vs)) (c.raise_all.ensures n h ∙ ap (λ (x : ℕ). max x (largest (field_floor n) (record_in c.args.s.now))) (all_hold ws 0 (repeated 64 0) refl few n h) ∙ max-zero _);
       limits = λ n h. c.narrow_all.ensures.1 n h ∙ ap (λ (x : ℕ). min x (limit_of c.args.d.now n)) (all_hold ws numbers (repeated 64 numbers) refl few n h) ∙ lowest-least c.args.d.now n vs;
-      floor-room = omega (arith, c.floors-4-1.given, c.floors-2-1.given);
-      limit-room = omega (arith, c.limits-2-1.given);
+      floor-room = omega (arith, c.narrow_all.auto.floors, c.raise_all.auto.floors);
+      limit-room = omega (arith, c.narrow_all.auto.limits);
     }

@@ -37,7 +37,7 @@ next_named-v-requires c =
 
 pub shape_of-scratch-in_default : goal.shape_of-scratch-in_default
 shape_of-scratch-in_default c =
-    c.loop-value.invariant.3 ∙ c.scratch-1.given
+    c.loop-value.invariant.3 ∙ c.read_typedefs-defs.auto.scratch
 
 pub shape_of-floors-in_default : goal.shape_of-floors-in_default
 shape_of-floors-in_default c =
@@ -59,7 +59,7 @@ overflow_add-i c =
 pub kind_at-kind-requires : goal.kind_at-kind-requires
 kind_at-kind-requires c =
     let h = value-told c.args.d.now (text "%type") c.loop-value.i c.next_named-v.result c.next_named-v.ensures c.in-At.is in
-    record { described = (c.requires.described.0, c.read_names-names.ensures, c.read_typedefs-defs.ensures); has_type = (typed-here c.args.d.now c.loop-value.i _ _ h c.loop-value.invariant.2, omega (arith, c.loop-value.invariant.3, c.scratch-1.given, c.requires.described.2)) }
+    record { described = (c.requires.described.0, c.read_names-names.ensures, c.read_typedefs-defs.ensures); has_type = (typed-here c.args.d.now c.loop-value.i _ _ h c.loop-value.invariant.2, omega (arith, c.loop-value.invariant.3, c.read_typedefs-defs.auto.scratch, c.requires.described.2)) }
 
 pub overflow_add-i-in-loop-value : goal.overflow_add-i-in-loop-value
 overflow_add-i-in-loop-value c =
@@ -80,13 +80,13 @@ pub copy_value-n-requires : goal.copy_value-n-requires
 copy_value-n-requires c =
     let h = value-told c.args.d.now (text "%type") c.loop-value.i c.next_named-v.result c.next_named-v.ensures c.in-At.is in
     let t = typed-here c.args.d.now c.loop-value.i _ _ h c.loop-value.invariant.2 in
-    (subst (λ (x : Bytes). length (value_from x) ≤ length c.kind_at-kind.new.1.1.1.1.0) (sym (rest c.args.d.now (c.loop-value.i + c.in-At.value))) (omega (arith, t.fits, c.scratch-in-loop-value-1.given, c.loop-value.invariant.3, c.scratch-1.given, c.requires.described.2)))
+    (subst (λ (x : Bytes). length (value_from x) ≤ length c.kind_at-kind.new.scratch) (sym (rest c.args.d.now (c.loop-value.i + c.in-At.value))) (omega (arith, t.fits, c.kind_at-kind.auto.scratch, c.loop-value.invariant.3, c.read_typedefs-defs.auto.scratch, c.requires.described.2)))
 
 pub slice_bounds-narrow-end : goal.slice_bounds-narrow-end
 slice_bounds-narrow-end c =
     let h = value-told c.args.d.now (text "%type") c.loop-value.i c.next_named-v.result c.next_named-v.ensures c.in-At.is in
     let t = typed-here c.args.d.now c.loop-value.i _ _ h c.loop-value.invariant.2 in
-    decoded-inside (value_from (span (c.loop-value.i + c.in-At.value) (length c.args.d.now) c.args.d.now)) _ _ c.copy_value-n.result c.copy_value-n.ensures.0 c.copy_value-n.ensures.1 (subst (λ (x : Bytes). length (value_from x) ≤ length c.kind_at-kind.new.1.1.1.1.0) (sym (rest c.args.d.now (c.loop-value.i + c.in-At.value))) (omega (arith, t.fits, c.scratch-in-loop-value-1.given, c.loop-value.invariant.3, c.scratch-1.given, c.requires.described.2)))
+    decoded-inside (value_from (span (c.loop-value.i + c.in-At.value) (length c.args.d.now) c.args.d.now)) _ _ c.copy_value-n.result c.copy_value-n.ensures.0 c.copy_value-n.ensures.1 (subst (λ (x : Bytes). length (value_from x) ≤ length c.kind_at-kind.new.scratch) (sym (rest c.args.d.now (c.loop-value.i + c.in-At.value))) (omega (arith, t.fits, c.kind_at-kind.auto.scratch, c.loop-value.invariant.3, c.read_typedefs-defs.auto.scratch, c.requires.described.2)))
 
 pub slice_bounds-narrow-end-in-loop-value : goal.slice_bounds-narrow-end-in-loop-value
 slice_bounds-narrow-end-in-loop-value c =
@@ -113,4 +113,4 @@ loop-value-preserved c =
     let v = value_from (span (c.loop-value.i + c.in-At.value) (length c.args.d.now) c.args.d.now) in
     let all = decoded-all v _ _ c.copy_value-n.result c.copy_value-n.ensures.0 c.copy_value-n.ensures.1 ∙ ap value_from (rest c.args.d.now (c.loop-value.i + c.in-At.value)) in
     let s = span_in c.kind_at-kind.result in
-    (h.inside, h.readable, typed-on c.args.d.now c.loop-value.i _ _ h c.loop-value.invariant.2, c.scratch-in-loop-value-2-1.given ∙ c.scratch-in-loop-value-1.given ∙ c.loop-value.invariant.3, c.floors-1.given ∙ c.loop-value.invariant.4, c.limits-1.given ∙ c.loop-value.invariant.5, types-on c.args.d.now (auto (record_in c.args.d.now)) c.args.floors.now c.args.limits.now c.loop-value.i c.loop-value.floors c.loop-value.limits c.loop-value.invariant.6 _ _ h c.kind_at-kind.result c.kind_at-kind.ensures _ _ (λ n k. c.narrow.ensures.0 n k ∙ ap (λ (x : Bytes). max (get_or c.loop-value.floors (place_in n ws) 0) (pick (among n (typed_names x)) (floor_in s) 0)) all) (λ n k. c.narrow.ensures.1 n k ∙ ap (λ (x : Bytes). min (get_or c.loop-value.limits (place_in n ws) 0) (pick (among n (typed_names x)) (limit_in s) numbers)) all))
+    (h.inside, h.readable, typed-on c.args.d.now c.loop-value.i _ _ h c.loop-value.invariant.2, c.copy_value-n.auto.scratch ∙ c.kind_at-kind.auto.scratch ∙ c.loop-value.invariant.3, c.narrow.auto.floors ∙ c.loop-value.invariant.4, c.narrow.auto.limits ∙ c.loop-value.invariant.5, types-on c.args.d.now (auto (record_in c.args.d.now)) c.args.floors.now c.args.limits.now c.loop-value.i c.loop-value.floors c.loop-value.limits c.loop-value.invariant.6 _ _ h c.kind_at-kind.result c.kind_at-kind.ensures _ _ (λ n k. c.narrow.ensures.0 n k ∙ ap (λ (x : Bytes). max (get_or c.loop-value.floors (place_in n ws) 0) (pick (among n (typed_names x)) (floor_in s) 0)) all) (λ n k. c.narrow.ensures.1 n k ∙ ap (λ (x : Bytes). min (get_or c.loop-value.limits (place_in n ws) 0) (pick (among n (typed_names x)) (limit_in s) numbers)) all))

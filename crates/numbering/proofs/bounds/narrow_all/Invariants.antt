@@ -11,7 +11,7 @@ use Rattle.numbering.proofs.Narrowing.{TypesLeft}
 use Rattle.numbering.proofs.bounds.narrow_all.Given as goal
 
 abbrev pub invariant-loop-value : goal.invariant-loop-value
-invariant-loop-value l = (l.i ≤ length l.d) × (is_readable (drop l.i l.d) ≡ true) × TypedFrom l.d l.i × (length l.names ≡ length l.initial.scratch) × (length l.defs ≡ length l.scratch) × (length l.initial.i ≡ length l.initial.floors) × TypesLeft l.d (auto (record_in l.d)) l.scratch l.initial.floors l.i l.defs l.initial.i
+invariant-loop-value l = (l.i ≤ length l.d) × (is_readable (drop l.i l.d) ≡ true) × TypedFrom l.d l.i × (length l.scratch ≡ length l.initial.scratch) × (length l.floors ≡ length l.initial.floors) × (length l.limits ≡ length l.initial.limits) × TypesLeft l.d (auto (record_in l.d)) l.initial.floors l.initial.limits l.i l.floors l.limits
 
 abbrev pub decreases-loop-value : goal.decreases-loop-value
 decreases-loop-value l = length l.d - l.i

@@ -30,11 +30,11 @@ narrow_place-requires c =
 
 pub shape_of-floors-then-e-rest : goal.shape_of-floors-then-e-rest
 shape_of-floors-then-e-rest c =
-    c.floors-1.given ∙ c.loop-rest.invariant.1
+    c.narrow_place.auto.floors ∙ c.loop-rest.invariant.1
 
 pub shape_of-limits-then-e-rest : goal.shape_of-limits-then-e-rest
 shape_of-limits-then-e-rest c =
-    c.limits-1.given ∙ c.loop-rest.invariant.2
+    c.narrow_place.auto.limits ∙ c.loop-rest.invariant.2
 
 pub returns-then-e-rest : goal.returns-then-e-rest
 returns-then-e-rest c =
@@ -58,4 +58,4 @@ loop-rest-smaller c =
 
 pub loop-rest-preserved : goal.loop-rest-preserved
 loop-rest-preserved c =
-    (omega arith, c.floors-1.given ∙ c.loop-rest.invariant.1, c.limits-1.given ∙ c.loop-rest.invariant.2, parts-on (auto (record_in c.args.d.now)) (from (int_in c.args.range.low)) (above (int_in c.args.range.high)) c.args.s.now c.args.floors.now c.args.limits.now c.loop-rest.rest.now c.loop-rest.floors c.loop-rest.limits c.loop-rest.invariant.3 (take c.part_end-e.result c.loop-rest.rest.now) c.args.l.words.count c.place_in-k.result (omega (arith, c.loop-rest.invariant.1, c.requires.listed.few, c.requires.list_words_in_bounds.0)) (omega (arith, c.loop-rest.invariant.2, c.requires.listed.few, c.requires.list_words_in_bounds.1)) c.requires.listed.count (c.place_in-k.ensures (auto (record_in c.args.d.now)) c.requires.listed) _ _ c.narrow_place.ensures.0 c.narrow_place.ensures.1 _ (parts_more c.loop-rest.rest.now c.part_end-e.result c.part_end-e.ensures (omega (arith, c.part_end-e.ensures, c.if-e-rest.false, run-le (not_byte 44) c.loop-rest.rest.now))))
+    (omega arith, c.narrow_place.auto.floors ∙ c.loop-rest.invariant.1, c.narrow_place.auto.limits ∙ c.loop-rest.invariant.2, parts-on (auto (record_in c.args.d.now)) (from (int_in c.args.range.low)) (above (int_in c.args.range.high)) c.args.s.now c.args.floors.now c.args.limits.now c.loop-rest.rest.now c.loop-rest.floors c.loop-rest.limits c.loop-rest.invariant.3 (take c.part_end-e.result c.loop-rest.rest.now) c.args.l.words.count c.place_in-k.result (omega (arith, c.loop-rest.invariant.1, c.requires.listed.few, c.requires.list_words_in_bounds.0)) (omega (arith, c.loop-rest.invariant.2, c.requires.listed.few, c.requires.list_words_in_bounds.1)) c.requires.listed.count (c.place_in-k.ensures (auto (record_in c.args.d.now)) c.requires.listed) _ _ c.narrow_place.ensures.0 c.narrow_place.ensures.1 _ (parts_more c.loop-rest.rest.now c.part_end-e.result c.part_end-e.ensures (omega (arith, c.part_end-e.ensures, c.if-e-rest.false, run-le (not_byte 44) c.loop-rest.rest.now))))

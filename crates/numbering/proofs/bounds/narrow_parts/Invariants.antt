@@ -10,7 +10,7 @@ use Rattle.numbering.proofs.Bounding.{PartsLeft}
 use Rattle.numbering.proofs.bounds.narrow_parts.Given as goal
 
 abbrev pub invariant-loop-rest : goal.invariant-loop-rest
-invariant-loop-rest l = (length l.rest ≤ length l.s) × (length l.count ≡ length l.initial.floors) × (length l.initial.rest ≡ length l.floors) × PartsLeft (auto (record_in l.d)) (from (int_in l.range.low)) (above (int_in l.range.high)) l.s l.initial.floors l.floors l.rest l.count l.initial.rest
+invariant-loop-rest l = (length l.rest ≤ length l.s) × (length l.floors ≡ length l.initial.floors) × (length l.limits ≡ length l.initial.limits) × PartsLeft (auto (record_in l.d)) (from (int_in l.range.low)) (above (int_in l.range.high)) l.s l.initial.floors l.initial.limits l.rest l.floors l.limits
 
 abbrev pub decreases-loop-rest : goal.decreases-loop-rest
 decreases-loop-rest l = length l.rest

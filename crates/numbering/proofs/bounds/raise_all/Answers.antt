@@ -84,4 +84,4 @@ pub loop-start-preserved : goal.loop-start-preserved
 loop-start-preserved c =
     let h = next-told c.args.s.now c.loop-start.i c.next_field-f.result c.next_field-f.ensures c.in-At.is in
     let f = fits-here (length c.args.scratch.now) _ _ (fields_from c.args.s.now c.loop-start.i) h.fields c.loop-start.invariant.4 in
-    (h.inside, h.readable, c.scratch-1.given ∙ c.loop-start.invariant.2, c.floors-1.given ∙ c.loop-start.invariant.3, f.1, fields-on c.args.s.now (auto (record_in c.args.d.now)) c.args.floors.now c.loop-start.i c.loop-start.floors c.loop-start.invariant.5 _ _ _ _ h c.args.l.words.count c.place_in-k.result (omega (arith, c.loop-start.invariant.3, c.requires.listed.few, c.requires.list_words_in_bounds)) c.requires.listed.count (c.place_in-k.ensures (auto (record_in c.args.d.now)) c.requires.listed) _ c.raise_place.ensures)
+    (h.inside, h.readable, c.raise_place.auto.scratch ∙ c.loop-start.invariant.2, c.raise_place.auto.floors ∙ c.loop-start.invariant.3, f.1, fields-on c.args.s.now (auto (record_in c.args.d.now)) c.args.floors.now c.loop-start.i c.loop-start.floors c.loop-start.invariant.5 _ _ _ _ h c.args.l.words.count c.place_in-k.result (omega (arith, c.loop-start.invariant.3, c.requires.listed.few, c.requires.list_words_in_bounds)) c.requires.listed.count (c.place_in-k.ensures (auto (record_in c.args.d.now)) c.requires.listed) _ c.raise_place.ensures)

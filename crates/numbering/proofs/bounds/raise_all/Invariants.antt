@@ -13,7 +13,7 @@ use Rattle.numbering.proofs.Narrowing.{FieldsLeft}
 use Rattle.numbering.proofs.bounds.raise_all.Given as goal
 
 abbrev pub invariant-loop-start : goal.invariant-loop-start
-invariant-loop-start l = (l.i ≤ length l.s) × (is_readable (drop l.i l.s) ≡ true) × (length l.count ≡ length l.initial.scratch) × (length l.initial.i ≡ length l.scratch) × (all (fits_in (length l.initial.scratch)) (fields_from l.s l.i) ≡ true) × FieldsLeft l.s (auto (record_in l.d)) l.scratch l.i l.initial.i
+invariant-loop-start l = (l.i ≤ length l.s) × (is_readable (drop l.i l.s) ≡ true) × (length l.scratch ≡ length l.initial.scratch) × (length l.floors ≡ length l.initial.floors) × (all (fits_in (length l.initial.scratch)) (fields_from l.s l.i) ≡ true) × FieldsLeft l.s (auto (record_in l.d)) l.initial.floors l.i l.floors
 
 abbrev pub decreases-loop-start : goal.decreases-loop-start
 decreases-loop-start l = length l.s - l.i

@@ -8,6 +8,7 @@ use Rattle.records.proofs.Readings.{part-readable}
 use Rattle.records.proofs.Named.{value-told}
 use Rattle.numbering.specs.Types.{is_type_counted}
 use Rattle.numbering.proofs.Counted.{typed-start, typed-here, typed-on, counted-cut}
+use mathlib.Core.Bool.{not}
 use Rattle.numbering.proofs.types.all_counted.Goals as goal
 
 pub loop-value-init : goal.loop-value-init
@@ -45,16 +46,16 @@ pub type_counted-requires : goal.type_counted-requires
 type_counted-requires c =
     let h = value-told c.args.d.now (text "%type") c.loop-value.i c.next_named-v.result c.next_named-v.ensures c.in-At.is in
     let t = typed-here c.args.d.now c.loop-value.i _ _ h c.loop-value.invariant.2 in
-    record { listed = c.requires.listed; value_in_bounds = (omega (arith, t.there), omega (arith, t.fits, c.loop-value.invariant.3, c.scratch-1.given, c.requires.value_bytes_in_bounds)) }
+    record { listed = c.requires.listed; value_in_bounds = (omega (arith, t.there), omega (arith, t.fits, c.loop-value.invariant.3, c.kind_at-kind.auto.scratch, c.requires.value_bytes_in_bounds)) }
 
 pub shape_of-scratch-then-not-type_counted : goal.shape_of-scratch-then-not-type_counted
 shape_of-scratch-then-not-type_counted c =
-    c.scratch-in-loop-value-1.given ∙ c.scratch-1.given ∙ c.loop-value.invariant.3
+    c.type_counted.auto.scratch ∙ c.kind_at-kind.auto.scratch ∙ c.loop-value.invariant.3
 
 pub returns-then-not-type_counted : goal.returns-then-not-type_counted
 returns-then-not-type_counted c =
     let h = value-told c.args.d.now (text "%type") c.loop-value.i c.next_named-v.result c.next_named-v.ensures c.in-At.is in
-    sym (c.loop-value.invariant.4 ∙ counted-cut c.args.d.now c.loop-value.i _ _ c.kind_at-kind.result c.type_counted.result h c.kind_at-kind.ensures c.type_counted.ensures false (not-true c.type_counted.result c.if-not-type_counted.true))
+    sym (c.loop-value.invariant.4 ∙ counted-cut c.args.d.now c.loop-value.i _ _ c.kind_at-kind.result c.type_counted.result h c.kind_at-kind.ensures c.type_counted.ensures false (not-true c.type_counted.result (ap not c.if-not-type_counted.true)))
 
 pub overflow_add-i-in-loop-value-2 : goal.overflow_add-i-in-loop-value-2
 overflow_add-i-in-loop-value-2 c =
@@ -69,5 +70,5 @@ loop-value-smaller c =
 pub loop-value-preserved : goal.loop-value-preserved
 loop-value-preserved c =
     let h = value-told c.args.d.now (text "%type") c.loop-value.i c.next_named-v.result c.next_named-v.ensures c.in-At.is in
-    let c = counted-cut c.args.d.now c.loop-value.i _ _ c.kind_at-kind.result c.type_counted.result h c.kind_at-kind.ensures c.type_counted.ensures true (not-false c.type_counted.result c.if-not-type_counted.false) in
-    (h.inside, h.readable, typed-on c.args.d.now c.loop-value.i _ _ h c.loop-value.invariant.2, c.scratch-in-loop-value-1.given ∙ c.scratch-1.given ∙ c.loop-value.invariant.3, c.loop-value.invariant.4 ∙ c)
+    let c = counted-cut c.args.d.now c.loop-value.i _ _ c.kind_at-kind.result c.type_counted.result h c.kind_at-kind.ensures c.type_counted.ensures true (not-false c.type_counted.result (ap not c.if-not-type_counted.false)) in
+    (h.inside, h.readable, typed-on c.args.d.now c.loop-value.i _ _ h c.loop-value.invariant.2, c.type_counted.auto.scratch ∙ c.kind_at-kind.auto.scratch ∙ c.loop-value.invariant.3, c.loop-value.invariant.4 ∙ c)

@@ -11,7 +11,7 @@ use Rattle.numbering.proofs.Counted.{TypedFrom}
 use Rattle.numbering.proofs.types.all_counted.Given as goal
 
 abbrev pub invariant-loop-value : goal.invariant-loop-value
-invariant-loop-value l = (l.i ≤ length l.d) × (is_readable (drop l.i l.d) ≡ true) × TypedFrom l.d l.i × (length l.initial.i ≡ length l.initial.scratch) × (all (is_type_counted l.d) (values_from l.d (text "%type") 0) ≡ all (is_type_counted l.d) (values_from l.d (text "%type") l.i))
+invariant-loop-value l = (l.i ≤ length l.d) × (is_readable (drop l.i l.d) ≡ true) × TypedFrom l.d l.i × (length l.scratch ≡ length l.initial.scratch) × (all (is_type_counted l.d) (values_from l.d (text "%type") 0) ≡ all (is_type_counted l.d) (values_from l.d (text "%type") l.i))
 
 abbrev pub decreases-loop-value : goal.decreases-loop-value
 decreases-loop-value l = length l.d - l.i

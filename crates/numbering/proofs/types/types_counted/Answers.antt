@@ -14,4 +14,4 @@ read_typedefs-defs-requires c =
 
 pub all_counted-requires : goal.all_counted-requires
 all_counted-requires c =
-    record { listed = c.requires.listed; described = (c.requires.described.0, c.read_names-names.ensures, c.read_typedefs-defs.ensures); value_bytes_in_bounds = omega (arith, c.scratch-1.given, c.requires.described.1) }
+    record { listed = c.requires.listed; described = (c.requires.described.0, c.read_names-names.ensures, c.read_typedefs-defs.ensures); value_bytes_in_bounds = omega (arith, c.read_typedefs-defs.auto.scratch, c.requires.described.1) }

@@ -9,21 +9,17 @@ returns-in_default c =
 
 pub returns-in_default-c : goal.returns-in_default-c
 returns-in_default-c c =
-    let g = c.p-1.given in
-    let place = place_found c.args.req.now c.args.i c.place_at-p.result g.0.0 g.0.1.0 g.0.1.1.0 g.0.1.1.1.0 c.place_at-p.ensures g.1 in
-    change-fault c.args.req.now c.args.i c.args.kind g.0.0 g.0.1.0 g.0.1.1.0 g.0.1.1.1.0 place (change-told c.args.kind c.args.req.now g.0.1.1.1.0 c.change_of-c.result c.change_of-c.ensures c.in_default-c.is)
+    let place = place_found c.args.req.now c.args.i c.place_at-p.result c.in-At.row c.in-At.name c.in-At.occurrence c.in-At.next c.place_at-p.ensures c.in-At.is in
+    change-fault c.args.req.now c.args.i c.args.kind c.in-At.row c.in-At.name c.in-At.occurrence c.in-At.next place (change-told c.args.kind c.args.req.now c.in-At.next c.change_of-c.result c.change_of-c.ensures c.in_default-c.is)
 
 pub ending-requires : goal.ending-requires
 ending-requires c =
-    let g = c.p-1.given in
-    let place = place_found c.args.req.now c.args.i c.place_at-p.result g.0.0 g.0.1.0 g.0.1.1.0 g.0.1.1.1.0 c.place_at-p.ensures g.1 in
-    let change = change-told c.args.kind c.args.req.now g.0.1.1.1.0 c.change_of-c.result c.change_of-c.ensures c.in-Is.is in
+    let place = place_found c.args.req.now c.args.i c.place_at-p.result c.in-At.row c.in-At.name c.in-At.occurrence c.in-At.next c.place_at-p.ensures c.in-At.is in
+    let change = change-told c.args.kind c.args.req.now c.in-At.next c.change_of-c.result c.change_of-c.ensures c.in-Is.is in
     (place.1, change.1)
 
 pub returns : goal.returns
 returns c =
-    let g = c.p-1.given in
-    let h = c.c-1.given in
-    let place = place_found c.args.req.now c.args.i c.place_at-p.result g.0.0 g.0.1.0 g.0.1.1.0 g.0.1.1.1.0 c.place_at-p.ensures g.1 in
-    let change = change-told c.args.kind c.args.req.now g.0.1.1.1.0 c.change_of-c.result c.change_of-c.ensures h.1 in
-    change-reads c.args.req.now c.args.i c.args.kind g.0.0 g.0.1.0 g.0.1.1.0 g.0.1.1.1.0 place h.0.0 h.0.1.0 change c.ending.result c.ending.ensures
+    let place = place_found c.args.req.now c.args.i c.place_at-p.result c.in-At.row c.in-At.name c.in-At.occurrence c.in-At.next c.place_at-p.ensures c.in-At.is in
+    let change = change-told c.args.kind c.args.req.now c.in-At.next c.change_of-c.result c.change_of-c.ensures c.in-Is.is in
+    change-reads c.args.req.now c.args.i c.args.kind c.in-At.row c.in-At.name c.in-At.occurrence c.in-At.next place c.in-Is.change c.in-Is.end change c.ending.result c.ending.ensures

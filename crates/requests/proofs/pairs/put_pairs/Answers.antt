@@ -32,7 +32,7 @@ pub loop-name-preserved : goal.loop-name-preserved
 loop-name-preserved c =
     let h = pair_found c.args.req.now c.loop-name.i c.pair_at-p.result c.in-At.name c.in-At.value c.in-At.next c.pair_at-p.ensures c.in-At.is in
     let W = written (bytes_of c.args.req.now c.in-At.name) (bytes_of c.args.req.now c.in-At.value) in (
-      length-put c.put_pair-at.new.0 c.loop-name.out c.loop-name.at W c.put_pair-at.ensures.1 ∙ c.loop-name.invariant.0,
+      length-put c.put_pair-at.new.out c.loop-name.out c.loop-name.at W c.put_pair-at.ensures.1 ∙ c.loop-name.invariant.0,
       sym (some_more c.args.req.now c.loop-name.i c.in-At.name c.in-At.value c.in-At.next h) ∙ c.loop-name.invariant.1,
       omega (arith, first-length (pairs_at c.args.req.now c.loop-name.i) (pairs_at c.args.req.now c.in-At.next) (pair_of c.args.req.now c.in-At.name c.in-At.value) (list-more c.args.req.now c.loop-name.i c.in-At.name c.in-At.value c.in-At.next h c.loop-name.invariant.1), c.put_pair-at.ensures.0, c.loop-name.invariant.2),
       rw (c.put_pair-at.ensures.1, c.put_pair-at.ensures.0) (sym (first-sets (pairs_at c.args.req.now c.loop-name.i) (pairs_at c.args.req.now c.in-At.next) (pair_of c.args.req.now c.in-At.name c.in-At.value) (list-more c.args.req.now c.loop-name.i c.in-At.name c.in-At.value c.in-At.next h c.loop-name.invariant.1) c.loop-name.out c.loop-name.at) ∙ c.loop-name.invariant.3),

@@ -11,7 +11,7 @@ use Rattle.requests.specs.Pairs.{pairs_from, pairs_at}
 use Rattle.requests.proofs.pairs.put_pairs.Given as goal
 
 abbrev pub invariant-loop-name : goal.invariant-loop-name
-invariant-loop-name l = (length l.i ≡ length l.initial.out) × (is_some (pairs_from l.req l.initial.at) ≡ true) × (l.at + length (written_all (pairs_at l.req l.initial.at)) ≡ length (written_all (pairs_at l.req l.from))) × (sets l.i l.at (written_all (pairs_at l.req l.initial.at)) ≡ sets l.initial.out 0 (written_all (pairs_at l.req l.from)))
+invariant-loop-name l = (length l.out ≡ length l.initial.out) × (is_some (pairs_from l.req l.i) ≡ true) × (l.at + length (written_all (pairs_at l.req l.i)) ≡ length (written_all (pairs_at l.req l.from))) × (sets l.out l.at (written_all (pairs_at l.req l.i)) ≡ sets l.initial.out 0 (written_all (pairs_at l.req l.from)))
 
 abbrev pub decreases-loop-name : goal.decreases-loop-name
-decreases-loop-name l = length l.req - l.initial.at
+decreases-loop-name l = length l.req - l.i

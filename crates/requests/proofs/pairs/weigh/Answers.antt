@@ -11,6 +11,7 @@ use Rattle.format.specs.Written.{Pair, written_all, is_legal_pair}
 use Rattle.requests.specs.Pairs.{pairs_at, pair_of}
 use Rattle.requests.proofs.Pairing.{pair_found, pair-missed, some_more, list-more, list-end}
 use Rattle.requests.proofs.Weighing.{pair_size, first-illegal, first-legal, first-length, first_count}
+use mathlib.Core.Bool.{not}
 use Rattle.requests.proofs.pairs.weigh.Goals as goal
 
 pub loop-name-init : goal.loop-name-init
@@ -27,7 +28,7 @@ is_legal_pair-requires c =
 
 pub returns-then-not-is_legal_pair : goal.returns-then-not-is_legal_pair
 returns-then-not-is_legal_pair c =
-    let h = pair_found c.args.req.now c.loop-name.i c.pair_at-p.result c.in-At.name c.in-At.value c.in-At.next c.pair_at-p.ensures c.in-At.is in c.loop-name.invariant.4 ∙ first-illegal (pairs_at c.args.req.now c.loop-name.i) (pairs_at c.args.req.now c.in-At.next) (pair_of c.args.req.now c.in-At.name c.in-At.value) (list-more c.args.req.now c.loop-name.i c.in-At.name c.in-At.value c.in-At.next h c.loop-name.invariant.1) (sym c.is_legal_pair.ensures ∙ not-true c.is_legal_pair.result c.if-not-is_legal_pair.true)
+    let h = pair_found c.args.req.now c.loop-name.i c.pair_at-p.result c.in-At.name c.in-At.value c.in-At.next c.pair_at-p.ensures c.in-At.is in c.loop-name.invariant.4 ∙ first-illegal (pairs_at c.args.req.now c.loop-name.i) (pairs_at c.args.req.now c.in-At.next) (pair_of c.args.req.now c.in-At.name c.in-At.value) (list-more c.args.req.now c.loop-name.i c.in-At.name c.in-At.value c.in-At.next h c.loop-name.invariant.1) (sym c.is_legal_pair.ensures ∙ not-true c.is_legal_pair.result (ap not c.if-not-is_legal_pair.true))
 
 pub pair_len-len-requires : goal.pair_len-len-requires
 pair_len-len-requires c =
@@ -52,7 +53,7 @@ loop-name-preserved c =
       sym (some_more c.args.req.now c.loop-name.i c.in-At.name c.in-At.value c.in-At.next h) ∙ c.loop-name.invariant.1,
       omega (arith, pair_size c.args.req.now c.loop-name.i c.in-At.name c.in-At.value c.in-At.next h, c.pair_len-len.ensures, c.loop-name.invariant.2),
       omega (arith, c.loop-name.invariant.3, h.2, h.3.0, h.4, h.5.0, h.5.1, h.6),
-      c.loop-name.invariant.4 ∙ first-legal (pairs_at c.args.req.now c.loop-name.i) (pairs_at c.args.req.now c.in-At.next) (pair_of c.args.req.now c.in-At.name c.in-At.value) (list-more c.args.req.now c.loop-name.i c.in-At.name c.in-At.value c.in-At.next h c.loop-name.invariant.1) (sym c.is_legal_pair.ensures ∙ not-false c.is_legal_pair.result c.if-not-is_legal_pair.false),
+      c.loop-name.invariant.4 ∙ first-legal (pairs_at c.args.req.now c.loop-name.i) (pairs_at c.args.req.now c.in-At.next) (pair_of c.args.req.now c.in-At.name c.in-At.value) (list-more c.args.req.now c.loop-name.i c.in-At.name c.in-At.value c.in-At.next h c.loop-name.invariant.1) (sym c.is_legal_pair.ensures ∙ not-false c.is_legal_pair.result (ap not c.if-not-is_legal_pair.false)),
       omega (arith, first-length (pairs_at c.args.req.now c.loop-name.i) (pairs_at c.args.req.now c.in-At.next) (pair_of c.args.req.now c.in-At.name c.in-At.value) (list-more c.args.req.now c.loop-name.i c.in-At.name c.in-At.value c.in-At.next h c.loop-name.invariant.1), c.pair_len-len.ensures, c.loop-name.invariant.5),
       omega (arith, first_count (pairs_at c.args.req.now c.loop-name.i) (pairs_at c.args.req.now c.in-At.next) (pair_of c.args.req.now c.in-At.name c.in-At.value) (list-more c.args.req.now c.loop-name.i c.in-At.name c.in-At.value c.in-At.next h c.loop-name.invariant.1), c.loop-name.invariant.6),
     )

@@ -10,7 +10,7 @@ use Rattle.requests.specs.Pairs.{pairs_from, pairs_at}
 use Rattle.requests.proofs.pairs.weigh.Given as goal
 
 abbrev pub invariant-loop-name : goal.invariant-loop-name
-invariant-loop-name l = (l.len ≤ length l.req) × (is_some (pairs_from l.req l.len) ≡ true) × (l.initial.count ≤ 3 * l.len) × (l.count ≤ l.len) × (all is_legal_pair (pairs_at l.req l.from) ≡ all is_legal_pair (pairs_at l.req l.len)) × (l.initial.count + length (written_all (pairs_at l.req l.len)) ≡ length (written_all (pairs_at l.req l.from))) × (l.count + length (pairs_at l.req l.len) ≡ length (pairs_at l.req l.from))
+invariant-loop-name l = (l.i ≤ length l.req) × (is_some (pairs_from l.req l.i) ≡ true) × (l.len ≤ 3 * l.i) × (l.count ≤ l.i) × (all is_legal_pair (pairs_at l.req l.from) ≡ all is_legal_pair (pairs_at l.req l.i)) × (l.len + length (written_all (pairs_at l.req l.i)) ≡ length (written_all (pairs_at l.req l.from))) × (l.count + length (pairs_at l.req l.i) ≡ length (pairs_at l.req l.from))
 
 abbrev pub decreases-loop-name : goal.decreases-loop-name
-decreases-loop-name l = length l.req - l.len
+decreases-loop-name l = length l.req - l.i

@@ -42,8 +42,7 @@ loop-size-smaller-in-Comment c =
 pub loop-size-preserved-in-Comment : goal.loop-size-preserved-in-Comment
 loop-size-preserved-in-Comment c =
     let h = steps c.args.s.now c.loop-size.i c.read_piece-p.result c.loop-size.invariant.3.readable c.read_piece-p.ensures c.in-Comment.is in
-    let k = c.in-Comment.size in
-    (c.loop-size.invariant.0, c.loop-size.invariant.1, c.loop-size.invariant.2, walk-comment c.args.d.now c.args.r.tables.names.from (c.args.r.typed.symbols.next - c.args.r.tables.names.from) c.args.s.now c.loop-size.t c.loop-size.fields c.loop-size.typed c.loop-size.a.number c.loop-size.a.count c.loop-size.i c.loop-size.invariant.3 h.0 k h.1, sym (ap (all (fits_in (length c.args.scratch.now))) (record-comment c.args.s.now c.loop-size.i h.0 k h.1)) ∙ c.loop-size.invariant.4)
+    (c.loop-size.invariant.0, c.loop-size.invariant.1, c.loop-size.invariant.2, walk-comment c.args.d.now c.args.r.tables.names.from (c.args.r.typed.symbols.next - c.args.r.tables.names.from) c.args.s.now c.loop-size.t c.loop-size.fields c.loop-size.typed c.loop-size.a.number c.loop-size.a.count c.loop-size.i c.loop-size.invariant.3 h.0 c.in-Comment.size h.1, sym (ap (all (fits_in (length c.args.scratch.now))) (record-comment c.args.s.now c.loop-size.i h.0 c.in-Comment.size h.1)) ∙ c.loop-size.invariant.4)
 
 pub closed-a-requires : goal.closed-a-requires
 closed-a-requires c =
@@ -60,8 +59,7 @@ loop-size-smaller-in-Blank c =
 pub loop-size-preserved-in-Blank : goal.loop-size-preserved-in-Blank
 loop-size-preserved-in-Blank c =
     let h = steps c.args.s.now c.loop-size.i c.read_piece-p.result c.loop-size.invariant.3.readable c.read_piece-p.ensures c.in-Blank.is in
-    let k = c.in-Blank.size in
-    (c.loop-size.invariant.0, c.loop-size.invariant.1, c.loop-size.invariant.2, walk-blank c.args.d.now c.args.r.tables.names.from (c.args.r.typed.symbols.next - c.args.r.tables.names.from) c.args.s.now c.loop-size.t c.loop-size.fields c.loop-size.typed c.loop-size.a.number c.loop-size.a.count c.loop-size.i c.loop-size.invariant.3 c.closed-a.result.number _ c.closed-a.result.count (open_no c.args.d.now c.args.entries.now c.args.sets.now c.args.r c.requires.rulebook c.loop-size.invariant.3.opened c.loop-size.t c.loop-size.invariant.3.tallied) c.closed-a.ensures.0 c.closed-a.ensures.1 h.0 k c.start-t-in-Blank.result c.start-t-in-Blank.ensures h.1, sym (ap (all (fits_in (length c.args.scratch.now))) (record-blank c.args.s.now c.loop-size.i h.0 k h.1)) ∙ c.loop-size.invariant.4)
+    (c.loop-size.invariant.0, c.loop-size.invariant.1, c.loop-size.invariant.2, walk-blank c.args.d.now c.args.r.tables.names.from (c.args.r.typed.symbols.next - c.args.r.tables.names.from) c.args.s.now c.loop-size.t c.loop-size.fields c.loop-size.typed c.loop-size.a.number c.loop-size.a.count c.loop-size.i c.loop-size.invariant.3 c.closed-a.result.number _ c.closed-a.result.count (open_no c.args.d.now c.args.entries.now c.args.sets.now c.args.r c.requires.rulebook c.loop-size.invariant.3.opened c.loop-size.t c.loop-size.invariant.3.tallied) c.closed-a.ensures.0 c.closed-a.ensures.1 h.0 c.in-Blank.size c.start-t-in-Blank.result c.start-t-in-Blank.ensures h.1, sym (ap (all (fits_in (length c.args.scratch.now))) (record-blank c.args.s.now c.loop-size.i h.0 c.in-Blank.size h.1)) ∙ c.loop-size.invariant.4)
 
 pub bounds-seen-slot : goal.bounds-seen-slot
 bounds-seen-slot c =
@@ -106,8 +104,7 @@ slice_bounds-value_met-end-in-Field c =
 pub value_met-met-requires : goal.value_met-met-requires
 value_met-met-requires c =
     let h = steps c.args.s.now c.loop-size.i c.read_piece-p.result c.loop-size.invariant.3.readable c.read_piece-p.ensures c.in-Field.is in
-    let g = c.p-in-Field-1.given.0 in
-    let f = fits-here (length c.args.scratch.now) _ _ _ (record-field c.args.s.now c.loop-size.i g.0 g.1.0 g.1.1.0 h) c.loop-size.invariant.4 in
+    let f = fits-here (length c.args.scratch.now) _ _ _ (record-field c.args.s.now c.loop-size.i c.in-Field.name c.in-Field.value c.in-Field.size h) c.loop-size.invariant.4 in
     record { typed = c.requires.rulebook.typed-are; s_in_bounds = omega (arith, f.0, c.loop-size.invariant.0) }
 
 pub overflow_add-fields : goal.overflow_add-fields
@@ -121,17 +118,15 @@ loop-size-smaller c =
 pub loop-size-preserved : goal.loop-size-preserved
 loop-size-preserved c =
     let h = steps c.args.s.now c.loop-size.i c.read_piece-p.result c.loop-size.invariant.3.readable c.read_piece-p.ensures c.in-Field.is in
-    let g = c.p-in-Field-1.given.0 in
     let from = c.args.r.tables.names.from in
     let next = c.args.r.tables.names.next in
     let rules = record_in c.args.d.now in
-    let f = fits-here (length c.args.scratch.now) _ _ _ (record-field c.args.s.now c.loop-size.i g.0 g.1.0 g.1.1.0 h) c.loop-size.invariant.4 in
-    let stands = c.recall-x.ensures in
-    let ok = field-met c.args.d.now from next c.args.r.typed.symbols.from c.args.r.typed.symbols.next _ c.recall-x.result c.value_met-met.result stands c.requires.rulebook.from_is c.requires.rulebook.typed-are.symbols-are.begins c.requires.rulebook.within c.value_met-met.ensures in (
-      c.scratch-1.given ∙ c.loop-size.invariant.0,
+    let f = fits-here (length c.args.scratch.now) _ _ _ (record-field c.args.s.now c.loop-size.i c.in-Field.name c.in-Field.value c.in-Field.size h) c.loop-size.invariant.4 in
+    let ok = field-met c.args.d.now from next c.args.r.typed.symbols.from c.args.r.typed.symbols.next _ c.recall-x.result c.value_met-met.result c.recall-x.ensures c.requires.rulebook.from_is c.requires.rulebook.typed-are.symbols-are.begins c.requires.rulebook.within c.value_met-met.ensures in (
+      c.value_met-met.auto.scratch ∙ c.loop-size.invariant.0,
       length-set c.loop-size.seen _ _ ∙ c.loop-size.invariant.1,
-      seen-set rules from next c.args.s.now c.loop-size.seen _ _ c.loop-size.invariant.1 (omega arith) (record { ordered = omega arith; inside = omega (arith, h.passed.inside, h.name-inside); stands = stands }) c.loop-size.invariant.2,
-      walk_field c.args.d.now from (c.args.r.typed.symbols.next - from) c.args.s.now c.loop-size.t c.loop-size.fields c.loop-size.typed c.loop-size.a.number c.loop-size.a.count c.loop-size.i c.loop-size.invariant.3 g.0 g.1.0 g.1.1.0 h next c.recall-x.result c.count-t.result c.value_met-met.result _ stands c.count-t.ensures ok refl,
+      seen-set rules from next c.args.s.now c.loop-size.seen _ _ c.loop-size.invariant.1 (omega arith) (record { ordered = omega arith; inside = omega (arith, h.passed.inside, h.name-inside); c.recall-x.ensures = c.recall-x.ensures }) c.loop-size.invariant.2,
+      walk_field c.args.d.now from (c.args.r.typed.symbols.next - from) c.args.s.now c.loop-size.t c.loop-size.fields c.loop-size.typed c.loop-size.a.number c.loop-size.a.count c.loop-size.i c.loop-size.invariant.3 c.in-Field.name c.in-Field.value c.in-Field.size h next c.recall-x.result c.count-t.result c.value_met-met.result _ c.recall-x.ensures c.count-t.ensures ok refl,
       f.1,
     )
 

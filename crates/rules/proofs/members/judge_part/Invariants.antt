@@ -12,7 +12,7 @@ use Rattle.rules.proofs.Walking.{Walked, AllSeen}
 use Rattle.rules.proofs.members.judge_part.Given as goal
 
 abbrev pub invariant-loop-size : goal.invariant-loop-size
-invariant-loop-size l = (length l.fields ≡ length l.initial.scratch) × (length l.initial.typed ≡ 16) × AllSeen (record_in l.d) l.r.tables.names.from l.r.tables.names.next l.s l.initial.typed × Walked l.d l.r.tables.names.from (l.r.typed.symbols.next - l.r.tables.names.from) l.s l.typed l.initial.a l.a l.initial.i.number l.initial.i.count l.i × (all (fits_in (length l.initial.scratch)) (fields_from l.s l.i) ≡ true)
+invariant-loop-size l = (length l.scratch ≡ length l.initial.scratch) × (length l.seen ≡ 16) × AllSeen (record_in l.d) l.r.tables.names.from l.r.tables.names.next l.s l.seen × Walked l.d l.r.tables.names.from (l.r.typed.symbols.next - l.r.tables.names.from) l.s l.t l.fields l.typed l.a.number l.a.count l.i × (all (fits_in (length l.initial.scratch)) (fields_from l.s l.i) ≡ true)
 
 abbrev pub decreases-loop-size : goal.decreases-loop-size
 decreases-loop-size l = length l.s - l.i

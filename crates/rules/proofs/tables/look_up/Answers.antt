@@ -8,9 +8,8 @@ use Rattle.rules.proofs.tables.look_up.Goals as goal
 pub returns : goal.returns
 returns c =
     let rules = record_in c.args.d.now in
-    let k = c.look_up-known.ensures in
     record {
-      tags = k;
-      mandatory-at = c.places-mandatory.ensures (mandatory rules) c.requires.mandatory-are (c.has.ensures ∙ k.mandatory-is);
-      unique-at = c.places-unique.ensures (unique rules) c.requires.unique-are (c.has-2.ensures ∙ k.unique-is);
+      tags = c.look_up-known.ensures;
+      mandatory-at = c.places-mandatory.ensures (mandatory rules) c.requires.mandatory-are (c.has.ensures ∙ c.look_up-known.ensures.mandatory-is);
+      unique-at = c.places-unique.ensures (unique rules) c.requires.unique-are (c.has-2.ensures ∙ c.look_up-known.ensures.unique-is);
     }

@@ -2,6 +2,8 @@
 use mathlib.Core.Path.{refl, sym, ◌∙◌}
 use borrow.Author.Tests.{eq-eqb, ne_eqb, not-true, not-false}
 use Rattle.rules.proofs.TallyNo.{number_by}
+use mathlib.Core.Bool.{not}
+use mathlib.Core.Path.{ap}
 use Rattle.rules.proofs.tallies.number.Goals as goal
 
 pub returns-then-t : goal.returns-then-t
@@ -18,20 +20,20 @@ has_all-requires c =
 
 pub returns-then-not-has_all : goal.returns-then-not-has_all
 returns-then-not-has_all c =
-    sym (number_by c.args.t c.args.limited c.args.keyed c.args.mandatory c.if-t.false c.if-limited-t.false (sym c.has_all.ensures ∙ not-true c.has_all.result c.if-not-has_all.true) refl refl refl)
+    sym (number_by c.args.t c.args.limited c.args.keyed c.args.mandatory c.if-t.false c.if-limited-t.false (sym c.has_all.ensures ∙ not-true c.has_all.result (ap not c.if-not-has_all.true)) refl refl refl)
 
 pub returns-then-keyed-t : goal.returns-then-keyed-t
 returns-then-keyed-t c =
-    sym (number_by c.args.t c.args.limited c.args.keyed c.args.mandatory c.if-t.false c.if-limited-t.false (sym c.has_all.ensures ∙ not-false c.has_all.result c.if-not-has_all.false) c.if-keyed-t.true refl refl)
+    sym (number_by c.args.t c.args.limited c.args.keyed c.args.mandatory c.if-t.false c.if-limited-t.false (sym c.has_all.ensures ∙ not-false c.has_all.result (ap not c.if-not-has_all.false)) c.if-keyed-t.true refl refl)
 
 pub returns-then-t-ne0 : goal.returns-then-t-ne0
 returns-then-t-ne0 c =
-    sym (number_by c.args.t c.args.limited c.args.keyed c.args.mandatory c.if-t.false c.if-limited-t.false (sym c.has_all.ensures ∙ not-false c.has_all.result c.if-not-has_all.false) c.if-keyed-t.false (ne_eqb c.args.t.twice 0 c.if-t-ne0.true) refl)
+    sym (number_by c.args.t c.args.limited c.args.keyed c.args.mandatory c.if-t.false c.if-limited-t.false (sym c.has_all.ensures ∙ not-false c.has_all.result (ap not c.if-not-has_all.false)) c.if-keyed-t.false (ne_eqb c.args.t.twice 0 c.if-t-ne0.true) refl)
 
 pub returns-then-keyed-t-2 : goal.returns-then-keyed-t-2
 returns-then-keyed-t-2 c =
-    sym (number_by c.args.t c.args.limited c.args.keyed c.args.mandatory c.if-t.false c.if-limited-t.false (sym c.has_all.ensures ∙ not-false c.has_all.result c.if-not-has_all.false) c.if-keyed-t.false (eq-eqb c.args.t.twice 0 c.if-t-ne0.false) c.if-keyed-t-2.true)
+    sym (number_by c.args.t c.args.limited c.args.keyed c.args.mandatory c.if-t.false c.if-limited-t.false (sym c.has_all.ensures ∙ not-false c.has_all.result (ap not c.if-not-has_all.false)) c.if-keyed-t.false (eq-eqb c.args.t.twice 0 c.if-t-ne0.false) c.if-keyed-t-2.true)
 
 pub returns : goal.returns
 returns c =
-    sym (number_by c.args.t c.args.limited c.args.keyed c.args.mandatory c.if-t.false c.if-limited-t.false (sym c.has_all.ensures ∙ not-false c.has_all.result c.if-not-has_all.false) c.if-keyed-t.false (eq-eqb c.args.t.twice 0 c.if-t-ne0.false) c.if-keyed-t-2.false)
+    sym (number_by c.args.t c.args.limited c.args.keyed c.args.mandatory c.if-t.false c.if-limited-t.false (sym c.has_all.ensures ∙ not-false c.has_all.result (ap not c.if-not-has_all.false)) c.if-keyed-t.false (eq-eqb c.args.t.twice 0 c.if-t-ne0.false) c.if-keyed-t-2.false)

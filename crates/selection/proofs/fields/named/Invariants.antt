@@ -6,7 +6,7 @@ use Rattle.selection.proofs.Marking.{Marked}
 use Rattle.selection.proofs.fields.named.Given as goal
 
 abbrev pub invariant-loop-k : goal.invariant-loop-k
-invariant-loop-k l = (l.k ≤ l.p.count) × Marked (λ (j : ℕ). same (name_at l.e l.p.rows j) l.name) l.k l.initial.k
+invariant-loop-k l = (l.k ≤ l.p.count) × Marked (λ (j : ℕ). same (name_at l.e l.p.rows j) l.name) l.k l.set
 
 abbrev pub decreases-loop-k : goal.decreases-loop-k
 decreases-loop-k l = l.p.count - l.k

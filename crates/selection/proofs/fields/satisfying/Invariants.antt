@@ -7,7 +7,7 @@ use Rattle.selection.proofs.Marking.{Marked}
 use Rattle.selection.proofs.fields.satisfying.Given as goal
 
 abbrev pub invariant-loop-k : goal.invariant-loop-k
-invariant-loop-k l = (l.k ≤ l.p.count) × Marked (λ (j : ℕ). in_set j l.hits && satisfies_at l.e l.p.rows j l.v) l.k l.initial.k
+invariant-loop-k l = (l.k ≤ l.p.count) × Marked (λ (j : ℕ). in_set j l.hits && satisfies_at l.e l.p.rows j l.v) l.k l.set
 
 abbrev pub decreases-loop-k : goal.decreases-loop-k
 decreases-loop-k l = l.p.count - l.k

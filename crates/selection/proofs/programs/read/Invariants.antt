@@ -5,7 +5,7 @@ use Rattle.selection.proofs.Turning.{ReadTo}
 use Rattle.selection.proofs.programs.read.Given as goal
 
 abbrev pub invariant-loop-i : goal.invariant-loop-i
-invariant-loop-i l = ReadTo l.s l.i l.initial.i l.r
+invariant-loop-i l = ReadTo l.s l.i l.r l.p
 
 abbrev pub decreases-loop-i : goal.decreases-loop-i
 decreases-loop-i l = length l.s - l.i

@@ -6,7 +6,7 @@ use Rattle.selection.specs.Programs.{runs, started}
 use Rattle.selection.proofs.runs.run.Given as goal
 
 abbrev pub invariant-loop-i : goal.invariant-loop-i
-invariant-loop-i l = (l.i ≤ length l.codes) × (runs l.codes (started l.bits) ≡ runs (drop l.i l.codes) l.initial.i)
+invariant-loop-i l = (l.i ≤ length l.codes) × (runs l.codes (started l.bits) ≡ runs (drop l.i l.codes) l.m)
 
 abbrev pub decreases-loop-i : goal.decreases-loop-i
 decreases-loop-i l = length l.codes - l.i

@@ -52,7 +52,7 @@ loop-bytes-smaller-in-Blank c =
 
 pub loop-bytes-preserved-in-Blank : goal.loop-bytes-preserved-in-Blank
 loop-bytes-preserved-in-Blank c =
-    let h = steps c.args.s.now c.loop-bytes.i c.read_piece-q.result c.loop-bytes.invariant.2.readable c.read_piece-q.ensures c.in-Blank.is in (c.loop-bytes.invariant.0, c.list-1.given ∙ c.loop-bytes.invariant.1, walked_as c.args.e.now c.args.p c.args.s.now c.args.list.now 0 0 _ _ _ _ c.closed-t.result.met c.closed-t.result.found _ c.closed-t.ensures.0 c.closed-t.ensures.1 c.closed-t.ensures.2 (walk-blank c.args.e.now c.args.p c.args.s.now c.args.list.now c.loop-bytes.set c.loop-bytes.fields c.loop-bytes.t.met c.loop-bytes.t.found c.loop-bytes.list c.loop-bytes.i c.loop-bytes.invariant.2 c.requires.0 h.0 c.in-Blank.bytes h.1), sym (ap (all (fits_in (length c.args.scratch.now))) (record-blank c.args.s.now c.loop-bytes.i h.0 c.in-Blank.bytes h.1)) ∙ c.loop-bytes.invariant.3)
+    let h = steps c.args.s.now c.loop-bytes.i c.read_piece-q.result c.loop-bytes.invariant.2.readable c.read_piece-q.ensures c.in-Blank.is in (c.loop-bytes.invariant.0, c.closed-t.auto.list ∙ c.loop-bytes.invariant.1, walked_as c.args.e.now c.args.p c.args.s.now c.args.list.now 0 0 _ _ _ _ c.closed-t.result.met c.closed-t.result.found _ c.closed-t.ensures.0 c.closed-t.ensures.1 c.closed-t.ensures.2 (walk-blank c.args.e.now c.args.p c.args.s.now c.args.list.now c.loop-bytes.set c.loop-bytes.fields c.loop-bytes.t.met c.loop-bytes.t.found c.loop-bytes.list c.loop-bytes.i c.loop-bytes.invariant.2 c.requires.0 h.0 c.in-Blank.bytes h.1), sym (ap (all (fits_in (length c.args.scratch.now))) (record-blank c.args.s.now c.loop-bytes.i h.0 c.in-Blank.bytes h.1)) ∙ c.loop-bytes.invariant.3)
 
 pub overflow_add-n : goal.overflow_add-n
 overflow_add-n c =
@@ -84,7 +84,7 @@ slice_bounds-with_field-end-in-Field c =
 
 pub with_field-set-requires : goal.with_field-set-requires
 with_field-set-requires c =
-    let h = steps c.args.s.now c.loop-bytes.i c.read_piece-q.result c.loop-bytes.invariant.2.readable c.read_piece-q.ensures c.in-Field.is in let g = c.q-in-Field-1.given.0 in let f = fits-here (length c.args.scratch.now) _ _ _ (record-field c.args.s.now c.loop-bytes.i g.0 g.1.0 g.1.1.0 h) c.loop-bytes.invariant.3 in (c.requires.0, omega (arith, f.0, c.loop-bytes.invariant.0))
+    let h = steps c.args.s.now c.loop-bytes.i c.read_piece-q.result c.loop-bytes.invariant.2.readable c.read_piece-q.ensures c.in-Field.is in let g = c.read_piece-q.auto.q in let f = fits-here (length c.args.scratch.now) _ _ _ (record-field c.args.s.now c.loop-bytes.i g.0 g.1.0 g.1.1.0 h) c.loop-bytes.invariant.3 in (c.requires.0, omega (arith, f.0, c.loop-bytes.invariant.0))
 
 pub overflow_add-fields : goal.overflow_add-fields
 overflow_add-fields c =
@@ -96,7 +96,7 @@ loop-bytes-smaller c =
 
 pub loop-bytes-preserved : goal.loop-bytes-preserved
 loop-bytes-preserved c =
-    let h = steps c.args.s.now c.loop-bytes.i c.read_piece-q.result c.loop-bytes.invariant.2.readable c.read_piece-q.ensures c.in-Field.is in let g = c.q-in-Field-1.given.0 in let f = fits-here (length c.args.scratch.now) _ _ _ (record-field c.args.s.now c.loop-bytes.i g.0 g.1.0 g.1.1.0 h) c.loop-bytes.invariant.3 in (c.scratch-1.given ∙ c.loop-bytes.invariant.0, c.loop-bytes.invariant.1, walk_field c.args.e.now c.args.p c.args.s.now c.args.list.now c.loop-bytes.set c.loop-bytes.fields c.loop-bytes.t.met c.loop-bytes.t.found c.loop-bytes.list c.loop-bytes.i c.loop-bytes.invariant.2 g.0 g.1.0 g.1.1.0 h c.with_field-set.result c.with_field-set.ensures, f.1)
+    let h = steps c.args.s.now c.loop-bytes.i c.read_piece-q.result c.loop-bytes.invariant.2.readable c.read_piece-q.ensures c.in-Field.is in let g = c.read_piece-q.auto.q in let f = fits-here (length c.args.scratch.now) _ _ _ (record-field c.args.s.now c.loop-bytes.i g.0 g.1.0 g.1.1.0 h) c.loop-bytes.invariant.3 in (c.with_field-set.auto.scratch ∙ c.loop-bytes.invariant.0, c.loop-bytes.invariant.1, walk_field c.args.e.now c.args.p c.args.s.now c.args.list.now c.loop-bytes.set c.loop-bytes.fields c.loop-bytes.t.met c.loop-bytes.t.found c.loop-bytes.list c.loop-bytes.i c.loop-bytes.invariant.2 g.0 g.1.0 g.1.1.0 h c.with_field-set.result c.with_field-set.ensures, f.1)
 
 pub closed-r-requires : goal.closed-r-requires
 closed-r-requires c =
@@ -108,7 +108,7 @@ shape_of-scratch-in-End c =
 
 pub shape_of-list-in-End : goal.shape_of-list-in-End
 shape_of-list-in-End c =
-    c.list-in-End-1.given ∙ c.loop-bytes.invariant.1
+    c.closed-r.auto.list ∙ c.loop-bytes.invariant.1
 
 pub returns-in-End : goal.returns-in-End
 returns-in-End c =

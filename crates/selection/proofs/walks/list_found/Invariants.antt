@@ -11,7 +11,7 @@ use Rattle.selection.proofs.Walking.{Walked}
 use Rattle.selection.proofs.walks.list_found.Given as goal
 
 abbrev pub invariant-loop-bytes : goal.invariant-loop-bytes
-invariant-loop-bytes l = (length l.initial.fields ≡ length l.initial.scratch) × (length l.fields ≡ length l.scratch) × Walked l.e l.p l.s l.scratch l.initial.t l.t l.initial.i.met l.initial.i.found l.fields l.i × (all (fits_in (length l.initial.scratch)) (fields_from l.s l.i) ≡ true)
+invariant-loop-bytes l = (length l.scratch ≡ length l.initial.scratch) × (length l.list ≡ length l.initial.list) × Walked l.e l.p l.s l.initial.list l.set l.fields l.t.met l.t.found l.list l.i × (all (fits_in (length l.initial.scratch)) (fields_from l.s l.i) ≡ true)
 
 abbrev pub decreases-loop-bytes : goal.decreases-loop-bytes
 decreases-loop-bytes l = length l.s - l.i

@@ -6,7 +6,7 @@ use Rattle.splices.proofs.Left.{Keeping}
 use Rattle.splices.proofs.cuts.keep_loose.Given as goal
 
 abbrev pub invariant-loop-start : goal.invariant-loop-start
-invariant-loop-start l = Keeping l.initial.part l.n l.initial.i l.i
+invariant-loop-start l = Keeping l.initial.part l.part l.n l.i
 
 abbrev pub decreases-loop-start : goal.decreases-loop-start
 decreases-loop-start l = length l.initial.part - l.i

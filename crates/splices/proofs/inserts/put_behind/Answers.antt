@@ -18,7 +18,7 @@ returns c =
     let a = c.args in
     let b : Bytes = a.buf.now in
     let w : Bytes = record_text a.first.now a.req.now a.r.from in
-    let b' : Bytes = c.open_space.new.0 in (
+    let b' : Bytes = c.open_space.new.buf in (
       sym (spliced-length b a.used a.r.at 0 (10 ∷ w) (omega arith) (omega arith) ∙ omega (arith, c.requires.len_value)),
       rw (c.put_fields.ensures, over-part b' w (a.r.at + 1) (length b' - (a.r.at + 1)) (omega arith) refl, over-newline b' w a.r.at (omega arith)) (placed-spliced b a.used a.r.at 0 (a.r.len + 1) b' (10 ∷ w) (omega arith) (omega arith) (omega (arith, c.requires.len_value)) c.open_space.ensures),
     )

@@ -35,5 +35,5 @@ returns c =
     let a = c.args in
     let v : Bytes = a.first.now in
     let w : Bytes = written_all (pairs_at a.req.now a.from) in
-    let b' : Bytes = c.put_bytes.new.0 in
+    let b' : Bytes = c.put_bytes.new.out in
     rw (c.put_pairs.ensures.1, over-part b' w (length v) (length b' - length v) (omega (arith, c.requires.from_in_bounds, length-append v w)) refl, c.put_bytes.ensures) (over-both a.out.now v w)

@@ -64,7 +64,7 @@ returns c =
     let a = c.args in
     let b : Bytes = a.buf.now in
     let w : Bytes = record_text a.first.now a.req.now a.r.from in
-    let b' : Bytes = c.open_space.new.0 in
+    let b' : Bytes = c.open_space.new.buf in
     let l = front_length b a.used a.r.len w (omega arith) c.requires.len_value (omega (arith, c.if-used-eq0.false)) in (
       sym l,
       rw (c.put_fields-2.ensures, over-ended b' w a.r.len c.requires.len_value (omega (arith, c.open_space.ensures.same)))

@@ -11,5 +11,4 @@ returns-then-from-to c =
 pub returns-else-from-to : goal.returns-else-from-to
 returns-else-from-to c =
     let a = c.args in
-    let m = c.move_down.ensures in
-    rw m (opened-down a.buf.now a.used a.at a.old a.new (omega arith) (omega arith) (omega arith) (omega arith) _ (rw m at c.clear.ensures))
+    rw c.move_down.ensures (opened-down a.buf.now a.used a.at a.old a.new (omega arith) (omega arith) (omega arith) (omega arith) _ (rw c.move_down.ensures at c.clear.ensures))

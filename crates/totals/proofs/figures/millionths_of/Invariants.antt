@@ -7,7 +7,7 @@ use Rattle.totals.specs.Figures.{read_on, Within}
 use Rattle.totals.proofs.figures.millionths_of.Given as goal
 
 abbrev pub invariant-loop-i : goal.invariant-loop-i
-invariant-loop-i l = (l.i ≤ length l.v) × Within l.initial.i × (millionths_of l.v ≡ read_on l.initial.i (drop l.i l.v))
+invariant-loop-i l = (l.i ≤ length l.v) × Within l.f × (millionths_of l.v ≡ read_on l.f (drop l.i l.v))
 
 abbrev pub decreases-loop-i : goal.decreases-loop-i
 decreases-loop-i l = length l.v - l.i

@@ -33,8 +33,7 @@ returns-in-Sign c = sym (ap told_by c.in-Sign.is)
 pub returns-in-Whole : goal.returns-in-Whole
 unfolding told_by
 returns-in-Whole c =
-    let at_f = c.f-1.given in
-    signed-value at_f.0.0 c.signed_of.result c.filled.result (filled_from 0 at_f.0.1.1.0) c.filled.ensures c.signed_of.ensures ∙ sym (ap told_by at_f.1)
+    signed-value c.in-Whole.negative c.signed_of.result c.filled.result (filled_from 0 c.in-Whole.number) c.filled.ensures c.signed_of.ensures ∙ sym (ap told_by c.in-Whole.is)
 
 -- src/figures.rt:200:1
 pub returns-in-Dot : goal.returns-in-Dot
@@ -45,15 +44,13 @@ returns-in-Dot c = sym (ap told_by c.in-Dot.is)
 pub returns-in-Fraction : goal.returns-in-Fraction
 unfolding told_by
 returns-in-Fraction c =
-    let at_f = c.f-in-Fraction-1.given in
-    signed-value at_f.0.0 c.signed_of-in-Fraction.result c.filled-in-Fraction.result (filled_from at_f.0.1.0 at_f.0.1.1.0) c.filled-in-Fraction.ensures c.signed_of-in-Fraction.ensures ∙ sym (ap told_by at_f.1)
+    signed-value c.in-Fraction.negative c.signed_of-in-Fraction.result c.filled-in-Fraction.result (filled_from c.in-Fraction.digits c.in-Fraction.number) c.filled-in-Fraction.ensures c.signed_of-in-Fraction.ensures ∙ sym (ap told_by c.in-Fraction.is)
 
 -- src/figures.rt:200:1
 pub returns-in-Behind : goal.returns-in-Behind
 unfolding told_by
 returns-in-Behind c =
-    let at_f = c.f-in-Behind-1.given in
-    signed-value at_f.0.0 c.signed_of-in-Behind.result c.filled-in-Behind.result (filled_from at_f.0.1.0 at_f.0.1.1.0) c.filled-in-Behind.ensures c.signed_of-in-Behind.ensures ∙ sym (ap told_by at_f.1)
+    signed-value c.in-Behind.negative c.signed_of-in-Behind.result c.filled-in-Behind.result (filled_from c.in-Behind.digits c.in-Behind.number) c.filled-in-Behind.ensures c.signed_of-in-Behind.ensures ∙ sym (ap told_by c.in-Behind.is)
 
 -- src/figures.rt:200:1
 pub returns-in-Fault : goal.returns-in-Fault

@@ -8,7 +8,7 @@ use Rattle.totals.specs.Figures.{read_on, Within}
 use Rattle.totals.proofs.figures.value_millionths.Given as goal
 
 abbrev pub invariant-loop-byte : goal.invariant-loop-byte
-invariant-loop-byte l = Within l.initial.i × (millionths_of (value_from l.s) ≡ read_on l.initial.i (value_from (drop l.i l.s)))
+invariant-loop-byte l = Within l.f × (millionths_of (value_from l.s) ≡ read_on l.f (value_from (drop l.i l.s)))
 
 abbrev pub decreases-loop-byte : goal.decreases-loop-byte
 decreases-loop-byte l = length l.s - l.i

@@ -7,7 +7,7 @@ use Rattle.totals.specs.Parts.{special_line}
 use Rattle.totals.proofs.parts.has_special_line.Given as goal
 
 abbrev pub invariant-loop-i : goal.invariant-loop-i
-invariant-loop-i l = (1 ≤ l.i) × (special_line 10 l.s ≡ (l.initial.i || special_line (get_or l.s (l.i - 1) 0) (drop l.i l.s)))
+invariant-loop-i l = (1 ≤ l.i) × (special_line 10 l.s ≡ (l.found || special_line (get_or l.s (l.i - 1) 0) (drop l.i l.s)))
 
 abbrev pub decreases-loop-i : goal.decreases-loop-i
 decreases-loop-i l = length l.s - l.i

@@ -4,7 +4,7 @@ use Rattle.totals.specs.Plain.{Run}
 use Rattle.totals.proofs.plain.read_digits.Given as goal
 
 abbrev pub invariant-loop-at : goal.invariant-loop-at
-invariant-loop-at l = Run l.s l.i l.end l.number l.initial.m l.m
+invariant-loop-at l = Run l.s l.i l.end l.number l.at l.m
 
 abbrev pub decreases-loop-at : goal.decreases-loop-at
-decreases-loop-at l = l.end - l.initial.m
+decreases-loop-at l = l.end - l.at

@@ -6,7 +6,7 @@ use Rattle.totals.specs.Figures.{filled_from}
 use Rattle.totals.proofs.plain.scaled.Given as goal
 
 abbrev pub invariant-loop-k : goal.invariant-loop-k
-invariant-loop-k l = (l.initial.m ≤ fraction_digits) × (l.m < 10 ^ (whole_digits + l.initial.m)) × (filled_from l.digits l.number ≡ filled_from l.initial.m l.m)
+invariant-loop-k l = (l.k ≤ fraction_digits) × (l.m < 10 ^ (whole_digits + l.k)) × (filled_from l.digits l.number ≡ filled_from l.k l.m)
 
 abbrev pub decreases-loop-k : goal.decreases-loop-k
-decreases-loop-k l = fraction_digits - l.initial.m
+decreases-loop-k l = fraction_digits - l.k

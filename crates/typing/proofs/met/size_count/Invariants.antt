@@ -7,7 +7,7 @@ use Rattle.format.specs.Types.{size_count}
 use Rattle.typing.proofs.met.size_count.Given as goal
 
 abbrev pub invariant-loop-i : goal.invariant-loop-i
-invariant-loop-i l = (l.n ≤ l.initial.n) × (l.initial.n ≤ length l.v) × (size_count l.v ≡ l.n + size_count (drop l.initial.n l.v))
+invariant-loop-i l = (l.n ≤ l.i) × (l.i ≤ length l.v) × (size_count l.v ≡ l.n + size_count (drop l.i l.v))
 
 abbrev pub decreases-loop-i : goal.decreases-loop-i
-decreases-loop-i l = length l.v - l.initial.n
+decreases-loop-i l = length l.v - l.i

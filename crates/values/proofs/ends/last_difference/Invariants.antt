@@ -6,7 +6,7 @@ use Rattle.values.specs.Value.{value_from, Reaches}
 use Rattle.values.proofs.ends.last_difference.Given as goal
 
 abbrev pub invariant-loop-c : goal.invariant-loop-c
-invariant-loop-c l = Reaches l.a 0 l.initial.q × Reaches l.b 0 l.q × (value_from (drop l.initial.q l.a) ≡ value_from (drop l.q l.b)) × (l.p + length (value_from (drop l.initial.q l.a)) ≡ length (value_from l.a))
+invariant-loop-c l = Reaches l.a 0 l.p × Reaches l.b 0 l.q × (value_from (drop l.p l.a) ≡ value_from (drop l.q l.b)) × (l.place + length (value_from (drop l.p l.a)) ≡ length (value_from l.a))
 
 abbrev pub decreases-loop-c : goal.decreases-loop-c
-decreases-loop-c l = l.initial.q
+decreases-loop-c l = l.p

@@ -6,7 +6,7 @@ use Rattle.values.specs.Value.{value_from, Reaches}
 use Rattle.values.proofs.ends.measure.Given as goal
 
 abbrev pub invariant-loop-next : goal.invariant-loop-next
-invariant-loop-next l = Reaches l.v 0 l.initial.n × (l.n + length (value_from (drop l.initial.n l.v)) ≡ length (value_from l.v))
+invariant-loop-next l = Reaches l.v 0 l.i × (l.n + length (value_from (drop l.i l.v)) ≡ length (value_from l.v))
 
 abbrev pub decreases-loop-next : goal.decreases-loop-next
-decreases-loop-next l = length l.v - l.initial.n
+decreases-loop-next l = length l.v - l.i

@@ -9,7 +9,7 @@ use Rattle.values.proofs.Counts.{words_from}
 use Rattle.values.proofs.lists.count_words.Given as goal
 
 abbrev pub invariant-loop-byte : goal.invariant-loop-byte
-invariant-loop-byte l = (l.n ≤ length l.s) × (l.initial.gap ≤ l.n) × (length (words (value_from l.s)) ≡ l.initial.gap + words_from l.gap (value_from (drop l.n l.s)))
+invariant-loop-byte l = (l.i ≤ length l.s) × (l.n ≤ l.i) × (length (words (value_from l.s)) ≡ l.n + words_from l.gap (value_from (drop l.i l.s)))
 
 abbrev pub decreases-loop-byte : goal.decreases-loop-byte
-decreases-loop-byte l = length l.s - l.n
+decreases-loop-byte l = length l.s - l.i

@@ -10,7 +10,7 @@ use Rattle.values.specs.Value.{value_from}
 use Rattle.values.proofs.starts.word_here.Given as goal
 
 abbrev pub invariant-loop-byte : goal.invariant-loop-byte
-invariant-loop-byte l = (l.n ≤ length l.word) × (same (drop l.n l.word) (front not_gap (value_from (drop l.initial.n l.s))) ≡ same l.word (front not_gap (value_from (drop l.i l.s))))
+invariant-loop-byte l = (l.n ≤ length l.word) × (same (drop l.n l.word) (front not_gap (value_from (drop l.at l.s))) ≡ same l.word (front not_gap (value_from (drop l.i l.s))))
 
 abbrev pub decreases-loop-byte : goal.decreases-loop-byte
-decreases-loop-byte l = length l.s - l.initial.n
+decreases-loop-byte l = length l.s - l.at

@@ -7,7 +7,7 @@ use Rattle.words.specs.RuleNames.{place_in}
 use Rattle.words.proofs.fixed.word_place.Given as goal
 
 abbrev pub invariant-loop-start : goal.invariant-loop-start
-invariant-loop-start l = (l.n + length l.initial.n ≤ length l.list) × (place_in l.w (words l.list) ≡ l.n + place_in l.w (words l.initial.n))
+invariant-loop-start l = (l.n + length l.rest ≤ length l.list) × (place_in l.w (words l.list) ≡ l.n + place_in l.w (words l.rest))
 
 abbrev pub decreases-loop-start : goal.decreases-loop-start
-decreases-loop-start l = length l.initial.n
+decreases-loop-start l = length l.rest

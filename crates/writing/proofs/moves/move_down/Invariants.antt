@@ -7,7 +7,7 @@ use lib.Seq.{paste}
 use Rattle.writing.proofs.moves.move_down.Given as goal
 
 abbrev pub invariant-loop-i : goal.invariant-loop-i
-invariant-loop-i l = (l.i ≤ l.to) × (length l.initial.i ≡ length l.initial.buf) × (l.initial.i ≡ paste l.initial.buf l.from (drop l.buf l.initial.buf) l.i)
+invariant-loop-i l = (l.i ≤ l.n) × (length l.buf ≡ length l.initial.buf) × (l.buf ≡ paste l.initial.buf l.to (drop l.from l.initial.buf) l.i)
 
 abbrev pub decreases-loop-i : goal.decreases-loop-i
-decreases-loop-i l = l.to - l.i
+decreases-loop-i l = l.n - l.i

@@ -7,7 +7,7 @@ use Rattle.writing.proofs.Moving.{hung}
 use Rattle.writing.proofs.moves.move_up.Given as goal
 
 abbrev pub invariant-loop-i : goal.invariant-loop-i
-invariant-loop-i l = (l.i ≤ l.to) × (length l.initial.i ≡ length l.initial.buf) × (l.initial.i ≡ hung l.initial.buf l.from (take l.to (drop l.buf l.initial.buf)) l.i)
+invariant-loop-i l = (l.i ≤ l.n) × (length l.buf ≡ length l.initial.buf) × (l.buf ≡ hung l.initial.buf l.to (take l.n (drop l.from l.initial.buf)) l.i)
 
 abbrev pub decreases-loop-i : goal.decreases-loop-i
 decreases-loop-i l = l.i
