@@ -1,7 +1,7 @@
 use Prim.Native.Nat.{◌+◌, ◌<◌, ◌-◌}
 use native.Mathlib.Omega.{arith}
 use mathlib.Core.Bool.{true, false}
-use borrow.Author.Tests.{ne_eqb, not-true, not-false}
+use borrow.Author.Tests.{eq-eqb, ne_eqb}
 use lib.Dec.{eqb}
 use lib.ListN.{length, get_or}
 use Rattle.lines.proofs.Cuts.{line-le, line-inside, line-at-inside}
@@ -40,7 +40,7 @@ returns-then-taken c =
 
 pub returns-then-i-s : goal.returns-then-i-s
 returns-then-i-s c =
-    rw (c.loop-i.invariant.3, extent-past c.args.s.now c.loop-i.i c.line_end-e.result c.loop-i.invariant.0 c.loop-i.invariant.1 c.loop-i.invariant.2 c.line_end-e.ensures.0, c.if-taken.false, extent-end c.args.s.now false (c.line_end-e.result + 1) (omega (arith, c.if-i-s.true)))
+    rw (c.loop-i.invariant.3, extent-past c.args.s.now c.loop-i.i c.line_end-e.result c.loop-i.invariant.0 c.loop-i.invariant.1 c.loop-i.invariant.2 c.line_end-e.ensures.0, ne_eqb _ _ c.if-taken.false, extent-end c.args.s.now false (c.line_end-e.result + 1) (omega (arith, c.if-i-s.true)))
 
 pub bounds-s-i : goal.bounds-s-i
 bounds-s-i c =
@@ -48,7 +48,7 @@ bounds-s-i c =
 
 pub returns-then-s-i-ne43 : goal.returns-then-s-i-ne43
 returns-then-s-i-ne43 c =
-    rw (c.loop-i.invariant.3, extent-past c.args.s.now c.loop-i.i c.line_end-e.result c.loop-i.invariant.0 c.loop-i.invariant.1 c.loop-i.invariant.2 c.line_end-e.ensures.0, not-true (eqb (get_or c.args.s.now (c.line_end-e.result - 1) 0) 92) (ap not c.if-not-taken.true), extent-step c.args.s.now false (c.line_end-e.result + 1) (omega (arith, c.line_end-e.ensures.0, c.if-i-s.false, line-at-inside c.args.s.now c.loop-i.i c.requires.s_value c.loop-i.invariant.0)), ne_eqb _ _ c.if-s-i-ne43.true)
+    rw (c.loop-i.invariant.3, extent-past c.args.s.now c.loop-i.i c.line_end-e.result c.loop-i.invariant.0 c.loop-i.invariant.1 c.loop-i.invariant.2 c.line_end-e.ensures.0, ne_eqb _ _ c.if-not-taken.true, extent-step c.args.s.now false (c.line_end-e.result + 1) (omega (arith, c.line_end-e.ensures.0, c.if-i-s.false, line-at-inside c.args.s.now c.loop-i.i c.requires.s_value c.loop-i.invariant.0)), ne_eqb _ _ c.if-s-i-ne43.true)
 
 pub loop-i-smaller-else-s-i-ne43 : goal.loop-i-smaller-else-s-i-ne43
 loop-i-smaller-else-s-i-ne43 c =
@@ -57,7 +57,7 @@ loop-i-smaller-else-s-i-ne43 c =
 pub loop-i-preserved-else-s-i-ne43 : goal.loop-i-preserved-else-s-i-ne43
 loop-i-preserved-else-s-i-ne43 c =
     let h : c.line_end-e.result + 1 < length c.args.s.now = omega (arith, c.line_end-e.ensures.0, c.if-i-s.false, line-at-inside c.args.s.now c.loop-i.i c.requires.s_value c.loop-i.invariant.0) in
-    (h, omega arith, newline-before c.args.s.now c.line_end-e.result c.line_end-e.ensures.1, rw (c.loop-i.invariant.3, extent-past c.args.s.now c.loop-i.i c.line_end-e.result c.loop-i.invariant.0 c.loop-i.invariant.1 c.loop-i.invariant.2 c.line_end-e.ensures.0, not-true (eqb (get_or c.args.s.now (c.line_end-e.result - 1) 0) 92) (ap not c.if-not-taken.true), extent-plus c.args.s.now (c.line_end-e.result + 1) h c.if-s-i-ne43.false))
+    (h, omega arith, newline-before c.args.s.now c.line_end-e.result c.line_end-e.ensures.1, rw (c.loop-i.invariant.3, extent-past c.args.s.now c.loop-i.i c.line_end-e.result c.loop-i.invariant.0 c.loop-i.invariant.1 c.loop-i.invariant.2 c.line_end-e.ensures.0, ne_eqb _ _ c.if-not-taken.true, extent-plus c.args.s.now (c.line_end-e.result + 1) h c.if-s-i-ne43.false))
 
 pub loop-i-smaller : goal.loop-i-smaller
 loop-i-smaller c =
@@ -65,4 +65,4 @@ loop-i-smaller c =
 
 pub loop-i-preserved : goal.loop-i-preserved
 loop-i-preserved c =
-    (omega (arith, c.line_end-e.ensures.0, c.if-i-s.false, line-at-inside c.args.s.now c.loop-i.i c.requires.s_value c.loop-i.invariant.0), omega arith, newline-before c.args.s.now c.line_end-e.result c.line_end-e.ensures.1, rw (c.loop-i.invariant.3, extent-past c.args.s.now c.loop-i.i c.line_end-e.result c.loop-i.invariant.0 c.loop-i.invariant.1 c.loop-i.invariant.2 c.line_end-e.ensures.0, not-false (eqb (get_or c.args.s.now (c.line_end-e.result - 1) 0) 92) (ap not c.if-not-taken.false)))
+    (omega (arith, c.line_end-e.ensures.0, c.if-i-s.false, line-at-inside c.args.s.now c.loop-i.i c.requires.s_value c.loop-i.invariant.0), omega arith, newline-before c.args.s.now c.line_end-e.result c.line_end-e.ensures.1, rw (c.loop-i.invariant.3, extent-past c.args.s.now c.loop-i.i c.line_end-e.result c.loop-i.invariant.0 c.loop-i.invariant.1 c.loop-i.invariant.2 c.line_end-e.ensures.0, eq-eqb _ _ c.if-not-taken.false))

@@ -7,6 +7,7 @@ use borrow.Author.Tests.{eq-eqb, ne_eqb}
 use Rattle.lines.proofs.Heads.{name-inside, colon-inside, goes-newline, goes_blank}
 use Rattle.lines.proofs.Nexts.{next-named, next-class}
 use Rattle.lines.proofs.next_field.Goals as goal
+use Rattle.lines.proofs.next_field.Goals.{then-k-eq-NEWLINE, else-k-eq-NEWLINE+else-k-ne-BLANK}
 
 pub bounds-s-name : goal.bounds-s-name
 bounds-s-name c =
@@ -40,14 +41,14 @@ returns-then-k-ne-BLANK c =
 pub field_extent-e-requires : goal.field_extent-e-requires
 field_extent-e-requires c =
     let small : get_or c.args.s.now (c.name_end-name.result + 1) 0 < 256 = omega (arith, c.type_inv.s (c.name_end-name.result + 1)) in
-    record { s_value = c.requires.s_value; goes_on = ⊎_elim (λ w. rw w.1 (goes-newline c.args.s.now c.name_end-name.result c.requires.s_value c.requires.s_nonzero c.name_end-name.ensures c.if-s-name-ne58.false c.class_of-k.result small c.class_of-k.ensures w.0.taken)) (λ w. rw w.2 (goes_blank c.args.s.now c.name_end-name.result c.requires.s_value c.requires.s_nonzero c.name_end-name.ensures c.if-s-name-ne58.false c.class_of-k.result small c.class_of-k.ensures w.1.left)) c.if-k-eq-NEWLINE.branch }
+    record { s_value = c.requires.s_value; goes_on = elim c.if-k-eq-NEWLINE.branch [ then-k-eq-NEWLINE w ↦ rw w.value-is (goes-newline c.args.s.now c.name_end-name.result c.requires.s_value c.requires.s_nonzero c.name_end-name.ensures c.if-s-name-ne58.false c.class_of-k.result small c.class_of-k.ensures w.if-k-eq-NEWLINE.true) | else-k-eq-NEWLINE+else-k-ne-BLANK w ↦ rw w.value-is (goes_blank c.args.s.now c.name_end-name.result c.requires.s_value c.requires.s_nonzero c.name_end-name.ensures c.if-s-name-ne58.false c.class_of-k.result small c.class_of-k.ensures w.if-k-ne-BLANK.false) ] }
 
 pub returns-in-Size : goal.returns-in-Size
 returns-in-Size c =
     let small : get_or c.args.s.now (c.name_end-name.result + 1) 0 < 256 = omega (arith, c.type_inv.s (c.name_end-name.result + 1)) in
-    rw (next-class c.args.s.now c.name_end-name.result c.class_of-k.result c.requires.s_value c.requires.s_nonzero c.name_end-name.ensures small c.class_of-k.ensures, eq-eqb _ _ c.if-s-name-ne58.false, ← c.field_extent-e.ensures, c.in-Size.is) (⊎_elim (λ w. rw (w.1, eq-eqb _ _ w.0.taken)) (λ w. rw (w.2, ne_eqb _ _ w.0.left, eq-eqb _ _ w.1.left)) c.if-k-eq-NEWLINE.branch)
+    rw (next-class c.args.s.now c.name_end-name.result c.class_of-k.result c.requires.s_value c.requires.s_nonzero c.name_end-name.ensures small c.class_of-k.ensures, eq-eqb _ _ c.if-s-name-ne58.false, ← c.field_extent-e.ensures, c.in-Size.is) (elim c.if-k-eq-NEWLINE.branch [ then-k-eq-NEWLINE w ↦ rw (w.value-is, eq-eqb _ _ w.if-k-eq-NEWLINE.true) | else-k-eq-NEWLINE+else-k-ne-BLANK w ↦ rw (w.value-is, ne_eqb _ _ w.if-k-eq-NEWLINE.false, eq-eqb _ _ w.if-k-ne-BLANK.false) ])
 
 pub returns-in-Open : goal.returns-in-Open
 returns-in-Open c =
     let small : get_or c.args.s.now (c.name_end-name.result + 1) 0 < 256 = omega (arith, c.type_inv.s (c.name_end-name.result + 1)) in
-    rw (next-class c.args.s.now c.name_end-name.result c.class_of-k.result c.requires.s_value c.requires.s_nonzero c.name_end-name.ensures small c.class_of-k.ensures, eq-eqb _ _ c.if-s-name-ne58.false, ← c.field_extent-e.ensures, c.in-Open.is) (⊎_elim (λ w. rw (eq-eqb _ _ w.0.taken)) (λ w. rw (ne_eqb _ _ w.0.left, eq-eqb _ _ w.1.left)) c.if-k-eq-NEWLINE.branch)
+    rw (next-class c.args.s.now c.name_end-name.result c.class_of-k.result c.requires.s_value c.requires.s_nonzero c.name_end-name.ensures small c.class_of-k.ensures, eq-eqb _ _ c.if-s-name-ne58.false, ← c.field_extent-e.ensures, c.in-Open.is) (elim c.if-k-eq-NEWLINE.branch [ then-k-eq-NEWLINE w ↦ rw (eq-eqb _ _ w.if-k-eq-NEWLINE.true) | else-k-eq-NEWLINE+else-k-ne-BLANK w ↦ rw (ne_eqb _ _ w.if-k-eq-NEWLINE.false, eq-eqb _ _ w.if-k-ne-BLANK.false) ])

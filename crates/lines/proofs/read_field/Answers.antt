@@ -6,6 +6,7 @@ use mathlib.Core.Logic.{⊎_elim}
 use borrow.Author.Tests.{eq-eqb, ne_eqb}
 use Rattle.lines.proofs.Faultless.{colon-behind, next-formed, room-behind, goes-behind}
 use Rattle.lines.proofs.read_field.Goals as goal
+use Rattle.lines.proofs.read_field.Goals.{then-s-value-ne10, else-s-value-ne10}
 
 behind-blank : (n v : ℕ) → v ≡ n + 1 + 1 → v ≡ n + 2
 behind-blank n v e = omega (arith, e)
@@ -29,11 +30,11 @@ overflow_add-value-then-s-value-ne10 c =
 pub field_extent-e-requires : goal.field_extent-e-requires
 field_extent-e-requires c =
     let g = goes-behind c.args.s.now c.requires.s_value c.requires.s_nonzero c.requires.s_value_2 c.name_to_colon-name.result c.name_to_colon-name.ensures in
-    record { s_value = c.requires.s_value; goes_on = ⊎_elim (λ w. rw (behind-blank _ _ w.1) (rw (ne_eqb _ _ w.0.taken) at g)) (λ w. rw w.1 (rw (eq-eqb _ _ w.0.left) at g)) c.if-s-value-ne10.branch }
+    record { s_value = c.requires.s_value; goes_on = elim c.if-s-value-ne10.branch [ then-s-value-ne10 w ↦ rw (behind-blank _ _ w.value-is) (rw (ne_eqb _ _ w.if-s-value-ne10.true) at g) | else-s-value-ne10 w ↦ rw w.value-is (rw (eq-eqb _ _ w.if-s-value-ne10.false) at g) ] }
 
 pub returns-in-Size : goal.returns-in-Size
 returns-in-Size c =
-    rw (next-formed c.args.s.now c.requires.s_value c.requires.s_nonzero c.requires.s_value_2 c.name_to_colon-name.result c.name_to_colon-name.ensures, ← c.field_extent-e.ensures, c.in-Size.is) (⊎_elim (λ w. rw (behind-blank _ _ w.1, ne_eqb _ _ w.0.taken)) (λ w. rw (w.1, eq-eqb _ _ w.0.left)) c.if-s-value-ne10.branch)
+    rw (next-formed c.args.s.now c.requires.s_value c.requires.s_nonzero c.requires.s_value_2 c.name_to_colon-name.result c.name_to_colon-name.ensures, ← c.field_extent-e.ensures, c.in-Size.is) (elim c.if-s-value-ne10.branch [ then-s-value-ne10 w ↦ rw (behind-blank _ _ w.value-is, ne_eqb _ _ w.if-s-value-ne10.true) | else-s-value-ne10 w ↦ rw (w.value-is, eq-eqb _ _ w.if-s-value-ne10.false) ])
 
 pub returns-in-Open : goal.returns-in-Open
 returns-in-Open c =
