@@ -11,4 +11,4 @@ returns-in-Enum c =
 
 pub returns-in_default : goal.returns-in_default
 returns-in_default c =
-    text-none c.args.kind c.args.value c.in_default.keys2
+    text-none c.args.kind c.args.value c.in_default-own.keys2

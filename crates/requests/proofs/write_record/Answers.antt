@@ -15,7 +15,7 @@ returns-in_default c =
 
 pub returns-in_default-edit : goal.returns-in_default-edit
 returns-in_default-edit c =
-    write-other c.args.req.now c.args.out.now c.in-Is.request (request-found c.args.req.now c.request_of-q.result c.in-Is.request c.request_of-q.ensures.0 c.in-Is.is) c.in_default-edit.keys2
+    write-other c.args.req.now c.args.out.now c.in-Is.request (request-found c.args.req.now c.request_of-q.result c.in-Is.request c.request_of-q.ensures.0 c.in-Is.is) c.in_default-edit-own.keys2
 
 pub write_no-n-requires : goal.write_no-n-requires
 write_no-n-requires c =

@@ -39,4 +39,4 @@ returns-in-Alias c =
 pub returns-in_default-k : goal.returns-in_default-k
 returns-in_default-k c =
     sym (ap (λ (x : TypeOf). target_by (names_from c.args.d.now 0) (type_answer c.args.s.now x)) c.in-Is.is
-    ∙ target-kind (names_from c.args.d.now 0) c.args.s.now c.in-Is.k c.in_default-k.keys2)
+    ∙ target-kind (names_from c.args.d.now 0) c.args.s.now c.in-Is.k c.in_default-k-own.keys2)

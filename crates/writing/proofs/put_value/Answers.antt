@@ -1,11 +1,11 @@
 use Prim.Native.Nat.{◌+◌, ◌-◌}
 use native.Mathlib.Omega.{arith}
 use mathlib.Core.Path.{refl, ap, ◌∙◌}
-use mathlib.Core.Logic.{⊎_elim}
 use lib.ListN.{length, drop, get_or, length-set}
 use Rattle.format.specs.Written.{indent}
 use Rattle.writing.proofs.Texts.{indent-some, indent-more, indent-newline, indent-end, sets-byte, sets-newline}
 use Rattle.writing.proofs.put_value.Goals as goal
+use Rattle.writing.proofs.put_value.Goals.{then-b-eq10, else-b-eq10}
 
 pub loop-i-init : goal.loop-i-init
 loop-i-init c = (omega arith, refl, refl, refl)
@@ -27,14 +27,9 @@ loop-i-preserved c =
     let v = c.args.value.now in
     let i = c.loop-i.i in
     let t = indent (drop (i + 1) v) in
-    ⊎_elim
-    (λ w.
-    let e = indent-newline v i c.loop-i-test.true w.0.taken in
-    (omega arith, ap length w.1 ∙ simp length-set c.loop-i.invariant.1, omega (arith, ap length e), rw (w.1, w.2) (sets-newline c.loop-i.out c.loop-i.n (get_or v i 0) t ∙ (rw e at c.loop-i.invariant.3))))
-    (λ w.
-    let e = indent-more v i c.loop-i-test.true w.0.left in
-    (omega arith, ap length w.1 ∙ simp length-set c.loop-i.invariant.1, omega (arith, ap length e), rw (w.1, w.2) (sets-byte c.loop-i.out c.loop-i.n (get_or v i 0) t ∙ (rw e at c.loop-i.invariant.3))))
-    c.if-b-eq10.branch
+    elim c.if-b-eq10.branch [ then-b-eq10 w ↦ let e = indent-newline v i c.loop-i-test.true w.if-b-eq10.true in
+    (omega arith, ap length w.out-is ∙ simp length-set c.loop-i.invariant.1, omega (arith, ap length e), rw (w.out-is, w.n-is) (sets-newline c.loop-i.out c.loop-i.n (get_or v i 0) t ∙ (rw e at c.loop-i.invariant.3))) | else-b-eq10 w ↦ let e = indent-more v i c.loop-i-test.true w.if-b-eq10.false in
+    (omega arith, ap length w.out-is ∙ simp length-set c.loop-i.invariant.1, omega (arith, ap length e), rw (w.out-is, w.n-is) (sets-byte c.loop-i.out c.loop-i.n (get_or v i 0) t ∙ (rw e at c.loop-i.invariant.3))) ]
 
 pub returns : goal.returns
 returns c =

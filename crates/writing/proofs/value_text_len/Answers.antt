@@ -2,11 +2,11 @@ use Prim.Native.Nat.{◌-◌}
 use native.Mathlib.Nat.{zero-add}
 use native.Mathlib.Omega.{arith}
 use mathlib.Core.Path.{ap}
-use mathlib.Core.Logic.{⊎_elim}
 use lib.ListN.{length}
 use Rattle.format.specs.Written.{indent}
 use Rattle.writing.proofs.Texts.{indent-more, indent-newline, indent-end}
 use Rattle.writing.proofs.value_text_len.Goals as goal
+use Rattle.writing.proofs.value_text_len.Goals.{then-value-i-eq10, else-value-i-eq10}
 
 pub loop-i-init : goal.loop-i-init
 loop-i-init c =
@@ -14,7 +14,7 @@ loop-i-init c =
 
 pub loop-i-preserved : goal.loop-i-preserved
 loop-i-preserved c =
-    ⊎_elim (λ w. omega (arith, ap length (indent-newline c.args.value.now c.loop-i.i c.loop-i-test.true w.0.taken))) (λ w. omega (arith, ap length (indent-more c.args.value.now c.loop-i.i c.loop-i-test.true w.0.left))) c.if-value-i-eq10.branch
+    elim c.if-value-i-eq10.branch [ then-value-i-eq10 w ↦ omega (arith, ap length (indent-newline c.args.value.now c.loop-i.i c.loop-i-test.true w.if-value-i-eq10.true)) | else-value-i-eq10 w ↦ omega (arith, ap length (indent-more c.args.value.now c.loop-i.i c.loop-i-test.true w.if-value-i-eq10.false)) ]
 
 pub returns : goal.returns
 returns c =

@@ -8,7 +8,7 @@ use Rattle.columns.proofs.readings.shape_met.Goals as goal
 
 pub meets-requires : goal.meets-requires
 meets-requires c =
-    (apart c.args.kind c.in_default.keys5).sound
+    (apart c.args.kind c.in_default-own.keys5).sound
 
 pub returns-in-Int : goal.returns-in-Int
 returns-in-Int c =
@@ -28,4 +28,4 @@ returns-in-Alias c =
 
 pub returns-in_default : goal.returns-in_default
 returns-in_default c =
-    c.meets.ensures ∙ (apart c.args.kind c.in_default.keys5).meets c.args.symbol c.args.v.now
+    c.meets.ensures ∙ (apart c.args.kind c.in_default-own.keys5).meets c.args.symbol c.args.v.now

@@ -4,4 +4,4 @@ use Rattle.descriptors.proofs.shapes.asks_size.Goals as goal
 
 pub returns-in_default : goal.returns-in_default
 returns-in_default c =
-    not-size c.args.c c.in_default.keys2
+    not-size c.args.c c.in_default-own.keys2

@@ -4,4 +4,4 @@ use Rattle.descriptors.proofs.shapes.is_free.Goals as goal
 
 pub returns-in_default : goal.returns-in_default
 returns-in_default c =
-    not_free c.args.c c.in_default.keys2
+    not_free c.args.c c.in_default-own.keys2

@@ -4,4 +4,4 @@ use Rattle.numbering.proofs.types.is_counted.Goals as goal
 
 pub returns-in_default : goal.returns-in_default
 returns-in_default c =
-    none-counted c.args.kind c.in_default.keys3
+    none-counted c.args.kind c.in_default-own.keys3

@@ -6,7 +6,7 @@ use Rattle.requests.proofs.fields.text_at.Goals as goal
 
 pub returns-in_default : goal.returns-in_default
 returns-in_default c =
-    no_field c.args.req.now c.args.i c.args.tag c.field_at-f.result c.in_default.keys2 c.field_at-f.ensures
+    no_field c.args.req.now c.args.i c.args.tag c.field_at-f.result c.in_default-own.keys2 c.field_at-f.ensures
 
 pub returns-then-t-tag : goal.returns-then-t-tag
 returns-then-t-tag c =
