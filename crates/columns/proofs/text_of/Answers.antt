@@ -3,6 +3,7 @@ use mathlib.Core.Path.{sym, ap}
 use Rattle.typing.specs.declared.Shape.{Shape}
 use Rattle.columns.specs.Rows.{text_of}
 use Rattle.columns.proofs.Shapes.{text-none}
+use borrow.Enum.Refused.{opened}
 use Rattle.columns.proofs.text_of.Goals as goal
 
 pub returns-in-Enum : goal.returns-in-Enum
@@ -11,4 +12,4 @@ returns-in-Enum c =
 
 pub returns-in_default : goal.returns-in_default
 returns-in_default c =
-    text-none c.args.kind c.args.value c.in_default-own.keys2
+    text-none c.args.kind c.args.value (opened c.in_default.in_default-own.keys2)

@@ -35,4 +35,4 @@ returns-in-6 c =
 pub returns-in_default : goal.returns-in_default
 unfolding list_tag
 returns-in_default c =
-    rw (not-placed c.args.name.now (text "%mandatory") rule_names c.rule_of-k.result 2 c.rule_of-k.ensures refl c.in_default-own.rest.0.0.0.0.1, not-placed c.args.name.now (text "%prohibit") rule_names c.rule_of-k.result 3 c.rule_of-k.ensures refl c.in_default-own.rest.0.0.0.1, not-placed c.args.name.now (text "%allowed") rule_names c.rule_of-k.result 4 c.rule_of-k.ensures refl c.in_default-own.rest.0.0.1, not-placed c.args.name.now (text "%unique") rule_names c.rule_of-k.result 5 c.rule_of-k.ensures refl c.in_default-own.rest.0.1, not-placed c.args.name.now (text "%key") rule_names c.rule_of-k.result 6 c.rule_of-k.ensures refl c.in_default-own.rest.1)
+    rw (not-placed c.args.name.now (text "%mandatory") rule_names c.rule_of-k.result 2 c.rule_of-k.ensures refl c.in_default.in_default-own.rest.0.0.0.0.1, not-placed c.args.name.now (text "%prohibit") rule_names c.rule_of-k.result 3 c.rule_of-k.ensures refl c.in_default.in_default-own.rest.0.0.0.1, not-placed c.args.name.now (text "%allowed") rule_names c.rule_of-k.result 4 c.rule_of-k.ensures refl c.in_default.in_default-own.rest.0.0.1, not-placed c.args.name.now (text "%unique") rule_names c.rule_of-k.result 5 c.rule_of-k.ensures refl c.in_default.in_default-own.rest.0.1, not-placed c.args.name.now (text "%key") rule_names c.rule_of-k.result 6 c.rule_of-k.ensures refl c.in_default.in_default-own.rest.1)

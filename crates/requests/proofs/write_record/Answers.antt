@@ -7,6 +7,8 @@ use Rattle.format.specs.Written.{written_all}
 use Rattle.requests.specs.Pairs.{pairs_at}
 use Rattle.requests.proofs.Weighing.{asked-fits}
 use Rattle.requests.proofs.Filling.{filled_as, filled-refused, filled-written, write-fault, write-other, write-insert, request-found, request-missed, insert-inside, request-bytes}
+use denote.Enum.Declared.{tag_of}
+use Rattle.requests.specs.contracts.kinds.Edit.{the_type}
 use Rattle.requests.proofs.write_record.Goals as goal
 
 pub returns-in_default : goal.returns-in_default
@@ -15,7 +17,7 @@ returns-in_default c =
 
 pub returns-in_default-edit : goal.returns-in_default-edit
 returns-in_default-edit c =
-    write-other c.args.req.now c.args.out.now c.in-Is.request (request-found c.args.req.now c.request_of-q.result c.in-Is.request c.request_of-q.ensures.0 c.in-Is.is) c.in_default-edit-own.keys2
+    write-other c.args.req.now c.args.out.now c.in-Is.request (request-found c.args.req.now c.request_of-q.result c.in-Is.request c.request_of-q.ensures.0 c.in-Is.is) (ap (tag_of the_type) c.in_default-edit.is)
 
 pub write_no-n-requires : goal.write_no-n-requires
 write_no-n-requires c =

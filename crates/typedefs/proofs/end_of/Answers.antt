@@ -1,11 +1,12 @@
 -- `typedefs::end_of` meets its contract.
 use native.Mathlib.Omega.{arith}
 use Rattle.typedefs.proofs.Ending.{end-own, end-open, end-there, end_row_lem}
+use borrow.Enum.Refused.{opened}
 use Rattle.typedefs.proofs.end_of.Goals as goal
 
 pub returns-in_default : goal.returns-in_default
 returns-in_default c =
-    end-own c.args.t1 c.args.t c.in_default-own.keys2
+    end-own c.args.t1 c.args.t (opened c.in_default.in_default-own.keys2)
 
 pub follow-f-requires : goal.follow-f-requires
 follow-f-requires c =
@@ -13,7 +14,7 @@ follow-f-requires c =
 
 pub returns-in_default-f : goal.returns-in_default-f
 returns-in_default-f c =
-    end-open c.args.t1 c.args.t c.in-Alias.j c.in-Alias.is c.follow-f.result c.follow-f.ensures c.in_default-f-own.keys2
+    end-open c.args.t1 c.args.t c.in-Alias.j c.in-Alias.is c.follow-f.result c.follow-f.ensures (opened c.in_default-f.in_default-f-own.keys2)
 
 pub offset_bounds-defs-number : goal.offset_bounds-defs-number
 offset_bounds-defs-number c =

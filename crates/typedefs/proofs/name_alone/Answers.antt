@@ -14,6 +14,7 @@ use Rattle.typedefs.specs.Walks.{names_from}
 use Rattle.typedefs.specs.Targets.{index_from}
 use Rattle.typedefs.proofs.Placing.{place-fits, place-name}
 use Rattle.typedefs.proofs.Good.{is_missing, among-index, not-missing}
+use borrow.Enum.Refused.{opened}
 use Rattle.typedefs.proofs.name_alone.Goals as goal
 
 pub offset_bounds-places-k : goal.offset_bounds-places-k
@@ -68,4 +69,4 @@ returns-in_default c =
     let p = get_or c.args.names.places c.args.k 0 in
     let ns = names_from d 0 in
     let q = ap first_word (decoded-all (value_from (span p (length d) d)) c.args.scratch.now c.copy_value-n.new.out c.copy_value-n.result c.copy_value-n.ensures.0 c.copy_value-n.ensures.1 ∙ ap value_from (rest d p)) ∙ place-name d c.args.names c.requires.are_names.0 c.args.k c.requires.are_names.1 in
-    not-missing c.first_index-t.result c.in_default-own.keys2 ∙ ap is_missing (c.first_index-t.ensures ∙ ap (λ (u : Bytes). index_from (c.args.k + 1) u (drop (c.args.k + 1) ns)) q) ∙ among-index (c.args.k + 1) (get_or ns c.args.k []) (drop (c.args.k + 1) ns)
+    not-missing c.first_index-t.result (opened c.in_default.in_default-own.keys2) ∙ ap is_missing (c.first_index-t.ensures ∙ ap (λ (u : Bytes). index_from (c.args.k + 1) u (drop (c.args.k + 1) ns)) q) ∙ among-index (c.args.k + 1) (get_or ns c.args.k []) (drop (c.args.k + 1) ns)

@@ -9,6 +9,7 @@ use Rattle.typing.proofs.Meeting.{sound-shape}
 use Rattle.typedefs.specs.Walks.{names_from}
 use Rattle.typedefs.specs.Targets.{target_by}
 use Rattle.typedefs.proofs.Chains.{target-kind}
+use borrow.Enum.Refused.{opened}
 use Rattle.typedefs.proofs.target_in.Goals as goal
 
 pub returns-in_default : goal.returns-in_default
@@ -39,4 +40,4 @@ returns-in-Alias c =
 pub returns-in_default-k : goal.returns-in_default-k
 returns-in_default-k c =
     sym (ap (λ (x : TypeOf). target_by (names_from c.args.d.now 0) (type_answer c.args.s.now x)) c.in-Is.is
-    ∙ target-kind (names_from c.args.d.now 0) c.args.s.now c.in-Is.k c.in_default-k-own.keys2)
+    ∙ target-kind (names_from c.args.d.now 0) c.args.s.now c.in-Is.k (opened c.in_default-k.in_default-k-own.keys2))

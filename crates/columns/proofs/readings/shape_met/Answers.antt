@@ -4,11 +4,12 @@ use Rattle.format.specs.Bytes.{is_some}
 use Rattle.format.specs.Types.{is_in_range}
 use Rattle.numbers.specs.Meaning.{int_in}
 use Rattle.columns.proofs.Meeting.{met-shape, apart}
+use borrow.Enum.Refused.{opened}
 use Rattle.columns.proofs.readings.shape_met.Goals as goal
 
 pub meets-requires : goal.meets-requires
 meets-requires c =
-    (apart c.args.kind c.in_default-own.keys5).sound
+    (apart c.args.kind (opened c.in_default.in_default-own.keys5)).sound
 
 pub returns-in-Int : goal.returns-in-Int
 returns-in-Int c =
@@ -28,4 +29,4 @@ returns-in-Alias c =
 
 pub returns-in_default : goal.returns-in_default
 returns-in_default c =
-    c.meets.ensures ∙ (apart c.args.kind c.in_default-own.keys5).meets c.args.symbol c.args.v.now
+    c.meets.ensures ∙ (apart c.args.kind (opened c.in_default.in_default-own.keys5)).meets c.args.symbol c.args.v.now

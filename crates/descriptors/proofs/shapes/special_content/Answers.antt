@@ -57,5 +57,5 @@ returns-in-11 c =
 pub returns-in_default : goal.returns-in_default
 returns-in_default c =
     let r = c.rule_of-k.result in
-    let h = c.in_default-own.rest in
+    let h = c.in_default.in_default-own.rest in
     asks_none c.args.name.now r c.requires c.rule_of-k.ensures (above r 11 (above r 10 (above r 9 (above r 8 (above r 7 (above r 6 (above r 5 (above r 4 (above r 3 (above r 2 (above r 1 (above r 0 (omega arith) h.0.0.0.0.0.0.0.0.0.0.0.1) h.0.0.0.0.0.0.0.0.0.0.1) h.0.0.0.0.0.0.0.0.0.1) h.0.0.0.0.0.0.0.0.1) h.0.0.0.0.0.0.0.1) h.0.0.0.0.0.0.1) h.0.0.0.0.0.1) h.0.0.0.0.1) h.0.0.0.1) h.0.0.1) h.0.1) h.1)

@@ -31,4 +31,4 @@ returns-in-3 c =
 
 pub returns-in_default : goal.returns-in_default
 returns-in_default c =
-    sym (sign-none c.args.sign.now c.args.n (same-swap c.args.sign.now (text "<") ∙ not-placed c.args.sign.now (text "<") signs c.word_place-k.result 0 c.word_place-k.ensures refl c.in_default-own.rest.0.0.0.1) (same-swap c.args.sign.now (text "<=") ∙ not-placed c.args.sign.now (text "<=") signs c.word_place-k.result 1 c.word_place-k.ensures refl c.in_default-own.rest.0.0.1) (same-swap c.args.sign.now (text ">") ∙ not-placed c.args.sign.now (text ">") signs c.word_place-k.result 2 c.word_place-k.ensures refl c.in_default-own.rest.0.1) (same-swap c.args.sign.now (text ">=") ∙ not-placed c.args.sign.now (text ">=") signs c.word_place-k.result 3 c.word_place-k.ensures refl c.in_default-own.rest.1))
+    sym (sign-none c.args.sign.now c.args.n (same-swap c.args.sign.now (text "<") ∙ not-placed c.args.sign.now (text "<") signs c.word_place-k.result 0 c.word_place-k.ensures refl c.in_default.in_default-own.rest.0.0.0.1) (same-swap c.args.sign.now (text "<=") ∙ not-placed c.args.sign.now (text "<=") signs c.word_place-k.result 1 c.word_place-k.ensures refl c.in_default.in_default-own.rest.0.0.1) (same-swap c.args.sign.now (text ">") ∙ not-placed c.args.sign.now (text ">") signs c.word_place-k.result 2 c.word_place-k.ensures refl c.in_default.in_default-own.rest.0.1) (same-swap c.args.sign.now (text ">=") ∙ not-placed c.args.sign.now (text ">=") signs c.word_place-k.result 3 c.word_place-k.ensures refl c.in_default.in_default-own.rest.1))

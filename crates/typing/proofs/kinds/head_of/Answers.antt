@@ -55,4 +55,4 @@ returns-in-7 c =
 pub returns-in_default : goal.returns-in_default
 unfolding head_of
 returns-in_default c =
-    rw (same-swap c.args.w.now (text "int") ∙ not-placed c.args.w.now (text "int") heads c.word_place-k.result 0 c.word_place-k.ensures refl c.in_default-own.rest.0.0.0.0.0.0.0.1, same-swap c.args.w.now (text "range") ∙ not-placed c.args.w.now (text "range") heads c.word_place-k.result 1 c.word_place-k.ensures refl c.in_default-own.rest.0.0.0.0.0.0.1, same-swap c.args.w.now (text "real") ∙ not-placed c.args.w.now (text "real") heads c.word_place-k.result 2 c.word_place-k.ensures refl c.in_default-own.rest.0.0.0.0.0.1, same-swap c.args.w.now (text "line") ∙ not-placed c.args.w.now (text "line") heads c.word_place-k.result 3 c.word_place-k.ensures refl c.in_default-own.rest.0.0.0.0.1, same-swap c.args.w.now (text "size") ∙ not-placed c.args.w.now (text "size") heads c.word_place-k.result 4 c.word_place-k.ensures refl c.in_default-own.rest.0.0.0.1, same-swap c.args.w.now (text "bool") ∙ not-placed c.args.w.now (text "bool") heads c.word_place-k.result 5 c.word_place-k.ensures refl c.in_default-own.rest.0.0.1, same-swap c.args.w.now (text "field") ∙ not-placed c.args.w.now (text "field") heads c.word_place-k.result 6 c.word_place-k.ensures refl c.in_default-own.rest.0.1, same-swap c.args.w.now (text "uuid") ∙ not-placed c.args.w.now (text "uuid") heads c.word_place-k.result 7 c.word_place-k.ensures refl c.in_default-own.rest.1)
+    rw (same-swap c.args.w.now (text "int") ∙ not-placed c.args.w.now (text "int") heads c.word_place-k.result 0 c.word_place-k.ensures refl c.in_default.in_default-own.rest.0.0.0.0.0.0.0.1, same-swap c.args.w.now (text "range") ∙ not-placed c.args.w.now (text "range") heads c.word_place-k.result 1 c.word_place-k.ensures refl c.in_default.in_default-own.rest.0.0.0.0.0.0.1, same-swap c.args.w.now (text "real") ∙ not-placed c.args.w.now (text "real") heads c.word_place-k.result 2 c.word_place-k.ensures refl c.in_default.in_default-own.rest.0.0.0.0.0.1, same-swap c.args.w.now (text "line") ∙ not-placed c.args.w.now (text "line") heads c.word_place-k.result 3 c.word_place-k.ensures refl c.in_default.in_default-own.rest.0.0.0.0.1, same-swap c.args.w.now (text "size") ∙ not-placed c.args.w.now (text "size") heads c.word_place-k.result 4 c.word_place-k.ensures refl c.in_default.in_default-own.rest.0.0.0.1, same-swap c.args.w.now (text "bool") ∙ not-placed c.args.w.now (text "bool") heads c.word_place-k.result 5 c.word_place-k.ensures refl c.in_default.in_default-own.rest.0.0.1, same-swap c.args.w.now (text "field") ∙ not-placed c.args.w.now (text "field") heads c.word_place-k.result 6 c.word_place-k.ensures refl c.in_default.in_default-own.rest.0.1, same-swap c.args.w.now (text "uuid") ∙ not-placed c.args.w.now (text "uuid") heads c.word_place-k.result 7 c.word_place-k.ensures refl c.in_default.in_default-own.rest.1)
