@@ -1,12 +1,12 @@
 use Prim.Native.Nat.{◌-◌}
 use native.Mathlib.Omega.{arith}
 use mathlib.Core.Path.{sym, ap, ◌∙◌}
-use mathlib.Core.Logic.{⊎_elim}
 use mathlib.Core.Bool.{true}
 use Rattle.records.specs.Places.{places_of, descriptor_head}
 use Rattle.records.proofs.Readings.{part-readable, reads-readable}
 use Rattle.records.proofs.Searches.{places-all, meets, head-default, head-named, head-end, head-member, head-here, head-other}
 use Rattle.records.proofs.find_head.Goals as goal
+use Rattle.records.proofs.find_head.Goals.{then-p+else-opens_set, else-p}
 
 pub returns-then-name-eq0 : goal.returns-then-name-eq0
 returns-then-name-eq0 c =
@@ -77,4 +77,4 @@ loop-p-smaller c =
 pub loop-p-preserved : goal.loop-p-preserved
 loop-p-preserved c =
     let m = meets c.args.s.now c.loop-p.i c.next_record-r.result c.loop-p.invariant.0 c.loop-p.invariant.1 c.next_record-r.ensures c.in-At.is in
-    (m.stand.inside, m.stand.readable, c.loop-p.invariant.2 ∙ ⊎_elim (λ w. head-other c.args.s.now c.loop-p.i c.in-At.p m c.args.name.now w.4.result w.4.ensures w.5.left) (λ w. head-member c.args.s.now c.loop-p.i c.in-At.p m c.args.name.now w.left) c.if-p.branch)
+    (m.stand.inside, m.stand.readable, c.loop-p.invariant.2 ∙ elim c.if-p.branch [ then-p+else-opens_set w ↦ head-other c.args.s.now c.loop-p.i c.in-At.p m c.args.name.now w.opens_set.result w.opens_set.ensures w.if-opens_set.false | else-p w ↦ head-member c.args.s.now c.loop-p.i c.in-At.p m c.args.name.now w.if-p.false ])

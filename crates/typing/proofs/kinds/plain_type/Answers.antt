@@ -84,7 +84,7 @@ returns-in-Range c =
 pub returns-in-Size : goal.returns-in-Size
 returns-in-Size c =
     let f = found c.args.s.now c.next_word-w.ensures c.in-At.is in
-    told_same c.args.s.now (ap (plain_kind int_bounds) f.2) (told-by-head c.args.s.now (span c.in-At.start c.in-At.end c.args.s.now) (words (span c.in-At.end (length c.args.s.now) c.args.s.now)) (sym c.head_of-h.ensures ∙ c.in-Size.is) (c.type_size.ensures c.args.s.now))
+    told_same c.args.s.now (ap (plain_kind int_bounds) f.2) (told-by-head c.args.s.now (span c.in-At.start c.in-At.end c.args.s.now) (words (span c.in-At.end (length c.args.s.now) c.args.s.now)) (sym c.head_of-h.ensures ∙ c.in-Size.is) (c.size_of.ensures c.args.s.now))
 
 pub returns-in-Name : goal.returns-in-Name
 returns-in-Name c =
