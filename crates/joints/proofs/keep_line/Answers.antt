@@ -10,7 +10,8 @@ use Rattle.joints.proofs.keep_line.Goals as goal
 
 pub returns-then-same_bytes : goal.returns-then-same_bytes
 returns-then-same_bytes c =
-    joint-stays (is_joint (span c.args.from (c.args.end - 1) c.args.text.now)) c.args.to (c.args.to + (c.args.end - c.args.from)) c.args.text.now (paste c.args.text.now c.args.to (drop c.args.from c.args.text.now) (c.args.end - c.args.from)) (sym c.same_bytes.ensures ∙ c.if-same_bytes.true)
+    let k = joint-stays (is_joint (span c.args.from (c.args.end - 1) c.args.text.now)) c.args.to (c.args.to + (c.args.end - c.args.from)) c.args.text.now (paste c.args.text.now c.args.to (drop c.args.from c.args.text.now) (c.args.end - c.args.from)) (sym c.same_bytes.ensures ∙ c.if-same_bytes.true) in
+    record { value = k.0; text_after = k.1 }
 
 pub returns : goal.returns
 returns c =

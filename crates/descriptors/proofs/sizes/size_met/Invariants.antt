@@ -13,7 +13,7 @@ use Rattle.records.specs.Named.{values_from}
 use Rattle.descriptors.proofs.Limits.{is_short}
 use Rattle.descriptors.proofs.sizes.size_met.Given as goal
 
-abbrev is_met : ℕ → Bytes → Bool
+abbrev pub is_met : ℕ → Bytes → Bool
 is_met n v = meets_size (size_rule int_bounds (words v)) n
 
 abbrev pub invariant-loop-value : goal.invariant-loop-value
