@@ -13,6 +13,7 @@ use Rattle.words.proofs.Decoded.{decoded-all, decoded-length, decoded-inside, sc
 use Rattle.descriptors.proofs.Names.{name-inside, name-part, value-part}
 use Rattle.descriptors.proofs.Judging.{fault-told, taken-told, new_told}
 use borrow.Author.Tests.{not-true, not-false}
+use mathlib.Core.Bool.{not}
 use Rattle.descriptors.proofs.shapes.head_of.Goals as goal
 
 pub slice_bounds-well_formed-count : goal.slice_bounds-well_formed-count
@@ -33,7 +34,7 @@ well_formed-requires c =
 
 pub returns-then-not-well_formed : goal.returns-then-not-well_formed
 returns-then-not-well_formed c =
-    (fault-told (fields_of (read_of (span c.args.a c.args.e c.args.s.now))) (names_at c.args.s.now c.args.starts.now c.args.ends.now) c.well_formed.result c.well_formed.ensures.0 (not-true c.well_formed.result c.if-not-well_formed.taken), c.well_formed.ensures.1)
+    (fault-told (fields_of (read_of (span c.args.a c.args.e c.args.s.now))) (names_at c.args.s.now c.args.starts.now c.args.ends.now) c.well_formed-2.result c.well_formed-2.ensures.0 (not-true c.well_formed-2.result (ap not c.if-not-well_formed.true)), c.well_formed-2.ensures.1)
 
 pub slice_bounds-rec_value-count : goal.slice_bounds-rec_value-count
 slice_bounds-rec_value-count c =
@@ -73,15 +74,15 @@ slice_bounds-copy_value-end c =
 
 pub copy_value-n-requires : goal.copy_value-n-requires
 copy_value-n-requires c =
-    omega (arith, value-part c.args.s.now c.args.a c.args.e c.rec_value-v.result c.requires.a_le_e.0 c.requires.a_le_e.1 c.rec_value-v.ensures c.requires.s_value_2, c.requires.value_bytes_in_bounds, c.well_formed.ensures.1)
+    omega (arith, value-part c.args.s.now c.args.a c.args.e c.rec_value-v.result c.requires.a_le_e.0 c.requires.a_le_e.1 c.rec_value-v.ensures c.requires.s_value_2, c.requires.value_bytes_in_bounds, c.well_formed-2.ensures.1)
 
 pub slice_bounds-is_taken-end : goal.slice_bounds-is_taken-end
 slice_bounds-is_taken-end c =
-    decoded-inside (value_from (span (c.args.a + c.rec_value-v.result.start) (c.args.a + c.rec_value-v.result.end) c.args.s.now)) c.well_formed.last.1.0 c.copy_value-n.last.1.0 c.copy_value-n.result c.copy_value-n.ensures.0 c.copy_value-n.ensures.1 (omega (arith, value-part c.args.s.now c.args.a c.args.e c.rec_value-v.result c.requires.a_le_e.0 c.requires.a_le_e.1 c.rec_value-v.ensures c.requires.s_value_2, c.requires.value_bytes_in_bounds, c.well_formed.ensures.1))
+    decoded-inside (value_from (span (c.args.a + c.rec_value-v.result.start) (c.args.a + c.rec_value-v.result.end) c.args.s.now)) c.well_formed-2.new.scratch c.copy_value-n.new.out c.copy_value-n.result c.copy_value-n.ensures.0 c.copy_value-n.ensures.1 (omega (arith, value-part c.args.s.now c.args.a c.args.e c.rec_value-v.result c.requires.a_le_e.0 c.requires.a_le_e.1 c.rec_value-v.ensures c.requires.s_value_2, c.requires.value_bytes_in_bounds, c.well_formed-2.ensures.1))
 
 pub slice_bounds-is_taken-end-2 : goal.slice_bounds-is_taken-end-2
 slice_bounds-is_taken-end-2 c =
-    decoded-length (value_from (span (c.args.a + c.rec_value-v.result.start) (c.args.a + c.rec_value-v.result.end) c.args.s.now)) c.well_formed.last.1.0 c.copy_value-n.last.1.0 c.copy_value-n.result c.copy_value-n.ensures.0 c.copy_value-n.ensures.1
+    decoded-length (value_from (span (c.args.a + c.rec_value-v.result.start) (c.args.a + c.rec_value-v.result.end) c.args.s.now)) c.well_formed-2.new.scratch c.copy_value-n.new.out c.copy_value-n.result c.copy_value-n.ensures.0 c.copy_value-n.ensures.1
 
 pub is_taken-requires : goal.is_taken-requires
 is_taken-requires c =
@@ -89,16 +90,16 @@ is_taken-requires c =
 
 pub shape_of-scratch-then-is_taken : goal.shape_of-scratch-then-is_taken
 shape_of-scratch-then-is_taken c =
-    scratch-length (value_from (span (c.args.a + c.rec_value-v.result.start) (c.args.a + c.rec_value-v.result.end) c.args.s.now)) c.well_formed.last.1.0 c.copy_value-n.last.1.0 c.copy_value-n.result c.copy_value-n.ensures.0 c.copy_value-n.ensures.1 (omega (arith, value-part c.args.s.now c.args.a c.args.e c.rec_value-v.result c.requires.a_le_e.0 c.requires.a_le_e.1 c.rec_value-v.ensures c.requires.s_value_2, c.requires.value_bytes_in_bounds, c.well_formed.ensures.1)) ∙ c.well_formed.ensures.1
+    scratch-length (value_from (span (c.args.a + c.rec_value-v.result.start) (c.args.a + c.rec_value-v.result.end) c.args.s.now)) c.well_formed-2.new.scratch c.copy_value-n.new.out c.copy_value-n.result c.copy_value-n.ensures.0 c.copy_value-n.ensures.1 (omega (arith, value-part c.args.s.now c.args.a c.args.e c.rec_value-v.result c.requires.a_le_e.0 c.requires.a_le_e.1 c.rec_value-v.ensures c.requires.s_value_2, c.requires.value_bytes_in_bounds, c.well_formed-2.ensures.1)) ∙ c.well_formed-2.ensures.1
 
 pub returns-then-is_taken : goal.returns-then-is_taken
 returns-then-is_taken c =
-    (taken-told (fields_of (read_of (span c.args.a c.args.e c.args.s.now))) (names_at c.args.s.now c.args.starts.now c.args.ends.now) c.well_formed.result c.well_formed.ensures.0 c.is_taken.result (first_word (take c.copy_value-n.result c.copy_value-n.last.1.0)) c.is_taken.ensures (ap first_word (decoded-all (value_from (span (c.args.a + c.rec_value-v.result.start) (c.args.a + c.rec_value-v.result.end) c.args.s.now)) c.well_formed.last.1.0 c.copy_value-n.last.1.0 c.copy_value-n.result c.copy_value-n.ensures.0 c.copy_value-n.ensures.1) ∙ name-part c.args.s.now c.args.a c.args.e c.rec_value-v.result c.requires.a_le_e.0 c.requires.a_le_e.1 c.rec_value-v.ensures) (not-false c.well_formed.result c.if-not-well_formed.left) c.if-is_taken.taken, scratch-length (value_from (span (c.args.a + c.rec_value-v.result.start) (c.args.a + c.rec_value-v.result.end) c.args.s.now)) c.well_formed.last.1.0 c.copy_value-n.last.1.0 c.copy_value-n.result c.copy_value-n.ensures.0 c.copy_value-n.ensures.1 (omega (arith, value-part c.args.s.now c.args.a c.args.e c.rec_value-v.result c.requires.a_le_e.0 c.requires.a_le_e.1 c.rec_value-v.ensures c.requires.s_value_2, c.requires.value_bytes_in_bounds, c.well_formed.ensures.1)) ∙ c.well_formed.ensures.1)
+    (taken-told (fields_of (read_of (span c.args.a c.args.e c.args.s.now))) (names_at c.args.s.now c.args.starts.now c.args.ends.now) c.well_formed-2.result c.well_formed-2.ensures.0 c.is_taken.result (first_word (take c.copy_value-n.result c.copy_value-n.new.out)) c.is_taken.ensures (ap first_word (decoded-all (value_from (span (c.args.a + c.rec_value-v.result.start) (c.args.a + c.rec_value-v.result.end) c.args.s.now)) c.well_formed-2.new.scratch c.copy_value-n.new.out c.copy_value-n.result c.copy_value-n.ensures.0 c.copy_value-n.ensures.1) ∙ name-part c.args.s.now c.args.a c.args.e c.rec_value-v.result c.requires.a_le_e.0 c.requires.a_le_e.1 c.rec_value-v.ensures) (not-false c.well_formed-2.result (ap not c.if-not-well_formed.false)) c.if-is_taken.true, scratch-length (value_from (span (c.args.a + c.rec_value-v.result.start) (c.args.a + c.rec_value-v.result.end) c.args.s.now)) c.well_formed-2.new.scratch c.copy_value-n.new.out c.copy_value-n.result c.copy_value-n.ensures.0 c.copy_value-n.ensures.1 (omega (arith, value-part c.args.s.now c.args.a c.args.e c.rec_value-v.result c.requires.a_le_e.0 c.requires.a_le_e.1 c.rec_value-v.ensures c.requires.s_value_2, c.requires.value_bytes_in_bounds, c.well_formed-2.ensures.1)) ∙ c.well_formed-2.ensures.1)
 
 pub shape_of-scratch : goal.shape_of-scratch
 shape_of-scratch c =
-    scratch-length (value_from (span (c.args.a + c.rec_value-v.result.start) (c.args.a + c.rec_value-v.result.end) c.args.s.now)) c.well_formed.last.1.0 c.copy_value-n.last.1.0 c.copy_value-n.result c.copy_value-n.ensures.0 c.copy_value-n.ensures.1 (omega (arith, value-part c.args.s.now c.args.a c.args.e c.rec_value-v.result c.requires.a_le_e.0 c.requires.a_le_e.1 c.rec_value-v.ensures c.requires.s_value_2, c.requires.value_bytes_in_bounds, c.well_formed.ensures.1)) ∙ c.well_formed.ensures.1
+    scratch-length (value_from (span (c.args.a + c.rec_value-v.result.start) (c.args.a + c.rec_value-v.result.end) c.args.s.now)) c.well_formed-2.new.scratch c.copy_value-n.new.out c.copy_value-n.result c.copy_value-n.ensures.0 c.copy_value-n.ensures.1 (omega (arith, value-part c.args.s.now c.args.a c.args.e c.rec_value-v.result c.requires.a_le_e.0 c.requires.a_le_e.1 c.rec_value-v.ensures c.requires.s_value_2, c.requires.value_bytes_in_bounds, c.well_formed-2.ensures.1)) ∙ c.well_formed-2.ensures.1
 
 pub returns : goal.returns
 returns c =
-    ((new_told (fields_of (read_of (span c.args.a c.args.e c.args.s.now))) (names_at c.args.s.now c.args.starts.now c.args.ends.now) c.well_formed.result c.well_formed.ensures.0 c.is_taken.result (first_word (take c.copy_value-n.result c.copy_value-n.last.1.0)) c.is_taken.ensures (ap first_word (decoded-all (value_from (span (c.args.a + c.rec_value-v.result.start) (c.args.a + c.rec_value-v.result.end) c.args.s.now)) c.well_formed.last.1.0 c.copy_value-n.last.1.0 c.copy_value-n.result c.copy_value-n.ensures.0 c.copy_value-n.ensures.1) ∙ name-part c.args.s.now c.args.a c.args.e c.rec_value-v.result c.requires.a_le_e.0 c.requires.a_le_e.1 c.rec_value-v.ensures) (not-false c.well_formed.result c.if-not-well_formed.left) c.if-is_taken.left, omega (arith, c.rec_value-v.ensures.0), name-inside c.args.s.now c.args.a c.args.e c.rec_value-v.result c.requires.a_le_e.0 c.requires.a_le_e.1 c.rec_value-v.ensures, name-part c.args.s.now c.args.a c.args.e c.rec_value-v.result c.requires.a_le_e.0 c.requires.a_le_e.1 c.rec_value-v.ensures), scratch-length (value_from (span (c.args.a + c.rec_value-v.result.start) (c.args.a + c.rec_value-v.result.end) c.args.s.now)) c.well_formed.last.1.0 c.copy_value-n.last.1.0 c.copy_value-n.result c.copy_value-n.ensures.0 c.copy_value-n.ensures.1 (omega (arith, value-part c.args.s.now c.args.a c.args.e c.rec_value-v.result c.requires.a_le_e.0 c.requires.a_le_e.1 c.rec_value-v.ensures c.requires.s_value_2, c.requires.value_bytes_in_bounds, c.well_formed.ensures.1)) ∙ c.well_formed.ensures.1)
+    ((new_told (fields_of (read_of (span c.args.a c.args.e c.args.s.now))) (names_at c.args.s.now c.args.starts.now c.args.ends.now) c.well_formed-2.result c.well_formed-2.ensures.0 c.is_taken.result (first_word (take c.copy_value-n.result c.copy_value-n.new.out)) c.is_taken.ensures (ap first_word (decoded-all (value_from (span (c.args.a + c.rec_value-v.result.start) (c.args.a + c.rec_value-v.result.end) c.args.s.now)) c.well_formed-2.new.scratch c.copy_value-n.new.out c.copy_value-n.result c.copy_value-n.ensures.0 c.copy_value-n.ensures.1) ∙ name-part c.args.s.now c.args.a c.args.e c.rec_value-v.result c.requires.a_le_e.0 c.requires.a_le_e.1 c.rec_value-v.ensures) (not-false c.well_formed-2.result (ap not c.if-not-well_formed.false)) c.if-is_taken.false, omega (arith, c.rec_value-v.ensures.0), name-inside c.args.s.now c.args.a c.args.e c.rec_value-v.result c.requires.a_le_e.0 c.requires.a_le_e.1 c.rec_value-v.ensures, name-part c.args.s.now c.args.a c.args.e c.rec_value-v.result c.requires.a_le_e.0 c.requires.a_le_e.1 c.rec_value-v.ensures), scratch-length (value_from (span (c.args.a + c.rec_value-v.result.start) (c.args.a + c.rec_value-v.result.end) c.args.s.now)) c.well_formed-2.new.scratch c.copy_value-n.new.out c.copy_value-n.result c.copy_value-n.ensures.0 c.copy_value-n.ensures.1 (omega (arith, value-part c.args.s.now c.args.a c.args.e c.rec_value-v.result c.requires.a_le_e.0 c.requires.a_le_e.1 c.rec_value-v.ensures c.requires.s_value_2, c.requires.value_bytes_in_bounds, c.well_formed-2.ensures.1)) ∙ c.well_formed-2.ensures.1)
