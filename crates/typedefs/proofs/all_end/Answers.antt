@@ -28,9 +28,9 @@ target_ends-requires c =
 
 pub returns-then-not-target_ends : goal.returns-then-not-target_ends
 returns-then-not-target_ends c =
-    let ts = targets_in c.args.t1 in
-    let e = c.target_ends.ensures ∙ ap (leads ts) (sym (target_at c.args.t1 c.requires c.loop-i.i _ c.loop-i-test.true)) in
-    sym (c.loop-i.invariant.1 ∙ ends-cut ts c.loop-i.i c.target_ends.result (omega (arith, c.loop-i-test.true, targets-length c.args.t1 c.requires)) e
+    let ts = targets_in c.args.targets in
+    let e = c.target_ends.ensures ∙ ap (leads ts) (sym (target_at c.args.targets c.requires c.loop-i.i _ c.loop-i-test.true)) in
+    sym (c.loop-i.invariant.1 ∙ ends-cut ts c.loop-i.i c.target_ends.result (omega (arith, c.loop-i-test.true, targets-length c.args.targets c.requires)) e
     ∙ ap (λ (b : Bool). b && all (leads ts) (drop (c.loop-i.i + 1) ts)) (not-true c.target_ends.result (ap not c.if-not-target_ends.true)))
 
 pub overflow_add-i : goal.overflow_add-i
@@ -39,14 +39,14 @@ overflow_add-i c =
 
 pub loop-i-preserved : goal.loop-i-preserved
 loop-i-preserved c =
-    let ts = targets_in c.args.t1 in
-    let e = c.target_ends.ensures ∙ ap (leads ts) (sym (target_at c.args.t1 c.requires c.loop-i.i _ c.loop-i-test.true)) in (
+    let ts = targets_in c.args.targets in
+    let e = c.target_ends.ensures ∙ ap (leads ts) (sym (target_at c.args.targets c.requires c.loop-i.i _ c.loop-i-test.true)) in (
       omega arith,
-      c.loop-i.invariant.1 ∙ ends-cut ts c.loop-i.i c.target_ends.result (omega (arith, c.loop-i-test.true, targets-length c.args.t1 c.requires)) e
+      c.loop-i.invariant.1 ∙ ends-cut ts c.loop-i.i c.target_ends.result (omega (arith, c.loop-i-test.true, targets-length c.args.targets c.requires)) e
           ∙ ap (λ (b : Bool). b && all (leads ts) (drop (c.loop-i.i + 1) ts)) (not-false c.target_ends.result (ap not c.if-not-target_ends.false)),
     )
 
 pub returns : goal.returns
 returns c =
-    let ts = targets_in c.args.t1 in
-    sym (c.loop-i.invariant.1 ∙ ends-done ts c.loop-i.i (omega (arith, c.loop-i-test.false, targets-length c.args.t1 c.requires)))
+    let ts = targets_in c.args.targets in
+    sym (c.loop-i.invariant.1 ∙ ends-done ts c.loop-i.i (omega (arith, c.loop-i-test.false, targets-length c.args.targets c.requires)))

@@ -80,7 +80,7 @@ slice_bounds-name_good-end-in-loop-value c =
 
 pub shape_of-scratch-then-not-name_good : goal.shape_of-scratch-then-not-name_good
 shape_of-scratch-then-not-name_good c =
-    omega (arith, c.copy_value-n.auto.scratch, c.loop-value.invariant.2)
+    omega (arith, c.copy_value-n.auto.out, c.loop-value.invariant.2)
 
 pub returns-then-not-name_good : goal.returns-then-not-name_good
 returns-then-not-name_good c =
@@ -107,4 +107,4 @@ loop-value-preserved c =
     let v = value_from (span (c.loop-value.i + c.in-At.value) (c.loop-value.i + c.in-At.end) d) in
     let f = fit-here (length c.args.scratch.now) (values_from d (text "%typedef") c.loop-value.i) v (values_from d (text "%typedef") (c.loop-value.i + c.in-At.end)) c.loop-value.invariant.3 h.values in
     let q = c.name_good.ensures ∙ ap (λ (u : Bytes). is_typedef_name (first_word u)) (decoded-all v c.loop-value.scratch _ c.copy_value-n.result c.copy_value-n.ensures.0 c.copy_value-n.ensures.1) in
-    (h.inside, h.readable, omega (arith, c.copy_value-n.auto.scratch, c.loop-value.invariant.2), f.1, c.loop-value.invariant.4 ∙ good-cut d c.loop-value.i (c.loop-value.i + c.in-At.value) (c.loop-value.i + c.in-At.end) c.name_good.result h q ∙ ap (λ (b : Bool). b && all is_typedef_name (names_from d (c.loop-value.i + c.in-At.end))) (not-false c.name_good.result (ap not c.if-not-name_good.false)))
+    (h.inside, h.readable, omega (arith, c.copy_value-n.auto.out, c.loop-value.invariant.2), f.1, c.loop-value.invariant.4 ∙ good-cut d c.loop-value.i (c.loop-value.i + c.in-At.value) (c.loop-value.i + c.in-At.end) c.name_good.result h q ∙ ap (λ (b : Bool). b && all is_typedef_name (names_from d (c.loop-value.i + c.in-At.end))) (not-false c.name_good.result (ap not c.if-not-name_good.false)))

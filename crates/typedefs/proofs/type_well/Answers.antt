@@ -39,7 +39,7 @@ returns-then-not-names_well c =
 
 pub read_typedef-t-requires : goal.read_typedef-t-requires
 read_typedef-t-requires c =
-    record { are_names = c.requires.are_names.0; value_in_bounds = (c.requires.value_in_bounds.0, omega (arith, c.copy_value-n.auto.scratch, c.requires.value_in_bounds.1)) }
+    record { are_names = c.requires.are_names.0; value_in_bounds = (c.requires.value_in_bounds.0, omega (arith, c.copy_value-n.auto.out, c.requires.value_in_bounds.1)) }
 
 pub target_ends-requires : goal.target_ends-requires
 target_ends-requires c =
