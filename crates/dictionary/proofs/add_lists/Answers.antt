@@ -1,10 +1,10 @@
 use Prim.Native.Nat.{◌-◌}
 use native.Mathlib.Omega.{arith}
-use mathlib.Core.Logic.{⊎_elim}
 use Rattle.records.proofs.Readings.{part-readable}
 use Rattle.records.proofs.NextFields.{next-told}
 use Rattle.dictionary.proofs.Reading.{lists-start, lists-end, lists-skip, lists-room, lists-names, lists-more}
 use Rattle.dictionary.proofs.add_lists.Goals as goal
+use Rattle.dictionary.proofs.add_lists.Goals.{then-tag-lt-NONE, else-tag-lt-NONE}
 
 pub loop-start-init : goal.loop-start-init
 loop-start-init c =
@@ -71,7 +71,4 @@ loop-start-smaller c =
 pub loop-start-preserved : goal.loop-start-preserved
 loop-start-preserved c =
     let h = next-told c.args.d.now c.loop-start.i c.next_field-f.result c.next_field-f.ensures c.in-At.is in
-    ⊎_elim
-    (λ w. rw (w.5, w.6) (lists-more c.args.d.now c.args.entries.now c.loop-start.entries c.loop-start.n c.loop-start.i c.loop-start.invariant _ _ _ _ h c.list_tag-tag.result c.list_tag-tag.ensures w.0.taken _ _ w.2.ensures))
-    (λ w. rw (w.1, w.2) (lists-skip c.args.d.now c.args.entries.now c.loop-start.entries c.loop-start.n c.loop-start.i c.loop-start.invariant _ _ _ _ h c.list_tag-tag.result c.list_tag-tag.ensures w.0.left))
-    c.if-tag-lt-NONE.branch
+    elim c.if-tag-lt-NONE.branch [ then-tag-lt-NONE w ↦ rw (w.entries-is, w.n-is) (lists-more c.args.d.now c.args.entries.now c.loop-start.entries c.loop-start.n c.loop-start.i c.loop-start.invariant _ _ _ _ h c.list_tag-tag.result c.list_tag-tag.ensures w.if-tag-lt-NONE.true _ _ w.add_words-n.ensures) | else-tag-lt-NONE w ↦ rw (w.entries-is, w.n-is) (lists-skip c.args.d.now c.args.entries.now c.loop-start.entries c.loop-start.n c.loop-start.i c.loop-start.invariant _ _ _ _ h c.list_tag-tag.result c.list_tag-tag.ensures w.if-tag-lt-NONE.false) ]

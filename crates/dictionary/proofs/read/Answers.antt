@@ -14,11 +14,11 @@ use Rattle.dictionary.proofs.read.Goals as goal
 pub add_lists-n-requires : goal.add_lists-n-requires
 add_lists-n-requires c =
     let h = c.requires.described in
-    record { d_value = (h.reads, h.short); d_in_bounds = (omega (arith, lists-few c.args.d.now h, c.requires.list_words_in_bounds.1), lists-names int_bounds (record_in c.args.d.now) (all-shaped c.args.d.now h)) }
+    record { d_value = (h.reads, h.short); d_in_bounds = (omega (arith, lists-few c.args.d.now h, c.requires.from_in_bounds.1), lists-names int_bounds (record_in c.args.d.now) (all-shaped c.args.d.now h)) }
 
 pub add_types-a-requires : goal.add_types-a-requires
 add_types-a-requires c =
-    record { described = c.requires.described; from_in_bounds = (c.requires.list_words_in_bounds.0, omega (arith, c.add_lists-n.ensures.count, c.add_lists-n.ensures.long, lists-few c.args.d.now c.requires.described, c.requires.list_words_in_bounds.1)) }
+    record { described = c.requires.described; from_in_bounds = (c.requires.from_in_bounds.0, omega (arith, c.add_lists-n.ensures.count, c.add_lists-n.ensures.long, lists-few c.args.d.now c.requires.described, c.requires.from_in_bounds.1)) }
 
 pub slice_bounds-build-end : goal.slice_bounds-build-end
 slice_bounds-build-end c =
@@ -38,8 +38,8 @@ shape_of-entries c =
     let b = c.add_types-a.ensures.adding.long in
     let r = c.add_types-a.ensures.room in
     let k = c.build-t.auto in
-    omega (arith, length-append c.build-t.new.entries (drop c.add_types-a.result.count c.add_types-a.new.entries), length-drop c.add_types-a.result.count c.add_types-a.new.entries, length-take-le c.add_types-a.result.count c.add_types-a.new.entries c.add_types-a.ensures.room, k.1.0)
+    omega (arith, length-append c.build-t.new.entries (drop c.add_types-a.result.count c.add_types-a.new.entries), length-drop c.add_types-a.result.count c.add_types-a.new.entries, length-take-le c.add_types-a.result.count c.add_types-a.new.entries c.add_types-a.ensures.room, k.entries)
 
 pub returns : goal.returns
 returns c =
-    (made c.args.d.now c.args.from c.args.entries.now c.add_lists-n.new.entries c.add_lists-n.result c.add_lists-n.ensures c.add_types-a.new.entries c.add_types-a.result c.add_types-a.ensures c.build-t.new.entries c.build-t.result c.build-t.ensures (omega (arith, c.add_lists-n.ensures.count, c.add_lists-n.ensures.long, lists-few c.args.d.now c.requires.described, c.requires.list_words_in_bounds.1)), refl)
+    (made c.args.d.now c.args.from c.args.entries.now c.add_lists-n.new.entries c.add_lists-n.result c.add_lists-n.ensures c.add_types-a.new.entries c.add_types-a.result c.add_types-a.ensures c.build-t.new.entries c.build-t.result c.build-t.ensures (omega (arith, c.add_lists-n.ensures.count, c.add_lists-n.ensures.long, lists-few c.args.d.now c.requires.described, c.requires.from_in_bounds.1)), refl)

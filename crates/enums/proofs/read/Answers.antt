@@ -27,7 +27,7 @@ shape_of-entries c =
     let b = c.add_rows-a.ensures.adding.long in
     let r = c.add_rows-a.ensures.room in
     let k = c.build-t.auto in
-    omega (arith, length-append c.build-t.new.entries (drop c.add_rows-a.result.count c.add_rows-a.new.entries), length-drop c.add_rows-a.result.count c.add_rows-a.new.entries, length-take-le c.add_rows-a.result.count c.add_rows-a.new.entries c.add_rows-a.ensures.room, k.1.0)
+    omega (arith, length-append c.build-t.new.entries (drop c.add_rows-a.result.count c.add_rows-a.new.entries), length-drop c.add_rows-a.result.count c.add_rows-a.new.entries, length-take-le c.add_rows-a.result.count c.add_rows-a.new.entries c.add_rows-a.ensures.room, k.entries)
 
 pub returns : goal.returns
 returns c =

@@ -32,7 +32,7 @@ join-requires c =
     let r = c.build-t.ensures.table.room in
     let z = c.requires.list_words_in_bounds.1 in
     let k = c.build-t.auto in
-    (read_table c.args.d.now (listed c.args.name.now (record_in c.args.d.now)) c.args.entries.now c.add_list-n.new.entries c.add_list-n.result c.requires.described.1.few c.requires.list_words_in_bounds.0 c.add_list-n.ensures c.build-t.new.entries c.build-t.result c.build-t.ensures, omega (arith, k.1.0))
+    (read_table c.args.d.now (listed c.args.name.now (record_in c.args.d.now)) c.args.entries.now c.add_list-n.new.entries c.add_list-n.result c.requires.described.1.few c.requires.list_words_in_bounds.0 c.add_list-n.ensures c.build-t.new.entries c.build-t.result c.build-t.ensures, omega (arith, k.entries))
 
 pub returns : goal.returns
 returns c =
