@@ -83,7 +83,7 @@ add_words-y-requires c =
 
 pub shape_of-scratch-in_default-y : goal.shape_of-scratch-in_default-y
 shape_of-scratch-in_default-y c =
-    c.copy_value-n.auto.scratch ∙ c.loop-value.invariant.3
+    c.copy_value-n.auto.out ∙ c.loop-value.invariant.3
 
 pub shape_of-out-in_default-y : goal.shape_of-out-in_default-y
 shape_of-out-in_default-y c =
@@ -119,7 +119,7 @@ loop-value-preserved c =
       h.inside,
       h.readable,
       listed-on c.args.d.now c.loop-value.i _ _ h x q c.loop-value.invariant.2,
-      c.copy_value-n.auto.scratch ∙ c.loop-value.invariant.3,
+      c.copy_value-n.auto.out ∙ c.loop-value.invariant.3,
       c.add_words-y.auto.out ∙ c.loop-value.invariant.4,
       λ ns g. let go = c.loop-value.invariant.5 ns g in
           going_on f ws c.loop-value.out c.loop-value.sums (words_from c.args.d.now c.loop-value.i) (step_all f (unadded ns) ws) go (words_of x) (words_from c.args.d.now (c.loop-value.i + c.in-At.end)) (words-cut c.args.d.now c.loop-value.i _ _ h x q) c.add_words-y.new.out c.add_words-y.result (c.add_words-y.ensures go.reached go.sums (words-room c.args.d.now c.loop-value.i _ _ h x q go.reached.passed go.few)) c.in-Is.next c.in-Is.is,

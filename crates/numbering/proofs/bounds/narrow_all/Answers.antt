@@ -113,4 +113,4 @@ loop-value-preserved c =
     let v = value_from (span (c.loop-value.i + c.in-At.value) (length c.args.d.now) c.args.d.now) in
     let all = decoded-all v _ _ c.copy_value-n.result c.copy_value-n.ensures.0 c.copy_value-n.ensures.1 ∙ ap value_from (rest c.args.d.now (c.loop-value.i + c.in-At.value)) in
     let s = span_in c.kind_at-kind.result in
-    (h.inside, h.readable, typed-on c.args.d.now c.loop-value.i _ _ h c.loop-value.invariant.2, c.copy_value-n.auto.scratch ∙ c.kind_at-kind.auto.scratch ∙ c.loop-value.invariant.3, c.narrow.auto.floors ∙ c.loop-value.invariant.4, c.narrow.auto.limits ∙ c.loop-value.invariant.5, types-on c.args.d.now (auto (record_in c.args.d.now)) c.args.floors.now c.args.limits.now c.loop-value.i c.loop-value.floors c.loop-value.limits c.loop-value.invariant.6 _ _ h c.kind_at-kind.result c.kind_at-kind.ensures _ _ (λ n k. c.narrow.ensures.0 n k ∙ ap (λ (x : Bytes). max (get_or c.loop-value.floors (place_in n ws) 0) (pick (among n (typed_names x)) (floor_in s) 0)) all) (λ n k. c.narrow.ensures.1 n k ∙ ap (λ (x : Bytes). min (get_or c.loop-value.limits (place_in n ws) 0) (pick (among n (typed_names x)) (limit_in s) numbers)) all))
+    (h.inside, h.readable, typed-on c.args.d.now c.loop-value.i _ _ h c.loop-value.invariant.2, c.copy_value-n.auto.out ∙ c.kind_at-kind.auto.scratch ∙ c.loop-value.invariant.3, c.narrow.auto.floors ∙ c.loop-value.invariant.4, c.narrow.auto.limits ∙ c.loop-value.invariant.5, types-on c.args.d.now (auto (record_in c.args.d.now)) c.args.floors.now c.args.limits.now c.loop-value.i c.loop-value.floors c.loop-value.limits c.loop-value.invariant.6 _ _ h c.kind_at-kind.result c.kind_at-kind.ensures _ _ (λ n k. c.narrow.ensures.0 n k ∙ ap (λ (x : Bytes). max (get_or c.loop-value.floors (place_in n ws) 0) (pick (among n (typed_names x)) (floor_in s) 0)) all) (λ n k. c.narrow.ensures.1 n k ∙ ap (λ (x : Bytes). min (get_or c.loop-value.limits (place_in n ws) 0) (pick (among n (typed_names x)) (limit_in s) numbers)) all))

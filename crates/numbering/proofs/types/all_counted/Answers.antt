@@ -70,5 +70,5 @@ loop-value-smaller c =
 pub loop-value-preserved : goal.loop-value-preserved
 loop-value-preserved c =
     let h = value-told c.args.d.now (text "%type") c.loop-value.i c.next_named-v.result c.next_named-v.ensures c.in-At.is in
-    let c = counted-cut c.args.d.now c.loop-value.i _ _ c.kind_at-kind.result c.type_counted.result h c.kind_at-kind.ensures c.type_counted.ensures true (not-false c.type_counted.result (ap not c.if-not-type_counted.false)) in
-    (h.inside, h.readable, typed-on c.args.d.now c.loop-value.i _ _ h c.loop-value.invariant.2, c.type_counted.auto.scratch ∙ c.kind_at-kind.auto.scratch ∙ c.loop-value.invariant.3, c.loop-value.invariant.4 ∙ c)
+    let cut = counted-cut c.args.d.now c.loop-value.i _ _ c.kind_at-kind.result c.type_counted.result h c.kind_at-kind.ensures c.type_counted.ensures true (not-false c.type_counted.result (ap not c.if-not-type_counted.false)) in
+    (h.inside, h.readable, typed-on c.args.d.now c.loop-value.i _ _ h c.loop-value.invariant.2, c.type_counted.auto.scratch ∙ c.kind_at-kind.auto.scratch ∙ c.loop-value.invariant.3, c.loop-value.invariant.4 ∙ cut)
