@@ -15,7 +15,7 @@ use Rattle.format.specs.Numbers.{int_bounds}
 use Rattle.format.specs.Rules.{auto, type_rules, are_types_defined, is_counted, autos_counted, is_typed_well}
 use Rattle.format.specs.Written.{Pair, is_legal_pair}
 use Rattle.format.specs.Numbering.{omitted, next_number}
-use Rattle.format.specs.Edits.{Act, Edit}
+use Rattle.format.specs.Edits.{Edit}
 use Rattle.format.specs.Questions.{Row, first_no, types_well, verdict}
 use Rattle.format.specs.Requests.{Request, request_of}
 use Rattle.format.specs.Plain.{Plain, plain_of, index_of, set_at, completed_by, Asked, is_legal_edit, edit_questions, step_by, step_of, step}

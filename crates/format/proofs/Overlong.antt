@@ -1,14 +1,13 @@
 -- "a name over 64 bytes that an insert gets from them fails 104" (document 02, order 6): what an insert makes with such a name is over a limit.
 use Prim.Native.Nat.{ℕ, zero, suc}
-use mathlib.Core.Path.{◌≡◌, refl, sym, ap, ◌∙◌}
+use mathlib.Core.Path.{◌≡◌, refl, ap, ◌∙◌}
 use mathlib.Core.Bool.{Bool, true, false, ◌&&◌, and-false}
 use mathlib.Core.List.{List, [], ◌∷◌, ◌++◌, map}
 use mathlib.Core.Option.{some}
 use lib.Dec.{leb}
 use lib.ListN.{length}
-use Rattle.format.specs.Bytes.{Bytes, all}
+use Rattle.format.specs.Bytes.{all}
 use Rattle.format.specs.Lists.{is_filled, filter, nth}
-use Rattle.format.specs.Records.{Record}
 use Rattle.format.specs.Sets.{RecSet}
 use Rattle.format.specs.Limits.{name_bytes, value_bytes, record_fields, descriptors}
 use Rattle.format.specs.Written.{Pair, new_field}

@@ -11,7 +11,7 @@ use Rattle.format.specs.Bytes.{Bytes, all}
 use Rattle.format.specs.Lines.{Line, bytes}
 use Rattle.format.specs.Pieces.{Piece, lines_of, all_lines, bytes_of, pieces}
 use Rattle.format.specs.Sets.{sets_of}
-use Rattle.format.specs.Written.{Pair, written, written_all, new_field, new_piece, is_legal_pair}
+use Rattle.format.specs.Written.{Pair, written, written_all, new_field, new_piece}
 use Rattle.format.specs.Edits.{renamed_lines, newline, newline_if, in_front}
 use Rattle.format.proofs.Elements.{Each, each-imp, all-each}
 use Rattle.format.proofs.Lines.{bytes-append}

@@ -7,7 +7,7 @@ use mathlib.Core.List.{List, [], ◌∷◌, ◌++◌, append-nil}
 use lib.ListN.{take}
 use Rattle.format.specs.Bytes.{Bytes, pick}
 use Rattle.format.specs.Lists.{is_filled, flat}
-use Rattle.format.specs.Pieces.{Piece, read_of}
+use Rattle.format.specs.Pieces.{read_of}
 use Rattle.format.specs.Records.{Record, Block, is_blank_line, blocks, fields_of}
 use Rattle.format.specs.Sets.{RecSet, sets_of}
 use Rattle.format.specs.Plain.{members_at}

@@ -12,7 +12,7 @@ use Rattle.format.proofs.Elements.{Each, each_append}
 use Rattle.format.specs.Bytes.{Bytes, text, same}
 use Rattle.format.specs.Lines.{Line, lines, Form, form}
 use Rattle.format.specs.Pieces.{Piece, lines_of, all_lines, bytes_of, pieces, some_of, read_of}
-use Rattle.format.specs.Records.{Field, count_of, fields_of}
+use Rattle.format.specs.Records.{count_of, fields_of}
 use Rattle.format.proofs.Lines.{lines-bytes, Clean}
 use Rattle.format.proofs.Renaming.{sound-starts}
 use Rattle.lines.specs.Line.{line_len, first_line}

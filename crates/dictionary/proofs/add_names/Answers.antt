@@ -1,5 +1,4 @@
 use borrow.Author.Rules.{rules}
-use Prim.Native.Nat.{◌-◌}
 use native.Mathlib.Omega.{arith}
 use Rattle.values.proofs.Parts.{behind-told}
 use Rattle.dictionary.proofs.Reading.{names-start, names-there, names-room, names-end, names_more}

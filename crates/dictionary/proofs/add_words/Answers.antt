@@ -1,5 +1,4 @@
 use borrow.Author.Rules.{rules}
-use Prim.Native.Nat.{◌-◌}
 use native.Mathlib.Omega.{arith}
 use Rattle.values.proofs.Splitting.{cuts-told}
 use Rattle.dictionary.proofs.Reading.{words-start, words-end, words-room, words_more}

@@ -1,13 +1,10 @@
-use Prim.Native.Nat.{◌+◌, ◌<◌, ◌-◌}
+use Prim.Native.Nat.{◌+◌, ◌<◌}
 use native.Mathlib.Omega.{arith}
 use mathlib.Core.Bool.{true, false}
 use borrow.Author.Tests.{eq-eqb, ne_eqb}
-use lib.Dec.{eqb}
-use lib.ListN.{length, get_or}
+use lib.ListN.{length}
 use Rattle.lines.proofs.Cuts.{line-le, line-inside, line-at-inside}
 use Rattle.lines.proofs.Extents.{extent-step, extent-end, extent-plus, extent-past, extent-from, newline-before}
-use mathlib.Core.Bool.{not}
-use mathlib.Core.Path.{ap}
 use Rattle.lines.proofs.field_extent.Goals as goal
 
 pub loop-i-init : goal.loop-i-init

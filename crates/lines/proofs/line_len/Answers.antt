@@ -1,4 +1,3 @@
-use Prim.Native.Nat.{◌-◌}
 use native.Mathlib.Omega.{arith}
 use Rattle.lines.proofs.Cuts.{line-more, line-stop, line-end}
 use Rattle.lines.proofs.line_len.Goals as goal

@@ -1,5 +1,4 @@
 use mathlib.Core.Path.{sym, ◌∙◌}
-use Prim.Native.Nat.{◌-◌}
 use native.Mathlib.Omega.{arith}
 use Rattle.format.specs.Lines.{is_later}
 use Rattle.lines.proofs.Heads.{run_more, run-stop, run_end, name-first, name-none, name-empty}

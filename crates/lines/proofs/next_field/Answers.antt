@@ -1,6 +1,5 @@
 -- `lines::next_field` meets its contract: the tests of the code are those by which a named line is told.
 use Prim.Native.Nat.{◌+◌, ◌<◌}
-use mathlib.Core.Logic.{⊎_elim}
 use native.Mathlib.Omega.{arith}
 use lib.ListN.{get_or}
 use borrow.Author.Tests.{eq-eqb, ne_eqb}

@@ -1,7 +1,6 @@
 use Prim.Native.Nat.{◌-◌}
 use native.Mathlib.Omega.{arith}
 use mathlib.Core.Path.{sym, ◌∙◌}
-use mathlib.Core.Bool.{true}
 use Rattle.records.proofs.Readings.{part-readable}
 use Rattle.records.proofs.Fields.{field-read}
 use Rattle.records.proofs.Named.{named-told, occurrence-first, occurrence-later}

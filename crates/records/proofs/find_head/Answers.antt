@@ -1,7 +1,5 @@
-use Prim.Native.Nat.{◌-◌}
 use native.Mathlib.Omega.{arith}
 use mathlib.Core.Path.{sym, ap, ◌∙◌}
-use mathlib.Core.Bool.{true}
 use Rattle.records.specs.Places.{places_of, descriptor_head}
 use Rattle.records.proofs.Readings.{part-readable, reads-readable}
 use Rattle.records.proofs.Searches.{places-all, meets, head-default, head-named, head-end, head-member, head-here, head-other}

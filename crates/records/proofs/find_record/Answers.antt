@@ -1,7 +1,6 @@
 use Prim.Native.Nat.{◌-◌}
 use native.Mathlib.Omega.{arith}
 use mathlib.Core.Path.{sym, ap, ◌∙◌}
-use mathlib.Core.Bool.{true}
 use Rattle.records.specs.Places.{record_place}
 use Rattle.records.proofs.Readings.{part-readable}
 use Rattle.records.proofs.Searches.{places-all, meets, record-end, record-stops, record-here, record-later}

@@ -1,7 +1,5 @@
-use Prim.Native.Nat.{◌-◌}
 use native.Mathlib.Omega.{arith}
 use mathlib.Core.Path.{◌≡◌, ap, sym, ◌∙◌}
-use mathlib.Core.Bool.{true}
 use Rattle.records.specs.Places.{places_of, count_before}
 use Rattle.records.specs.Sets.{set_end}
 use Rattle.records.proofs.Readings.{part-readable}

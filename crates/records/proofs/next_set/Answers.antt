@@ -1,7 +1,6 @@
-use Prim.Native.Nat.{◌+◌, ◌-◌}
+use Prim.Native.Nat.{◌+◌}
 use native.Mathlib.Omega.{arith}
 use mathlib.Core.Path.{ap, sym, ◌∙◌}
-use mathlib.Core.Bool.{true}
 use Rattle.records.specs.Sets.{first_set}
 use Rattle.records.proofs.Readings.{part-readable}
 use Rattle.records.proofs.Searches.{places-all, meets}

@@ -1,5 +1,5 @@
 -- `sorting::insert` meets its contract. The invariant: the entries were only moved, and the place reached is among them. The measure is that place.
-use Prim.Native.Nat.{◌-◌, ◌<◌}
+use Prim.Native.Nat.{◌<◌}
 use mathlib.Core.Path.{◌≡◌}
 use lib.ListN.{length}
 use Rattle.sorting.specs.Moves.{Moved}

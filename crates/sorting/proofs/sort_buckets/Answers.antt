@@ -1,4 +1,3 @@
-use Prim.Native.Nat.{◌-◌}
 use native.Mathlib.Omega.{arith}
 use Rattle.sorting.specs.Moves.{none}
 use Rattle.sorting.proofs.Moves.{moved_length, moved_on}

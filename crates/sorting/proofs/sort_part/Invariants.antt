@@ -1,5 +1,5 @@
 -- `sorting::sort_part` meets its contract. The invariant: since the heap was made the entries were only moved. The measure is the end of the heap.
-use Prim.Native.Nat.{◌-◌, ◌≤◌}
+use Prim.Native.Nat.{◌≤◌}
 use lib.ListN.{length}
 use Rattle.sorting.specs.Moves.{Moved}
 use Rattle.sorting.proofs.sort_part.Given as goal

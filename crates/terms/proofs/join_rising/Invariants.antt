@@ -1,5 +1,5 @@
 -- `terms::join_rising` meets its contract. The invariant: the sets from i on are filled, and the last one filled is at hand. The measure is i.
-use Prim.Native.Nat.{◌-◌, ◌≤◌}
+use Prim.Native.Nat.{◌≤◌}
 use mathlib.Core.Path.{◌≡◌}
 use lib.ListN.{length}
 use Rattle.terms.specs.Joined.{TagsFrom}

@@ -1,4 +1,3 @@
-use Prim.Native.Nat.{◌-◌}
 use native.Mathlib.Omega.{arith}
 use lib.ListN.{length-set}
 use Rattle.terms.proofs.Merging.{merged-start, merged-twin, merged-next, merged-end, merged-none}

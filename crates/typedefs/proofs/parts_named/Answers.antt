@@ -2,7 +2,6 @@ use native.Mathlib.Omega.{arith}
 use mathlib.Core.Path.{refl, sym, ◌∙◌}
 use borrow.Author.Tests.{not-true, not-false}
 use lib.Seq.{length-take-le}
-use Rattle.format.specs.Lines.{is_name}
 use Rattle.words.specs.Spans.{not_byte}
 use Rattle.words.proofs.Finding.{run-le}
 use Rattle.typedefs.proofs.Deciding.{part-bad, part-last, part-more}

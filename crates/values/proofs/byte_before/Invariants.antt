@@ -1,5 +1,5 @@
 -- `values::byte_before` meets its contract. The invariant: decoding comes to at, and the value from there on is the value from k on. The measure is at.
-use Prim.Native.Nat.{◌≤◌, ◌-◌}
+use Prim.Native.Nat.{◌≤◌}
 use mathlib.Core.Path.{◌≡◌}
 use lib.ListN.{drop}
 use Rattle.values.specs.Value.{value_from, Reaches}

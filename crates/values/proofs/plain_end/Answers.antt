@@ -1,4 +1,3 @@
-use Prim.Native.Nat.{◌-◌}
 use Rattle.values.proofs.Decoding.{plain_here, plain_more}
 use Rattle.values.proofs.plain_end.Goals as goal
 

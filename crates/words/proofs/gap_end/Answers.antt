@@ -1,5 +1,4 @@
 use mathlib.Core.Path.{sym, ◌∙◌}
-use Prim.Native.Nat.{◌-◌}
 use native.Mathlib.Omega.{arith}
 use Rattle.format.specs.Words.{is_gap}
 use Rattle.lines.proofs.Heads.{run_more, run-stop, run_end}

@@ -1,8 +1,6 @@
 use mathlib.Core.Path.{refl}
-use Prim.Native.Nat.{◌-◌}
 use native.Mathlib.Omega.{arith}
 use lib.ListN.{drop_of_length-le}
-use Rattle.format.specs.Lines.{is_later}
 use Rattle.lines.proofs.Cuts.{at-cons}
 use Rattle.words.proofs.later_bytes.Goals as goal
 

@@ -1,4 +1,4 @@
-use Prim.Native.Nat.{◌+◌, ◌-◌}
+use Prim.Native.Nat.{◌+◌}
 use native.Mathlib.Omega.{arith}
 use mathlib.Core.Path.{refl, ap, ◌∙◌}
 use lib.ListN.{length, drop, get_or, length-set}
@@ -27,9 +27,12 @@ loop-i-preserved c =
     let v = c.args.value.now in
     let i = c.loop-i.i in
     let t = indent (drop (i + 1) v) in
-    elim c.if-b-eq10.branch [ then-b-eq10 w ↦ let e = indent-newline v i c.loop-i-test.true w.if-b-eq10.true in
-    (omega arith, ap length w.out-is ∙ simp length-set c.loop-i.invariant.1, omega (arith, ap length e), rw (w.out-is, w.n-is) (sets-newline c.loop-i.out c.loop-i.n (get_or v i 0) t ∙ (rw e at c.loop-i.invariant.3))) | else-b-eq10 w ↦ let e = indent-more v i c.loop-i-test.true w.if-b-eq10.false in
-    (omega arith, ap length w.out-is ∙ simp length-set c.loop-i.invariant.1, omega (arith, ap length e), rw (w.out-is, w.n-is) (sets-byte c.loop-i.out c.loop-i.n (get_or v i 0) t ∙ (rw e at c.loop-i.invariant.3))) ]
+    elim c.if-b-eq10.branch [
+      | then-b-eq10 w ↦ let e = indent-newline v i c.loop-i-test.true w.if-b-eq10.true in
+          (omega arith, ap length w.out-is ∙ simp length-set c.loop-i.invariant.1, omega (arith, ap length e), rw (w.out-is, w.n-is) (sets-newline c.loop-i.out c.loop-i.n (get_or v i 0) t ∙ (rw e at c.loop-i.invariant.3)))
+      | else-b-eq10 w ↦ let e = indent-more v i c.loop-i-test.true w.if-b-eq10.false in
+          (omega arith, ap length w.out-is ∙ simp length-set c.loop-i.invariant.1, omega (arith, ap length e), rw (w.out-is, w.n-is) (sets-byte c.loop-i.out c.loop-i.n (get_or v i 0) t ∙ (rw e at c.loop-i.invariant.3)))
+    ]
 
 pub returns : goal.returns
 returns c =

@@ -1,8 +1,7 @@
 use borrow.Author.Tests.{not-true, not-false}
-use Prim.Native.Nat.{◌+◌, ◌-◌}
+use Prim.Native.Nat.{◌+◌}
 use native.Mathlib.Omega.{arith}
 use mathlib.Core.Path.{refl, sym, ◌∙◌}
-use mathlib.Core.Bool.{true}
 use Rattle.format.specs.Questions.{fits_field}
 use Rattle.records.specs.Walk.{record_in}
 use Rattle.records.specs.Fields.{fields_from, field_between}

@@ -1,8 +1,7 @@
 use borrow.Author.Tests.{leb-true, not-true, not-false}
-use Prim.Native.Nat.{◌+◌, ◌-◌}
+use Prim.Native.Nat.{◌+◌}
 use native.Mathlib.Omega.{arith}
 use mathlib.Core.Path.{refl, sym, ap, ◌∙◌}
-use mathlib.Core.Bool.{true}
 use lib.ListN.{length}
 use Rattle.format.specs.Bytes.{text, all}
 use Rattle.format.specs.Limits.{value_bytes}

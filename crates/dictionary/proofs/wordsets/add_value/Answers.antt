@@ -1,5 +1,4 @@
 use borrow.Author.Rules.{rules}
-use Prim.Native.Nat.{◌-◌}
 use native.Mathlib.Omega.{arith}
 use Rattle.values.proofs.Splitting.{cuts-told}
 use Rattle.dictionary.proofs.Places.{value-start, value-end, value-few, value_room, value-more}

@@ -1,4 +1,3 @@
-use Prim.Native.Nat.{◌-◌}
 use native.Mathlib.Omega.{arith}
 use Rattle.format.specs.Types.{before_comment}
 use borrow.Author.Tests.{eq-eqb, ne_eqb}

@@ -1,7 +1,5 @@
-use Prim.Native.Nat.{◌-◌}
 use native.Mathlib.Omega.{arith}
 use mathlib.Core.Path.{sym, ◌∙◌}
-use borrow.Author.Tests.{not-true, not-false}
 use Rattle.typing.proofs.Meeting.{size-counted, size-passed, size-end}
 use Rattle.typing.proofs.met.size_count.Goals as goal
 use Rattle.typing.proofs.met.size_count.Goals.{then-not-is_continuation, else-not-is_continuation}

@@ -1,4 +1,3 @@
-use Prim.Native.Nat.{◌-◌}
 use native.Mathlib.Omega.{arith}
 use Rattle.values.specs.Stretches.{not_paren}
 use borrow.Author.Tests.{eq-eqb, ne_eqb}

@@ -1,5 +1,4 @@
 use mathlib.Core.Path.{sym, ◌∙◌}
-use Prim.Native.Nat.{◌-◌}
 use native.Mathlib.Omega.{arith}
 use Rattle.typing.specs.Symbols.{is_plain}
 use Rattle.lines.proofs.Heads.{run_more, run-stop, run_end}

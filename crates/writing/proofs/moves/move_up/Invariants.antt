@@ -1,6 +1,6 @@
 -- `writing::moves::move_up` meets its contract. The loop's invariant: the last n - i bytes of the run stand at their new place, all else is as it was.
 -- The measure is i.
-use Prim.Native.Nat.{◌-◌, ◌≤◌}
+use Prim.Native.Nat.{◌≤◌}
 use mathlib.Core.Path.{◌≡◌}
 use lib.ListN.{length, take, drop}
 use Rattle.writing.proofs.Moving.{hung}
