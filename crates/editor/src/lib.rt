@@ -168,7 +168,7 @@ fn edit_each(
 // The requests of a run, each an edit of what the one before left. The file is checked once, and not at all where there is no request. The answer is the file's
 // length after the last, whatever the requests' own numbers, or that the run is refused, and then nothing is written.
 pub fn edit_run(buf: &mut [u8], used: usize, run: &[u8], answers: &mut [u32]) -> Answer
-    ensures* { λ r. ⌜ record { result = answered r; out = buf.new; answers = answers.new } ≡ run_answer buf.old used run.now answers.old ⌝ }
+    ensures { record { result = answered result; out = buf.new; answers = answers.new } ≡ run_answer buf.old used run.now answers.old }
 {
     if !runs::is_taken(run, answers.len()) {
         return Answer::Refused(Refusal::RUN);

@@ -60,7 +60,7 @@ pub fn fetch_in(
     out: &mut [u8],
 ) -> Answer
     requires { is_readable s.now ≡ true }
-    ensures* { λ r. ⌜ fetch_in s.now set.now row name.now occurrence out.old ≡ record { result = answered r; out = out.new } ⌝ }
+    ensures { fetch_in s.now set.now row name.now occurrence out.old ≡ record { result = answered result; out = out.new } }
 {
     let f = records::find_head(s, set);
     let FoundHead::At(head) = f else {
@@ -120,7 +120,7 @@ fn find_descriptor(s: &[u8], k: usize) -> FoundRecord
 // The name of the set that a descriptor, which fills d, opens, put into out.
 fn descriptor_name(d: &[u8], out: &mut [u8]) -> Answer
     requires { is_readable d.now ≡ true }
-    ensures* { λ r. ⌜ titled (values_of (text "%rec") (record_in d.now)) out.old ≡ record { result = answered r; out = out.new } ⌝ }
+    ensures { titled (values_of (text "%rec") (record_in d.now)) out.old ≡ record { result = answered result; out = out.new } }
 {
     let f = records::find_field(d, b"%rec", 0);
     let FoundField::At {
@@ -143,7 +143,7 @@ fn descriptor_name(d: &[u8], out: &mut [u8]) -> Answer
 // The name of set k of a readable text, in file order, put into out.
 pub fn name_in(s: &[u8], k: usize, out: &mut [u8]) -> Answer
     requires { is_readable s.now ≡ true }
-    ensures* { λ r. ⌜ name_in s.now k out.old ≡ record { result = answered r; out = out.new } ⌝ }
+    ensures { name_in s.now k out.old ≡ record { result = answered result; out = out.new } }
 {
     if k == 0 {
         return Answer::Value(0);

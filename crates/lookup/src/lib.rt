@@ -32,7 +32,7 @@ pub fn fetch(
     occurrence: usize,
     out: &mut [u8],
 ) -> Answer
-    ensures* { λ r. ⌜ fetch_answer buf.now used set.now row name.now occurrence out.old ≡ record { result = answered r; out = out.new } ⌝ }
+    ensures { fetch_answer buf.now used set.now row name.now occurrence out.old ≡ record { result = answered result; out = out.new } }
 {
     let n = integrity::check(buf, used);
     if n != 0 {
@@ -71,7 +71,7 @@ pub fn view<'a>(buf: &'a [u8], used: usize, set: &[u8], row: usize, number: &mut
 
 // The name of set k, in file order and the default set first, put into out; what stands behind it there stays. 21 says that there are not so many sets.
 pub fn set_name(buf: &[u8], used: usize, k: usize, out: &mut [u8]) -> Answer
-    ensures* { λ r. ⌜ name_answer buf.now used k out.old ≡ record { result = answered r; out = out.new } ⌝ }
+    ensures { name_answer buf.now used k out.old ≡ record { result = answered result; out = out.new } }
 {
     let n = integrity::check(buf, used);
     if n != 0 {

@@ -100,4 +100,4 @@ returns-in-11 c =
 pub returns-in_default : goal.returns-in_default
 unfolding count_on
 returns-in_default c =
-    (sym (count-other c.args.d c.args.name.now (value_from c.args.value.now) (not-placed c.args.name.now (text "%typedef") rule_names c.rule_of-k.result 8 c.rule_of-k.ensures refl c.in_default.rest.0.0.0.0.0.0.0.1) (not-placed c.args.name.now (text "%type") rule_names c.rule_of-k.result 9 c.rule_of-k.ensures refl c.in_default.rest.0.0.0.0.0.0.1) (not-placed c.args.name.now (text "%mandatory") rule_names c.rule_of-k.result 2 c.rule_of-k.ensures refl c.in_default.rest.0.0.0.0.0.1) (not-placed c.args.name.now (text "%prohibit") rule_names c.rule_of-k.result 3 c.rule_of-k.ensures refl c.in_default.rest.0.0.0.0.1) (not-placed c.args.name.now (text "%allowed") rule_names c.rule_of-k.result 4 c.rule_of-k.ensures refl c.in_default.rest.0.0.0.1) (not-placed c.args.name.now (text "%unique") rule_names c.rule_of-k.result 5 c.rule_of-k.ensures refl c.in_default.rest.0.0.1) (not-placed c.args.name.now (text "%singular") rule_names c.rule_of-k.result 10 c.rule_of-k.ensures refl c.in_default.rest.0.1) (not-placed c.args.name.now (text "%auto") rule_names c.rule_of-k.result 11 c.rule_of-k.ensures refl c.in_default.rest.1)), omega arith)
+    (sym (count-other c.args.d c.args.name.now (value_from c.args.value.now) (not-placed c.args.name.now (text "%typedef") rule_names c.rule_of-k.result 8 c.rule_of-k.ensures refl c.in_default.in_default-own.rest.0.0.0.0.0.0.0.1) (not-placed c.args.name.now (text "%type") rule_names c.rule_of-k.result 9 c.rule_of-k.ensures refl c.in_default.in_default-own.rest.0.0.0.0.0.0.1) (not-placed c.args.name.now (text "%mandatory") rule_names c.rule_of-k.result 2 c.rule_of-k.ensures refl c.in_default.in_default-own.rest.0.0.0.0.0.1) (not-placed c.args.name.now (text "%prohibit") rule_names c.rule_of-k.result 3 c.rule_of-k.ensures refl c.in_default.in_default-own.rest.0.0.0.0.1) (not-placed c.args.name.now (text "%allowed") rule_names c.rule_of-k.result 4 c.rule_of-k.ensures refl c.in_default.in_default-own.rest.0.0.0.1) (not-placed c.args.name.now (text "%unique") rule_names c.rule_of-k.result 5 c.rule_of-k.ensures refl c.in_default.in_default-own.rest.0.0.1) (not-placed c.args.name.now (text "%singular") rule_names c.rule_of-k.result 10 c.rule_of-k.ensures refl c.in_default.in_default-own.rest.0.1) (not-placed c.args.name.now (text "%auto") rule_names c.rule_of-k.result 11 c.rule_of-k.ensures refl c.in_default.in_default-own.rest.1)), omega arith)

@@ -88,7 +88,7 @@ shape_of-afters-then-not-field_fits c =
 
 pub returns-then-not-field_fits : goal.returns-then-not-field_fits
 returns-then-not-field_fits c =
-    let p = (looks c.args.s.now c.loop-size.i c.next_piece-n.result c.requires.s_value.0 c.next_piece-n.ensures c.in-Field.is) in let g = c.next_piece-n.auto.n in past-scanned c.args.s.now c.loop-size.starts c.loop-size.ends c.loop-size.afters c.past.result (c.loop-size.i + g.1.1.0) (c.loop-size.invariant.1 ∙ p.0) c.past.ensures (λ r. walked-past (c.loop-size.invariant.8 r) g.0 g.1.0 g.1.1.0 (steps c.args.s.now c.loop-size.i c.next_piece-n.result (sym c.loop-size.invariant.1 ∙ r) c.next_piece-n.ensures c.in-Field.is) c.field_fits.result c.field_fits.ensures (not-true c.field_fits.result (ap not c.if-not-field_fits.true)))
+    let p = (looks c.args.s.now c.loop-size.i c.next_piece-n.result c.requires.s_value.0 c.next_piece-n.ensures c.in-Field.is) in past-scanned c.args.s.now c.loop-size.starts c.loop-size.ends c.loop-size.afters c.past.result (c.loop-size.i + c.in-Field.size) (c.loop-size.invariant.1 ∙ p.0) c.past.ensures (λ r. walked-past (c.loop-size.invariant.8 r) c.in-Field.name c.in-Field.value c.in-Field.size (steps c.args.s.now c.loop-size.i c.next_piece-n.result (sym c.loop-size.invariant.1 ∙ r) c.next_piece-n.ensures c.in-Field.is) c.field_fits.result c.field_fits.ensures (not-true c.field_fits.result (ap not c.if-not-field_fits.true)))
 
 pub slice_bounds-with_field-count : goal.slice_bounds-with_field-count
 slice_bounds-with_field-count c =
@@ -112,9 +112,9 @@ loop-size-smaller-in-Field c =
 
 pub loop-size-preserved-in-Field : goal.loop-size-preserved-in-Field
 loop-size-preserved-in-Field c =
-    let p = (looks c.args.s.now c.loop-size.i c.next_piece-n.result c.requires.s_value.0 c.next_piece-n.ensures c.in-Field.is) in let g = c.next_piece-n.auto.n in let e = c.with_field-o.ensures in
-    let few = field-few c.loop-size.o.fields (leb g.0 name_bytes) (leb (length (value_from (take ((c.loop-size.i + g.1.1.0) - (c.loop-size.i + g.1.0)) (drop (c.loop-size.i + g.1.0) c.args.s.now)))) value_bytes) c.field_fits.result c.field_fits.ensures (not-false c.field_fits.result (ap not c.if-not-field_fits.false)) in
-    (p.2, c.loop-size.invariant.1 ∙ p.0, omega (arith, ap (λ (x : Open). x.fields) e, few), omega (arith, ap (λ (x : Open). x.fields) e, ap (λ (x : Open). x.recs) e, c.loop-size.invariant.3, one-most (same (text "%rec") (take ((c.loop-size.i + g.0) - c.loop-size.i) (drop c.loop-size.i c.args.s.now)))), omega (arith, c.loop-size.invariant.4), c.loop-size.invariant.5, c.loop-size.invariant.6, c.loop-size.invariant.7, λ r. walked-field (c.loop-size.invariant.8 r) g.0 g.1.0 g.1.1.0 (steps c.args.s.now c.loop-size.i c.next_piece-n.result (sym c.loop-size.invariant.1 ∙ r) c.next_piece-n.ensures c.in-Field.is) c.field_fits.result c.field_fits.ensures (not-false c.field_fits.result (ap not c.if-not-field_fits.false)) c.with_field-o.result e)
+    let p = (looks c.args.s.now c.loop-size.i c.next_piece-n.result c.requires.s_value.0 c.next_piece-n.ensures c.in-Field.is) in let e = c.with_field-o.ensures in
+    let few = field-few c.loop-size.o.fields (leb c.in-Field.name name_bytes) (leb (length (value_from (take ((c.loop-size.i + c.in-Field.size) - (c.loop-size.i + c.in-Field.value)) (drop (c.loop-size.i + c.in-Field.value) c.args.s.now)))) value_bytes) c.field_fits.result c.field_fits.ensures (not-false c.field_fits.result (ap not c.if-not-field_fits.false)) in
+    (p.2, c.loop-size.invariant.1 ∙ p.0, omega (arith, ap (λ (x : Open). x.fields) e, few), omega (arith, ap (λ (x : Open). x.fields) e, ap (λ (x : Open). x.recs) e, c.loop-size.invariant.3, one-most (same (text "%rec") (take ((c.loop-size.i + c.in-Field.name) - c.loop-size.i) (drop c.loop-size.i c.args.s.now)))), omega (arith, c.loop-size.invariant.4), c.loop-size.invariant.5, c.loop-size.invariant.6, c.loop-size.invariant.7, λ r. walked-field (c.loop-size.invariant.8 r) c.in-Field.name c.in-Field.value c.in-Field.size (steps c.args.s.now c.loop-size.i c.next_piece-n.result (sym c.loop-size.invariant.1 ∙ r) c.next_piece-n.ensures c.in-Field.is) c.field_fits.result c.field_fits.ensures (not-false c.field_fits.result (ap not c.if-not-field_fits.false)) c.with_field-o.result e)
 
 pub count_head-count-requires : goal.count_head-count-requires
 count_head-count-requires c =

@@ -13,4 +13,4 @@ pub returns : goal.returns
 returns c =
     let a = c.args in
     let k = c.keep_loose in
-    fields-cut a.buf.now k.new.0 a.used a.start a.end k.result (omega arith) (omega arith) (omega arith) (omega arith) (omega arith) k.ensures.1 c.cut_text.result c.cut_text.new.buf c.cut_text.ensures.0 c.cut_text.ensures.1
+    fields-cut a.buf.now k.new.part a.used a.start a.end k.result (omega arith) (omega arith) (omega arith) (omega arith) (omega arith) k.ensures.1 c.cut_text.result c.cut_text.new.buf c.cut_text.ensures.0 c.cut_text.ensures.1
