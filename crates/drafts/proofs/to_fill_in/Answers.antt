@@ -19,7 +19,7 @@ returns-in_default c =
 
 pub returns-in_default-edit : goal.returns-in_default-edit
 returns-in_default-edit c =
-    draft-other (sets_of (read_of c.args.s.now)) c.args.req.now c.in-Is.q (request-found c.args.req.now c.request_of-r.result c.in-Is.q c.request_of-r.ensures.0 c.in-Is.is) c.in_default-edit.keys2
+    draft-other (sets_of (read_of c.args.s.now)) c.args.req.now c.in-Is.q (request-found c.args.req.now c.request_of-r.result c.in-Is.q c.request_of-r.ensures.0 c.in-Is.is) c.in_default-edit.in_default-edit-own.keys2
 
 pub slice_bounds-find_head-count : goal.slice_bounds-find_head-count
 slice_bounds-find_head-count c =

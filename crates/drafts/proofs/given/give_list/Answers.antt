@@ -75,4 +75,4 @@ loop-value-preserved c =
     let h = value-told c.args.d.now c.args.name.now c.loop-value.i c.next_named-v.result c.next_named-v.ensures c.in-At.is in
     let x = take c.copy_value-n.result c.copy_value-n.new.out in
     let q = decoded-all (value_from (span (c.loop-value.i + c.in-At.value) (length c.args.d.now) c.args.d.now)) c.loop-value.scratch c.copy_value-n.new.out c.copy_value-n.result c.copy_value-n.ensures.0 c.copy_value-n.ensures.1 ∙ ap value_from (rest c.args.d.now (c.loop-value.i + c.in-At.value)) in
-    (h.inside, h.readable, short_on c.args.d.now c.args.name.now c.loop-value.i _ _ h x q c.loop-value.invariant.2, c.copy_value-n.auto.scratch ∙ c.loop-value.invariant.3, going_on c.args.d.now c.args.l (listed c.args.name.now (record_in c.args.d.now)) c.args.set c.loop-value.given c.give_words-given.result (words_from c.args.d.now c.args.name.now c.loop-value.i) (words_of x) (words_from c.args.d.now c.args.name.now (c.loop-value.i + c.in-At.end)) c.loop-value.invariant.4 (words-cut c.args.d.now c.args.name.now c.loop-value.i _ _ h x q) c.give_words-given.ensures)
+    (h.inside, h.readable, short_on c.args.d.now c.args.name.now c.loop-value.i _ _ h x q c.loop-value.invariant.2, c.copy_value-n.auto.out ∙ c.loop-value.invariant.3, going_on c.args.d.now c.args.l (listed c.args.name.now (record_in c.args.d.now)) c.args.set c.loop-value.given c.give_words-given.result (words_from c.args.d.now c.args.name.now c.loop-value.i) (words_of x) (words_from c.args.d.now c.args.name.now (c.loop-value.i + c.in-At.end)) c.loop-value.invariant.4 (words-cut c.args.d.now c.args.name.now c.loop-value.i _ _ h x q) c.give_words-given.ensures)

@@ -81,15 +81,15 @@ returns-then-set-n-gt-BYTES c =
 
 pub slice_bounds-place-end : goal.slice_bounds-place-end
 slice_bounds-place-end c =
-    omega (arith, c.if-n-gt-BYTES.false, c.put_pairs-n.auto.request, c.requires.value_bytes_in_bounds.1)
+    omega (arith, c.if-n-gt-BYTES.false, c.put_pairs-n.auto.out, c.requires.value_bytes_in_bounds.1)
 
 pub slice_bounds-place-end-2 : goal.slice_bounds-place-end-2
 slice_bounds-place-end-2 c =
-    sym (length-take-le c.put_pairs-n.result c.put_pairs-n.new.out (omega (arith, c.if-n-gt-BYTES.false, c.put_pairs-n.auto.request, c.requires.value_bytes_in_bounds.1)))
+    sym (length-take-le c.put_pairs-n.result c.put_pairs-n.new.out (omega (arith, c.if-n-gt-BYTES.false, c.put_pairs-n.auto.out, c.requires.value_bytes_in_bounds.1)))
 
 pub place-requires : goal.place-requires
 place-requires c =
-    record { appendable = (c.requires.appendable.0, c.requires.appendable.1, c.requires.appendable.2, (c.args.set.now, (c.in-At.head, ((sym c.find_head-f.ensures ∙ c.in-At.is), c.set_behind-p.ensures)))); request_len_bound = (omega (arith, c.if-n-gt-BYTES.false, length-take-le c.put_pairs-n.result c.put_pairs-n.new.out (omega (arith, c.if-n-gt-BYTES.false, c.put_pairs-n.auto.request, c.requires.value_bytes_in_bounds.1))), ap is_some (pairs-read c.args.own.now c.args.request.now c.put_pairs-n.new.out c.put_pairs-n.result c.requires.value_bytes_in_bounds.1 c.put_pairs-n.ensures (omega (arith, c.if-n-gt-BYTES.false))), subst Filled (sym (ap list_of (pairs-read c.args.own.now c.args.request.now c.put_pairs-n.new.out c.put_pairs-n.result c.requires.value_bytes_in_bounds.1 c.put_pairs-n.ensures (omega (arith, c.if-n-gt-BYTES.false))))) (filled-pairs (record_in c.args.own.now) c.requires.own_value.2), c.requires.value_bytes_in_bounds.2) }
+    record { appendable = (c.requires.appendable.0, c.requires.appendable.1, c.requires.appendable.2, (c.args.set.now, (c.in-At.head, ((sym c.find_head-f.ensures ∙ c.in-At.is), c.set_behind-p.ensures)))); request_len_bound = (omega (arith, c.if-n-gt-BYTES.false, length-take-le c.put_pairs-n.result c.put_pairs-n.new.out (omega (arith, c.if-n-gt-BYTES.false, c.put_pairs-n.auto.out, c.requires.value_bytes_in_bounds.1))), ap is_some (pairs-read c.args.own.now c.args.request.now c.put_pairs-n.new.out c.put_pairs-n.result c.requires.value_bytes_in_bounds.1 c.put_pairs-n.ensures (omega (arith, c.if-n-gt-BYTES.false))), subst Filled (sym (ap list_of (pairs-read c.args.own.now c.args.request.now c.put_pairs-n.new.out c.put_pairs-n.result c.requires.value_bytes_in_bounds.1 c.put_pairs-n.ensures (omega (arith, c.if-n-gt-BYTES.false))))) (filled-pairs (record_in c.args.own.now) c.requires.own_value.2), c.requires.value_bytes_in_bounds.2) }
 
 pub returns : goal.returns
 returns c =

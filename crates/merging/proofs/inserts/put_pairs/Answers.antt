@@ -74,4 +74,4 @@ loop-start-smaller c =
 
 pub loop-start-preserved : goal.loop-start-preserved
 loop-start-preserved c =
-    let h = field_told c.loop-start.rest.now c.next_field-f.result c.next_field-f.ensures c.in-At.is in (part-readable c.loop-start.rest.now c.in-At.end h.readable, values-behind c.loop-start.rest.now c.in-At.start c.in-At.named c.in-At.value c.in-At.end h c.loop-start.invariant.1, omega (arith, c.copy_value-n.auto.scratch, c.loop-start.invariant.2), omega (arith, c.put_field-at.auto.out, c.put_field-at-in-loop-start.auto.out, c.loop-start.invariant.3), c.loop-start.invariant.4 ∙ pairs-on c.loop-start.rest.now c.loop-start.out c.put_field-at.new.request c.put_field-at-in-loop-start.new.request c.loop-start.at c.put_field-at.result c.put_field-at-in-loop-start.result c.in-At.start c.in-At.named c.in-At.value c.in-At.end (take c.copy_value-n.result c.copy_value-n.new.out) h c.put_field-at.ensures (copied (value_from (span c.in-At.value c.in-At.end c.loop-start.rest.now)) c.loop-start.scratch c.copy_value-n.new.out c.copy_value-n.result c.copy_value-n.ensures.0 c.copy_value-n.ensures.1) c.put_field-at-in-loop-start.ensures)
+    let h = field_told c.loop-start.rest.now c.next_field-f.result c.next_field-f.ensures c.in-At.is in (part-readable c.loop-start.rest.now c.in-At.end h.readable, values-behind c.loop-start.rest.now c.in-At.start c.in-At.named c.in-At.value c.in-At.end h c.loop-start.invariant.1, omega (arith, c.copy_value-n.auto.out, c.loop-start.invariant.2), omega (arith, c.put_field-at.auto.request, c.put_field-at-in-loop-start.auto.request, c.loop-start.invariant.3), c.loop-start.invariant.4 ∙ pairs-on c.loop-start.rest.now c.loop-start.out c.put_field-at.new.request c.put_field-at-in-loop-start.new.request c.loop-start.at c.put_field-at.result c.put_field-at-in-loop-start.result c.in-At.start c.in-At.named c.in-At.value c.in-At.end (take c.copy_value-n.result c.copy_value-n.new.out) h c.put_field-at.ensures (copied (value_from (span c.in-At.value c.in-At.end c.loop-start.rest.now)) c.loop-start.scratch c.copy_value-n.new.out c.copy_value-n.result c.copy_value-n.ensures.0 c.copy_value-n.ensures.1) c.put_field-at-in-loop-start.ensures)

@@ -12,7 +12,7 @@ use Rattle.merging.proofs.Requesting.{pairs_in}
 use Rattle.merging.proofs.inserts.put_pairs.Given as goal
 
 abbrev pub invariant-loop-start : goal.invariant-loop-start
-invariant-loop-start l = (is_readable l.rest ≡ true) × (all fits_value (record_in l.rest) ≡ true) × (length l.scratch ≡ length l.initial.scratch) × (length l.out ≡ length l.initial.out) × (built (pairs_in l.own) (record { next = 0; l.out = l.initial.out }) ≡ built (pairs_in l.rest) (record { next = l.at; l.out = l.out }))
+invariant-loop-start l = (is_readable l.rest ≡ true) × (all fits_value (record_in l.rest) ≡ true) × (length l.scratch ≡ length l.initial.scratch) × (length l.out ≡ length l.initial.out) × (built (pairs_in l.own) (record { next = 0; out = l.initial.out }) ≡ built (pairs_in l.rest) (record { next = l.at; out = l.out }))
 
 abbrev pub decreases-loop-start : goal.decreases-loop-start
 decreases-loop-start l = length l.rest

@@ -84,7 +84,7 @@ slice_bounds-with_field-end-in-Field c =
 
 pub with_field-set-requires : goal.with_field-set-requires
 with_field-set-requires c =
-    let h = steps c.args.s.now c.loop-bytes.i c.read_piece-q.result c.loop-bytes.invariant.2.readable c.read_piece-q.ensures c.in-Field.is in let g = c.read_piece-q.auto.q in let f = fits-here (length c.args.scratch.now) _ _ _ (record-field c.args.s.now c.loop-bytes.i g.0 g.1.0 g.1.1.0 h) c.loop-bytes.invariant.3 in (c.requires.0, omega (arith, f.0, c.loop-bytes.invariant.0))
+    let h = steps c.args.s.now c.loop-bytes.i c.read_piece-q.result c.loop-bytes.invariant.2.readable c.read_piece-q.ensures c.in-Field.is in let f = fits-here (length c.args.scratch.now) _ _ _ (record-field c.args.s.now c.loop-bytes.i c.in-Field.name c.in-Field.value c.in-Field.bytes h) c.loop-bytes.invariant.3 in (c.requires.0, omega (arith, f.0, c.loop-bytes.invariant.0))
 
 pub overflow_add-fields : goal.overflow_add-fields
 overflow_add-fields c =
@@ -96,7 +96,7 @@ loop-bytes-smaller c =
 
 pub loop-bytes-preserved : goal.loop-bytes-preserved
 loop-bytes-preserved c =
-    let h = steps c.args.s.now c.loop-bytes.i c.read_piece-q.result c.loop-bytes.invariant.2.readable c.read_piece-q.ensures c.in-Field.is in let g = c.read_piece-q.auto.q in let f = fits-here (length c.args.scratch.now) _ _ _ (record-field c.args.s.now c.loop-bytes.i g.0 g.1.0 g.1.1.0 h) c.loop-bytes.invariant.3 in (c.with_field-set.auto.scratch ∙ c.loop-bytes.invariant.0, c.loop-bytes.invariant.1, walk_field c.args.e.now c.args.p c.args.s.now c.args.list.now c.loop-bytes.set c.loop-bytes.fields c.loop-bytes.t.met c.loop-bytes.t.found c.loop-bytes.list c.loop-bytes.i c.loop-bytes.invariant.2 g.0 g.1.0 g.1.1.0 h c.with_field-set.result c.with_field-set.ensures, f.1)
+    let h = steps c.args.s.now c.loop-bytes.i c.read_piece-q.result c.loop-bytes.invariant.2.readable c.read_piece-q.ensures c.in-Field.is in let f = fits-here (length c.args.scratch.now) _ _ _ (record-field c.args.s.now c.loop-bytes.i c.in-Field.name c.in-Field.value c.in-Field.bytes h) c.loop-bytes.invariant.3 in (c.with_field-set.auto.scratch ∙ c.loop-bytes.invariant.0, c.loop-bytes.invariant.1, walk_field c.args.e.now c.args.p c.args.s.now c.args.list.now c.loop-bytes.set c.loop-bytes.fields c.loop-bytes.t.met c.loop-bytes.t.found c.loop-bytes.list c.loop-bytes.i c.loop-bytes.invariant.2 c.in-Field.name c.in-Field.value c.in-Field.bytes h c.with_field-set.result c.with_field-set.ensures, f.1)
 
 pub closed-r-requires : goal.closed-r-requires
 closed-r-requires c =

@@ -17,7 +17,7 @@ next_named-f-requires c =
 
 pub returns-in_default : goal.returns-in_default
 returns-in_default c =
-    (adds-end c.args.name.now c.args.s.now (to_z w64 c.loop-value.sum) c.loop-value.n c.loop-value.i c.loop-value.invariant (value-told c.args.s.now c.args.name.now c.loop-value.i c.next_named-f.result c.next_named-f.ensures c.in_default.is), adds_fit c.args.name.now c.args.s.now (to_z w64 c.loop-value.sum) c.loop-value.n c.loop-value.i c.loop-value.invariant c.requires.1)
+    (adds-end c.args.name.now c.args.s.now (to_z w64 c.loop-value.sum-bits) c.loop-value.n c.loop-value.i c.loop-value.invariant (value-told c.args.s.now c.args.name.now c.loop-value.i c.next_named-f.result c.next_named-f.ensures c.in_default.is), adds_fit c.args.name.now c.args.s.now (to_z w64 c.loop-value.sum-bits) c.loop-value.n c.loop-value.i c.loop-value.invariant c.requires.1)
 
 pub overflow_add-i : goal.overflow_add-i
 overflow_add-i c =
@@ -42,12 +42,12 @@ slice_bounds-read_value-end c =
 pub returns-in_default-v : goal.returns-in_default-v
 returns-in_default-v c =
     let h = value-told c.args.s.now c.args.name.now c.loop-value.i c.next_named-f.result c.next_named-f.ensures c.in-At.is in
-    (adds-not c.args.name.now c.args.s.now (to_z w64 c.loop-value.sum) c.loop-value.n c.loop-value.i c.loop-value.invariant _ _ h (value-counted c.args.s.now (c.loop-value.i + c.in-At.value) c.read_value-v.result c.read_value-v.ensures c.in_default-v.is), tt)
+    (adds-not c.args.name.now c.args.s.now (to_z w64 c.loop-value.sum-bits) c.loop-value.n c.loop-value.i c.loop-value.invariant _ _ h (value-counted c.args.s.now (c.loop-value.i + c.in-At.value) c.read_value-v.result c.read_value-v.ensures c.in_default-v.is), tt)
 
 pub add-sum-requires : goal.add-sum-requires
 add-sum-requires c =
     let h = value-told c.args.s.now c.args.name.now c.loop-value.i c.next_named-f.result c.next_named-f.ensures c.in-At.is in
-    omega (arith, more-fits c.args.name.now c.args.s.now (to_z w64 c.loop-value.sum) c.loop-value.n c.loop-value.i c.loop-value.invariant _ _ h c.in-Value.z (value-counted c.args.s.now (c.loop-value.i + c.in-At.value) c.read_value-v.result c.read_value-v.ensures c.in-Value.is) c.requires.1)
+    omega (arith, more-fits c.args.name.now c.args.s.now (to_z w64 c.loop-value.sum-bits) c.loop-value.n c.loop-value.i c.loop-value.invariant _ _ h c.in-Value.z (value-counted c.args.s.now (c.loop-value.i + c.in-At.value) c.read_value-v.result c.read_value-v.ensures c.in-Value.is) c.requires.1)
 
 pub overflow_add-n : goal.overflow_add-n
 overflow_add-n c =
@@ -66,4 +66,4 @@ loop-value-smaller c =
 pub loop-value-preserved : goal.loop-value-preserved
 loop-value-preserved c =
     let h = value-told c.args.s.now c.args.name.now c.loop-value.i c.next_named-f.result c.next_named-f.ensures c.in-At.is in
-    adds-more c.args.name.now c.args.s.now (to_z w64 c.loop-value.sum) c.loop-value.n c.loop-value.i c.loop-value.invariant _ _ h c.in-Value.z (value-counted c.args.s.now (c.loop-value.i + c.in-At.value) c.read_value-v.result c.read_value-v.ensures c.in-Value.is) c.requires.1 c.add-sum.result c.add-sum.ensures
+    adds-more c.args.name.now c.args.s.now (to_z w64 c.loop-value.sum-bits) c.loop-value.n c.loop-value.i c.loop-value.invariant _ _ h c.in-Value.z (value-counted c.args.s.now (c.loop-value.i + c.in-At.value) c.read_value-v.result c.read_value-v.ensures c.in-Value.is) c.requires.1 c.add-sum.result c.add-sum.ensures

@@ -7,7 +7,7 @@ use Rattle.totals.proofs.Walking.{Adds}
 use Rattle.totals.proofs.adding.add_values.Given as goal
 
 abbrev pub invariant-loop-value : goal.invariant-loop-value
-invariant-loop-value l = Adds l.name l.s (to_z w64 l.sum) l.n l.i
+invariant-loop-value l = Adds l.name l.s l.sum l.n l.i
 
 abbrev pub decreases-loop-value : goal.decreases-loop-value
 decreases-loop-value l = length l.s - l.i
