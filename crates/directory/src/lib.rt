@@ -27,7 +27,7 @@ fn fill_entries(entries: &mut [Entry], n: usize, buf: &[u8], used: usize)
 
 // The list filled from the file in the first `used` bytes of a buffer: the number of sets. A refusal writes no entry.
 pub fn fill(buf: &[u8], used: usize, entries: &mut [Entry]) -> Answer
-    ensures* { λ r. ⌜ record { result = answered r; entries = entries.new } ≡ fill_answer buf.now used entries.old ⌝ }
+    ensures { record { result = answered result; entries = entries.new } ≡ fill_answer buf.now used entries.old }
 {
     let a = core::set_count(buf, used, entries.len());
     let n = a.value_or(0);
@@ -37,7 +37,7 @@ pub fn fill(buf: &[u8], used: usize, entries: &mut [Entry]) -> Answer
 
 // One edit, given the list: it has afterwards what filling it from the file as it then stands would write.
 pub fn edit(buf: &mut [u8], used: usize, req: &[u8], entries: &mut [Entry]) -> Answer
-    ensures* { λ r. ⌜ record { result = answered r; out = buf.new; entries = entries.new } ≡ kept_answer buf.old used req.now entries.old ⌝ }
+    ensures { record { result = answered result; out = buf.new; entries = entries.new } ≡ kept_answer buf.old used req.now entries.old }
 {
     let d = core::edit_core(buf, used, req, entries.len());
     let n = d.sets;
