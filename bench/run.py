@@ -1,7 +1,7 @@
 #!/usr/bin/env python3
 """Times the library against GNU recutils on the same files in one run: `python3 bench/run.py`.
 
-Makes its files in target/bench, builds bench/time.c over target/staticlib/librecfile.a (made by `rt staticlib recfile`) and bench/librec.c
+Makes its files in target/bench, builds bench/time.c over crates/recfile/out/librecfile.a (made by `rt lib` in crates/recfile) and bench/librec.c
 over librec, and prints times and ratios, in processes and in memory; growth and instructions of the check and of each edit; instructions of
 a directory's calls, of calls that only look, of a run of requests and of inserts that are numbered; the peak stack of each call; and the check of every file of bench/shapes.py, the slowest last. Times are the best of several runs on both sides. Where a
 figure has a limit, it stands beside it.
@@ -42,9 +42,9 @@ def verdict(met):
 
 def build():
     """The two programs; librec's is not there where librec is not."""
-    library = os.path.join(ROOT, 'target', 'staticlib', 'librecfile.a')
+    library = os.path.join(ROOT, 'crates', 'recfile', 'out', 'librecfile.a')
     if not os.path.exists(library):
-        sys.exit('make the library first: rt staticlib recfile')
+        sys.exit('make the library first: rt lib in crates/recfile')
     subprocess.run(['cc', '-O2', '-I' + os.path.join(ROOT, 'include'), os.path.join(ROOT, 'bench', 'time.c'), library, '-o', TIMER], check=True)
     if os.path.exists(LIBREC):
         os.remove(LIBREC)

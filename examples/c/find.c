@@ -1,7 +1,7 @@
 /* Prints the records of the set Bill, in the book on standard input, that an expression finds: `Amount > 20 && Paid = 'no'`, or the one that is given.
  *
- *   rt staticlib recfile
- *   cc -O2 -Iinclude examples/c/find.c target/staticlib/librecfile.a -o target/find
+ *   (cd crates/recfile && rt lib) && mkdir -p target
+ *   cc -O2 -Iinclude examples/c/find.c crates/recfile/out/librecfile.a -o target/find
  *   target/find "Amount > 20 && Paid = 'no'" < samples/bills.rec
  */
 #include <recfile.h>

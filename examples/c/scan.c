@@ -1,8 +1,8 @@
 /* Files a scan in the book on standard input, which gives it an Id, looks that up and prints the record, and then sends two requests in one call; a
  * directory of the book's sets is kept beside it.
  *
- *   rt staticlib recfile
- *   cc -O2 -Iinclude examples/c/scan.c target/staticlib/librecfile.a -o target/scan
+ *   (cd crates/recfile && rt lib) && mkdir -p target
+ *   cc -O2 -Iinclude examples/c/scan.c crates/recfile/out/librecfile.a -o target/scan
  *   target/scan < samples/numbered.rec
  */
 #include <recfile.h>

@@ -1,7 +1,7 @@
 //! Fills in a scan for the book on standard input, a field at a time, and says after each how many names are still to fill, as a screen would; then files it.
 //!
-//!   rt staticlib recfile
-//!   rustc --edition 2021 -O examples/rust/draft.rs -L target/staticlib -l static=recfile -o target/draft-rust
+//!   (cd crates/recfile && rt lib) && mkdir -p target
+//!   rustc --edition 2021 -O examples/rust/draft.rs -L crates/recfile/out -l static=recfile -o target/draft-rust
 //!   target/draft-rust < samples/receipts.rec
 
 mod recfile;

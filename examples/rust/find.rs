@@ -1,7 +1,7 @@
 //! Prints the records of the set Bill, in the book on standard input, that an expression finds: `Amount > 20 && Paid = 'no'`, or the one that is given.
 //!
-//!   rt staticlib recfile
-//!   rustc --edition 2021 -O examples/rust/find.rs -L target/staticlib -l static=recfile -o target/find-rust
+//!   (cd crates/recfile && rt lib) && mkdir -p target
+//!   rustc --edition 2021 -O examples/rust/find.rs -L crates/recfile/out -l static=recfile -o target/find-rust
 //!   target/find-rust "Amount > 20 && Paid = 'no'" < samples/bills.rec
 
 mod recfile;

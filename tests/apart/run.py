@@ -1,7 +1,7 @@
 #!/usr/bin/env python3
 """Edits of different sets in either order through the library, and what every other set answers before and after each edit (document 02, order 13).
 
-Usage: python3 tests/apart/run.py [SEED [ROUNDS]]     (after `rt staticlib recfile`; needs cc)
+Usage: python3 tests/apart/run.py [SEED [ROUNDS]]     (after `rt lib` in crates/recfile; needs cc)
 
 Each round is a random file, mostly one of several sets that passes, with other bytes behind it, and pairs of requests to two of its sets. Where both are accepted in both
 orders, the lengths and the bytes up to them must be the same; so must they after two orders of a longer list in which each set's own requests keep their order, the one
@@ -26,10 +26,11 @@ FIELDS = [b'A', b'B', b'Id', b'Page', b'C', b'Q', b'Foo', b'']
 
 
 def load():
-    archive = os.path.join(ROOT, 'target', 'staticlib', 'librecfile.a')
+    archive = os.path.join(ROOT, 'crates', 'recfile', 'out', 'librecfile.a')
     if not os.path.exists(archive):
-        sys.exit('make the library first: rt staticlib recfile')
+        sys.exit('make the library first: rt lib in crates/recfile')
     shared = os.path.join(ROOT, 'target', 'librecfile.so')
+    os.makedirs(os.path.dirname(shared), exist_ok=True)
     subprocess.run(['cc', '-shared', '-o', shared, '-Wl,--whole-archive', archive, '-Wl,--no-whole-archive'], check=True)
     lib = ctypes.CDLL(shared)
     for name in ('count', 'fetch', 'view', 'edit', 'edit_run', 'to_fill', 'total'):

@@ -1,7 +1,7 @@
 #!/usr/bin/env python3
 """The library against the independent implementation in tests/model/recfile.py, and its reading against GNU recutils.
 
-Usage: python3 tests/differential/run.py [SEED [ROUNDS]]     (after `rt staticlib recfile`; needs cc; recutils if it is installed)
+Usage: python3 tests/differential/run.py [SEED [ROUNDS]]     (after `rt lib` in crates/recfile; needs cc; recutils if it is installed)
 
 Random, damaged and limit-sized files, such with many types, names and symbols, such with runs of joints, such with keys of one fingerprint in several lines, and such of many sets with comments and blank lines anywhere; every call on each of them;
 requests built field by field; lists of edits with other bytes behind the file, some of them given a directory of its sets, and runs of requests among them; inserts that omit names of %auto lists; drafts of records; totals of fields; records found by expressions. It prints how many answers were compared and stops at the first that differs,
@@ -29,10 +29,11 @@ size = ctypes.c_size_t
 
 
 def load():
-    archive = os.path.join(ROOT, 'target', 'staticlib', 'librecfile.a')
+    archive = os.path.join(ROOT, 'crates', 'recfile', 'out', 'librecfile.a')
     if not os.path.exists(archive):
-        sys.exit('make the library first: rt staticlib recfile')
+        sys.exit('make the library first: rt lib in crates/recfile')
     shared = os.path.join(ROOT, 'target', 'librecfile.so')
+    os.makedirs(os.path.dirname(shared), exist_ok=True)
     subprocess.run(['cc', '-shared', '-o', shared, '-Wl,--whole-archive', archive, '-Wl,--no-whole-archive'], check=True)
     lib = ctypes.CDLL(shared)
     lib.recfile_check.restype = ctypes.c_uint32

@@ -1,7 +1,7 @@
 #!/usr/bin/env python3
 """The calls of a directory of sets against tests/model/recfile.py: filling it, edits with it and without, runs of requests between them, the count at a position.
 
-Usage: python3 tests/directory/run.py PROGRAM [SEED [ROUNDS]]       (PROGRAM: tests/c/directory.c, built over target/staticlib/librecfile.a)
+Usage: python3 tests/directory/run.py PROGRAM [SEED [ROUNDS]]       (PROGRAM: tests/c/directory.c, built over crates/recfile/out/librecfile.a)
 
 Each case is a file of 1 to 65 sets in a buffer, or one that fails, a list of 0 to 70 entries that hold anything, and calls one after another on both. After each call
 its number, what it returned, the buffer and every entry must be the model's. It prints how many answers were compared, by call and number, and stops at the first that differs.

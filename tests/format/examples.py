@@ -4,7 +4,7 @@
 So are the other things of the page: the commands that cut a damaged file into parts, and what they lead to; the directory of a file; a run of requests; the numbers that inserts get; expressions; totals; drafts of records; what an insert and a delete
 leave; the most records of a file and bytes of a set's name; the characters of the name in the section on sizes. Where GNU recutils is there, recfix finds a fault in the files of which the page says so.
 
-Usage: python3 tests/format/examples.py     (after `rt staticlib recfile`; needs cc)
+Usage: python3 tests/format/examples.py     (after `rt lib` in crates/recfile; needs cc)
 """
 import ctypes
 import os
@@ -88,8 +88,8 @@ def parts(section, archive):
     whole = commands.split('\n')[0]
 
     with tempfile.TemporaryDirectory() as folder:
-        os.makedirs(os.path.join(folder, 'target', 'bin'))
-        listing, card = os.path.join(folder, 'target', 'bin', 'listing'), os.path.join(folder, 'card.rec')
+        os.makedirs(os.path.join(folder, 'crates', 'listing', 'out'))
+        listing, card = os.path.join(folder, 'crates', 'listing', 'out', 'listing'), os.path.join(folder, 'card.rec')
         subprocess.run(['cc', '-I' + os.path.join(ROOT, 'include'), '-x', 'c', '-', '-x', 'none', archive, '-o', listing], input=LISTING.encode(), check=True)
 
         def printed(text, script):
@@ -253,7 +253,8 @@ def run_of_requests(lib, section, book):
 
 
 def main():
-    archive, shared = (os.path.join(ROOT, 'target', *p) for p in (('staticlib', 'librecfile.a'), ('librecfile.so',)))
+    archive, shared = (os.path.join(ROOT, *p) for p in (('crates', 'recfile', 'out', 'librecfile.a'), ('target', 'librecfile.so')))
+    os.makedirs(os.path.join(ROOT, 'target'), exist_ok=True)
     subprocess.run(['cc', '-shared', '-o', shared, '-Wl,--whole-archive', archive, '-Wl,--no-whole-archive'], check=True)
     lib = ctypes.CDLL(shared)
     for call in (lib.recfile_count, lib.recfile_set_name, lib.recfile_find, lib.recfile_total, lib.recfile_to_fill, lib.recfile_edit, lib.recfile_edit_run, lib.recfile_fill):
