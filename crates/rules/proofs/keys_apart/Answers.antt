@@ -52,7 +52,7 @@ slice_bounds-next_word-end c =
 
 pub slice_bounds-next_word-end-2 : goal.slice_bounds-next_word-end-2
 slice_bounds-next_word-end-2 c =
-    let g = c.next_named-v.auto.v in decoded-length (value_from (span g.1.0 g.1.1.0 c.args.d.now)) c.args.scratch.now _ c.copy_value-n.result c.copy_value-n.ensures.0 c.copy_value-n.ensures.1
+    decoded-length (value_from (span c.in-At.value c.in-At.end c.args.d.now)) c.args.scratch.now _ c.copy_value-n.result c.copy_value-n.ensures.0 c.copy_value-n.ensures.1
 
 pub returns-in_default-w : goal.returns-in_default-w
 returns-in_default-w c =

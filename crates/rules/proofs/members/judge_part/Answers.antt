@@ -125,7 +125,7 @@ loop-size-preserved c =
     let ok = field-met c.args.d.now from next c.args.r.typed.symbols.from c.args.r.typed.symbols.next _ c.recall-x.result c.value_met-met.result c.recall-x.ensures c.requires.rulebook.from_is c.requires.rulebook.typed-are.symbols-are.begins c.requires.rulebook.within c.value_met-met.ensures in (
       c.value_met-met.auto.scratch ∙ c.loop-size.invariant.0,
       length-set c.loop-size.seen _ _ ∙ c.loop-size.invariant.1,
-      seen-set rules from next c.args.s.now c.loop-size.seen _ _ c.loop-size.invariant.1 (omega arith) (record { ordered = omega arith; inside = omega (arith, h.passed.inside, h.name-inside); c.recall-x.ensures = c.recall-x.ensures }) c.loop-size.invariant.2,
+      seen-set rules from next c.args.s.now c.loop-size.seen _ _ c.loop-size.invariant.1 (omega arith) (record { ordered = omega arith; inside = omega (arith, h.passed.inside, h.name-inside); stands = c.recall-x.ensures }) c.loop-size.invariant.2,
       walk_field c.args.d.now from (c.args.r.typed.symbols.next - from) c.args.s.now c.loop-size.t c.loop-size.fields c.loop-size.typed c.loop-size.a.number c.loop-size.a.count c.loop-size.i c.loop-size.invariant.3 c.in-Field.name c.in-Field.value c.in-Field.size h next c.recall-x.result c.count-t.result c.value_met-met.result _ c.recall-x.ensures c.count-t.ensures ok refl,
       f.1,
     )
