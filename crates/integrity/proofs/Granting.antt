@@ -122,7 +122,7 @@ module _ {s : Bytes} {starts ends : List ℕ} {count k : ℕ} (t : TypesAt s sta
     formed-cut = each-parts Formed (records (read_of (span (row_from t.afters k) (get_or starts k 0) s))) (record_in (span (get_or starts k 0) (get_or ends k 0) s) ∷ records_from s (get_or t.afters k 0)) (subst (Each Formed) types-row.cut t.formed)
 
     pub types-formed : IsFormed (span (get_or starts k 0) (get_or ends k 0) s)
-    types-formed = formed-part (span (get_or starts k 0) (get_or ends k 0) s) types-row.own_val types-row.head formed-cut.1.0
+    types-formed = formed-part (span (get_or starts k 0) (get_or ends k 0) s) types-row.own types-row.head formed-cut.1.0
 
     types-cut : (b : Bool) → b ≡ is_typed_well int_bounds (record_in (span (get_or starts k 0) (get_or ends k 0) s)) → walk_types int_bounds (records (read_of s)) ≡ (b && all (is_typed_well int_bounds) (heads (records_from s (row_from t.afters (k + 1)))))
     types-cut b e =
@@ -168,7 +168,7 @@ module _ {s : Bytes} {starts ends afters : List ℕ} {count k worst : ℕ} (t : 
     rights = (each-parts Right (records (read_of (span (row_from afters k) (get_or starts k 0) s))) (record_in (span (get_or starts k 0) (get_or ends k 0) s) ∷ records_from s (get_or afters k 0)) (subst (Each Right) sets-row.cut t.right)).1
 
     pub sets-rules : IsRules (span (get_or starts k 0) (get_or ends k 0) s)
-    sets-rules = rules-each (span (get_or starts k 0) (get_or ends k 0) s) sets-row.own_val sets-row.head rights.0
+    sets-rules = rules-each (span (get_or starts k 0) (get_or ends k 0) s) sets-row.own sets-row.head rights.0
 
     -- the members stand in the part up to the next row, or to the end
     members-by : (b : Bool) → ltb (k + 1) count ≡ b → MembersAt s (get_or afters k 0) (pick b (get_or starts (k + 1) 0) (length s))

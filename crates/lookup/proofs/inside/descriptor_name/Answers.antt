@@ -48,7 +48,7 @@ slice_bounds-word_len-end c =
 
 pub returns-then-out-n : goal.returns-then-out-n
 returns-then-out-n c =
-    let g = c.find_field-f.auto.f in let p = field_told (text "%rec") c.args.d.now 0 c.find_field-f.result (c.requires) c.find_field-f.ensures g.1 in let w : Bytes = front not_gap (value_from (drop c.word_start-i.result (take (g.0.1.1.0 - g.0.1.0) (drop g.0.1.0 c.args.d.now)))) in titled-long c.args.d.now (values_of (text "%rec") (record_in c.args.d.now)) g.0.0 g.0.1.0 g.0.1.1.0 c.args.out.now w p (ap (front not_gap) c.word_start-i.ensures) (omega (arith, c.word_len-n.ensures, c.if-out-n.true))
+    let p = field_told (text "%rec") c.args.d.now 0 c.find_field-f.result (c.requires) c.find_field-f.ensures c.in-At.is in let w : Bytes = front not_gap (value_from (drop c.word_start-i.result (take (c.in-At.end - c.in-At.value) (drop c.in-At.value c.args.d.now)))) in titled-long c.args.d.now (values_of (text "%rec") (record_in c.args.d.now)) c.in-At.start c.in-At.value c.in-At.end c.args.out.now w p (ap (front not_gap) c.word_start-i.ensures) (omega (arith, c.word_len-n.ensures, c.if-out-n.true))
 
 pub slice_bounds-copy_word-count : goal.slice_bounds-copy_word-count
 slice_bounds-copy_word-count c =
@@ -68,4 +68,4 @@ copy_word-requires c =
 
 pub returns : goal.returns
 returns c =
-    let g = c.find_field-f.auto.f in let p = field_told (text "%rec") c.args.d.now 0 c.find_field-f.result (c.requires) c.find_field-f.ensures g.1 in let w : Bytes = front not_gap (value_from (drop c.word_start-i.result (take (g.0.1.1.0 - g.0.1.0) (drop g.0.1.0 c.args.d.now)))) in titled-first c.args.d.now (values_of (text "%rec") (record_in c.args.d.now)) g.0.0 g.0.1.0 g.0.1.1.0 c.args.out.now w p (ap (front not_gap) c.word_start-i.ensures) (omega (arith, c.word_len-n.ensures, c.if-out-n.false)) ∙ (λ i. record { result = Answer.value (sym c.word_len-n.ensures i); out = sym c.copy_word.ensures i })
+    let p = field_told (text "%rec") c.args.d.now 0 c.find_field-f.result (c.requires) c.find_field-f.ensures c.in-At.is in let w : Bytes = front not_gap (value_from (drop c.word_start-i.result (take (c.in-At.end - c.in-At.value) (drop c.in-At.value c.args.d.now)))) in titled-first c.args.d.now (values_of (text "%rec") (record_in c.args.d.now)) c.in-At.start c.in-At.value c.in-At.end c.args.out.now w p (ap (front not_gap) c.word_start-i.ensures) (omega (arith, c.word_len-n.ensures, c.if-out-n.false)) ∙ (λ i. record { result = Answer.value (sym c.word_len-n.ensures i); out = sym c.copy_word.ensures i })
