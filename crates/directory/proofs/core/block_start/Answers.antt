@@ -1,4 +1,3 @@
-use Rattle.core.specs.Prelude.{◌-◌}
 use native.Mathlib.Omega.{arith}
 use mathlib.Core.Path.{refl, sym, ◌∙◌}
 use Rattle.records.proofs.Readings.{part-ended}

@@ -1,4 +1,3 @@
-use Rattle.core.specs.Prelude.{◌-◌}
 use native.Mathlib.Omega.{arith}
 use Rattle.records.proofs.Readings.{part-readable}
 use Rattle.directory.proofs.Entries.{counted-first, counted-all, counted-inside, counted-moves, counted-on}
