@@ -10,7 +10,7 @@ use Rattle.format.specs.Bytes.{pick, all}
 use Rattle.format.specs.Lists.{nth}
 use Rattle.format.specs.Sets.{RecSet}
 use Rattle.format.specs.Numbers.{Bounds}
-use Rattle.format.specs.Rules.{key, singular}
+use Rattle.format.specs.Rules.{key}
 use Rattle.format.specs.Questions.{first_no, fits_record, limit_rows, rule_rows}
 use Rattle.format.specs.Edits.{Edit, in_set}
 use Rattle.format.specs.Plain.{set_at}
