@@ -1,5 +1,5 @@
 -- Where a block begins, piece by piece, and the next set as an entry.
-use Rattle.core.specs.Prelude.{◌≡◌, ℕ, ◌+◌, [], drop}
+use Rattle.std.specs.Prelude.{◌≡◌, ℕ, ◌+◌, [], drop}
 use mathlib.Core.Path.{sym, ap, ◌∙◌}
 use Rattle.format.specs.Bytes.{Bytes}
 use Rattle.format.specs.Lines.{Line}

@@ -1,5 +1,5 @@
 -- The number of a file's sets, and an edit that is given a list, case by case: the file fails, the list is too short, and otherwise.
-use Rattle.core.specs.Prelude.{◌≡◌, ℕ, zero, suc, ◌<◌, ◌≤◌, Bool, length}
+use Rattle.std.specs.Prelude.{◌≡◌, ℕ, zero, suc, ◌<◌, ◌≤◌, Bool, length}
 use mathlib.Core.Path.{refl, sym, ap, ◌∙◌, subst}
 use borrow.Author.Tests.{le-leb, lt-leb}
 use Rattle.format.specs.Bytes.{Bytes, pick}
@@ -10,7 +10,7 @@ use Rattle.format.specs.Runs.{Single}
 use Rattle.format.specs.declared.Answer.{Answer as Reply}
 use Rattle.format.proofs.Directory.{left-passes, left-sets, listed-fails, listed-short, listed-edits}
 use Rattle.directory.specs.Rows.{list_of, counted_in, Does}
-use Rattle.directory.specs.declared.core.Done.{Done}
+use Rattle.directory.specs.declared.inner.Done.{Done}
 
 -- what is known of the check's number
 pub checked-passes : (b : Bytes) (u k : ℕ) → k ≡ check_answer b u → k ≡ 0 → verdict b u ≡ 0

@@ -1,5 +1,5 @@
 -- Entries written one by one are the directory over the front of the list; so what the parts of a call do is what the call answers.
-use Rattle.core.specs.Prelude.{◌≡◌, ℕ, zero, suc, ◌*◌, ◌^◌, ◌<◌, ◌≤◌, Bool, true, false, leb, List, [], ◌∷◌, ◌++◌, map, length, get_or, take, drop, set}
+use Rattle.std.specs.Prelude.{◌≡◌, ℕ, zero, suc, ◌*◌, ◌^◌, ◌<◌, ◌≤◌, Bool, true, false, leb, List, [], ◌∷◌, ◌++◌, map, length, get_or, take, drop, set}
 use mathlib.Core.Path.{refl, sym, ap, ◌∙◌, subst}
 use Prim.Native.Nat.{zero-le}
 use native.Mathlib.Nat.{not-suc-le-zero, le_of_suc-le-suc, le_of_lt}
@@ -13,7 +13,7 @@ use Rattle.format.specs.Calls.{Answer, value, answer, answered, value_or, then_n
 use Rattle.format.specs.Directory.{fill_answer, Kept, kept_answer, count_at_answer}
 use Rattle.format.specs.declared.Answer.{Answer as Reply}
 use Rattle.format.specs.declared.Entry.{Entry}
-use Rattle.directory.specs.declared.core.Done.{Done}
+use Rattle.directory.specs.declared.inner.Done.{Done}
 use Rattle.directory.specs.Blocks.{no_entry}
 use Rattle.directory.specs.Rows.{list_of, entry_of, filled, Fillable, counted_in, Does}
 

@@ -1,5 +1,5 @@
 -- The entries of a text, one after another: where the block of the next record begins, and the next set as an entry.
-use Rattle.core.specs.Prelude.{ℕ, zero, suc, ◌+◌, List, [], ◌∷◌, slice_index_or}
+use Rattle.std.specs.Prelude.{ℕ, zero, suc, ◌+◌, List, [], ◌∷◌, slice_index_or}
 use Rattle.format.specs.Bytes.{Bytes}
 use Rattle.format.specs.Pieces.{Piece, read_of}
 use Rattle.format.specs.Records.{count_of}

@@ -1,12 +1,12 @@
 -- A directory's entries one by one, as they are written into a lent list, and what the parts of its calls answer.
-use Rattle.core.specs.Prelude.{◌≡◌, ℕ, zero, suc, ◌<◌, ◌≤◌, List, length, take, set, slice_set}
+use Rattle.std.specs.Prelude.{◌≡◌, ℕ, zero, suc, ◌<◌, ◌≤◌, List, length, take, set, slice_set}
 use Rattle.format.specs.Bytes.{Bytes}
 use Rattle.format.specs.Questions.{verdict}
 use Rattle.format.specs.Calls.{Answer, answer, answered, value_or, then_no, filled_by}
 use Rattle.format.specs.Directory.{list_no, listed_answer}
 use Rattle.format.specs.declared.Entry.{Entry}
 use Rattle.directory.specs.Blocks.{list_in, entry_in, start_in}
-use Rattle.directory.specs.declared.core.Done.{Done}
+use Rattle.directory.specs.declared.inner.Done.{Done}
 
 -- the entries that a file's directory has
 abbrev pub list_of : Bytes → ℕ → List Entry

@@ -1,14 +1,14 @@
 // The directory of sets: a lent list of entries, one a set, that is filled from a file, kept right by an edit, and read at a position without the file.
 #![tactic(auto)]
 
-ghost use Rattle.core.specs.Prelude.{◌≡◌, length};
+ghost use Rattle.std.specs.Prelude.{◌≡◌, length};
 ghost use Rattle.format.specs.Calls.{answered};
 ghost use Rattle.format.specs.Directory.{fill_answer, kept_answer, count_at_answer};
 ghost use Rattle.directory.specs.Rows.{Fillable, filled};
 
 use format::{Answer, Entry, Refusal};
 
-mod core;
+mod inner;
 
 // The first n entries are written; the others stay.
 fn fill_entries(entries: &mut [Entry], n: usize, buf: &[u8], used: usize)
@@ -18,7 +18,7 @@ fn fill_entries(entries: &mut [Entry], n: usize, buf: &[u8], used: usize)
     let mut k = 0;
     let mut at = 0;
     while k < n {
-        let e = core::entry_at(buf, used, k, at);
+        let e = inner::entry_at(buf, used, k, at);
         at = e.end;
         entries[k] = e;
         k += 1;
@@ -29,7 +29,7 @@ fn fill_entries(entries: &mut [Entry], n: usize, buf: &[u8], used: usize)
 pub fn fill(buf: &[u8], used: usize, entries: &mut [Entry]) -> Answer
     ensures { record { result = answered result; entries = entries.new } ≡ fill_answer buf.now used entries.old }
 {
-    let a = core::set_count(buf, used, entries.len());
+    let a = inner::set_count(buf, used, entries.len());
     let n = a.value_or(0);
     fill_entries(entries, n, buf, used);
     a
@@ -39,7 +39,7 @@ pub fn fill(buf: &[u8], used: usize, entries: &mut [Entry]) -> Answer
 pub fn edit(buf: &mut [u8], used: usize, req: &[u8], entries: &mut [Entry]) -> Answer
     ensures { record { result = answered result; out = buf.new; entries = entries.new } ≡ kept_answer buf.old used req.now entries.old }
 {
-    let d = core::edit_core(buf, used, req, entries.len());
+    let d = inner::edit_core(buf, used, req, entries.len());
     let n = d.sets;
     fill_entries(entries, n, buf, d.used);
     d.answer

@@ -1,5 +1,5 @@
 -- `directory::edit` meets its contract.
-use Rattle.core.specs.Prelude.{length}
+use Rattle.std.specs.Prelude.{length}
 use Rattle.directory.proofs.Rows.{fillable, edit-done}
 use Rattle.directory.proofs.edit.Goals as goal
 

@@ -1,5 +1,5 @@
 -- `directory::fill` meets its contract.
-use Rattle.core.specs.Prelude.{◌≡◌, length}
+use Rattle.std.specs.Prelude.{◌≡◌, length}
 use mathlib.Core.Path.{subst}
 use Rattle.format.specs.Calls.{Answer, value_or}
 use Rattle.directory.proofs.Rows.{fillable, fill_done}

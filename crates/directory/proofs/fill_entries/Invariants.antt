@@ -1,5 +1,5 @@
 -- `directory::fill_entries` meets its contract. The invariant: after k turns the list is `filled` of k, and `at` is where entry k begins. The measure is what is left of the turns.
-use Rattle.core.specs.Prelude.{◌≡◌, ◌-◌, ◌≤◌}
+use Rattle.std.specs.Prelude.{◌≡◌, ◌-◌, ◌≤◌}
 use Rattle.directory.specs.Rows.{start_of, filled}
 use Rattle.directory.proofs.fill_entries.Given as goal
 

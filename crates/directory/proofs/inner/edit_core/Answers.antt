@@ -1,11 +1,11 @@
--- `directory::core::edit_core` meets its contract.
-use Rattle.core.specs.Prelude.{ℕ, ◌<◌, ◌≤◌}
+-- `directory::inner::edit_core` meets its contract.
+use Rattle.std.specs.Prelude.{ℕ, ◌<◌, ◌≤◌}
 use native.Mathlib.Omega.{arith}
 use mathlib.Core.Path.{sym, ◌∙◌, subst}
 use Rattle.directory.specs.Rows.{Does}
 use Rattle.records.proofs.Checked.{checked}
 use Rattle.directory.proofs.Files.{checked-passes, does-fail, does-short, does-edit}
-use Rattle.directory.proofs.core.edit_core.Goals as goal
+use Rattle.directory.proofs.inner.edit_core.Goals as goal
 
 pub returns-then-k-ne0 : goal.returns-then-k-ne0
 returns-then-k-ne0 c =

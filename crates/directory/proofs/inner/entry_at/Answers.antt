@@ -1,7 +1,7 @@
--- `directory::core::entry_at` meets its contract.
+-- `directory::inner::entry_at` meets its contract.
 use mathlib.Core.Path.{sym}
 use Rattle.records.proofs.Checked.{checked}
-use Rattle.directory.proofs.core.entry_at.Goals as goal
+use Rattle.directory.proofs.inner.entry_at.Goals as goal
 
 pub slice_bounds-entry_in-end : goal.slice_bounds-entry_in-end
 slice_bounds-entry_in-end c =

@@ -3,7 +3,7 @@ use mathlib.Core.Path.{refl, sym, ◌∙◌}
 use Rattle.records.proofs.Readings.{part-ended}
 use Rattle.records.proofs.Steps.{part-formed, steps}
 use Rattle.directory.proofs.Blocks.{block_none, block-blank, block-comment, block-field}
-use Rattle.directory.proofs.core.block_start.Goals as goal
+use Rattle.directory.proofs.inner.block_start.Goals as goal
 
 pub loop-size-init : goal.loop-size-init
 loop-size-init c =

@@ -1,6 +1,6 @@
--- `directory::core::next_entry` meets its contract.
+-- `directory::inner::next_entry` meets its contract.
 use Rattle.directory.proofs.Blocks.{next-none, next-there}
-use Rattle.directory.proofs.core.next_entry.Goals as goal
+use Rattle.directory.proofs.inner.next_entry.Goals as goal
 
 pub returns-in_default : goal.returns-in_default
 returns-in_default c =

@@ -1,7 +1,7 @@
 use native.Mathlib.Omega.{arith}
 use Rattle.records.proofs.Readings.{part-readable}
 use Rattle.directory.proofs.Entries.{counted-first, counted-all, counted-inside, counted-moves, counted-on}
-use Rattle.directory.proofs.core.count_sets.Goals as goal
+use Rattle.directory.proofs.inner.count_sets.Goals as goal
 
 pub loop-q-init : goal.loop-q-init
 loop-q-init c =

@@ -1,10 +1,10 @@
--- `directory::core::set_count` meets its contract.
-use Rattle.core.specs.Prelude.{ℕ, ◌<◌, ◌≤◌}
+-- `directory::inner::set_count` meets its contract.
+use Rattle.std.specs.Prelude.{ℕ, ◌<◌, ◌≤◌}
 use mathlib.Core.Path.{sym, ap, ◌∙◌, subst}
 use Rattle.format.specs.Calls.{Answer}
 use Rattle.records.proofs.Checked.{checked}
 use Rattle.directory.proofs.Files.{checked-passes, counted-fails, counted-short, counted-fits}
-use Rattle.directory.proofs.core.set_count.Goals as goal
+use Rattle.directory.proofs.inner.set_count.Goals as goal
 
 pub returns-then-k-ne0 : goal.returns-then-k-ne0
 returns-then-k-ne0 c =

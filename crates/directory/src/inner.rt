@@ -1,5 +1,5 @@
 // The covered core of the directory: the entries of a file one after another, and an edit with what is to be put into a list after it.
-ghost use Rattle.core.specs.Prelude.{◌≡◌, ◌<◌, true, length};
+ghost use Rattle.std.specs.Prelude.{◌≡◌, ◌<◌, true, length};
 ghost use Rattle.format.specs.Pieces.{read_of};
 ghost use Rattle.format.specs.Calls.{answered};
 ghost use Rattle.records.specs.Places.{is_readable};

@@ -1,13 +1,13 @@
--- `directory::core::entry_in` meets its contract.
+-- `directory::inner::entry_in` meets its contract.
 use native.Mathlib.Omega.{arith}
-use Rattle.core.specs.Prelude.{◌≡◌, drop}
+use Rattle.std.specs.Prelude.{◌≡◌, drop}
 use mathlib.Core.Path.{sym, ap, ◌∙◌}
 use Rattle.format.specs.declared.Entry.{Entry}
 use Rattle.lines.proofs.Cuts.{rest}
 use Rattle.directory.specs.Blocks.{next_entry, raise_entry, entry_in}
 use Rattle.records.proofs.Readings.{part-readable}
 use Rattle.directory.proofs.Entries.{first_entry, entry-begins, next-entry, place_inside}
-use Rattle.directory.proofs.core.entry_in.Goals as goal
+use Rattle.directory.proofs.inner.entry_in.Goals as goal
 
 pub returns-then-k-eq0 : goal.returns-then-k-eq0
 returns-then-k-eq0 c =
