@@ -14,7 +14,8 @@ use Rattle.format.specs.Lists.{onward}
 use Rattle.format.specs.Lines.{is_first, is_later, is_name}
 use Rattle.format.specs.Numbers.{Int}
 use Rattle.selection.specs.Expressions.{Operator, equals, differs, less_than, at_most, more_than, at_least, int, string, Expression, comparison, Sign, comparing, not_sign, and_sign, or_sign, open_sign, close_sign, Part, field_name, operand, sign, sign_bytes}
-use Rattle.selection.specs.Expressions.{Spells, spells_name, spells_int, spells_string, spells_sign, PartAt, behind_blank, at_once, Or, or_one, or_more, And, and_one, and_more, Unary, unary_not, unary_group, unary_int, unary_string, takes_strings, Written, IsExpression, or_cut, and_cut, unary_cut, cut_of, Cut, placed, or_places, and_places, unary_places, places_of, bytes_at_most}
+use Rattle.selection.specs.Expressions.{Spells, spells_name, spells_int, spells_string, spells_sign, PartAt, behind_blank, at_once, Or, or_one, or_more, And, and_one, and_more, Unary, unary_not, unary_group, unary_int, unary_string, takes_strings, Written, IsExpression, bytes_at_most}
+use Rattle.selection.proofs.Derivations.{or_cut, and_cut, unary_cut, cut_of, Cut, placed, or_places, and_places, unary_places, places_of}
 use Rattle.selection.specs.Reading.{Front, no_part, one_blank, one_part, front_of, is_int_first, parts_behind, parts_of, Level, empty_level, Stage, wanting, naming, holding, done, Reader, reader, operand_on, one_not, or_with, advance, grouped_from, beginning, read_expression}
 use Rattle.selection.proofs.Ints.{or-either, another-byte, no_truth, int-bytes, IntBytes, pick_true, pick-either}
 use Rattle.selection.proofs.Cutting.{EndsName, EndsSign, EndsPart, first, part_cut, only-blanks, FrontIs, spells-front}

@@ -2,6 +2,7 @@
 pub mod Cases
 pub mod Ints
 pub mod Cutting
+pub mod Derivations
 pub mod Complete
 pub mod Sound
 pub mod Agreeing
