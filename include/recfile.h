@@ -25,7 +25,7 @@
  * another is given.
  *
  * The archive needs memcpy and memset of what it is linked with, and nothing else. It is for x86-64 machines, wherever
- * `rt lib` in crates/recfile makes it: ELF, System V calling convention, position independent, no instruction beyond the first
+ * `rt lib --cpu=x86-64` in crates/recfile makes it: ELF, System V calling convention, position independent, no instruction beyond the first
  * x86-64's (SSE2 is one of those). A size_t has 64 bits there; where it has not, this header does not compile.
  */
 #ifndef RECFILE_H

@@ -1,6 +1,6 @@
 /* Fills in a scan for the book on standard input, a field at a time, and says after each how many names are still to fill, as a screen would; then files it.
  *
- *   (cd crates/recfile && rt lib) && mkdir -p target
+ *   (cd crates/recfile && rt lib --cpu=x86-64) && mkdir -p target
  *   cc -O2 -Iinclude examples/c/draft.c crates/recfile/out/librecfile.a -o target/draft
  *   target/draft < samples/receipts.rec
  */

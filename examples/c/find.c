@@ -1,6 +1,6 @@
 /* Prints the records of the set Bill, in the book on standard input, that an expression finds: `Amount > 20 && Paid = 'no'`, or the one that is given.
  *
- *   (cd crates/recfile && rt lib) && mkdir -p target
+ *   (cd crates/recfile && rt lib --cpu=x86-64) && mkdir -p target
  *   cc -O2 -Iinclude examples/c/find.c crates/recfile/out/librecfile.a -o target/find
  *   target/find "Amount > 20 && Paid = 'no'" < samples/bills.rec
  */

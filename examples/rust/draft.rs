@@ -1,6 +1,6 @@
 //! Fills in a scan for the book on standard input, a field at a time, and says after each how many names are still to fill, as a screen would; then files it.
 //!
-//!   (cd crates/recfile && rt lib) && mkdir -p target
+//!   (cd crates/recfile && rt lib --cpu=x86-64) && mkdir -p target
 //!   rustc --edition 2021 -O examples/rust/draft.rs -L crates/recfile/out -l static=recfile -o target/draft-rust
 //!   target/draft-rust < samples/receipts.rec
 

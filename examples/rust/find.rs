@@ -1,6 +1,6 @@
 //! Prints the records of the set Bill, in the book on standard input, that an expression finds: `Amount > 20 && Paid = 'no'`, or the one that is given.
 //!
-//!   (cd crates/recfile && rt lib) && mkdir -p target
+//!   (cd crates/recfile && rt lib --cpu=x86-64) && mkdir -p target
 //!   rustc --edition 2021 -O examples/rust/find.rs -L crates/recfile/out -l static=recfile -o target/find-rust
 //!   target/find-rust "Amount > 20 && Paid = 'no'" < samples/bills.rec
 

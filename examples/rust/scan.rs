@@ -1,7 +1,7 @@
 //! Files a scan in the book on standard input, which gives it an Id, looks that up and prints the record, and then sends two requests in one call; a
 //! directory of the book's sets is kept beside it.
 //!
-//!   (cd crates/recfile && rt lib) && mkdir -p target
+//!   (cd crates/recfile && rt lib --cpu=x86-64) && mkdir -p target
 //!   rustc --edition 2021 -O examples/rust/scan.rs -L crates/recfile/out -l static=recfile -o target/scan-rust
 //!   target/scan-rust < samples/numbered.rec
 

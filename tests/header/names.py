@@ -30,9 +30,9 @@ AHEAD = {'SPARE', 'SPARE_SET'}
 LACKING = {'SET': 'NO_SET', 'RECORD': 'NO_RECORD', 'FIELD': 'NO_FIELD'}
 # the questions of a file, by the row of the definitions that asks each; tests/c/calls.c has a file for each
 ASKS = {
-    'LENGTH': 'leb (f .used) (f .room)', 'BYTE': 'all isAllowed', 'LINE': 'isSome (f .reads)', 'LIMIT': 'fitsLimits', 'REC': 'describesOnce',
-    'DESCRIPTOR': 'describesWell', 'TYPE': 'typesWell', 'PROHIBITED': 'noneProhibited', 'NOT_ALLOWED': 'allAllowed', 'MISSING': 'allPresent',
-    'REPEATED': 'noneRepeated', 'VALUE': 'allTyped', 'KEY': 'keysDistinct', 'SIZE': 'sizeMet', 'SINGULAR': 'singularMet',
+    'LENGTH': 'leb f.used f.room', 'BYTE': 'all is_allowed', 'LINE': 'is_some f.reads', 'LIMIT': 'fits_limits', 'REC': 'describes_once',
+    'DESCRIPTOR': 'describes_well', 'TYPE': 'types_well', 'PROHIBITED': 'none_prohibited', 'NOT_ALLOWED': 'all_allowed', 'MISSING': 'all_present',
+    'REPEATED': 'none_repeated', 'VALUE': 'all_typed', 'KEY': 'keys_distinct', 'SIZE': 'size_met', 'SINGULAR': 'singular_met',
 }
 
 

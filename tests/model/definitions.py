@@ -22,35 +22,35 @@ import samples
 
 HEAD = '''-- What the independent implementation answers, of random files, lists of edits, runs of requests and directories of sets.
 use Prim.Native.Nat.{ℕ}
-use mathlib.Core.Path.{_≡_, refl}
-use mathlib.Core.Bool.{Bool, true, false, _&&_}
-use mathlib.Core.List.{List, [], _∷_, _++_}
+use mathlib.Core.Path.{◌≡◌, refl}
+use mathlib.Core.Bool.{Bool, true, false, ◌&&◌}
+use mathlib.Core.List.{List, [], ◌∷◌, ◌++◌}
 use lib.Dec.{eqb}
 use lib.ListN.{length, replicate}
-use Rattle·format·specs.specs.Bytes.{Bytes, text, same}
-use Rattle·format·specs.specs.Pieces.{pieces, readOf, bytesOf}
-use Rattle·format·specs.specs.Sets.{setsOf}
-use Rattle·format·specs.specs.Written.{written}
-use Rattle·format·specs.specs.Numbering.{decimal, completed}
-use Rattle·format·specs.specs.Questions.{fileOf, verdictIn, verdict}
-use Rattle·format·specs.specs.Requests.{tagged, requestOf, requestsIn}
-use Rattle·format·specs.specs.Plain.{plainOf, lengthOf, apply, completedBy, step}
-use Rattle·format·specs.specs.Calls.{Answer, numberIn, valueOr, editAnswer}
-use Rattle·format·specs.specs.Directory.{directoryOf, Listed, fillAnswer, listedStep, listedAnswer, Kept, keptAnswer, countAtAnswer}
-use Rattle·format·specs.specs.Runs.{Single, singly, Call, singles, run, Ran, plainRun, PlainRan, entriesAfter, Told, Numbered, runAnswer}
-use Rattle·format·specs.specs.declared.Entry.{Entry}
+use Rattle.format.specs.Bytes.{Bytes, text, same}
+use Rattle.format.specs.Pieces.{pieces, read_of, bytes_of}
+use Rattle.format.specs.Sets.{sets_of}
+use Rattle.format.specs.Written.{written}
+use Rattle.format.specs.Numbering.{decimal, completed}
+use Rattle.format.specs.Questions.{file_of, verdict_in, verdict}
+use Rattle.format.specs.Requests.{tagged, request_of, requests_in}
+use Rattle.format.specs.Plain.{plain_of, length_of, apply, completed_by, step}
+use Rattle.format.specs.Calls.{Answer, number_in, value_or, edit_answer}
+use Rattle.format.specs.Directory.{directory_of, Listed, fill_answer, listed_step, listed_answer, Kept, kept_answer, count_at_answer}
+use Rattle.format.specs.Runs.{Single, singly, Call, singles, run, Ran, plain_run, PlainRan, entries_after, Told, Numbered, run_answer}
+use Rattle.format.specs.declared.Entry.{Entry}
 
 abbrev judged : Bytes → ℕ → Bool
 judged s k = eqb (verdict s (length s)) k
 
 abbrev numbers : List Told → List ℕ
 numbers [] = []
-numbers (t ∷ ts) = t .number ∷ t .length ∷ numbers ts
+numbers (t ∷ ts) = t.number ∷ t.length ∷ numbers ts
 
 abbrev edited : Bytes → ℕ → List Call → List ℕ → Bytes → Bool
 edited file spare calls told buffer =
     let r : Ran = run calls (file ++ replicate spare 170) (length file) in
-    same (numbers (r .told)) told && same (r .buffer) buffer
+    same (numbers r.told) told && same r.buffer buffer
 
 abbrev one : Bytes → Call
 one q = Call.one (Single.edit q)
@@ -65,38 +65,38 @@ abbrev holds : List Entry → List Entry → Bool
 holds [] [] = true
 holds [] (y ∷ ys) = false
 holds (x ∷ xs) [] = false
-holds (x ∷ xs) (y ∷ ys) = eqb (x .place) (y .place) && (eqb (x .count) (y .count) && (eqb (x .end) (y .end) && holds xs ys))
+holds (x ∷ xs) (y ∷ ys) = eqb x.place y.place && (eqb x.count y.count && (eqb x.end y.end && holds xs ys))
 
 abbrev answers : Answer → ℕ → ℕ → ℕ → Bool
-answers a other number value = eqb (numberIn a) number && eqb (valueOr other a) value
+answers a other number value = eqb (number_in a) number && eqb (value_or other a) value
 
 abbrev sends : Bytes → ℕ → Bytes → List ℕ → ℕ → ℕ → Bytes → List ℕ → Bool
 sends buffer used sent old number value after new =
-    let a : Numbered = runAnswer buffer used sent old in
-    answers (a .result) used number value && (same (a .out) after && same (a .answers) new)
+    let a : Numbered = run_answer buffer used sent old in
+    answers a.result used number value && (same a.out after && same a.answers new)
 
 abbrev lists : Bytes → ℕ → List Entry → ℕ → ℕ → List Entry → Bool
 lists buffer used old number value new =
-    let a : Listed = fillAnswer buffer used old in
-    answers (a .result) 0 number value && holds (a .entries) new
+    let a : Listed = fill_answer buffer used old in
+    answers a.result 0 number value && holds a.entries new
 
 abbrev keeps : Bytes → ℕ → Bytes → List Entry → ℕ → ℕ → Bytes → List Entry → Bool
 keeps buffer used request old number value after new =
-    let a : Kept = keptAnswer buffer used request old in
-    answers (a .result) used number value && (same (a .out) after && holds (a .entries) new)
+    let a : Kept = kept_answer buffer used request old in
+    answers a.result used number value && (same a.out after && holds a.entries new)
 
 abbrev counts : List Entry → ℕ → ℕ → ℕ → Bool
-counts entries i number value = answers (countAtAnswer entries i) 0 number value
+counts entries i number value = answers (count_at_answer entries i) 0 number value
 
 abbrev runs : Bytes → ℕ → List Call → List ℕ → Bytes → List Entry → List Entry → Bool
 runs file spare calls told buffer old new =
     let start : Bytes = file ++ replicate spare 170 in
-    let p : PlainRan = plainRun (length start) (singles calls) (plainOf (readOf file)) (length file) in
-    edited file spare calls told buffer && (same (numbers (p .told)) told && holds (entriesAfter (singles calls) start (length file) old) new)
+    let p : PlainRan = plain_run (length start) (singles calls) (plain_of (read_of file)) (length file) in
+    edited file spare calls told buffer && (same (numbers p.told) told && holds (entries_after (singles calls) start (length file) old) new)
 
 '''
-UNFOLDING = 'unfolding bytesOf pieces readOf setsOf written decimal completed fileOf verdictIn verdict tagged requestOf plainOf lengthOf apply completedBy step editAnswer singly run requestsIn runAnswer ' \
-    'directoryOf fillAnswer listedStep listedAnswer keptAnswer countAtAnswer plainRun entriesAfter\n'
+UNFOLDING = 'unfolding bytes_of pieces read_of sets_of written decimal completed file_of verdict_in verdict tagged request_of plain_of length_of apply completed_by step edit_answer singly run requests_in run_answer ' \
+    'directory_of fill_answer listed_step listed_answer kept_answer count_at_answer plain_run entries_after\n'
 
 
 def literal(data):
@@ -281,14 +281,14 @@ def main(seed=1, count=300):
     e.listed_runs(count // 4)
     e.numberings(count // 4)
     with tempfile.TemporaryDirectory() as folder:
-        shutil.copytree('crates/format', folder + '/crates/format', ignore=shutil.ignore_patterns('must-fail'))
+        shutil.copytree('crates/format', folder + '/crates/format', ignore=shutil.ignore_patterns('must-fail', 'out'))
         with open(folder + '/crates.txt', 'w') as f:
             f.write('format:\n')
         with open(folder + '/crates/format/proofs/Lib.antt', 'a') as f:
             f.write('pub mod Random\n')
         with open(folder + '/crates/format/proofs/Random.antt', 'w') as f:
             f.write(e.text)
-        said = subprocess.run(['rt', 'dev', 'format'], cwd=folder, capture_output=True, text=True)
+        said = subprocess.run(['rt', 'check'], cwd=folder + '/crates/format', capture_output=True, text=True)
     errors = [line for line in (said.stdout + said.stderr).splitlines() if ': error' in line]
     for what, numbers in (('files by verdict', e.verdicts), ('edits by number', e.edits), ('runs of requests, by number', e.sent), ('directories filled, by number', e.filled), ('edits with a directory, by number', e.kept), ('inserts that omit names, by number', e.numbered)):
         print('%s: %s' % (what, dict(sorted(numbers.items()))))

@@ -76,12 +76,12 @@ def agrees(page, seed, count):
         page += '\nrandom-%d : holds (makes %s) ≡ true\n%srandom-%d = refl\n' % (k, ' '.join(map(literal, (rules, records, new, whole))), unfolding, k)
     with tempfile.TemporaryDirectory() as folder:
         for crate in ('format', 'laws'):
-            shutil.copytree('crates/' + crate, folder + '/crates/' + crate, ignore=shutil.ignore_patterns('must-fail'))
+            shutil.copytree('crates/' + crate, folder + '/crates/' + crate, ignore=shutil.ignore_patterns('must-fail', 'out'))
         with open(folder + '/crates.txt', 'w') as f:
             f.write('format:\nlaws: format\n')
         with open(os.path.join(folder, EXAMPLES), 'w', encoding='utf-8') as f:
             f.write(page)
-        said = subprocess.run(['rt', 'dev', 'laws'], cwd=folder, capture_output=True, text=True, check=False)
+        said = subprocess.run(['rt', 'check'], cwd=folder + '/crates/laws', capture_output=True, text=True, check=False)
     errors = [line for line in (said.stdout + said.stderr).splitlines() if ': error' in line]
     for line in errors[:10]:
         print(line[:300])
