@@ -41,6 +41,21 @@ def read(*path):
         return f.read()
 
 
+def upper(name):
+    """`NotAllowed` as `NOT_ALLOWED`."""
+    return re.sub(r'(?<!^)(?=[A-Z])', '_', name).upper()
+
+
+def numbers_of(path, kind):
+    """The number that the code gives each variant of an enum."""
+    return {upper(name): int(value) for name, value in re.findall(r'\b%s::(\w+) => (\d+),' % kind, read('crates', path))}
+
+
+def kinds(path):
+    """The kinds of an edit, each by the number that it is read from; three of them are ways to change a field."""
+    return {upper(name): int(value) for value, name in re.findall(r'(\d+) => Some\((?:Kind::Change\(Means|Kind)::(\w+)\)', read('crates', path))}
+
+
 def constants(path, struct):
     """The constants of a struct's impl blocks."""
     blocks = re.findall(r'^impl %s \{\n(.*?)^\}' % struct, read('crates', path), flags=re.M | re.S)
@@ -52,12 +67,16 @@ def main():
     wanted = {'ACCEPTED': 0}
     for name, (path, struct, constant) in HOMES.items():
         wanted[name] = constants(path, struct)[constant]
-    for name, value in constants('format/src/refusals.rt', 'Refusal').items():
+    refusals = 'format/src/refusals.rt'
+    for name, value in (numbers_of(refusals, 'Question') | numbers_of(refusals, 'Refusal')).items():
         if name not in AHEAD:
             wanted['REFUSED_' + LACKING.get(name, name)] = value
-    for name, value in constants('requests/src/fields.rt', 'Tag').items():
+    # a result's question is a hundred above the file's
+    wanted['REFUSED_RESULT'] = int(re.search(r'Refusal::Result\(\w+\) => (\d+) \+', read('crates', refusals)).group(1))
+    wanted['REFUSED_RESULT_LIMIT'] = wanted['REFUSED_RESULT'] + wanted['REFUSED_LIMIT']
+    for name, value in numbers_of('requests/src/fields.rt', 'Tag').items():
         wanted['TAG_' + name] = value
-    for name, value in constants('requests/src/kinds.rt', 'Kind').items():
+    for name, value in kinds('requests/src/kinds.rt').items():
         wanted['KIND_' + name] = value
     rows = re.findall(r'record \{ number = (\d+); asks = (.*) \}', read('crates', 'format', 'specs', 'Questions.antt'))
     for name, asks in ASKS.items():
@@ -65,7 +84,7 @@ def main():
         if len(numbers) != 1:
             sys.exit('%d rows of Questions.antt ask %s' % (len(numbers), asks))
         if wanted['REFUSED_' + name] != numbers[0]:
-            sys.exit('Refusal::%s is %d, and %d asks %s' % (name, wanted['REFUSED_' + name], numbers[0], asks))
+            sys.exit('Question %s is %d, and %d asks %s' % (name, wanted['REFUSED_' + name], numbers[0], asks))
         if numbers[0] >= 8:
             wanted['REFUSED_RESULT_' + name] = wanted['REFUSED_RESULT'] + numbers[0]
     if len(rows) != len(ASKS):

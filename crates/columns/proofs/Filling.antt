@@ -1,4 +1,5 @@
 -- The table of kinds, filled row by row.
+use Rattle.std.specs.Prelude.{Option as Maybe, Some, None}
 use Prim.Native.Nat.{ℕ, ◌+◌, ◌≤◌, ◌<◌}
 use native.Mathlib.Omega.{arith}
 use mathlib.Core.Path.{◌≡◌, refl, sym, ap, ◌∙◌, subst}
@@ -16,7 +17,6 @@ use Rattle.records.specs.Walk.{record_in}
 use Rattle.values.proofs.Tests.{by_bool}
 use Rattle.typing.specs.Meaning.{typed_in, type_answer}
 use Rattle.typing.specs.declared.Shape.{Shape}
-use Rattle.typing.specs.declared.TypeOf.{TypeOf}
 use Rattle.records.specs.Named.{ValueHere}
 use Rattle.typedefs.specs.Names.{AreNames}
 use Rattle.typedefs.specs.Typedefs.{type_text, IsTypedef, AreTypedefs, end_row}
@@ -64,9 +64,9 @@ module _ (d : Bytes) (h : Described d) (count i v e : ℕ) (b : Passed d (text "
           kind-typed none z = z
           kind-typed (some t) z = refl
 
-          typed-is : (t : TypeOf) → is_some (type_answer (type_text d r.value) t) ≡ true → is_some (type_answer [] t) ≡ true
-          typed-is (TypeOf.Is k) z = refl
-          typed-is TypeOf.Fault z = z
+          typed-is : (t : Maybe Shape) → is_some (type_answer (type_text d r.value) t) ≡ true → is_some (type_answer [] t) ≡ true
+          typed-is (Some k) z = refl
+          typed-is None z = z
 
       pub row-kind : (k : Shape) (t : ℕ) → ((s : Bytes) → type_answer s r.kind ≡ some (typed_in s k)) → t ≡ text_of k r.value → IsKind d (kind_of d (type_value (record_in d) count)) k t
       row-kind k t g z =

@@ -22,10 +22,10 @@ ghost use Rattle.columns.specs.Rows.{text_of, IsKinds, IsTyped, is_symbol, rows_
 use dictionary::Tag;
 use enums::Symbols;
 use format::{Descriptor, File};
-use numbers::IntOf;
-use records::FoundField;
+use numbers::Whole;
+use records::ValuePlace;
 use typedefs::{Names, Typedefs};
-use typing::{Shape, TypeOf};
+use typing::Shape;
 
 mod readings;
 
@@ -44,14 +44,11 @@ pub struct Kinds {
 }
 
 // The kind of a type that is one.
-fn shape_of(t: TypeOf) -> Shape
+fn shape_of(t: Option<Shape>) -> Shape
     requires { is_some (type_answer [] t) ≡ true }
     ensures { (s : Bytes) → type_answer s t ≡ some (typed_in s result) }
 {
-    let TypeOf::Is(kind) = t else {
-        return Shape::Line;
-    };
-    kind
+    t.unwrap_or(Shape::Line)
 }
 
 // Where the text of a kind stands that was read at a place.
@@ -59,7 +56,7 @@ fn text_of(kind: Shape, value: usize) -> usize
     ensures { result ≡ text_of kind value }
 {
     match kind {
-        Shape::Enum { start: _, end: _ } => value,
+        Shape::Enum { .. } => value,
         _ => File::BYTES,
     }
 }
@@ -73,24 +70,17 @@ fn fill(d: &[u8], names: Names, defs: Typedefs, scratch: &mut [u8]) -> Kinds
     let mut rows = [Row { kind: Shape::Line }; Descriptor::TYPES];
     let mut texts = [File::BYTES; Descriptor::TYPES];
     let mut i = 0;
+    // An index by hand: the loop goes by what the readers find, and this counts what is written.
     let mut count = 0;
     loop {
-        let v = records::next_named(&d[i..], b"%type");
-        let FoundField::At {
-            start: _,
-            value,
-            end,
-        } = v
-        else {
+        let Some(ValuePlace { value, end, .. }) = records::next_named(&d[i..], b"%type") else {
             return Kinds { rows, texts, count };
         };
         let own = typedefs::read_typedef(d, names, i + value, &mut *scratch);
         let t = typedefs::end_of(defs, own);
-        let at = t.value;
-        let read = t.kind;
-        let kind = shape_of(read);
+        let kind = shape_of(t.kind);
         rows[count] = Row { kind };
-        texts[count] = text_of(kind, at);
+        texts[count] = text_of(kind, t.value);
         count += 1;
         i += end;
     }
@@ -113,14 +103,11 @@ fn texts_with(d: &[u8], texts: &[usize], entries: &[u32], symbols: Symbols, v: &
     requires { IsSymbols d.now texts.now entries.now symbols }
     ensures { Found d.now texts.now symbols.from symbols.next (trim v.now) result }
 {
-    let table = symbols.table;
-    if table.count == 0 {
+    if symbols.table.count == 0 {
         return 0;
     }
     let t = words::trimmed(v);
-    let a = t.start;
-    let e = t.end;
-    enums::look_up(d, texts, entries, symbols, &v[a..e])
+    enums::look_up(d, texts, entries, symbols, &v[t.start..t.end])
 }
 
 // Is a value a symbol of a row, if it is known of which texts it is one?
@@ -129,14 +116,14 @@ fn is_symbol(texts: &[usize], from: usize, row: usize, found: u64) -> bool
     requires row_value { in_set row found ≡ true → leader_of texts.now from row ≡ row }
     ensures { result ≡ is_symbol texts.now from found row }
 {
-    if texts[row] < File::BYTES {
-        if terms::has(found, row as u64) {
-            return true;
-        }
-        let first = enums::leader(texts, from, row);
-        return terms::has(found, first as u64);
+    if texts[row] >= File::BYTES {
+        return false;
     }
-    false
+    if terms::has(found, row as u64) {
+        return true;
+    }
+    let first = enums::leader(texts, from, row);
+    terms::has(found, first as u64)
 }
 
 // What a value is held against: the kinds of a descriptor, and the symbols of those from one row on.
@@ -147,29 +134,21 @@ pub struct Typed {
 }
 
 // Does a value meet the kinds in a set of tags, of the rows that have their symbols? x is what it is as an int, found of which texts it is a symbol.
-fn rows_met(typed: Typed, found: u64, tags: u64, v: &[u8], x: IntOf) -> bool
+fn rows_met(typed: Typed, found: u64, tags: u64, v: &[u8], x: Option<Whole>) -> bool
     requires from_le_next { (typed.symbols.from ≤ typed.symbols.next) × (typed.symbols.next ≤ type_fields) × (length typed.kinds.rows ≡ type_fields) × (length typed.kinds.texts ≡ type_fields) }
     requires x_value { int_answer x ≡ int_of int_bounds (trim v.now) }
     requires leads { Leads typed.kinds.texts typed.symbols.from typed.symbols.next found }
     ensures { result ≡ rows_ask typed.kinds typed.symbols.from found tags v.now typed.symbols.from (typed.symbols.next - typed.symbols.from) }
 {
-    let kinds = typed.kinds;
-    let texts = kinds.texts;
     let from = typed.symbols.from;
     let next = typed.symbols.next;
-    let mut k = from;
-    while k < next {
-        if terms::has(tags, k as u64) {
-            let row = kinds.rows[k];
-            let symbol = is_symbol(&texts, from, k, found);
-            let kind = row.kind;
-            if readings::shape_met(kind, v, x, symbol) {
-                k += 1;
-            } else {
-                return false;
-            }
-        } else {
-            k += 1;
+    for k in from..next {
+        if !terms::has(tags, k as u64) {
+            continue;
+        }
+        let symbol = is_symbol(&typed.kinds.texts, from, k, found);
+        if !readings::shape_met(typed.kinds.rows[k].kind, v, x, symbol) {
+            return false;
         }
     }
     true
@@ -193,9 +172,6 @@ pub fn value_met(
     }
     let n = values::copy_value(s, &mut *scratch);
     let x = values::int_in(&scratch[..n]);
-    let kinds = typed.kinds;
-    let texts = kinds.texts;
-    let symbols = typed.symbols;
-    let found = texts_with(d, &texts, entries, symbols, &scratch[..n]);
+    let found = texts_with(d, &typed.kinds.texts, entries, typed.symbols, &scratch[..n]);
     rows_met(typed, found, tags, &scratch[..n], x)
 }

@@ -13,11 +13,10 @@ use Rattle.format.proofs.Elements.{Each}
 use Rattle.format.proofs.Listing.{same_true}
 use Rattle.words.specs.RuleNames.{place_in, rule_names}
 use Rattle.words.proofs.RuleNames.{is-placed, not-placed}
-use Rattle.descriptors.specs.Contents.{listable, holds, is_free, asks_name, asks_size, Asks}
+use Rattle.descriptors.specs.Contents.{listable, holds, asks_name, asks_size, Asks}
 use Rattle.descriptors.specs.declared.shapes.Content.{Content}
 use Rattle.descriptors.specs.contracts.shapes.Content.{the_type}
-use denote.Enum.Declared.{tag_of}
-use types.Run.{OneOf, miss}
+use denote.Enum.Bare.{sameb}
 
 -- a word in a list of names
 pub listable-not : (b : Bool) (w : Bytes) → is_name w ≡ false → listable b w ≡ false
@@ -70,9 +69,6 @@ pub asks_at : (n m : Bytes) (c : Content) (r k : ℕ) → r ≡ place_in n rule_
 asks_at n m c r k e f h s a q = subst (λ (x : Bytes). Asks x c) (same_true m n (is-placed n m rule_names r k e f h s q)) a
 
 -- one that has none of their places
-pub above : (r k : ℕ) → k ≤ r → (r ≡ k → ⊥) → k + 1 ≤ r
-above r k h e = omega (arith, h, e)
-
 rows-passed : (n : Bytes) (xs : List Shape) → length xs ≤ place_in n (map (λ (x : Shape). x.name) xs) → Each (λ (x : Shape). same n x.name ≡ false) xs
 rows-passed n [] h = tt
 rows-passed n (x ∷ xs) h = go (same n x.name) refl (λ g. rows-passed n xs g) h
@@ -112,40 +108,21 @@ asks-plain n e =
       size = not-special (text "%size") n refl e;
     }
 
--- any value is what is asked where nothing is
-pub free-holds : (c : Content) (v : Bytes) → is_free c ≡ true → true ≡ holds c v
-free-holds Content.Free v e = refl
-free-holds Content.TypeName v e = absurd (true≢false (sym e))
-free-holds Content.Names v e = absurd (true≢false (sym e))
-free-holds Content.Ordinary v e = absurd (true≢false (sym e))
-free-holds Content.Name v e = absurd (true≢false (sym e))
-free-holds Content.Size v e = absurd (true≢false (sym e))
-free-holds Content.Fault v e = absurd (true≢false (sym e))
+-- whether one name is asked, or a size, is what `==` tells
+pub name-asked : (c : Content) → sameb the_type c Content.Name ≡ asks_name c
+name-asked Content.Free = refl
+name-asked Content.TypeName = refl
+name-asked Content.Names = refl
+name-asked Content.Ordinary = refl
+name-asked Content.Name = refl
+name-asked Content.Size = refl
+name-asked Content.Fault = refl
 
--- what is asked is another thing
-pub not_free : (c : Content) → OneOf (1 ∷ 2 ∷ 3 ∷ 4 ∷ 5 ∷ 6 ∷ []) (tag_of the_type c) → false ≡ is_free c
-not_free Content.Free h = absurd (miss (1 ∷ 2 ∷ 3 ∷ 4 ∷ 5 ∷ 6 ∷ []) 0 tt h)
-not_free Content.TypeName h = refl
-not_free Content.Names h = refl
-not_free Content.Ordinary h = refl
-not_free Content.Name h = refl
-not_free Content.Size h = refl
-not_free Content.Fault h = refl
-
-pub not-name : (c : Content) → OneOf (0 ∷ 1 ∷ 2 ∷ 3 ∷ 5 ∷ 6 ∷ []) (tag_of the_type c) → false ≡ asks_name c
-not-name Content.Free h = refl
-not-name Content.TypeName h = refl
-not-name Content.Names h = refl
-not-name Content.Ordinary h = refl
-not-name Content.Name h = absurd (miss (0 ∷ 1 ∷ 2 ∷ 3 ∷ 5 ∷ 6 ∷ []) 4 tt h)
-not-name Content.Size h = refl
-not-name Content.Fault h = refl
-
-pub not-size : (c : Content) → OneOf (0 ∷ 1 ∷ 2 ∷ 3 ∷ 4 ∷ 6 ∷ []) (tag_of the_type c) → false ≡ asks_size c
-not-size Content.Free h = refl
-not-size Content.TypeName h = refl
-not-size Content.Names h = refl
-not-size Content.Ordinary h = refl
-not-size Content.Name h = refl
-not-size Content.Size h = absurd (miss (0 ∷ 1 ∷ 2 ∷ 3 ∷ 4 ∷ 6 ∷ []) 5 tt h)
-not-size Content.Fault h = refl
+pub size-asked : (c : Content) → sameb the_type c Content.Size ≡ asks_size c
+size-asked Content.Free = refl
+size-asked Content.TypeName = refl
+size-asked Content.Names = refl
+size-asked Content.Ordinary = refl
+size-asked Content.Name = refl
+size-asked Content.Size = refl
+size-asked Content.Fault = refl

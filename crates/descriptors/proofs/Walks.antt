@@ -1,4 +1,6 @@
 -- Question 6 over the rows of descriptors: what holds when n of count were met, whose names stand where from and to say.
+use Rattle.std.specs.Prelude.{Option, Some, None}
+use Rattle.words.specs.declared.Span.{Span}
 use Prim.Native.Nat.{ℕ, ◌+◌, ◌≤◌, ◌<◌}
 use native.Mathlib.Omega.{arith}
 use mathlib.Core.Path.{◌≡◌, sym, ap, ◌∙◌, subst}
@@ -19,7 +21,6 @@ use Rattle.records.proofs.Cuts.{records_from}
 use Rattle.records.proofs.Rows.{row-heads}
 use Rattle.words.specs.Spans.{span}
 use Rattle.descriptors.specs.Names.{name_at, names_at, Inside, Told}
-use Rattle.descriptors.specs.declared.shapes.Head.{Head}
 use Rattle.descriptors.proofs.Names.{inside-more, names_more}
 use Rattle.descriptors.proofs.Judging.{well_from, well-start, well-stop, well-more, walk-fit}
 
@@ -72,8 +73,8 @@ module _ (s : Bytes) (starts ends : List ℕ) (count n : ℕ) (from to : List �
     unfolding here
     part-fits = both.0
 
-    module _ (x : Head) (t : Told s (record_in (span (get_or starts n 0) (get_or ends n 0) s)) (names_at s (take n from) (take n to)) x) where
-      told : {y : Head} → x ≡ y → Told s here (names_at s (take n from) (take n to)) y
+    module _ (x : Option Span) (t : Told s (record_in (span (get_or starts n 0) (get_or ends n 0) s)) (names_at s (take n from) (take n to)) x) where
+      told : {y : Option Span} → x ≡ y → Told s here (names_at s (take n from) (take n to)) y
       unfolding here
       told e = subst (Told s here (names_at s (take n from) (take n to))) e t
 
@@ -81,10 +82,10 @@ module _ (s : Bytes) (starts ends : List ℕ) (count n : ℕ) (from to : List �
       unfolding here later
       judged-here = w.judged ∙ ap (well_from (names_at s (take n from) (take n to))) (row-heads w.rows n h)
 
-      pub walk-stops : x ≡ Head.Fault → walk_well int_bounds (records (read_of s)) ≡ false
+      pub walk-stops : x ≡ None → walk_well int_bounds (records (read_of s)) ≡ false
       walk-stops e = judged-here ∙ well-stop (names_at s (take n from) (take n to)) here later (told e)
 
-      pub walk-head : (a b : ℕ) → x ≡ Head.Named a b → WalkAt s starts ends count (n + 1) (set from n a) (set to n b)
+      pub walk-head : (a b : ℕ) → x ≡ Some (record { start = a; end = b }) → WalkAt s starts ends count (n + 1) (set from n a) (set to n b)
       unfolding later
       walk-head a b e =
           let f = told e in

@@ -1,19 +1,23 @@
 -- What a field's name asks of its value.
-use Rattle.std.specs.Prelude.{ℕ, ◌<◌, ◌≤◌, ◌≡◌, Bool, true, false, [], ◌∷◌, length}
+use Rattle.words.specs.declared.Span.{Span}
+use Rattle.std.specs.Prelude.{ℕ, ◌<◌, ◌≤◌, ◌≡◌, Bool, true, false, [], ◌∷◌, length, Option, Some, None}
 use Rattle.format.specs.Bytes.{Bytes, text, same, is_some}
 use Rattle.format.specs.Lines.{is_name}
 use Rattle.format.specs.Numbers.{int_bounds}
 use Rattle.format.specs.Rules.{size_rule, one, several, name_list, is_ordinary, is_shaped}
 use Rattle.format.specs.Words.{words, is_type_name}
 use Rattle.words.specs.Spans.{span}
-use Rattle.words.specs.declared.Word.{Word}
 use Rattle.descriptors.specs.Sizes.{field_of}
 use Rattle.descriptors.specs.declared.shapes.Content.{Content}
 
+-- a test that the code makes of a text answers as p does
+abbrev pub TextTests : (Bytes → Bool → Type 0) → (Bytes → Bool) → Type 0
+TextTests post p = (w : Bytes) (r : Bool) → post w r → r ≡ p w
+
 -- the one word of a text, or that it has none or more
-abbrev pub OnlyWord : Bytes → Word → Type 0
-OnlyWord s (Word.At a e) = (a < e) × (e ≤ length s) × (words s ≡ span a e s ∷ [])
-OnlyWord s Word.Nothing = (p : Bytes → Bool) → one p (words s) ≡ false
+abbrev pub OnlyWord : Bytes → Option Span → Type 0
+OnlyWord s (Some p) = (p.start < p.end) × (p.end ≤ length s) × (words s ≡ span p.start p.end s ∷ [])
+OnlyWord s None = (p : Bytes → Bool) → one p (words s) ≡ false
 
 -- may a word stand in a list of names, of such as may begin with `%` or of others
 abbrev pub listable : Bool → Bytes → Bool
@@ -30,16 +34,7 @@ holds Content.Name v = one is_name (words v)
 holds Content.Size v = is_some (size_rule int_bounds (words v))
 holds Content.Fault v = false
 
--- is nothing asked, one name, or a size
-abbrev pub is_free : Content → Bool
-is_free Content.Free = true
-is_free Content.TypeName = false
-is_free Content.Names = false
-is_free Content.Ordinary = false
-is_free Content.Name = false
-is_free Content.Size = false
-is_free Content.Fault = false
-
+-- is one name asked, or a size
 abbrev pub asks_name : Content → Bool
 asks_name Content.Free = false
 asks_name Content.TypeName = false

@@ -1,5 +1,5 @@
 -- The names of descriptors, by where their `%rec` values stand.
-use Rattle.std.specs.Prelude.{ℕ, ◌≤◌, ◌≡◌, Bool, true, false, ◌&&◌, not, List, [], ◌∷◌, length}
+use Rattle.std.specs.Prelude.{ℕ, ◌≤◌, ◌≡◌, Bool, true, false, ◌&&◌, not, List, [], ◌∷◌, length, Option, Some, None}
 use Rattle.format.specs.Pieces.{read_of}
 use Rattle.format.specs.Bytes.{Bytes, among}
 use Rattle.format.specs.Numbers.{int_bounds}
@@ -12,7 +12,6 @@ use Rattle.format.proofs.Walking.{head_name}
 use Rattle.values.specs.Value.{value_from}
 use Rattle.words.specs.Spans.{span}
 use Rattle.words.specs.declared.Span.{Span}
-use Rattle.descriptors.specs.declared.shapes.Head.{Head}
 
 -- the first word of the value that stands from a to e
 abbrev pub name_at : Bytes → ℕ → ℕ → Bytes
@@ -43,6 +42,6 @@ NamedBy d r =
 abbrev pub passes : Record → List Bytes → Bool
 passes r seen = is_well_formed int_bounds r && not (among (head_name r) seen)
 
-abbrev pub Told : Bytes → Record → List Bytes → Head → Type 0
-Told s r seen Head.Fault = passes r seen ≡ false
-Told s r seen (Head.Named a e) = (passes r seen ≡ true) × (a ≤ e) × (e ≤ length s) × (name_at s a e ≡ head_name r)
+abbrev pub Told : Bytes → Record → List Bytes → Option Span → Type 0
+Told s r seen None = passes r seen ≡ false
+Told s r seen (Some p) = (passes r seen ≡ true) × (p.start ≤ p.end) × (p.end ≤ length s) × (name_at s p.start p.end ≡ head_name r)

@@ -1,63 +1,49 @@
 // Descriptors: is each field of one shaped as its name asks, and are no two sets called alike?
-ghost use Rattle.std.specs.Prelude.{◌≡◌, true, false, ◌≤◌, length};
+ghost use Rattle.std.specs.Prelude.{◌≡◌, Bool, true, false, ◌≤◌, length};
+ghost use Rattle.std.specs.Fn.{FnReturnsAt};
 ghost use Rattle.format.specs.Pieces.{read_of};
 ghost use Rattle.format.proofs.Records.{records};
-ghost use Rattle.format.specs.Bytes.{all, among};
-ghost use Rattle.format.specs.Lines.{is_name, is_special};
+ghost use Rattle.format.specs.Bytes.{Bytes, all, among};
+ghost use Rattle.format.specs.Lines.{is_special};
 ghost use Rattle.format.specs.Limits.{value_bytes, descriptors};
 ghost use Rattle.format.specs.Numbers.{int_bounds};
 ghost use Rattle.format.specs.Records.{fields_of};
 ghost use Rattle.format.specs.Rules.{one, several, is_well_formed};
 ghost use Rattle.format.specs.Questions.{fits_record};
-ghost use Rattle.format.specs.Words.{words, first_word, is_type_name};
+ghost use Rattle.format.specs.Words.{words, first_word};
 ghost use Rattle.format.proofs.Walking.{walk_fits, walk_well};
 ghost use Rattle.values.specs.Value.{value_from};
 ghost use Rattle.records.specs.Places.{is_readable};
 ghost use Rattle.records.specs.Heads.{HeadParts};
 ghost use Rattle.words.specs.Spans.{span};
-ghost use Rattle.descriptors.specs.Contents.{OnlyWord, listable, holds, is_free, asks_name, asks_size, Asks};
+ghost use Rattle.descriptors.specs.Contents.{OnlyWord, TextTests, listable, holds, Asks};
 ghost use Rattle.descriptors.specs.Names.{names_at, Inside, NamedBy, Told};
 
 use super::sizes::{is_size, size_rule};
 use format::Descriptor;
-use records::{FoundField, NextField};
-use words::{Rule, Span, Word};
+use records::ValuePlace;
+use words::{Rule, Span};
 
 // The one word of a text, nothing where it has none or more.
-fn one_word(s: &[u8]) -> Word
+fn one_word(s: &[u8]) -> Option<Span>
     ensures { OnlyWord s.now result }
 {
-    let w = words::next_word(s);
-    let Word::At { start, end } = w else {
-        return Word::Nothing;
-    };
-    let v = words::next_word(&s[end..]);
-    match v {
-        Word::At { start: _, end: _ } => Word::Nothing,
-        Word::Nothing => Word::At { start, end },
+    let w = words::next_word(s)?;
+    match words::next_word(&s[w.end..]) {
+        Some(_) => None,
+        None => Some(w),
     }
 }
 
-// Is this text one name?
-fn one_name(s: &[u8]) -> bool
-    ensures { result ≡ one is_name (words s.now) }
+// Is this text one word, which passes a test?
+fn is_one<F: Fn(&[u8]) -> bool>(s: &[u8], test: F) -> bool
+    requires { F.IsAlwaysCallable test }
+    ensures { (p : Bytes → Bool) → TextTests (FnReturnsAt F.Fn test) p → result ≡ one p (words s.now) }
 {
-    let w = one_word(s);
-    let Word::At { start, end } = w else {
-        return false;
-    };
-    words::is_name(&s[start..end])
-}
-
-// Is this text one type name?
-fn one_type_name(s: &[u8]) -> bool
-    ensures { result ≡ one is_type_name (words s.now) }
-{
-    let w = one_word(s);
-    let Word::At { start, end } = w else {
-        return false;
-    };
-    words::is_type_name(&s[start..end])
+    match one_word(s) {
+        Some(Span { start, end }) => test(&s[start..end]),
+        None => false,
+    }
 }
 
 // May this word stand in a list of names? Those of some lists may begin with `%`.
@@ -76,8 +62,7 @@ fn each_name(s: &[u8], special: bool) -> bool
 {
     let mut rest = s;
     loop {
-        let w = words::next_word(rest);
-        let Word::At { start, end } = w else {
+        let Some(Span { start, end }) = words::next_word(rest) else {
             return true;
         };
         if !is_listable(&rest[start..end], special) {
@@ -91,15 +76,14 @@ fn each_name(s: &[u8], special: bool) -> bool
 fn all_names(s: &[u8], special: bool) -> bool
     ensures { result ≡ several (listable special) (words s.now) }
 {
-    let w = words::next_word(s);
-    let Word::At { start: _, end: _ } = w else {
+    let Some(_) = words::next_word(s) else {
         return false;
     };
     each_name(s, special)
 }
 
 // What the value of a field has to be. Ordinary names do not begin with `%`.
-#[derive(Clone, Copy)]
+#[derive(Clone, Copy, PartialEq)]
 pub enum Content {
     Free,
     TypeName,
@@ -110,56 +94,25 @@ pub enum Content {
     Fault,
 }
 
-// Is nothing asked?
-fn is_free(c: Content) -> bool
-    ensures { result ≡ is_free c }
-{
-    match c {
-        Content::Free => true,
-        _ => false,
-    }
-}
-
-// Is one name asked, as it is of `%key` fields alone?
-fn asks_name(c: Content) -> bool
-    ensures { result ≡ asks_name c }
-{
-    match c {
-        Content::Name => true,
-        _ => false,
-    }
-}
-
-// Is a size asked, as it is of `%size` fields alone?
-fn asks_size(c: Content) -> bool
-    ensures { result ≡ asks_size c }
-{
-    match c {
-        Content::Size => true,
-        _ => false,
-    }
-}
-
 // What a name that starts with `%` asks of its value.
 fn special_content(name: &[u8]) -> Content
     requires { is_special name.now ≡ true }
     ensures { Asks name.now result }
 {
-    let k = words::rule_of(name);
-    match k {
-        Rule::REC => Content::TypeName,
-        Rule::DOC => Content::Free,
-        Rule::MANDATORY => Content::Names,
-        Rule::PROHIBIT => Content::Names,
-        Rule::ALLOWED => Content::Names,
-        Rule::UNIQUE => Content::Names,
-        Rule::KEY => Content::Name,
-        Rule::SIZE => Content::Size,
-        Rule::TYPEDEF => Content::Free,
-        Rule::TYPE => Content::Free,
-        Rule::SINGULAR => Content::Names,
-        Rule::AUTO => Content::Ordinary,
-        _ => Content::Fault,
+    match words::rule_of(name) {
+        Rule::Rec => Content::TypeName,
+        Rule::Doc => Content::Free,
+        Rule::Mandatory => Content::Names,
+        Rule::Prohibit => Content::Names,
+        Rule::Allowed => Content::Names,
+        Rule::Unique => Content::Names,
+        Rule::Key => Content::Name,
+        Rule::Size => Content::Size,
+        Rule::Typedef => Content::Free,
+        Rule::Type => Content::Free,
+        Rule::Singular => Content::Names,
+        Rule::Auto => Content::Ordinary,
+        Rule::Other => Content::Fault,
     }
 }
 
@@ -174,16 +127,16 @@ pub fn content_of(name: &[u8]) -> Content
     }
 }
 
-// Is a text what is asked?
+// Is a text what is asked? A match and no closure: what is asked is read from the file.
 pub fn text_holds(c: Content, s: &[u8]) -> bool
     ensures { result ≡ holds c s.now }
 {
     match c {
         Content::Free => true,
-        Content::TypeName => one_type_name(s),
+        Content::TypeName => is_one(s, words::is_type_name),
         Content::Names => all_names(s, true),
         Content::Ordinary => all_names(s, false),
-        Content::Name => one_name(s),
+        Content::Name => is_one(s, words::is_name),
         Content::Size => is_size(size_rule(s)),
         Content::Fault => false,
     }
@@ -194,7 +147,7 @@ fn value_holds(c: Content, value: &[u8], scratch: &mut [u8]) -> bool
     requires { length (value_from value.now) ≤ length scratch.old }
     ensures { (result ≡ holds c (value_from value.now)) × (length scratch.new ≡ length scratch.old) }
 {
-    if is_free(c) {
+    if c == Content::Free {
         return true;
     }
     let n = values::copy_value(value, scratch);
@@ -212,28 +165,21 @@ pub fn well_formed(d: &[u8], scratch: &mut [u8]) -> bool
     let mut keyed = false;
     let mut sized = false;
     loop {
-        let n = records::next_field(&d[i..]);
-        let NextField::At {
-            start,
-            named,
-            value,
-            end,
-        } = n
-        else {
+        let Some(f) = records::next_field(&d[i..]) else {
             return true;
         };
-        let c = content_of(&d[i + start..i + named]);
-        if !value_holds(c, &d[i + value..i + end], scratch) {
+        let c = content_of(&d[i + f.start..i + f.named]);
+        if !value_holds(c, &d[i + f.value..i + f.end], scratch) {
             return false;
         }
-        let key = asks_name(c);
-        let size = asks_size(c);
+        let key = c == Content::Name;
+        let size = c == Content::Size;
         if (keyed & key) | (sized & size) {
             return false;
         }
         keyed = keyed | key;
         sized = sized | size;
-        i += end;
+        i += f.end;
     }
 }
 
@@ -242,14 +188,9 @@ fn rec_value(d: &[u8]) -> Span
     requires { is_readable d.now ≡ true }
     ensures { NamedBy d.now result }
 {
-    let f = records::find_field(d, b"%rec", 0);
-    match f {
-        FoundField::At {
-            start: _,
-            value,
-            end,
-        } => Span { start: value, end },
-        FoundField::Missing => Span { start: 0, end: 0 },
+    match records::find_field(d, b"%rec", 0) {
+        Some(ValuePlace { value, end, .. }) => Span { start: value, end },
+        None => Span { start: 0, end: 0 },
     }
 }
 
@@ -258,14 +199,10 @@ fn is_named(s: &[u8], starts: &[usize], ends: &[usize], word: &[u8]) -> bool
     requires { Inside s.now starts.now ends.now }
     ensures { result ≡ among word.now (names_at s.now starts.now ends.now) }
 {
-    let mut k = 0;
-    while k < starts.len() {
-        let a = starts[k];
-        let e = ends[k];
-        if values::word_is(&s[a..e], word) {
+    for k in 0..starts.len() {
+        if values::word_is(&s[starts[k]..ends[k]], word) {
             return true;
         }
-        k += 1;
     }
     false
 }
@@ -280,13 +217,7 @@ fn is_taken(s: &[u8], starts: &[usize], ends: &[usize], t: &[u8]) -> bool
     is_named(s, starts, ends, &w[..e])
 }
 
-// A descriptor, from a to e: where its name stands, or that it is not well formed or is called like one before it.
-#[derive(Drop)]
-enum Head {
-    Fault,
-    Named { start: usize, end: usize },
-}
-
+// A descriptor, from a to e: where its name stands, none if it is not well formed or is called like one before it.
 fn head_of(
     s: &[u8],
     a: usize,
@@ -294,7 +225,7 @@ fn head_of(
     starts: &[usize],
     ends: &[usize],
     scratch: &mut [u8],
-) -> Head
+) -> Option<Span>
     requires a_le_e { (a ≤ e) × (e ≤ length s.now) }
     requires s_value { is_readable (span a e s.now) ≡ true }
     requires s_value_2 { fits_record (fields_of (read_of (span a e s.now))) ≡ true }
@@ -303,16 +234,16 @@ fn head_of(
     ensures { Told s.now (fields_of (read_of (span a e s.now))) (names_at s.now starts.now ends.now) result × (length scratch.new ≡ length scratch.old) }
 {
     if !well_formed(&s[a..e], scratch) {
-        return Head::Fault;
+        return None;
     }
     let v = rec_value(&s[a..e]);
     let start = a + v.start;
     let end = a + v.end;
     let n = values::copy_value(&s[start..end], scratch);
     if is_taken(s, starts, ends, &scratch[..n]) {
-        return Head::Fault;
+        return None;
     }
-    Head::Named { start, end }
+    Some(Span { start, end })
 }
 
 // Question 6: are all descriptors well formed, and no two sets called alike? count of them stand in s, from each start to the end beside it.
@@ -330,17 +261,19 @@ pub fn described_well(
 {
     let mut from = [0usize; Descriptor::COUNT];
     let mut to = [0usize; Descriptor::COUNT];
-    let mut n = 0;
-    while n < count {
-        let a = starts[n];
-        let e = ends[n];
-        let h = head_of(s, a, e, &from[..n], &to[..n], scratch);
-        let Head::Named { start, end } = h else {
+    for n in 0..count {
+        let Some(Span { start, end }) = head_of(
+            s,
+            starts[n],
+            ends[n],
+            &from[..n],
+            &to[..n],
+            scratch,
+        ) else {
             return false;
         };
         from[n] = start;
         to[n] = end;
-        n += 1;
     }
     true
 }

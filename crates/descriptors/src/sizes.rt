@@ -14,9 +14,8 @@ ghost use Rattle.values.specs.Value.{value_from};
 ghost use Rattle.records.specs.Places.{is_readable};
 ghost use Rattle.descriptors.specs.Sizes.{size_answer};
 
-use numbers::Natural;
-use records::FoundField;
-use words::Word;
+use records::ValuePlace;
+use words::Span;
 
 // A size: how many records a set may have.
 #[derive(Drop)]
@@ -33,8 +32,7 @@ pub enum SizeRule {
 fn size_by(sign: &[u8], n: u64) -> SizeRule
     ensures { size_answer result ≡ size_by (order_of sign.now) (some n) }
 {
-    let k = words::word_place(sign, b"< <= > >=");
-    match k {
+    match words::word_place(sign, b"< <= > >=") {
         0 => SizeRule::Below(n),
         1 => SizeRule::AtMost(n),
         2 => SizeRule::Above(n),
@@ -47,10 +45,9 @@ fn size_by(sign: &[u8], n: u64) -> SizeRule
 fn size_exactly(w: &[u8]) -> SizeRule
     ensures { size_answer result ≡ size_rule int_bounds (w.now ∷ []) }
 {
-    let x = numbers::number_of(w);
-    match x {
-        Natural::Of(n) => SizeRule::Exactly(n),
-        Natural::Not => SizeRule::None,
+    match numbers::number_of(w) {
+        Some(n) => SizeRule::Exactly(n),
+        None => SizeRule::None,
     }
 }
 
@@ -58,10 +55,9 @@ fn size_exactly(w: &[u8]) -> SizeRule
 fn size_signed(sign: &[u8], w: &[u8]) -> SizeRule
     ensures { size_answer result ≡ size_rule int_bounds (sign.now ∷ w.now ∷ []) }
 {
-    let x = numbers::number_of(w);
-    match x {
-        Natural::Of(n) => size_by(sign, n),
-        Natural::Not => SizeRule::None,
+    match numbers::number_of(w) {
+        Some(n) => size_by(sign, n),
+        None => SizeRule::None,
     }
 }
 
@@ -70,18 +66,18 @@ pub fn size_rule(s: &[u8]) -> SizeRule
     ensures { size_answer result ≡ size_rule int_bounds (words s.now) }
 {
     let w = words::next_word(s);
-    let Word::At { start, end } = w else {
+    let Some(Span { start, end }) = w else {
         return SizeRule::None;
     };
     let t = &s[end..];
     let x = words::next_word(t);
-    let Word::At { start: a, end: e } = x else {
+    let Some(Span { start: a, end: e }) = x else {
         return size_exactly(&s[start..end]);
     };
     let y = words::next_word(&t[e..]);
     match y {
-        Word::At { start: _, end: _ } => SizeRule::None,
-        Word::Nothing => size_signed(&s[start..end], &t[a..e]),
+        Some(_) => SizeRule::None,
+        None => size_signed(&s[start..end], &t[a..e]),
     }
 }
 
@@ -132,13 +128,7 @@ pub fn size_met(d: &[u8], count: usize, scratch: &mut [u8]) -> bool
 {
     let mut i = 0;
     loop {
-        let f = records::next_named(&d[i..], b"%size");
-        let FoundField::At {
-            start: _,
-            value,
-            end,
-        } = f
-        else {
+        let Some(ValuePlace { value, end, .. }) = records::next_named(&d[i..], b"%size") else {
             return true;
         };
         if !value_met(&d[i + value..i + end], count as u64, scratch) {

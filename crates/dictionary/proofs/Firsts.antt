@@ -10,7 +10,8 @@ use lib.ListN.{length, get_or, take}
 use Rattle.format.specs.Bytes.{Bytes, pick, same}
 use Rattle.sorting.specs.Texts.{text_at}
 use Rattle.sorting.specs.Order.{compared_of}
-use Rattle.sorting.specs.declared.Compared.{Compared}
+use Rattle.std.specs.declared.cmp.Ordering.{Ordering}
+use Rattle.std.specs.Ordering.{is_eq}
 use Rattle.values.proofs.Tests.{dec-lt, same_self, same-apart}
 use Rattle.sorting.proofs.Order.{equal-same, before-apart, behind-before}
 use Rattle.words.specs.RuleNames.{place_in}
@@ -66,24 +67,32 @@ module _ (d : Bytes) (l : List ℕ) (k : ℕ) (h : k < length l) where
       sym (ne_eqb (place_in (get_or ws k []) ws) k (λ z. omega (arith, m, z, g)))
 
 -- two entries compared by their words
-module _ (d : Bytes) (x y i j : ℕ) (e : i ≡ x % 65536) (f : j ≡ y % 65536) (c : Compared) (q : c ≡ compared_of (text_at true d i) (text_at true d j)) where
+module _ (d : Bytes) (x y i j : ℕ) (e : i ≡ x % 65536) (f : j ≡ y % 65536) (c : Ordering) (q : c ≡ compared_of (text_at true d i) (text_at true d j)) where
   abbrev a : Bytes
   a = word_at d x
 
   abbrev b : Bytes
   b = word_at d y
 
-  told : (r : Compared) → c ≡ r → compared_of a b ≡ r
+  told : (r : Ordering) → c ≡ r → compared_of a b ≡ r
   told r g = sym (ap₂ (λ (m n : ℕ). compared_of (text_at true d m) (text_at true d n)) e f) ∙ sym q ∙ g
 
-  pub same-equal : c ≡ Compared.Equal → true ≡ same a b
-  same-equal g = sym (ap (same a) (sym (equal-same a b (told Compared.Equal g))) ∙ same_self a)
+  same-equal : c ≡ Ordering.Equal → true ≡ same a b
+  same-equal g = sym (ap (same a) (sym (equal-same a b (told Ordering.Equal g))) ∙ same_self a)
 
-  pub same-before : c ≡ Compared.Before → false ≡ same a b
-  same-before g = sym (same-apart a b (before-apart a b (told Compared.Before g)))
+  same-before : c ≡ Ordering.Less → false ≡ same a b
+  same-before g = sym (same-apart a b (before-apart a b (told Ordering.Less g)))
 
-  pub same-behind : c ≡ Compared.Behind → false ≡ same a b
-  same-behind g = sym (same-apart a b (λ z. before-apart b a (behind-before a b (told Compared.Behind g)) (sym z)))
+  same-behind : c ≡ Ordering.Greater → false ≡ same a b
+  same-behind g = sym (same-apart a b (λ z. before-apart b a (behind-before a b (told Ordering.Greater g)) (sym z)))
+
+  pub same_by : is_eq c ≡ same a b
+  same_by = go c refl
+    where
+      go : (r : Ordering) → c ≡ r → is_eq r ≡ same a b
+      go Ordering.Equal g = same-equal g
+      go Ordering.Less g = same-before g
+      go Ordering.Greater g = same-behind g
 
 -- places asked one by one
 pub firsts-start : (p : ℕ → Bool) (j : ℕ) → in_set j 0 ≡ (ltb j 0 && p j)

@@ -1,4 +1,5 @@
 -- How far the walks over the words of a value and over the fields of a name have come, and what one step more does.
+use Rattle.std.specs.Prelude.{Some, None}
 use Prim.Native.Nat.{ℕ, suc, ◌+◌, ◌≤◌, ◌<◌}
 use native.Mathlib.Numerals.{add-one}
 use native.Mathlib.Omega.{arith}
@@ -16,7 +17,6 @@ use Rattle.values.specs.Value.{value_from}
 use Rattle.records.specs.Places.{is_readable}
 use Rattle.records.specs.Walk.{record_in}
 use Rattle.values.specs.Words.{Cuts}
-use Rattle.values.specs.declared.lists.NextWord.{NextWord}
 use Rattle.records.specs.Named.{values_from, ValueHere}
 use Rattle.terms.specs.Sets.{Term, term_of, tagged}
 use Rattle.terms.specs.Entries.{terms_of, Entries}
@@ -50,10 +50,10 @@ module _ (d : Bytes) (l : List ℕ) (n i : ℕ) (m : List ℕ) (k from : ℕ) (w
   abbrev left : List Term
   left = numbered k (words (value_from (drop from d)))
 
-  pub value-end : Cuts d from NextWord.Nothing → Adding d l n whole [] m k
+  pub value-end : Cuts d from None → Adding d l n whole [] m k
   value-end e = adding-rest left [] (ap (numbered k) e) w.adding
 
-  module _ (a b : ℕ) (c : Cuts d from (NextWord.At a b)) where
+  module _ (a b : ℕ) (c : Cuts d from (Some (record { start = a; rest = b }))) where
     abbrev first : Bytes
     first = front not_gap (value_from (drop a d))
 

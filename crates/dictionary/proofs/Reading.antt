@@ -1,4 +1,5 @@
 -- How far each walk over a descriptor has come, and what one step more does: over the words of a value, over the names of its first word, over the fields.
+use Rattle.std.specs.Prelude.{Some, None}
 use Prim.Native.Nat.{ℕ, ◌+◌, ◌≤◌, ◌<◌}
 use native.Mathlib.Omega.{arith}
 use mathlib.Core.Path.{◌≡◌, sym, ap, ◌∙◌}
@@ -18,9 +19,7 @@ use Rattle.words.specs.Spans.{span}
 use Rattle.records.specs.Places.{is_readable}
 use Rattle.records.specs.Walk.{record_in}
 use Rattle.records.specs.Fields.{fields_from, field_between, FieldHere}
-use Rattle.values.specs.declared.lists.NextWord.{NextWord}
 use Rattle.values.specs.Words.{word_from, Cuts, is_comma, name_from, others_from, Behind}
-use Rattle.values.specs.declared.lists.Part.{Part}
 use Rattle.sorting.specs.Texts.{text_at}
 use Rattle.terms.specs.Sets.{Term, term_of}
 use Rattle.terms.specs.Entries.{term_at, IsEntry}
@@ -47,10 +46,10 @@ pub words-start : (d : Bytes) (l : List ℕ) (n tag i : ℕ) → i ≤ length d 
 words-start d l n tag i h r e = record { inside = h; room = r; names = e; adding = adding-start d l n (map (term_of tag) (words (value_from (drop i d)))) }
 
 module _ (d : Bytes) (l : List ℕ) (n tag i : ℕ) (m : List ℕ) (k from : ℕ) (w : WordsLeft d l n tag i m k from) where
-  pub words-end : Cuts d from NextWord.Nothing → Adding d l n (map (term_of tag) (words (value_from (drop i d)))) [] m k
+  pub words-end : Cuts d from None → Adding d l n (map (term_of tag) (words (value_from (drop i d)))) [] m k
   words-end e = adding-rest (map (term_of tag) (words (value_from (drop from d)))) [] (ap (map (term_of tag)) e) w.adding
 
-  module _ (a b : ℕ) (c : Cuts d from (NextWord.At a b)) where
+  module _ (a b : ℕ) (c : Cuts d from (Some (record { start = a; rest = b }))) where
     abbrev first : Bytes
     first = front not_gap (value_from (drop a d))
 
@@ -115,10 +114,10 @@ module _ (d : Bytes) (l : List ℕ) (n tag i : ℕ) (m : List ℕ) (k at : ℕ) 
     put : Adding d l n (map (term_of tag) (typed_names (value_from (drop i d)))) (map (term_of tag) later) (set m k e) (k + 1)
     put = adding-one d l n (map (term_of tag) (typed_names (value_from (drop i d)))) (map (term_of tag) later) (term_of tag (name_from d at)) m k e name-left names-room s.0 (s.1 ∙ ap (term_of tag) (text-name d at name-good.0))
 
-    pub names-end : Behind d at Part.Nothing → Adding d l n (map (term_of tag) (typed_names (value_from (drop i d)))) [] (set m k e) (k + 1)
+    pub names-end : Behind d at None → Adding d l n (map (term_of tag) (typed_names (value_from (drop i d)))) [] (set m k e) (k + 1)
     names-end b = adding-rest (map (term_of tag) later) [] (ap (map (term_of tag)) b) put
 
-    pub names_more : (next : ℕ) → Behind d at (Part.At next) → NamesLeft d l n tag i (set m k e) (k + 1) next
+    pub names_more : (next : ℕ) → Behind d at (Some next) → NamesLeft d l n tag i (set m k e) (k + 1) next
     names_more next b =
         record {
           inside = b.1;

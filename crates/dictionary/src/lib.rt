@@ -18,14 +18,15 @@ ghost use Rattle.terms.specs.Adding.{Adding};
 ghost use Rattle.dictionary.specs.Terms.{list_terms, are_names, RowsAdded};
 ghost use Rattle.dictionary.specs.Known.{Described, dictionary_room, IsDictionary, Known};
 
-use records::{FoundField, NextField};
+use records::{FieldPlace, ValuePlace};
 use terms::Table;
-use values::{NextWord, Part, Stretch};
+use values::NextWord;
 use words::Rule;
 
 pub mod wordsets;
 
-// The tags of lists, above the numbers of `%type` fields; and no tag.
+// The tags of lists, above the numbers of `%type` fields; and no tag. They are numbers because a
+// tag is a place in a set of bits, as the number of a `%type` field is.
 #[derive(Drop)]
 pub struct Tag {}
 
@@ -50,14 +51,20 @@ impl Tag {
 fn list_tag(name: &[u8]) -> u32
     ensures { result ≡ list_tag name.now }
 {
-    let k = words::rule_of(name);
-    match k {
-        Rule::MANDATORY => Tag::MANDATORY,
-        Rule::PROHIBIT => Tag::PROHIBITED,
-        Rule::ALLOWED => Tag::ALLOWED,
-        Rule::UNIQUE => Tag::UNIQUE,
-        Rule::KEY => Tag::KEY,
-        _ => Tag::NONE,
+    match words::rule_of(name) {
+        Rule::Mandatory => Tag::MANDATORY,
+        Rule::Prohibit => Tag::PROHIBITED,
+        Rule::Allowed => Tag::ALLOWED,
+        Rule::Unique => Tag::UNIQUE,
+        Rule::Key => Tag::KEY,
+        Rule::Rec
+        | Rule::Doc
+        | Rule::Size
+        | Rule::Typedef
+        | Rule::Type
+        | Rule::Singular
+        | Rule::Auto
+        | Rule::Other => Tag::NONE,
     }
 }
 
@@ -68,11 +75,11 @@ fn add_words(d: &[u8], i: usize, tag: u32, entries: &mut [u32], n: usize) -> usi
     requires d_value { all is_name (words (value_from (drop i d.now))) ≡ true }
     ensures { Adding d.now entries.old n (map (term_of tag) (words (value_from (drop i d.now)))) [] entries.new result }
 {
+    // An index by hand: the loop goes by what the readers find, and this counts what is written.
     let mut k = n;
     let mut from = i;
     loop {
-        let w = values::next_word(d, from);
-        let NextWord::At { start, rest } = w else {
+        let Some(NextWord { start, rest }) = values::next_word(d, from) else {
             return k;
         };
         entries[k] = terms::entry(d, start, tag);
@@ -88,13 +95,13 @@ fn add_names(d: &[u8], i: usize, tag: u32, entries: &mut [u32], n: usize) -> usi
     requires d_value { all is_name (typed_names (value_from (drop i d.now))) ≡ true }
     ensures { Adding d.now entries.old n (map (term_of tag) (typed_names (value_from (drop i d.now)))) [] entries.new result }
 {
+    // An index by hand: the loop goes by what the readers find, and this counts what is written.
     let mut k = n;
-    let mut at = values::pass(d, i, Stretch::Gaps);
+    let mut at = values::pass(d, i, words::is_gap);
     loop {
         entries[k] = terms::entry(d, at, tag);
         k += 1;
-        let p = values::part_next(d, at);
-        let Part::At(next) = p else {
+        let Some(next) = values::part_next(d, at) else {
             return k;
         };
         at = next;
@@ -110,13 +117,14 @@ fn add_lists(d: &[u8], entries: &mut [u32]) -> usize
     let mut n = 0;
     let mut i = 0;
     loop {
-        let f = records::next_field(&d[i..]);
-        let NextField::At {
-            start,
-            named,
-            value,
-            end,
-        } = f
+        let Some(
+            FieldPlace {
+                start,
+                named,
+                value,
+                end,
+            },
+        ) = records::next_field(&d[i..])
         else {
             return n;
         };
@@ -135,18 +143,10 @@ fn pass_types(d: &[u8], count: usize) -> usize
     ensures { (result ≤ length d.now) × (is_readable (drop result d.now) ≡ true) × (values_from d.now (text "%type") result ≡ drop count (values_from d.now (text "%type") 0)) }
 {
     let mut i = 0;
-    let mut row = 0;
-    while row < count {
-        let v = records::next_named(&d[i..], b"%type");
-        let FoundField::At {
-            start: _,
-            value: _,
-            end,
-        } = v
-        else {
+    for _row in 0..count {
+        let Some(ValuePlace { end, .. }) = records::next_named(&d[i..], b"%type") else {
             return i;
         };
-        row += 1;
         i += end;
     }
     i
@@ -169,13 +169,7 @@ fn add_types(d: &[u8], from: usize, entries: &mut [u32], n: usize) -> Added
     let mut row = from;
     let mut i = pass_types(d, from);
     loop {
-        let v = records::next_named(&d[i..], b"%type");
-        let FoundField::At {
-            start: _,
-            value,
-            end,
-        } = v
-        else {
+        let Some(ValuePlace { value, end, .. }) = records::next_named(&d[i..], b"%type") else {
             return Added {
                 count: k,
                 next: row,
@@ -209,10 +203,9 @@ pub fn read(d: &[u8], from: usize, entries: &mut [u32]) -> Dictionary
 {
     let n = add_lists(d, &mut *entries);
     let a = add_types(d, from, &mut *entries, n);
-    let count = a.count;
-    let t = terms::build(d, &mut entries[..count]);
+    let table = terms::build(d, &mut entries[..a.count]);
     Dictionary {
-        table: t,
+        table,
         from,
         next: a.next,
     }
@@ -224,6 +217,5 @@ pub fn look_up(d: &[u8], entries: &[u32], r: Dictionary, name: &[u8]) -> u64
     requires dictionary { IsDictionary d.now entries.now r }
     ensures { Known (record_in d.now) r.from r.next name.now result }
 {
-    let t = r.table;
-    terms::find(d, entries, t, name)
+    terms::find(d, entries, r.table, name)
 }

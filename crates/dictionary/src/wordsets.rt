@@ -16,8 +16,7 @@ ghost use Rattle.dictionary.specs.Known.{Described};
 ghost use Rattle.dictionary.specs.Numbered.{numbered, Lists, IsWords, IsListed, Places, is_first, Firsts};
 
 use format::Descriptor;
-use records::FoundField;
-use sorting::Compared;
+use records::ValuePlace;
 use terms::Table;
 use values::NextWord;
 
@@ -28,11 +27,11 @@ fn add_value(d: &[u8], i: usize, entries: &mut [u32], n: usize) -> usize
     requires d_value { all is_name (words (value_from (drop i d.now))) ≡ true }
     ensures { Adding d.now entries.old n (numbered n (words (value_from (drop i d.now)))) [] entries.new result }
 {
+    // An index by hand: the loop goes by what the readers find, and this counts what is written.
     let mut k = n;
     let mut from = i;
     loop {
-        let w = values::next_word(d, from);
-        let NextWord::At { start, rest } = w else {
+        let Some(NextWord { start, rest }) = values::next_word(d, from) else {
             return k;
         };
         entries[k] = terms::entry(d, start, k as u32);
@@ -51,13 +50,7 @@ fn add_list(d: &[u8], name: &[u8], entries: &mut [u32]) -> usize
     let mut n = 0;
     let mut i = 0;
     loop {
-        let v = records::next_named(&d[i..], name);
-        let FoundField::At {
-            start: _,
-            value,
-            end,
-        } = v
-        else {
+        let Some(ValuePlace { value, end, .. }) = records::next_named(&d[i..], name) else {
             return n;
         };
         n = add_value(d, i + value, &mut *entries, n);
@@ -79,9 +72,9 @@ pub fn read(d: &[u8], name: &[u8], entries: &mut [u32], sets: &mut [u64]) -> Wor
     ensures { IsWords d.now (listed name.now (record_in d.now)) entries.new sets.new result }
 {
     let n = add_list(d, name, &mut *entries);
-    let t = terms::build(d, &mut entries[..n]);
-    terms::join(d, &*entries, t, &mut *sets);
-    Words { table: t, count: n }
+    let table = terms::build(d, &mut entries[..n]);
+    terms::join(d, &*entries, table, &mut *sets);
+    Words { table, count: n }
 }
 
 // The places at which a name stands in a list.
@@ -89,8 +82,7 @@ pub fn places_in(d: &[u8], entries: &[u32], sets: &[u64], w: Words, name: &[u8])
     requires { (ws : List Bytes) × IsWords d.now ws entries.now sets.now w }
     ensures { (ws : List Bytes) → IsWords d.now ws entries.now sets.now w → Places ws name.now result }
 {
-    let t = w.table;
-    terms::find_joined(d, entries, t, sets, name)
+    terms::find_joined(d, entries, w.table, sets, name)
 }
 
 // The first of some places that is in a set, and their number where none is.
@@ -98,14 +90,12 @@ fn first_place(set: u64, count: usize) -> usize
     requires { count ≤ list_words }
     ensures { (result ≤ count) × (result < count → in_set result set ≡ true) × ((k : ℕ) → k < result → in_set k set ≡ false) }
 {
-    let mut k = 0;
-    while k < count {
+    for k in 0..count {
         if terms::has(set, k as u64) {
             return k;
         }
-        k += 1;
     }
-    k
+    count
 }
 
 // The first of the places at which a name stands in a list, and the list's length where there is none.
@@ -148,9 +138,7 @@ pub fn places(d: &[u8], l: Listed, name: &[u8]) -> u64
     requires { (ws : List Bytes) × IsListed d.now ws l }
     ensures { (ws : List Bytes) → IsListed d.now ws l → Places ws name.now result }
 {
-    let entries = l.entries;
-    let sets = l.sets;
-    places_in(d, &entries, &sets, l.words, name)
+    places_in(d, &l.entries, &l.sets, l.words, name)
 }
 
 // The set of the first so many places.
@@ -159,10 +147,9 @@ fn all_places(count: usize) -> u64
     ensures { result ≡ 2 ^ count - 1 }
 {
     if count == Descriptor::WORDS {
-        return 18446744073709551615;
+        return u64::MAX;
     }
-    let one: u64 = 1;
-    (one << (count as u64)) - 1
+    (1u64 << (count as u64)) - 1
 }
 
 // Those of the first so many places that are not in a set: of a list's words, those that are missing.
@@ -178,12 +165,7 @@ pub fn missing(set: u64, count: usize) -> u64
 fn same_word(d: &[u8], x: u32, y: u32) -> bool
     ensures { result ≡ same (word_at d.now x) (word_at d.now y) }
 {
-    let c = sorting::compare_words(d, sorting::place(x), sorting::place(y));
-    match c {
-        Compared::Equal => true,
-        Compared::Before => false,
-        Compared::Behind => false,
-    }
+    sorting::compare_words(d, sorting::place(x), sorting::place(y)).is_eq()
 }
 
 // Has no entry before entry k the same word?
@@ -191,26 +173,24 @@ fn is_first(d: &[u8], entries: &[u32], k: usize) -> bool
     requires { k < length entries.now }
     ensures { result ≡ is_first k (map (word_at d.now) entries.now) }
 {
-    let mut j = 0;
-    while j < k {
-        if same_word(d, entries[k], entries[j]) {
+    for &before in &entries[..k] {
+        if same_word(d, entries[k], before) {
             return false;
         }
-        j += 1;
     }
     true
 }
 
 // A set, with place k if that is to be.
-fn with_place(set: u64, k: usize, more: bool) -> u64
+pub fn with_place(set: u64, k: usize, more: bool) -> u64
     requires { k < list_words }
     ensures { (j : ℕ) → in_set j result ≡ (in_set j set || (more && eqb j k)) }
 {
     if more {
-        let one: u64 = 1;
-        return set | (one << (k as u64));
+        set | (1u64 << (k as u64))
+    } else {
+        set
     }
-    set
 }
 
 // The places of the entries whose words no entry before them has.
@@ -219,11 +199,9 @@ fn first_entries(d: &[u8], entries: &[u32]) -> u64
     ensures { Firsts (map (word_at d.now) entries.now) result }
 {
     let mut set = 0;
-    let mut k = 0;
-    while k < entries.len() {
+    for k in 0..entries.len() {
         let first = is_first(d, entries, k);
         set = with_place(set, k, first);
-        k += 1;
     }
     set
 }
@@ -235,6 +213,5 @@ pub fn firsts(d: &[u8], name: &[u8]) -> u64
 {
     let mut entries = [0u32; Descriptor::WORDS];
     let n = add_list(d, name, &mut entries);
-    let written = &entries[..];
-    first_entries(d, &written[..n])
+    first_entries(d, &entries[..n])
 }

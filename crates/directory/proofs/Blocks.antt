@@ -1,5 +1,5 @@
 -- Where a block begins, piece by piece, and the next set as an entry.
-use Rattle.std.specs.Prelude.{◌≡◌, ℕ, ◌+◌, [], drop}
+use Rattle.std.specs.Prelude.{◌≡◌, ℕ, ◌+◌, [], drop, Option, Some, None}
 use mathlib.Core.Path.{sym, ap, ◌∙◌}
 use Rattle.format.specs.Bytes.{Bytes}
 use Rattle.format.specs.Lines.{Line}
@@ -9,7 +9,6 @@ use Rattle.format.specs.declared.Entry.{Entry}
 use Rattle.records.specs.Places.{places_of}
 use Rattle.records.specs.Sets.{first_set}
 use Rattle.records.specs.declared.RecordSet.{RecordSet}
-use Rattle.records.specs.declared.NextSet.{NextSet}
 use Rattle.directory.specs.Blocks.{block_from, no_entry, entry_on, next_entry}
 
 -- of the part from byte i on
@@ -35,11 +34,11 @@ module _ (s : Bytes) (start i : ℕ) where
     block-field n v h = ap (block_from start i) h.passed.reads
 
 -- the next set as an entry, once the form of the answer is known
-module _ (s : Bytes) (x : NextSet) (e : x ≡ first_set (places_of s)) where
-  pub next-none : x ≡ NextSet.Nothing → no_entry ≡ next_entry s
+module _ (s : Bytes) (x : Option RecordSet) (e : x ≡ first_set (places_of s)) where
+  pub next-none : x ≡ None → no_entry ≡ next_entry s
   unfolding next_entry
   next-none h = ap (entry_on (block_from 0 0 (read_of s))) (sym h ∙ e)
 
-  pub next-there : (q : RecordSet) (b : ℕ) → x ≡ NextSet.At q → b ≡ block_from 0 0 (read_of s) → ◌≡◌ {A = Entry} (record { place = b; count = q.count; end = q.after }) (next_entry s)
+  pub next-there : (q : RecordSet) (b : ℕ) → x ≡ Some q → b ≡ block_from 0 0 (read_of s) → ◌≡◌ {A = Entry} (record { place = b; count = q.count; end = q.after }) (next_entry s)
   unfolding next_entry
   next-there q b h r = λ i. entry_on (r i) ((sym h ∙ e) i)

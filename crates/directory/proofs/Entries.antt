@@ -1,5 +1,5 @@
 -- The entries of a readable text, one after another: where each is looked for, and how many there are.
-use Rattle.std.specs.Prelude.{◌≡◌, ℕ, zero, suc, ◌+◌, ◌-◌, ◌<◌, ◌≤◌, Bool, true, List, [], ◌∷◌, map, length, get_or, take, drop}
+use Rattle.std.specs.Prelude.{◌≡◌, ℕ, zero, suc, ◌+◌, ◌-◌, ◌<◌, ◌≤◌, Bool, true, List, [], ◌∷◌, map, length, get_or, take, drop, Option, Some, None}
 use native.Mathlib.Omega.{arith}
 use mathlib.Core.Path.{refl, sym, ap, ◌∙◌, subst}
 use lib.ListN.{length-drop}
@@ -13,7 +13,6 @@ use Rattle.lines.proofs.Cuts.{rest}
 use Rattle.records.specs.Places.{is_readable, Placed, size_in, places_of}
 use Rattle.records.specs.Sets.{set_end, leading, set_at, first_set}
 use Rattle.records.specs.declared.MemberRun.{MemberRun}
-use Rattle.records.specs.declared.NextSet.{NextSet}
 use Rattle.records.specs.declared.RecordSet.{RecordSet}
 use Rattle.records.proofs.Shifts.{raise}
 use Rattle.records.proofs.Walks.{size-append, size-piece}
@@ -83,23 +82,23 @@ place_inside s at h e = go (first_set (places_of t))
     within : block_from 0 0 ps ≤ length t
     within = omega (arith, block_within 0 0 ps (omega arith), size-append (lead ps) (from_first ps), ap size_in (lead-first ps), reads-length (readable-reads t e))
 
-    go : (x : NextSet) → at + (entry_on (block_from 0 0 ps) x).place ≤ length s
-    go NextSet.Nothing = omega (arith, h)
-    go (NextSet.At q) = omega (arith, within, length-drop at s)
+    go : (x : Option RecordSet) → at + (entry_on (block_from 0 0 ps) x).place ≤ length s
+    go None = omega (arith, h)
+    go (Some q) = omega (arith, within, length-drop at s)
 
 -- what the search for the next set tells, once its form is known
 
-is_at : NextSet → ℕ
-is_at NextSet.Nothing = 0
-is_at (NextSet.At q) = 1
+is_at : Option RecordSet → ℕ
+is_at None = 0
+is_at (Some q) = 1
 
 module _ (s : Bytes) (at : ℕ) (es : List Entry) (b : Begins s at es) where
-  found_none : (xs : List Placed) → places_of (drop at s) ≡ xs → HeadFirst xs → first_set xs ≡ NextSet.Nothing → es ≡ []
+  found_none : (xs : List Placed) → places_of (drop at s) ≡ xs → HeadFirst xs → first_set xs ≡ None → es ≡ []
   unfolding first_set is_at
   found_none [] q d f = sym b.heads ∙ heads-met s at [] b.readable (ap (map (raise at)) q)
-  found_none (p ∷ ps) q d f = absurd (let z : ◌≡◌ {A = ℕ} 0 1 = ap is_at (sym f ∙ ap (λ (t : Bool). pick t (NextSet.At (set_at p ps)) (first_set ps)) d) in omega arith)
+  found_none (p ∷ ps) q d f = absurd (let z : ◌≡◌ {A = ℕ} 0 1 = ap is_at (sym f ∙ ap (λ (t : Bool). pick t (Some (set_at p ps)) (first_set ps)) d) in omega arith)
 
-  found_some : (xs : List Placed) → places_of (drop at s) ≡ xs → HeadFirst xs → (q : RecordSet) → first_set xs ≡ NextSet.At q → (e : Entry) × (later : List Entry) × (es ≡ e ∷ later)
+  found_some : (xs : List Placed) → places_of (drop at s) ≡ xs → HeadFirst xs → (q : RecordSet) → first_set xs ≡ Some q → (e : Entry) × (later : List Entry) × (es ≡ e ∷ later)
   unfolding first_set is_at
   found_some [] q d x f = absurd (let z : ◌≡◌ {A = ℕ} 0 1 = ap is_at f in omega arith)
   found_some (p ∷ ps) q d x f =
@@ -107,19 +106,19 @@ module _ (s : Bytes) (at : ℕ) (es : List Entry) (b : Begins s at es) where
       let later : List Entry = heads_at s (at + p.after) in
       (e, later, sym b.heads ∙ heads-met s at (map (raise at) (p ∷ ps)) b.readable (ap (map (raise at)) q) ∙ ap (λ (t : Bool). head_on t e later) d)
 
-  module _ (x : NextSet) (e : x ≡ first_set (places_of (take (length s - at) (drop at s)))) where
+  module _ (x : Option RecordSet) (e : x ≡ first_set (places_of (take (length s - at) (drop at s)))) where
     found-is : first_set (places_of (drop at s)) ≡ x
     found-is = sym (ap (λ (t : Bytes). first_set (places_of t)) (rest s at)) ∙ sym e
 
-    pub set-none : x ≡ NextSet.Nothing → es ≡ []
+    pub set-none : x ≡ None → es ≡ []
     set-none f = found_none (places_of (drop at s)) refl (first-raised at (places_of (drop at s)) b.first) (found-is ∙ f)
 
-    pub set-some : (q : RecordSet) → x ≡ NextSet.At q → (y : Entry) × (later : List Entry) × (es ≡ y ∷ later) × (y.end ≡ at + q.after)
+    pub set-some : (q : RecordSet) → x ≡ Some q → (y : Entry) × (later : List Entry) × (es ≡ y ∷ later) × (y.end ≡ at + q.after)
     unfolding next_entry
     set-some q f =
         let y = found_some (places_of (drop at s)) refl (first-raised at (places_of (drop at s)) b.first) q (found-is ∙ f) in
         let n : Next s at y.0 y.1 = next-met s at y.0 y.1 (subst (Begins s at) y.2 b) in
-        (y.0, y.1, y.2, ap (λ (z : Entry). z.end) n.is ∙ ap (λ (z : NextSet). at + (entry_on (block_from 0 0 (read_of (drop at s))) z).end) (found-is ∙ f))
+        (y.0, y.1, y.2, ap (λ (z : Entry). z.end) n.is ∙ ap (λ (z : Option RecordSet). at + (entry_on (block_from 0 0 (read_of (drop at s))) z).end) (found-is ∙ f))
 
 -- The sets counted: n entries are behind byte i, and those from there on are left.
 pub record Counted (s : Bytes) (n i : ℕ) : Type 0 where
@@ -132,11 +131,11 @@ module _ (s : Bytes) (e : is_readable s ≡ true) where
   pub counted-first : (m : MemberRun) → m ≡ leading (places_of s) → Counted s 1 m.end
   counted-first m h = record { begins = begins-first s e m h; some = omega arith; within = list-some s; few = omega arith }
 
-  module _ (n i : ℕ) (c : Counted s n i) (x : NextSet) (h : x ≡ first_set (places_of (take (length s - i) (drop i s)))) where
-    pub counted-all : x ≡ NextSet.Nothing → n ≡ length (list_in s)
+  module _ (n i : ℕ) (c : Counted s n i) (x : Option RecordSet) (h : x ≡ first_set (places_of (take (length s - i) (drop i s)))) where
+    pub counted-all : x ≡ None → n ≡ length (list_in s)
     counted-all f = omega (arith, length-drop n (list_in s), ap length (set-none s i (drop n (list_in s)) c.begins x h f), c.within)
 
-    module _ (q : RecordSet) (f : x ≡ NextSet.At q) where
+    module _ (q : RecordSet) (f : x ≡ Some q) where
       left : n < length (list_in s)
       left = let y = set-some s i (drop n (list_in s)) c.begins x h q f in omega (arith, length-drop n (list_in s), ap length y.2)
 

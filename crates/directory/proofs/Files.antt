@@ -5,26 +5,39 @@ use borrow.Author.Tests.{le-leb, lt-leb}
 use Rattle.format.specs.Bytes.{Bytes, pick}
 use Rattle.format.specs.Questions.{verdict}
 use Rattle.format.specs.Calls.{Answer, answer, answered, then_no, value_or, Filled, check_answer, edit_answer, filled_by}
-use Rattle.format.specs.Directory.{list_no}
+use Rattle.format.specs.Directory.{list_no, listed_answer}
 use Rattle.format.specs.Runs.{Single}
-use Rattle.format.specs.declared.Answer.{Answer as Reply}
+use native.Mathlib.Omega.{arith}
+use Rattle.std.specs.Prelude.{Result, Err}
+use Rattle.std.specs.Result.{IsErr, IsErrAnd}
+use Rattle.format.specs.declared.refusals.Question.{Question}
+use Rattle.format.specs.declared.refusals.Refusal.{Refusal}
+use Rattle.format.specs.Refusals.{question_no}
+use Rattle.format.proofs.Refused.{question-number, handed-answer}
 use Rattle.format.proofs.Directory.{left-passes, left-sets, listed-fails, listed-short, listed-edits}
 use Rattle.directory.specs.Rows.{list_of, counted_in, Does}
 use Rattle.directory.specs.declared.inner.Done.{Done}
 
--- what is known of the check's number
-pub checked-passes : (b : Bytes) (u k : ℕ) → k ≡ check_answer b u → k ≡ 0 → verdict b u ≡ 0
+-- the check said yes
+pub checked-passes : (b : Bytes) (u : ℕ) → 0 ≡ check_answer b u → verdict b u ≡ 0
 unfolding check_answer
-checked-passes b u k e z = sym e ∙ z
+checked-passes b u e = sym e
 
 module _ (b : Bytes) (u m : ℕ) where
   abbrev counted_by : ℕ → ℕ → Answer
   counted_by v k = answer (then_no v k) (length (list_of b u))
 
-  pub counted-fails : (k : ℕ) → k ≡ check_answer b u → (k ≡ 0 → ⊥) → Answer.refusal k ≡ counted_in b u m
+  counted-no : (k : ℕ) → 0 < k → k ≡ check_answer b u → Answer.refusal k ≡ counted_in b u m
   unfolding check_answer
-  counted-fails zero e n = absurd (n refl)
-  counted-fails (suc k) e n = ap (λ (v : ℕ). counted_by v (list_no m (length (list_of b u)))) e
+  counted-no zero h e = absurd (omega arith)
+  counted-no (suc k) h e = ap (λ (v : ℕ). counted_by v (list_no m (length (list_of b u)))) e
+
+  -- question q said no
+  pub question-fails : (q : Question) → question_no q ≡ check_answer b u → Answer.refusal (question_no q) ≡ counted_in b u m
+  question-fails q e = counted-no (question_no q) (question-number q) e
+
+  pub counted-fails : (q : Question) → question_no q ≡ check_answer b u → (x : Result ℕ Refusal) → IsErr x × IsErrAnd x (λ r. r ≡ Refusal.File q) → answered x ≡ counted_in b u m
+  counted-fails q e x h = handed-answer x q h ∙ question-fails q e
 
   module _ (v : verdict b u ≡ 0) where
     pub counted-short : m < length (list_of b u) → Answer.refusal 28 ≡ counted_in b u m
@@ -35,19 +48,22 @@ module _ (b : Bytes) (u m : ℕ) where
 
 -- an edit
 module _ (b : Bytes) (u : ℕ) (q : Bytes) (m : ℕ) where
-  abbrev refused_done : ℕ → Done
-  refused_done k = record { answer = Reply.Refused k; used = u; sets = 0 }
+  abbrev refused_done : Refusal → Done
+  refused_done r = record { answer = Err r; used = u; sets = 0 }
 
-  pub does-fail : (k : ℕ) → k ≡ check_answer b u → (k ≡ 0 → ⊥) → Does b u q m b (refused_done k)
+  listed-no : (k : ℕ) → 0 < k → k ≡ check_answer b u → listed_answer m b u q ≡ record { result = Answer.refusal k; out = b }
   unfolding check_answer
-  does-fail zero e n = absurd (n refl)
-  does-fail (suc k) e n = (sym (listed-fails m b u q k (sym e)), refl, ap (value_or 0) (counted-fails b u m (suc k) e n))
+  listed-no zero h e = absurd (omega arith)
+  listed-no (suc k) h e = listed-fails m b u q k (sym e)
+
+  pub does-fail : (k : Question) → question_no k ≡ check_answer b u → Does b u q m b (refused_done (Refusal.File k))
+  does-fail k e = (sym (listed-no (question_no k) (question-number k) e), refl, ap (value_or 0) (question-fails b u m k e))
 
   module _ (v : verdict b u ≡ 0) where
-    pub does-short : m < length (list_of b u) → Does b u q m b (refused_done 28)
+    pub does-short : m < length (list_of b u) → Does b u q m b (refused_done Refusal.List)
     does-short h = (sym (listed-short m b u q v h), refl, ap (value_or 0) (counted-short b u m v h))
 
-    pub does-edit : length (list_of b u) ≤ m → (r : Reply) (after : Bytes) → filled_by r after ≡ edit_answer b u q
+    pub does-edit : length (list_of b u) ≤ m → (r : Result ℕ Refusal) (after : Bytes) → filled_by r after ≡ edit_answer b u q
         → Does b u q m after (record { answer = r; used = value_or u (answered r); sets = length (list_of b u) })
     does-edit h r after e =
         let n : ℕ = value_or u (answered r) in

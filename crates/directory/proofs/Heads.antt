@@ -1,5 +1,6 @@
 -- The entries from a byte of a file on, record by record: those of a part go on behind each record, and where the records of a set end they go on with the next descriptor's.
-use Rattle.std.specs.Prelude.{◌≡◌, ℕ, suc, ◌+◌, ◌<◌, ◌≤◌, Bool, true, false, List, [], ◌∷◌, ◌++◌, map, length, drop}
+use Rattle.records.specs.declared.RecordSet.{RecordSet}
+use Rattle.std.specs.Prelude.{◌≡◌, ℕ, suc, ◌+◌, ◌<◌, ◌≤◌, Bool, true, false, List, [], ◌∷◌, ◌++◌, map, length, drop, Option, Some}
 use native.Mathlib.Omega.{arith}
 use mathlib.Core.Path.{refl, sym, ap, ◌∙◌, subst}
 use lib.Seq.{drop-drop}
@@ -11,7 +12,6 @@ use Rattle.format.specs.declared.Entry.{Entry}
 use Rattle.records.specs.Places.{is_readable, Placed, size_in, places_in, places_of, is_descriptor, count_before}
 use Rattle.records.specs.Sets.{set_end, set_at, first_set}
 use Rattle.records.specs.Walk.{until_blank, from_blank}
-use Rattle.records.specs.declared.NextSet.{NextSet}
 use Rattle.records.proofs.Shifts.{raise, places-raised}
 use Rattle.records.proofs.Walks.{placed_run, places_run, places-walk}
 use Rattle.records.proofs.Readings.{Reads, reads_of, readable-reads, reads-drop, places-read}
@@ -91,8 +91,8 @@ unfolding next_entry first_set
 head-raised s at p ps q d =
     let qs : List Piece = read_of (drop at s) in
     let place : block_at s at at ≡ at + block_from 0 0 qs = ap (λ (n : ℕ). block_from n n qs) (omega arith) ∙ block-raised at 0 0 qs in
-    let found : first_set (places_of (drop at s)) ≡ NextSet.At (set_at p ps) = ap first_set q ∙ ap (λ (t : Bool). pick t (NextSet.At (set_at p ps)) (first_set ps)) d in
-    (λ i. record { place = place i; count = count-raised at ps i; end = end-raised at p.after ps i }) ∙ sym (ap (λ (x : NextSet). raise_entry at (entry_on (block_from 0 0 qs) x)) found)
+    let found : first_set (places_of (drop at s)) ≡ Some (set_at p ps) = ap first_set q ∙ ap (λ (t : Bool). pick t (Some (set_at p ps)) (first_set ps)) d in
+    (λ i. record { place = place i; count = count-raised at ps i; end = end-raised at p.after ps i }) ∙ sym (ap (λ (x : Option RecordSet). raise_entry at (entry_on (block_from 0 0 qs) x)) found)
 
 raised-low : (a : ℕ) (xs : List Placed) (p : Placed) (ps : List Placed) → map (raise a) xs ≡ p ∷ ps → a ≤ p.after
 raised-low a [] p ps e = absurd (let z : ◌≡◌ {A = ℕ} 0 1 = cc in omega arith)

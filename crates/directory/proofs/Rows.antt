@@ -11,7 +11,10 @@ use Rattle.format.specs.Bytes.{Bytes, pick}
 use Rattle.format.specs.Questions.{verdict}
 use Rattle.format.specs.Calls.{Answer, value, answer, answered, value_or, then_no, leaves, over, Filled}
 use Rattle.format.specs.Directory.{fill_answer, Kept, kept_answer, count_at_answer}
-use Rattle.format.specs.declared.Answer.{Answer as Reply}
+use Rattle.std.specs.Prelude.{Result, Ok, Err}
+use Rattle.std.specs.Result.{result_unwrap_or}
+use Rattle.format.specs.declared.refusals.Refusal.{Refusal}
+use Rattle.format.proofs.Refused.{value-told}
 use Rattle.format.specs.declared.Entry.{Entry}
 use Rattle.directory.specs.declared.inner.Done.{Done}
 use Rattle.directory.specs.Blocks.{no_entry}
@@ -70,9 +73,9 @@ module _ (b : Bytes) (u : ℕ) (old : List Entry) where
   filled-answer = counted-leaves (verdict b u) (leb (length (list_of b u)) (length old)) refl
 
   -- ---- what the calls answer
-  pub fill_done : (r : Reply) (n : ℕ) (new : List Entry) → answered r ≡ counted_in b u (length old) → n ≡ value_or 0 (answered r) → new ≡ filled b u old n → record { result = answered r; entries = new } ≡ fill_answer b u old
+  pub fill_done : (r : Result ℕ Refusal) (n : ℕ) (new : List Entry) → answered r ≡ counted_in b u (length old) → n ≡ result_unwrap_or r 0 → new ≡ filled b u old n → record { result = answered r; entries = new } ≡ fill_answer b u old
   unfolding fill_answer
-  fill_done r n new e k f = λ i. record { result = e i; entries = (f ∙ ap (filled b u old) (k ∙ ap (value_or 0) e) ∙ filled-answer) i }
+  fill_done r n new e k f = λ i. record { result = e i; entries = (f ∙ ap (filled b u old) (k ∙ value-told 0 r ∙ ap (value_or 0) e) ∙ filled-answer) i }
 
 abbrev kept : Answer → Bytes → List Entry → Kept
 kept a out es = record { result = a; out = out; entries = es }
@@ -86,10 +89,10 @@ edit-done b u q b' old d new does f =
 
 -- ---- the count at a position
 module _ (es : List Entry) (i : ℕ) where
-  pub count-there : i < length es → answered (Reply.Value (get_or es i no_entry).count) ≡ count_at_answer es i
+  pub count-there : i < length es → answered (Ok (get_or es i no_entry).count) ≡ count_at_answer es i
   unfolding count_at_answer
   count-there l = ap value (sym (get_d_map no_entry (λ (e : Entry). e.count) es i)) ∙ sym (ap (λ (t : Bool). answer (pick t 0 21) (get_or (map (λ (e : Entry). e.count) es) i 0)) (lt-ltb i (length es) l))
 
-  pub count_past : length es ≤ i → answered (Reply.Refused 21) ≡ count_at_answer es i
+  pub count_past : length es ≤ i → answered (Err Refusal.Set) ≡ count_at_answer es i
   unfolding count_at_answer
   count_past l = sym (ap (λ (t : Bool). answer (pick t 0 21) (get_or (map (λ (e : Entry). e.count) es) i 0)) (le-ltb i (length es) l))

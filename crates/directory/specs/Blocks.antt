@@ -1,5 +1,6 @@
 -- The entries of a text, one after another: where the block of the next record begins, and the next set as an entry.
-use Rattle.std.specs.Prelude.{ℕ, zero, suc, ◌+◌, List, [], ◌∷◌, slice_index_or}
+use Rattle.records.specs.declared.RecordSet.{RecordSet}
+use Rattle.std.specs.Prelude.{ℕ, zero, suc, ◌+◌, List, [], ◌∷◌, slice_index_or, Option, Some, None}
 use Rattle.format.specs.Bytes.{Bytes}
 use Rattle.format.specs.Pieces.{Piece, read_of}
 use Rattle.format.specs.Records.{count_of}
@@ -7,7 +8,6 @@ use Rattle.format.specs.Directory.{directory_of}
 use Rattle.format.specs.declared.Entry.{Entry}
 use Rattle.records.specs.Places.{places_of}
 use Rattle.records.specs.Sets.{first_set}
-use Rattle.records.specs.declared.NextSet.{NextSet}
 
 -- Of pieces from a byte on, where the block so far began at another: a blank line ends that, and a block begins behind it.
 unfoldable pub block_from : ℕ → ℕ → List Piece → ℕ
@@ -19,9 +19,9 @@ block_from start at (Piece.field n v ls ∷ ps) = start
 abbrev pub no_entry : Entry
 no_entry = record { place = 0; count = 0; end = 0 }
 
-abbrev pub entry_on : ℕ → NextSet → Entry
-entry_on place NextSet.Nothing = no_entry
-entry_on place (NextSet.At q) = record { place = place; count = q.count; end = q.after }
+abbrev pub entry_on : ℕ → Option RecordSet → Entry
+entry_on place None = no_entry
+entry_on place (Some q) = record { place = place; count = q.count; end = q.after }
 
 -- the next set of a part that has a descriptor there
 unfoldable pub next_entry : Bytes → Entry

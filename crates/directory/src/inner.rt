@@ -7,14 +7,13 @@ ghost use Rattle.directory.specs.Blocks.{block_from, next_entry, list_in, entry_
 ghost use Rattle.directory.specs.Rows.{InDirectory, start_of, entry_of, counted_in, Does};
 
 use editor::Text;
-use format::{Answer, Entry, File, Refusal};
+use format::{Entry, File, Refusal};
 use lines::Next;
-use records::NextSet;
 
 // What an edit comes to: its answer, the file's length after it, and how many entries are to be written.
 #[derive(Drop)]
 pub struct Done {
-    pub answer: Answer,
+    pub answer: Result<usize, Refusal>,
     pub used: usize,
     pub sets: usize,
 }
@@ -27,8 +26,7 @@ fn block_start(s: &[u8]) -> usize
     let mut start = 0;
     let mut i = 0;
     loop {
-        let n = lines::read_piece(&s[i..]);
-        match n {
+        match lines::read_piece(&s[i..]) {
             Next::Blank { size } => {
                 i += size;
                 start = i;
@@ -36,19 +34,9 @@ fn block_start(s: &[u8]) -> usize
             Next::Comment { size } => {
                 i += size;
             }
-            Next::Field {
-                name: _,
-                value: _,
-                size: _,
-            } => {
-                return start;
-            }
-            Next::End => {
-                return start;
-            }
-            Next::Fault => {
-                return start;
-            }
+            Next::Field { .. } => return start,
+            Next::End => return start,
+            Next::Fault => return start,
         }
     }
 }
@@ -58,8 +46,7 @@ fn next_entry(s: &[u8]) -> Entry
     requires { is_readable s.now ≡ true }
     ensures { result ≡ next_entry s.now }
 {
-    let n = records::next_set(s);
-    let NextSet::At(q) = n else {
+    let Some(q) = records::next_set(s) else {
         return Entry {
             place: 0,
             count: 0,
@@ -111,8 +98,7 @@ fn count_sets(s: &[u8]) -> usize
     let mut i = m.end;
     let mut n = 1;
     loop {
-        let x = records::next_set(&s[i..]);
-        let NextSet::At(q) = x else {
+        let Some(q) = records::next_set(&s[i..]) else {
             return n;
         };
         n += 1;
@@ -121,18 +107,15 @@ fn count_sets(s: &[u8]) -> usize
 }
 
 // The number of sets of a file, for a list of `room` entries.
-pub fn set_count(buf: &[u8], used: usize, room: usize) -> Answer
+pub fn set_count(buf: &[u8], used: usize, room: usize) -> Result<usize, Refusal>
     ensures { answered result ≡ counted_in buf.now used room }
 {
-    let k = integrity::check(buf, used);
-    if k != 0 {
-        return Answer::Refused(k);
-    }
+    integrity::check(buf, used)?;
     let n = count_sets(&buf[..used]);
     if room < n {
-        return Answer::Refused(Refusal::LIST);
+        return Err(Refusal::List);
     }
-    Answer::Value(n)
+    Ok(n)
 }
 
 // One request, for a list of `room` entries. A file that fails, or has more sets than that, is not touched, and no entry is to be written.
@@ -140,10 +123,9 @@ pub fn edit_core(buf: &mut [u8], used: usize, req: &[u8], room: usize) -> Done
     ensures { Does buf.old used req.now room buf.new result }
 {
     let mut copy = [0u8; File::BYTES];
-    let k = integrity::check_with(buf, used, &mut copy);
-    if k != 0 {
+    if let Err(q) = integrity::check_with(buf, used, &mut copy) {
         return Done {
-            answer: Answer::Refused(k),
+            answer: Err(Refusal::File(q)),
             used,
             sets: 0,
         };
@@ -151,7 +133,7 @@ pub fn edit_core(buf: &mut [u8], used: usize, req: &[u8], room: usize) -> Done
     let n = count_sets(&buf[..used]);
     if room < n {
         return Done {
-            answer: Answer::Refused(Refusal::LIST),
+            answer: Err(Refusal::List),
             used,
             sets: 0,
         };
@@ -161,7 +143,7 @@ pub fn edit_core(buf: &mut [u8], used: usize, req: &[u8], room: usize) -> Done
     let answer = editor::settle(p, buf, used, req, &added, &mut copy);
     Done {
         answer,
-        used: answer.value_or(used),
+        used: answer.unwrap_or(used),
         sets: n,
     }
 }

@@ -6,7 +6,7 @@ ghost use Rattle.format.specs.Calls.{answered};
 ghost use Rattle.format.specs.Directory.{fill_answer, kept_answer, count_at_answer};
 ghost use Rattle.directory.specs.Rows.{Fillable, filled};
 
-use format::{Answer, Entry, Refusal};
+use format::{Entry, Refusal};
 
 mod inner;
 
@@ -15,28 +15,31 @@ fn fill_entries(entries: &mut [Entry], n: usize, buf: &[u8], used: usize)
     requires { Fillable buf.now used n (length entries.old) }
     ensures { entries.new ≡ filled buf.now used entries.old n }
 {
-    let mut k = 0;
     let mut at = 0;
-    while k < n {
+    for k in 0..n {
         let e = inner::entry_at(buf, used, k, at);
         at = e.end;
         entries[k] = e;
-        k += 1;
     }
 }
 
 // The list filled from the file in the first `used` bytes of a buffer: the number of sets. A refusal writes no entry.
-pub fn fill(buf: &[u8], used: usize, entries: &mut [Entry]) -> Answer
+pub fn fill(buf: &[u8], used: usize, entries: &mut [Entry]) -> Result<usize, Refusal>
     ensures { record { result = answered result; entries = entries.new } ≡ fill_answer buf.now used entries.old }
 {
     let a = inner::set_count(buf, used, entries.len());
-    let n = a.value_or(0);
+    let n = a.unwrap_or(0);
     fill_entries(entries, n, buf, used);
     a
 }
 
 // One edit, given the list: it has afterwards what filling it from the file as it then stands would write.
-pub fn edit(buf: &mut [u8], used: usize, req: &[u8], entries: &mut [Entry]) -> Answer
+pub fn edit(
+    buf: &mut [u8],
+    used: usize,
+    req: &[u8],
+    entries: &mut [Entry],
+) -> Result<usize, Refusal>
     ensures { record { result = answered result; out = buf.new; entries = entries.new } ≡ kept_answer buf.old used req.now entries.old }
 {
     let d = inner::edit_core(buf, used, req, entries.len());
@@ -46,12 +49,12 @@ pub fn edit(buf: &mut [u8], used: usize, req: &[u8], entries: &mut [Entry]) -> A
 }
 
 // The number of records of the set at a position of the list.
-pub fn count_at(entries: &[Entry], position: usize) -> Answer
+pub fn count_at(entries: &[Entry], position: usize) -> Result<usize, Refusal>
     ensures { answered result ≡ count_at_answer entries.now position }
 {
     if position < entries.len() {
-        Answer::Value(entries[position].count)
+        Ok(entries[position].count)
     } else {
-        Answer::Refused(Refusal::SET)
+        Err(Refusal::Set)
     }
 }

@@ -2,11 +2,10 @@
 use Prim.Native.Nat.{ℕ, zero, suc, ◌+◌}
 use native.Mathlib.Omega.{arith}
 use mathlib.Core.Path.{◌≡◌, refl, sym, ap, ◌∙◌, subst}
-use mathlib.Core.Bool.{Bool, true, false, ◌&&◌, and-eq-true_iff}
+use mathlib.Core.Bool.{Bool, true, and-eq-true_iff}
 use mathlib.Core.List.{List, [], ◌∷◌, ◌++◌, map}
 use mathlib.Core.Option
 use mathlib.Core.Option.{Option, none, some}
-use lib.Dec.{eqb}
 use lib.ListN.{length, take}
 use borrow.Author.Tests.{eqb-true}
 use Rattle.format.specs.Bytes.{Bytes, pick, all, among}
@@ -20,7 +19,7 @@ use Rattle.format.specs.Written.{Pair, new_field}
 use Rattle.format.specs.Numbering.{completed}
 use Rattle.format.specs.Edits.{Edit, in_set}
 use Rattle.format.specs.Requests.{Request, request_of}
-use Rattle.format.specs.Plain.{Plain, plain_of, index_of, set_at, found_rows, apply, apply_in, completed_by, step}
+use Rattle.format.specs.Plain.{Plain, plain_of, index_of, set_at, found_rows, apply, apply_in, step}
 use Rattle.format.specs.Calls.{Answer, answer, number_in, value_or, then_no, sets_in, sought_set, insert_of, edit_answer}
 use Rattle.format.proofs.Elements.{Has}
 use Rattle.format.proofs.Lines.{all_append}

@@ -1,11 +1,16 @@
 -- What the call answers, case by case: a bad request, one of another kind, an unknown set, and a draft of a set.
-use Prim.Native.Nat.{ℕ, zero, suc, ◌≤◌}
+use Rattle.std.specs.Prelude.{Some, None, Result}
+use Rattle.std.specs.Result.{IsErr, IsErrAnd}
+use native.Mathlib.Omega.{arith}
+use Rattle.format.specs.declared.refusals.Question.{Question}
+use Rattle.format.specs.declared.refusals.Refusal.{Refusal}
+use Rattle.format.specs.Refusals.{question_no}
+use Rattle.format.proofs.Refused.{question-number, handed-answer}
+use Prim.Native.Nat.{ℕ, zero, suc, ◌≤◌, ◌<◌}
 use mathlib.Core.Path.{◌≡◌, refl, sym, ap, ◌∙◌}
-use mathlib.Core.List.{List, [], ◌∷◌}
+use mathlib.Core.List.{List}
 use mathlib.Core.Option.{Option, none, some, map}
 use lib.ListN.{length, take}
-use types.Run.{OneOf, miss}
-use denote.Enum.Declared.{tag_of}
 use Rattle.format.specs.Bytes.{Bytes}
 use Rattle.format.specs.Lists.{onward}
 use Rattle.format.specs.Limits.{file_bytes}
@@ -17,7 +22,7 @@ use Rattle.format.specs.Written.{Pair}
 use Rattle.format.specs.Requests.{Request as Asked, request_of}
 use Rattle.format.specs.Edits.{Edit}
 use Rattle.format.specs.Plain.{index_of, found_rows}
-use Rattle.format.specs.Calls.{Answer, answer, then_no, check_answer, sets_in, insert_of}
+use Rattle.format.specs.Calls.{Answer, answer, answered, check_answer, sets_in, insert_of}
 use Rattle.format.proofs.Dense.{dense}
 use Rattle.format.proofs.Passing.{SetsPass}
 use Rattle.words.specs.Spans.{span}
@@ -25,17 +30,16 @@ use Rattle.records.specs.Sets.{set_behind}
 use Rattle.records.specs.Walk.{record_in}
 use Rattle.records.specs.declared.Head.{Head}
 use Rattle.records.proofs.Members.{HeadFound}
-use Rattle.records.proofs.SetOf.{SetOf, head-set, PassingSet, passing-set}
+use Rattle.records.proofs.SetOf.{SetOf, head-set, passing-set}
 use Rattle.joints.proofs.Fields.{dense-same}
 use Rattle.dictionary.specs.Known.{Described}
 use Rattle.dictionary.proofs.SetRules.{set-described}
 use Rattle.requests.specs.Fields.{bytes_of}
 use Rattle.requests.specs.Pairs.{pairs_at}
 use Rattle.requests.specs.Kinds.{edit_of, request_answer}
+use Rattle.requests.specs.declared.kinds.Act.{Act as ReadAct}
 use Rattle.requests.specs.declared.kinds.Edit.{Edit as ReadEdit}
 use Rattle.requests.specs.declared.kinds.Request.{Request}
-use Rattle.requests.specs.declared.kinds.RequestOf.{RequestOf}
-use Rattle.requests.specs.contracts.kinds.Edit.{the_type}
 use Rattle.drafts.specs.Drafts.{to_fill, Draft, draft_of, rules_at, draft_answer, to_fill_answer}
 use Rattle.drafts.proofs.Giving.{toFill-bare}
 
@@ -47,22 +51,18 @@ module _ (ss : List RecSet) (s : Bytes) where
   asked x = draft_answer 0 ss (onward (λ (q : Asked). drafted q.set q.edit) x)
 
   -- no request, and a request of another kind
-  pub draft-fault : request_answer s RequestOf.Fault ≡ request_of s → Answer.refusal 20 ≡ draft_answer 0 ss (draft_of s)
+  pub draft-fault : request_answer s None ≡ request_of s → Answer.refusal 20 ≡ draft_answer 0 ss (draft_of s)
   unfolding asked drafted
   draft-fault e = ap asked e
 
-  module _ (q : Request) (e : request_answer s (RequestOf.Is q) ≡ request_of s) where
+  module _ (q : Request) (e : request_answer s (Some q) ≡ request_of s) where
     by-asked : draft_answer 0 ss (drafted (bytes_of s q.set) (edit_of s q.edit)) ≡ draft_answer 0 ss (draft_of s)
     unfolding asked drafted
     by-asked = ap asked e
 
-    pub draft-other : OneOf (1 ∷ []) (tag_of the_type q.edit) → Answer.refusal 20 ≡ draft_answer 0 ss (draft_of s)
+    pub draft-other : (row : ℕ) (a : ReadAct) → q.edit ≡ ReadEdit.On row a → Answer.refusal 20 ≡ draft_answer 0 ss (draft_of s)
     unfolding drafted
-    draft-other h = go q.edit h ∙ by-asked
-      where
-        go : (a : ReadEdit) → OneOf (1 ∷ []) (tag_of the_type a) → Answer.refusal 20 ≡ draft_answer 0 ss (drafted (bytes_of s q.set) (edit_of s a))
-        go (ReadEdit.Insert i) k = absurd (miss (1 ∷ []) 0 tt k)
-        go (ReadEdit.On r a) k = refl
+    draft-other row a is = ap (λ (x : ReadEdit). draft_answer 0 ss (drafted (bytes_of s q.set) (edit_of s x))) (sym is) ∙ by-asked
 
     pub draft-insert : (i : ℕ) → q.edit ≡ ReadEdit.Insert i → draft_answer 0 ss (some (record { set = bytes_of s q.set; new = pairs_at s i })) ≡ draft_answer 0 ss (draft_of s)
     unfolding drafted
@@ -96,16 +96,19 @@ pub dense-filled : (d : Bytes) → Described d → (new : List Pair) → to_fill
 dense-filled d h new = dense-same d h.reads (λ (r : Record). to_fill r new) (λ r. toFill-bare r new)
 
 -- the file's own questions come first
-refused-by : (k : ℕ) (ss : List RecSet) (x : Option Draft) → (k ≡ 0 → ⊥) → Answer.refusal k ≡ draft_answer k ss x
-refused-by zero ss x h = absurd (h refl)
+refused-by : (k : ℕ) (ss : List RecSet) (x : Option Draft) → 0 < k → Answer.refusal k ≡ draft_answer k ss x
+refused-by zero ss x h = absurd (omega arith)
 refused-by (suc k) ss none h = refl
 refused-by (suc k) ss (some d) h = refl
 
 module _ (buffer : Bytes) (used : ℕ) (request : Bytes) where
-  pub call-refused : (k : ℕ) → k ≡ check_answer buffer used → (k ≡ 0 → ⊥) → Answer.refusal k ≡ to_fill_answer buffer used request
+  -- question q said no, which `?` handed on
+  pub call-refused : (q : Question) → question_no q ≡ check_answer buffer used → (x : Result ℕ Refusal) → IsErr x × IsErrAnd x (λ r. r ≡ Refusal.File q) → answered x ≡ to_fill_answer buffer used request
   unfolding check_answer to_fill_answer
-  call-refused k e h = refused-by k (sets_in buffer used) (draft_of request) h ∙ ap (λ (n : ℕ). draft_answer n (sets_in buffer used) (draft_of request)) e
+  call-refused q e x h =
+      handed-answer x q h ∙ refused-by (question_no q) (sets_in buffer used) (draft_of request) (question-number q)
+      ∙ ap (λ (n : ℕ). draft_answer n (sets_in buffer used) (draft_of request)) e
 
-  pub call-inside : check_answer buffer used ≡ 0 → draft_answer 0 (sets_of (read_of (take used buffer))) (draft_of request) ≡ to_fill_answer buffer used request
+  pub call-inside : 0 ≡ check_answer buffer used → draft_answer 0 (sets_of (read_of (take used buffer))) (draft_of request) ≡ to_fill_answer buffer used request
   unfolding check_answer to_fill_answer
-  call-inside e = ap (λ (n : ℕ). draft_answer n (sets_in buffer used) (draft_of request)) (sym e)
+  call-inside e = ap (λ (n : ℕ). draft_answer n (sets_in buffer used) (draft_of request)) e

@@ -1,18 +1,18 @@
 -- What a draft still lacks: nothing exactly where question 10 says yes of it, and one name less with each pair that has such a name.
-use Prim.Native.Nat.{ℕ, zero, suc, ◌+◌}
+use Prim.Native.Nat.{◌+◌}
 use native.Mathlib.Omega.{arith}
 use mathlib.Core.Path.{◌≡◌, refl, sym, ap, ◌∙◌, subst}
-use mathlib.Core.Bool.{Bool, true, false, ◌&&◌, ◌||◌, not, and-eq-true_iff}
+use mathlib.Core.Bool.{Bool, true, false, ◌&&◌, ◌||◌, not}
 use mathlib.Core.List.{List, [], ◌∷◌, ◌++◌, map}
-use mathlib.Core.Option.{Option, none, some}
+use mathlib.Core.Option.{some}
 use lib.Dec.{leb, eqb}
 use lib.ListN.{length}
 use borrow.Author.Tests.{le-leb}
 use Rattle.format.specs.Bytes.{Bytes, pick, all, same, among}
 use Rattle.format.specs.Lists.{filter}
 use Rattle.format.specs.Records.{Record}
-use Rattle.format.specs.Sets.{RecSet, values_of}
-use Rattle.format.specs.Numbers.{Bounds, int_bounds}
+use Rattle.format.specs.Sets.{RecSet}
+use Rattle.format.specs.Numbers.{int_bounds}
 use Rattle.format.specs.Rules.{mandatory, key, auto, distinct}
 use Rattle.format.specs.Questions.{occurrences, all_present}
 use Rattle.format.specs.Written.{Pair, new_field}

@@ -10,11 +10,11 @@ use lib.Dec.{ltb}
 use lib.ListN.{length, length-append}
 use Rattle.format.specs.Bytes.{Bytes, text, pick, same, among}
 use Rattle.format.specs.Lists.{flat, filter}
-use Rattle.format.specs.Records.{Field, Record}
+use Rattle.format.specs.Records.{Record}
 use Rattle.format.specs.Sets.{values_of}
 use Rattle.format.specs.Limits.{list_words}
 use Rattle.format.specs.Words.{words}
-use Rattle.format.specs.Rules.{listed, mandatory, key, auto}
+use Rattle.format.specs.Rules.{mandatory, key, auto}
 use Rattle.format.specs.Written.{Pair}
 use Rattle.format.specs.Numbering.{firsts, pair_names}
 use Rattle.format.proofs.Listing.{same-swap}
@@ -23,7 +23,7 @@ use Rattle.terms.specs.Sets.{in_set}
 use Rattle.dictionary.specs.Numbered.{Places, IsListed, Present, Firsts}
 use Rattle.dictionary.specs.declared.wordsets.Listed.{Listed}
 use Rattle.dictionary.proofs.Present.{present-more, missing-counted}
-use Rattle.drafts.specs.Drafts.{required, is_given, to_fill}
+use Rattle.drafts.specs.Drafts.{is_given, to_fill}
 use Rattle.drafts.specs.Giving.{onto, Gives}
 use Rattle.drafts.proofs.Distinct.{filter_alike, filter-both}
 

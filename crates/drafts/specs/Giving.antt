@@ -1,5 +1,5 @@
 -- The names that are given, one after another, and the places of a list's words among them.
-use Rattle.std.specs.Prelude.{◌≡◌, List, [], ◌∷◌, ℕ}
+use Rattle.std.specs.Prelude.{List, [], ◌∷◌, ℕ}
 use Rattle.format.specs.Bytes.{Bytes}
 use Rattle.dictionary.specs.Numbered.{IsListed, Present}
 use Rattle.dictionary.specs.declared.wordsets.Listed.{Listed}

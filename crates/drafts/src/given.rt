@@ -13,9 +13,9 @@ ghost use Rattle.drafts.specs.Giving.{Gives};
 
 use dictionary::wordsets;
 use dictionary::wordsets::Listed;
-use records::FoundField;
+use records::ValuePlace;
 use requests::Pair;
-use words::Word;
+use words::Span;
 
 // One name more.
 fn give(d: &[u8], l: Listed, set: u64, name: &[u8]) -> u64
@@ -33,8 +33,7 @@ fn give_words(d: &[u8], l: Listed, set: u64, s: &[u8]) -> u64
     let mut given = set;
     let mut rest = s;
     loop {
-        let x = words::next_word(rest);
-        let Word::At { start, end } = x else {
+        let Some(Span { start, end }) = words::next_word(rest) else {
             return given;
         };
         given = give(d, l, given, &rest[start..end]);
@@ -51,13 +50,7 @@ pub(crate) fn give_list(d: &[u8], l: Listed, set: u64, name: &[u8], scratch: &mu
     let mut given = set;
     let mut i = 0;
     loop {
-        let v = records::next_named(&d[i..], name);
-        let FoundField::At {
-            start: _,
-            value,
-            end,
-        } = v
-        else {
+        let Some(ValuePlace { value, end, .. }) = records::next_named(&d[i..], name) else {
             return given;
         };
         let n = values::copy_value(&d[i + value..], &mut *scratch);
@@ -75,13 +68,7 @@ pub(crate) fn give_pairs(d: &[u8], l: Listed, set: u64, req: &[u8], from: usize)
     let mut given = set;
     let mut i = from;
     loop {
-        let p = requests::pair_at(req, i);
-        let Pair::At {
-            name,
-            value: _,
-            next,
-        } = p
-        else {
+        let Some(Pair { name, next, .. }) = requests::pair_at(req, i) else {
             return given;
         };
         let a = name.start;

@@ -21,9 +21,8 @@ ghost use Rattle.drafts.specs.Giving.{onto};
 
 use dictionary::wordsets;
 use dictionary::wordsets::Listed;
-use format::{Answer, File, Record, Refusal};
-use records::FoundHead;
-use requests::{Edit, RequestOf};
+use format::{File, Record, Refusal};
+use requests::Edit;
 
 mod given;
 
@@ -106,40 +105,34 @@ fn count_by(d: &[u8], req: &[u8], from: usize, copy: &mut [u8]) -> usize
 }
 
 // How many names of a draft are still to fill in a text that passes. The copy is spent.
-fn to_fill_in(s: &[u8], req: &[u8], copy: &mut [u8]) -> Answer
+fn to_fill_in(s: &[u8], req: &[u8], copy: &mut [u8]) -> Result<usize, Refusal>
     requires s_value { (is_readable s.now ≡ true) × (length s.now ≤ file_bytes) × SetsPass (sets_of (read_of s.now)) }
     requires file_bytes_in_bounds { file_bytes ≤ length copy.old }
     ensures { answered result ≡ draft_answer 0 (sets_of (read_of s.now)) (draft_of req.now) }
 {
-    let r = requests::request_of(req);
-    let RequestOf::Is(q) = r else {
-        return Answer::Refused(Refusal::FORM);
+    let Some(q) = requests::request_of(req) else {
+        return Err(Refusal::Form);
     };
-    let edit = q.edit;
-    let Edit::Insert { start: from } = edit else {
-        return Answer::Refused(Refusal::FORM);
+    let Edit::Insert { start: from } = q.edit else {
+        return Err(Refusal::Form);
     };
     let set = q.set;
     let a = set.start;
     let b = set.end;
-    let f = records::find_head(s, &req[a..b]);
-    let FoundHead::At(head) = f else {
-        return Answer::Refused(Refusal::SET);
+    let Some(head) = records::find_head(s, &req[a..b]) else {
+        return Err(Refusal::Set);
     };
     let start = head.start;
     let end = head.end;
-    Answer::Value(count_by(&s[start..end], req, from, copy))
+    Ok(count_by(&s[start..end], req, from, copy))
 }
 
 // How many mandatory names, and the key, a draft lacks: an insert into the file in the first
 // `used` bytes of a buffer, which is not carried out.
-pub fn to_fill(buf: &[u8], used: usize, req: &[u8]) -> Answer
+pub fn to_fill(buf: &[u8], used: usize, req: &[u8]) -> Result<usize, Refusal>
     ensures { answered result ≡ to_fill_answer buf.now used req.now }
 {
     let mut copy = [0u8; File::BYTES];
-    let n = integrity::check_with(buf, used, &mut copy);
-    if n != 0 {
-        return Answer::Refused(n);
-    }
+    integrity::check_with(buf, used, &mut copy)?;
     to_fill_in(&buf[..used], req, &mut copy)
 }

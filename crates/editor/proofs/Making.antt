@@ -1,7 +1,13 @@
 -- The text that a splice makes of another, in a copy of it.
-use Prim.Native.Nat.{ℕ, zero, suc, ◌+◌, ◌≤◌}
+use Rattle.std.specs.Prelude.{Result, Ok, Err}
+use Rattle.std.specs.Result.{IsErrAnd, MatchResult}
+use Rattle.format.specs.declared.refusals.Question.{Question}
+use Rattle.format.specs.declared.refusals.Refusal.{Refusal}
+use Rattle.format.specs.Refusals.{question_no, refusal_no, no_of, refused_no}
+use Rattle.format.proofs.Refused.{question-number}
+use Prim.Native.Nat.{ℕ, zero, suc, ◌+◌, ◌≤◌, ◌<◌}
+use native.Mathlib.Omega.{arith}
 use mathlib.Core.Path.{◌≡◌, refl, sym, ap, ◌∙◌, subst}
-use mathlib.Core.Logic.{◌≢◌}
 use mathlib.Core.Bool.{Bool, true, ◌&&◌, and-eq-true_iff}
 use lib.Dec.{leb}
 use borrow.Author.Tests.{leb-true}
@@ -37,9 +43,16 @@ module _ (s d b req added : Bytes) (x : Splice) (e : b ≡ over s d) where
 pub number-asked : (room : ℕ) (t : Bytes) (b : Bool) → b ≡ (leb (length t) room && leb (length t) file_bytes) → edit_no room 0 t ≡ pick b (raised_no (text_no t)) 26
 number-asked room t b w = ap (λ (x : Bool). pick x (raised_no (text_no t)) 26) (sym w)
 
-pub number-raised : (n : ℕ) → n ≢ 0 → 100 + n ≡ raised_no n
-number-raised zero h = absurd (h refl)
-number-raised (suc n) h = refl
+raised-number : (n : ℕ) → 0 < n → 100 + n ≡ raised_no n
+raised-number zero h = absurd (omega arith)
+raised-number (suc n) h = refl
+
+-- the answer of the judged text, handed on as that of an edit's result
+pub number-raised : (x : Result Unit Question) (y : Result Unit Refusal) (P : Question → Refusal → Type 0) → ((q : Question) (r : Refusal) → P q r → r ≡ Refusal.Result q)
+    → MatchResult x (λ u. y ≡ Ok u) (λ q. IsErrAnd y (P q)) → refused_no y ≡ raised_no (no_of x)
+number-raised (Ok u) y P f h = ap refused_no h
+number-raised (Err q) (Ok u) P f h = absurd h
+number-raised (Err q) (Err r) P f h = ap refusal_no (f q r h) ∙ raised-number (question_no q) (question-number q)
 
 -- a text within the room is no longer than a file
 pub within-file : (room : ℕ) (t : Bytes) (b : Bool) → b ≡ (leb (length t) room && leb (length t) file_bytes) → b ≡ true → length t ≤ file_bytes

@@ -1,9 +1,13 @@
 -- A run of requests goes on by one: what is read of it, what it leaves, and the list that holds its numbers.
+use Rattle.std.specs.Prelude.{Option as Maybe, Some, None, Result}
+use Rattle.std.specs.Result.{result_unwrap_or}
+use Rattle.format.proofs.Refused.{value-told}
+use Rattle.format.specs.declared.refusals.Refusal.{Refusal}
 use Prim.Native.Nat.{ℕ, zero, suc, ◌+◌, ◌-◌, ◌≤◌, ◌<◌}
 use native.Mathlib.Omega.{arith}
 use mathlib.Core.Path.{◌≡◌, refl, sym, ap, ◌∙◌, subst}
 use mathlib.Core.Bool.{Bool, true, false, ◌&&◌, true≢false}
-use mathlib.Core.List.{List, [], ◌∷◌, ◌++◌, map, map-append, append_assoc, append-nil}
+use mathlib.Core.List.{List, [], ◌∷◌, ◌++◌, map, map-append, append-nil}
 use mathlib.Core.Option.{Option, none, some}
 use lib.Dec.{leb}
 use lib.ListN.{length, take, drop, get_or, set, length-append, length-map, length-drop}
@@ -14,38 +18,37 @@ use Rattle.format.specs.Lists.{onward, only_if}
 use Rattle.format.specs.Limits.{run_requests}
 use Rattle.format.specs.Questions.{verdict}
 use Rattle.format.specs.Requests.{short_at, requests_in}
-use Rattle.format.specs.Calls.{Answer, number_in, value_or, Filled, over, check_answer, edit_answer}
+use Rattle.format.specs.Calls.{Answer, answered, filled_by, number_in, value_or, Filled, over, check_answer, edit_answer}
 use Rattle.format.specs.Runs.{Single, Told, Ran, singly, taken, few_enough, edits_of, numbers_told, Numbered, run_answer, then_ran}
 use Rattle.format.proofs.Answers.{answer-file}
 use Rattle.format.proofs.Demand.{edits-meet-demand}
 use Rattle.format.proofs.Sending.{before, requests-none, requests-first, requests-past, run-taken, run-refused}
 use Rattle.editor.specs.Runs.{FirstIn, is_run, is_taken, Sends}
-use Rattle.editor.specs.declared.runs.First.{First}
 
 -- What is read
 
 -- the first request is cut off, or reaches past the end
-pub first-cut : (s : Bytes) → 0 < length s → length s < 2 → FirstIn s First.Fault
+pub first-cut : (s : Bytes) → 0 < length s → length s < 2 → FirstIn s None
 first-cut [] h l = absurd (omega arith)
 first-cut (c ∷ s) h l = requests-past c s (omega arith)
 
-pub first_past : (s : Bytes) → 2 ≤ length s → length s < 2 + short_at s → FirstIn s First.Fault
+pub first_past : (s : Bytes) → 2 ≤ length s → length s < 2 + short_at s → FirstIn s None
 first_past [] h l = absurd (omega arith)
 first_past (c ∷ s) h l = requests-past c s l
 
-pub first_ends : (s : Bytes) → 2 + short_at s ≤ length s → FirstIn s (First.Ends (2 + short_at s))
+pub first_ends : (s : Bytes) → 2 + short_at s ≤ length s → FirstIn s (Some (2 + short_at s))
 first_ends s h =
     let e : (2 + short_at s) - 2 ≡ short_at s = omega arith in
     (omega arith, h, rw (e) (requests-first s h))
 
 -- what the code found: the request, and the rest from its end on
-pub first_found : (s : Bytes) {r : First} → FirstIn s r → {e : ℕ} → r ≡ First.Ends e → (2 ≤ e) × (e ≤ length s) × (requests_in s ≡ before (take (e - 2) (drop 2 s)) (requests_in (take (length s - e) (drop e s))))
+pub first_found : (s : Bytes) {r : Maybe ℕ} → FirstIn s r → {e : ℕ} → r ≡ Some e → (2 ≤ e) × (e ≤ length s) × (requests_in s ≡ before (take (e - 2) (drop 2 s)) (requests_in (take (length s - e) (drop e s))))
 first_found s h {e} is =
-    let f : FirstIn s (First.Ends e) = subst (FirstIn s) is h in
+    let f : FirstIn s (Some e) = subst (FirstIn s) is h in
     let rest : take (length s - e) (drop e s) ≡ drop e s = ap (λ (k : ℕ). take k (drop e s)) (sym (length-drop e s)) ∙ take-length (drop e s) in
     (f.0, f.1, f.2 ∙ ap (λ (t : Bytes). before (take (e - 2) (drop 2 s)) (requests_in t)) (sym rest))
 
-pub first-fault : (s : Bytes) {r : First} → FirstIn s r → r ≡ First.Fault → requests_in s ≡ none
+pub first-fault : (s : Bytes) {r : Maybe ℕ} → FirstIn s r → r ≡ None → requests_in s ≡ none
 first-fault s h is = subst (FirstIn s) is h
 
 run_more : (n : ℕ) (q : Bytes) (y : Option (List Bytes)) → is_run (suc n) (before q y) ≡ is_run n y
@@ -150,6 +153,12 @@ edited_of used a = record { number = number_in a.result; length = value_or used 
 
 abbrev pub edit_of : Bytes → ℕ → Bytes → Edited
 edit_of buffer used q = edited_of used (edit_answer buffer used q)
+
+-- the same of the code's answer
+pub edited-by : (buffer : Bytes) (used : ℕ) (q : Bytes) (x : Result ℕ Refusal) (after : Bytes) → filled_by x after ≡ edit_answer buffer used q → (number size : ℕ) → number ≡ number_in (answered x) → size ≡ result_unwrap_or x used
+    → ◌≡◌ {A = Edited} (record { number = number; length = size; buffer = after }) (edit_of buffer used q)
+edited-by buffer used q x after h number size e f =
+    (λ j. record { number = e j; length = (f ∙ value-told used x) j; buffer = after }) ∙ ap (edited_of used) h
 
 -- the check's number stays: an edit that is accepted leaves a file that passes, and any other leaves all as it was
 verdict-on : (buffer : Bytes) (used : ℕ) (q : Bytes) (k : ℕ) → verdict buffer used ≡ k → verdict (edit_of buffer used q).buffer (edit_of buffer used q).length ≡ k

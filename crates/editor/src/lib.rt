@@ -12,23 +12,22 @@ ghost use Rattle.edits.specs.Splices.{made_by, Sound};
 ghost use Rattle.numbering.specs.Adding.{added_room};
 ghost use Rattle.editor.specs.Plans.{Planned};
 ghost use Rattle.editor.specs.Runs.{is_run, Sends};
+ghost use Rattle.format.specs.Refusals.{no_of, refused_no, refusal_no};
 ghost use Rattle.editor.specs.Overs.{over_no};
 
 use edits::{Located, Splice};
-use format::{Answer, File, Refusal};
-use requests::RequestOf;
-use runs::First;
+use format::{File, Question, Refusal};
 
 mod runs;
 
 pub use edits::Text;
 
-// The number of the text that a splice makes of s, questions 2 to 14 and 30. It is made in a copy.
-fn result_no(x: Splice, s: &[u8], req: &[u8], added: &[u8], copy: &mut [u8]) -> u32
+// The text that a splice makes of s, asked questions 2 to 14 and 30. It is made in a copy.
+fn result_no(x: Splice, s: &[u8], req: &[u8], added: &[u8], copy: &mut [u8]) -> Result<(), Question>
     requires file_bytes_in_bounds { file_bytes ≤ length copy.old }
     requires sound { Sound s.now req.now added.now x }
     requires s_len_bound { (length s.now ≤ file_bytes) × (length (made_by s.now req.now added.now x) ≤ file_bytes) }
-    ensures { result ≡ text_no (made_by s.now req.now added.now x) }
+    ensures { no_of result ≡ text_no (made_by s.now req.now added.now x) }
 {
     let used = s.len();
     writing::put_bytes(&mut *copy, s);
@@ -36,44 +35,46 @@ fn result_no(x: Splice, s: &[u8], req: &[u8], added: &[u8], copy: &mut [u8]) -> 
     integrity::judge_spent(copy, n)
 }
 
-// The number of a splice of a text that passes, in a buffer of room bytes: the first question, 26 on, that says no, else 0.
-fn edit_no(x: Splice, s: &[u8], req: &[u8], added: &[u8], room: usize, copy: &mut [u8]) -> u32
+// A splice of a text that passes, in a buffer of room bytes: the first question, 26 on, that says no.
+fn edit_no(
+    x: Splice,
+    s: &[u8],
+    req: &[u8],
+    added: &[u8],
+    room: usize,
+    copy: &mut [u8],
+) -> Result<(), Refusal>
     requires file_bytes_in_bounds { file_bytes ≤ length copy.old }
     requires sound { Sound s.now req.now added.now x }
     requires s_len_bound { (length s.now ≤ room) × (length s.now ≤ file_bytes) }
-    ensures { result ≡ edit_no room 0 (made_by s.now req.now added.now x) }
+    ensures { refused_no result ≡ edit_no room 0 (made_by s.now req.now added.now x) }
 {
     if !edits::fits(x, s, req, added, room) {
-        return Refusal::LARGE;
+        return Err(Refusal::Large);
     }
-    let n = result_no(x, s, req, added, copy);
-    if n == 0 {
-        return 0;
-    }
-    Refusal::RESULT + n
+    result_no(x, s, req, added, copy).map_err(Refusal::Result)
 }
 
-// The number of an edit that makes so many bytes, with a name among them that is longer than a field's may be.
-fn over_no(n: usize, room: usize) -> u32
-    ensures { result ≡ over_no room n }
+// The refusal of an edit that makes so many bytes, with a name among them that is longer than a field's may be.
+fn over_no(n: usize, room: usize) -> Refusal
+    ensures { refusal_no result ≡ over_no room n }
 {
     let f = File::new(n);
     if f.fits(room) {
-        return Refusal::RESULT_LIMIT;
+        return Refusal::Result(Question::Limit);
     }
-    Refusal::LARGE
+    Refusal::Large
 }
 
-// What a request to a file that passes does, which is in the first `used` bytes of buf, or the number of the first of questions 20 to 25 and 31 that says no. The text of fields that an insert gets is put into
+// What a request to a file that passes does, which is in the first `used` bytes of buf, or the first of questions 20 to 25 and 31 that says no. The text of fields that an insert gets is put into
 // `added`; the copy is spent. The two steps of an edit are calls of their own, so that the room which this one takes on the stack is free again when the result is judged.
 pub fn plan(buf: &[u8], used: usize, req: &[u8], copy: &mut [u8], added: &mut [u8]) -> Located
     requires used_value { check_answer buf.now used ≡ 0 }
     requires file_bytes_in_bounds { (file_bytes ≤ length copy.old) × (added_room ≤ length added.old) }
     ensures { Planned (take used buf.now) req.now added.new result }
 {
-    let r = requests::request_of(req);
-    let RequestOf::Is(q) = r else {
-        return Located::Refused(Refusal::FORM);
+    let Some(q) = requests::request_of(req) else {
+        return Located::Refused(Refusal::Form);
     };
     edits::locate(&buf[..used], req, q, copy, added)
 }
@@ -86,46 +87,43 @@ pub fn settle(
     req: &[u8],
     added: &[u8],
     copy: &mut [u8],
-) -> Answer
+) -> Result<usize, Refusal>
     requires used_value { (check_answer buf.old used ≡ 0) × Planned (take used buf.old) req.now added.now plan }
     requires file_bytes_in_bounds { file_bytes ≤ length copy.old }
     ensures { filled_by result buf.new ≡ edit_answer buf.old used req.now }
 {
     let room = buf.len();
     match plan {
-        Located::Refused(k) => {
-            return Answer::Refused(k);
-        }
-        Located::Over(n) => {
-            return Answer::Refused(over_no(n, room));
-        }
+        Located::Refused(refusal) => Err(refusal),
+        Located::Over(n) => Err(over_no(n, room)),
         Located::At(x) => {
-            let n = edit_no(x, &buf[..used], req, added, room, &mut *copy);
-            if n != 0 {
-                return Answer::Refused(n);
-            }
+            edit_no(x, &buf[..used], req, added, room, copy)?;
             let new = edits::carry_out(x, buf, used, req, added);
-            return Answer::Value(new);
+            Ok(new)
         }
     }
 }
 
-// One request to a file of which the check's number k is known.
-fn edit_judged(buf: &mut [u8], used: usize, req: &[u8], k: u32, copy: &mut [u8]) -> Answer
-    requires used_value { check_answer buf.old used ≡ k }
+// One request to a file of which the check's answer k is known.
+fn edit_judged(
+    buf: &mut [u8],
+    used: usize,
+    req: &[u8],
+    k: Result<(), Question>,
+    copy: &mut [u8],
+) -> Result<usize, Refusal>
+    requires used_value { check_answer buf.old used ≡ no_of k }
     requires file_bytes_in_bounds { file_bytes ≤ length copy.old }
     ensures { filled_by result buf.new ≡ edit_answer buf.old used req.now }
 {
-    if k != 0 {
-        return Answer::Refused(k);
-    }
+    k?;
     let mut added = [0u8; Text::ROOM];
     let p = plan(buf, used, req, &mut *copy, &mut added);
-    settle(p, buf, used, req, &added, &mut *copy)
+    settle(p, buf, used, req, &added, copy)
 }
 
 // One request to the file in the first `used` bytes of buf. A refusal writes nothing.
-pub fn edit(buf: &mut [u8], used: usize, req: &[u8]) -> Answer
+pub fn edit(buf: &mut [u8], used: usize, req: &[u8]) -> Result<usize, Refusal>
     ensures { filled_by result buf.new ≡ edit_answer buf.old used req.now }
 {
     let mut copy = [0u8; File::BYTES];
@@ -133,32 +131,32 @@ pub fn edit(buf: &mut [u8], used: usize, req: &[u8]) -> Answer
     edit_judged(buf, used, req, k, &mut copy)
 }
 
-// Each request of a run on what the one before left, and its number into answers; k is the check's number, which stays: an accepted edit leaves a file that passes,
+// Each request of a run on what the one before left, and its number into answers; k is the check's answer, which stays: an accepted edit leaves a file that passes,
 // and a refused one leaves all as it was. The result is the file's length after the last.
 fn edit_each(
     buf: &mut [u8],
     used: usize,
     run: &[u8],
     answers: &mut [u32],
-    k: u32,
+    k: Result<(), Question>,
     copy: &mut [u8],
 ) -> usize
-    requires used_value { check_answer buf.old used ≡ k }
+    requires used_value { check_answer buf.old used ≡ no_of k }
     requires file_bytes_in_bounds { file_bytes ≤ length copy.old }
     requires run_value { is_run (length answers.old) (requests_in run.now) ≡ true }
     ensures { Sends buf.old used (requests_in run.now) answers.old result buf.new answers.new }
 {
     let mut rest = run;
     let mut n = used;
+    // An index by hand: the loop goes by the run, whose requests are read one after another.
     let mut i = 0;
     while 0 < rest.len() {
-        let f = runs::first_request(rest);
-        let First::Ends(end) = f else {
+        let Some(end) = runs::first_request(rest) else {
             return n;
         };
         let e = edit_judged(buf, n, &rest[2..end], k, &mut *copy);
-        n = e.value_or(n);
-        answers[i] = e.number();
+        answers[i] = format::number_in(e);
+        n = e.unwrap_or(n);
         rest = &rest[end..];
         i += 1;
     }
@@ -167,17 +165,22 @@ fn edit_each(
 
 // The requests of a run, each an edit of what the one before left. The file is checked once, and not at all where there is no request. The answer is the file's
 // length after the last, whatever the requests' own numbers, or that the run is refused, and then nothing is written.
-pub fn edit_run(buf: &mut [u8], used: usize, run: &[u8], answers: &mut [u32]) -> Answer
+pub fn edit_run(
+    buf: &mut [u8],
+    used: usize,
+    run: &[u8],
+    answers: &mut [u32],
+) -> Result<usize, Refusal>
     ensures { record { result = answered result; out = buf.new; answers = answers.new } ≡ run_answer buf.old used run.now answers.old }
 {
     if !runs::is_taken(run, answers.len()) {
-        return Answer::Refused(Refusal::RUN);
+        return Err(Refusal::Run);
     }
     if run.len() == 0 {
-        return Answer::Value(used);
+        return Ok(used);
     }
     let mut copy = [0u8; File::BYTES];
     let k = integrity::check_with(buf, used, &mut copy);
     let n = edit_each(buf, used, run, answers, k, &mut copy);
-    Answer::Value(n)
+    Ok(n)
 }

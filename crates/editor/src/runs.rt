@@ -12,27 +12,21 @@ impl Run {
     const REQUESTS: usize = 64;
 }
 
-// The request that a run begins with stands from 2 to its end. Fault: the length is cut off, or reaches past the run's end.
-#[derive(Drop)]
-pub(crate) enum First {
-    Ends(usize),
-    Fault,
-}
-
-pub(crate) fn first_request(run: &[u8]) -> First
+// The request that a run begins with stands from 2 to its end, which is told; none if the length is cut off, or reaches past the run's end.
+pub(crate) fn first_request(run: &[u8]) -> Option<usize>
     requires { 0 < length run.now }
     ensures { FirstIn run.now result }
 {
     if run.len() < 2 {
-        return First::Fault;
+        return None;
     }
     let high = run[0] as usize;
     let low = run[1] as usize;
     let len = high * 256 + low;
     if run.len() - 2 < len {
-        return First::Fault;
+        return None;
     }
-    First::Ends(2 + len)
+    Some(2 + len)
 }
 
 // Is it a run of at most so many requests?
@@ -45,8 +39,7 @@ fn is_run(run: &[u8], most: usize) -> bool
         if left == 0 {
             return false;
         }
-        let f = first_request(rest);
-        let First::Ends(end) = f else {
+        let Some(end) = first_request(rest) else {
             return false;
         };
         rest = &rest[end..];

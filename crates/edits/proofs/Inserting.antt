@@ -1,4 +1,5 @@
 -- What an insert does to a text that passes, by its set and the fields that it gets.
+use Rattle.std.specs.Prelude.{Some}
 use Prim.Native.Nat.{ℕ, ◌+◌, ◌≤◌}
 use native.Mathlib.Omega.{arith}
 use mathlib.Core.Path.{◌≡◌, refl, sym, ap, ◌∙◌, subst}
@@ -33,7 +34,6 @@ use Rattle.records.specs.Places.{is_readable, places_of, head_place}
 use Rattle.records.specs.Sets.{set_behind}
 use Rattle.records.specs.Walk.{record_in}
 use Rattle.records.specs.declared.Head.{Head}
-use Rattle.records.specs.declared.FoundHead.{FoundHead}
 use Rattle.records.specs.declared.RecordSet.{RecordSet}
 use Rattle.records.proofs.Members.{HeadFound, head-told}
 use Rattle.records.proofs.SetOf.{head-set, PassingSet, passing-set}
@@ -41,11 +41,11 @@ use Rattle.records.proofs.SetInserts.{InsertTold}
 use Rattle.records.proofs.Applied.{applied_to, insert-applied}
 use Rattle.dictionary.proofs.SetRules.{set-described}
 use Rattle.requests.specs.Pairs.{pairs_from, pairs_at, Weighs}
-use Rattle.requests.specs.declared.pairs.Weighed.{Weighed}
 use Rattle.splices.specs.Space.{inserted, record_text}
 use Rattle.splices.proofs.Inserted.{told-inserted}
 use Rattle.numbering.specs.Adding.{AddedAs}
 use Rattle.numbering.specs.declared.Added.{Added}
+use Rattle.format.specs.declared.refusals.Refusal.{Refusal}
 use Rattle.edits.specs.declared.Located.{Located}
 use Rattle.edits.specs.declared.Splice.{Splice}
 use Rattle.edits.specs.Splices.{made_len}
@@ -68,9 +68,9 @@ written-append : (ps qs : List Pair) → written_all (ps ++ qs) ≡ written_all 
 written-append [] qs = refl
 written-append (p ∷ ps) qs = ap (λ (t : Bytes). written p.name p.value ++ t) (written-append ps qs) ∙ sym (append_assoc (written p.name p.value) (written_all ps) (written_all qs))
 
-module _ (s : Bytes) (whole : is_readable s ≡ true) (h : Head) (set : Bytes) (found : head_place set (places_of s) ≡ FoundHead.At h) where
+module _ (s : Bytes) (whole : is_readable s ≡ true) (h : Head) (set : Bytes) (found : head_place set (places_of s) ≡ Some h) where
   head : HeadFound s set (sets_of (read_of s)) h
-  head = head-told s set (FoundHead.At h) whole (sym found) refl
+  head = head-told s set (Some h) whole (sym found) refl
 
   abbrev asks : List Pair → Request
   asks new = record { set = set; edit = Edit.insert new }
@@ -78,8 +78,8 @@ module _ (s : Bytes) (whole : is_readable s ≡ true) (h : Head) (set : Bytes) (
   asked-no : (new : List Pair) (t u : Bool) → all is_legal_pair new ≡ t → is_some (whole_of (plain_of (read_of s)) (asks new)) ≡ u → (room : ℕ) → place_no room s (asks new) ≡ pick t (pick u 0 31) 25
   asked-no new t u e f room = insert-asked room s set h.begin head.set new t u e f
 
-  pub insert-illegal : (req out : Bytes) (new : List Pair) → all is_legal_pair new ≡ false → Locates s req out (record { set = set; edit = Edit.insert new }) (Located.Refused 25)
-  insert-illegal req out new e = (asked-no new false (is_some (whole_of (plain_of (read_of s)) (asks new))) e refl, omega arith)
+  pub insert-illegal : (req out : Bytes) (new : List Pair) → all is_legal_pair new ≡ false → Locates s req out (record { set = set; edit = Edit.insert new }) (Located.Refused Refusal.Illegal)
+  insert-illegal req out new e = asked-no new false (is_some (whole_of (plain_of (read_of s)) (asks new))) e refl
 
   -- Its set stands at p.
   module _ (short : length s ≤ file_bytes) (passes : SetsPass (sets_of (read_of s))) (p : RecordSet) (is : p ≡ set_behind s h) where
@@ -161,10 +161,10 @@ module _ (s : Bytes) (whole : is_readable s ≡ true) (h : Head) (set : Bytes) (
           let c : capped_len own len ≡ length (written_all ps) + length (written_all new) = (capped own len).1 (ltb-false file_bytes (capped_len own len) b) ∙ omega (arith, o, l) in
           (yes, inr (ap (made_len (length s)) c ∙ sym size, overlong f))
 
-    pub insert-located : (req out : Bytes) (from len count : ℕ) (a : Added) → is_some (pairs_from req from) ≡ true → Weighs (pairs_at req from) (Weighed.Sums len count)
+    pub insert-located : (req out : Bytes) (from len count : ℕ) (a : Added) → is_some (pairs_from req from) ≡ true → Weighs (pairs_at req from) (Some (record { len = len; count = count }))
         → AddedAs (added_by int_bounds (ruled (record_in (span p.start p.end s)) (records (read_of (span p.begin p.after s)))) (pairs_at req from)) out a
         → Locates s req out (record { set = set; edit = Edit.insert (pairs_at req from) }) (located_by (length s) p.after from len a)
-    insert-located req out from len count Added.Numberless f g x = (asked-no (pairs_at req from) true false g.0 (ap is_some (whole_is (pairs_at req from) none x)), omega arith)
+    insert-located req out from len count Added.Numberless f g x = asked-no (pairs_at req from) true false g.0 (ap is_some (whole_is (pairs_at req from) none x))
     insert-located req out from len count (Added.Text own) f g x =
         text-by (pairs_at req from) x.0 g.0 x.1.0 req out from own len (ltb file_bytes (capped_len own len)) refl refl f g.1 x.1.1.inside x.1.1.text
     insert-located req out from len count (Added.Long own) f g x =

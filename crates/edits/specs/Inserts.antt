@@ -7,6 +7,7 @@ use Rattle.format.specs.Rules.{autos_counted}
 use Rattle.records.specs.Walk.{record_in}
 use Rattle.dictionary.specs.Known.{Described}
 use Rattle.numbering.specs.declared.Added.{Added}
+use Rattle.format.specs.declared.refusals.Refusal.{Refusal}
 use Rattle.edits.specs.declared.Located.{Located}
 use Rattle.edits.specs.declared.Splice.{Splice}
 use Rattle.edits.specs.Splices.{made_len}
@@ -21,7 +22,7 @@ capped_len own len = pick (ltb file_bytes own) own (pick (ltb file_bytes len) le
 
 -- of a text of `used` bytes, at a place, with pairs of a text of len bytes
 abbrev pub located_by : ℕ → ℕ → ℕ → ℕ → Added → Located
-located_by used at from len Added.Numberless = Located.Refused 31
+located_by used at from len Added.Numberless = Located.Refused Refusal.Numberless
 located_by used at from len (Added.Text own) =
     pick (ltb file_bytes (capped_len own len)) (Located.Over (capped_len own len)) (Located.At (Splice.Record (record { at = at; from = from; len = capped_len own len }) own))
 located_by used at from len (Added.Long own) =

@@ -10,7 +10,7 @@ ghost use Rattle.edits.specs.Places.{change_at, LocatesIn};
 
 use super::{Located, Splice};
 use format::Refusal;
-use records::{FoundField, FoundRecord, Head, NextField};
+use records::{FieldPlace, Head};
 use requests::{Act, Change};
 use words::Span;
 
@@ -22,14 +22,7 @@ fn count_fields(s: &[u8]) -> usize
     let mut i = 0;
     let mut n = 0;
     loop {
-        let f = records::next_field(&s[i..]);
-        let NextField::At {
-            start: _,
-            named: _,
-            value: _,
-            end,
-        } = f
-        else {
+        let Some(FieldPlace { end, .. }) = records::next_field(&s[i..]) else {
             return n;
         };
         n += 1;
@@ -50,32 +43,32 @@ fn locate_change(own: &[u8], req: &[u8], name: Span, field: Span, change: Change
             let a = value.start;
             let b = value.end;
             if !writing::is_legal_value(&req[a..b]) {
-                return Located::Refused(Refusal::ILLEGAL);
+                return Located::Refused(Refusal::Illegal);
             }
-            return Located::At(Splice::Field {
+            Located::At(Splice::Field {
                 at,
                 old,
                 name,
                 value,
-            });
+            })
         }
         Change::Dropped => {
             if count_fields(own) < 2 {
-                return Located::Refused(Refusal::EMPTIED);
+                return Located::Refused(Refusal::Emptied);
             }
-            return Located::At(Splice::Cut { at, old });
+            Located::At(Splice::Cut { at, old })
         }
         Change::Name(new) => {
             let a = new.start;
             let b = new.end;
             if !writing::is_legal_name(&req[a..b]) {
-                return Located::Refused(Refusal::ILLEGAL);
+                return Located::Refused(Refusal::Illegal);
             }
-            return Located::At(Splice::Name {
+            Located::At(Splice::Name {
                 at,
                 old: name.end - name.start,
                 name: new,
-            });
+            })
         }
     }
 }
@@ -88,29 +81,26 @@ pub(crate) fn locate_act(s: &[u8], req: &[u8], head: Head, row: usize, act: Act)
     ensures { LocatesIn s.now req.now head (Edit.on row (act_of req.now act)) result }
 {
     let begin = head.begin;
-    let f = records::find_record(&s[begin..], row);
-    let FoundRecord::At(p) = f else {
-        return Located::Refused(Refusal::RECORD);
+    let Some(p) = records::find_record(&s[begin..], row) else {
+        return Located::Refused(Refusal::Record);
     };
     let first = begin + p.start;
     let last = begin + p.end;
     match act {
-        Act::Delete => {
-            return Located::At(Splice::Unfield {
-                start: first,
-                end: last,
-            });
-        }
+        Act::Delete => Located::At(Splice::Unfield {
+            start: first,
+            end: last,
+        }),
         Act::Add { name, value } => {
             if !requests::is_legal_pair(req, name, value) {
-                return Located::Refused(Refusal::ILLEGAL);
+                return Located::Refused(Refusal::Illegal);
             }
-            return Located::At(Splice::Field {
+            Located::At(Splice::Field {
                 at: last,
                 old: 0,
                 name,
                 value,
-            });
+            })
         }
         Act::Change {
             name,
@@ -119,20 +109,15 @@ pub(crate) fn locate_act(s: &[u8], req: &[u8], head: Head, row: usize, act: Act)
         } => {
             let a = name.start;
             let b = name.end;
-            let g = records::find_field(&s[first..last], &req[a..b], occurrence);
-            let FoundField::At {
-                start,
-                value: _,
-                end,
-            } = g
-            else {
-                return Located::Refused(Refusal::FIELD);
+            let own = &s[first..last];
+            let Some(v) = records::find_field(own, &req[a..b], occurrence) else {
+                return Located::Refused(Refusal::Field);
             };
             let field = Span {
-                start: first + start,
-                end: first + end,
+                start: first + v.start,
+                end: first + v.end,
             };
-            return locate_change(&s[first..last], req, name, field, change);
+            locate_change(own, req, name, field, change)
         }
     }
 }

@@ -24,7 +24,7 @@ use super::{Located, Splice};
 use format::{File, Refusal};
 use numbering::Added;
 use records::Head;
-use requests::Weighed;
+use requests::Weight;
 use splices::NewRecord;
 
 // The text of the fields that an insert gets has room in so many bytes: 64 names of 64 bytes, each with a colon, a space, 19 digits and a newline.
@@ -76,29 +76,27 @@ fn located(used: usize, at: usize, from: usize, len: usize, a: Added) -> Located
     ensures { result ≡ located_by used at from len a }
 {
     match a {
-        Added::Numberless => {
-            return Located::Refused(Refusal::NUMBERLESS);
-        }
+        Added::Numberless => Located::Refused(Refusal::Numberless),
         Added::Text { len: own } => {
             let whole = capped_len(own, len);
             if whole > File::BYTES {
                 return Located::Over(whole);
             }
-            return Located::At(Splice::Record {
+            Located::At(Splice::Record {
                 new: NewRecord {
                     at,
                     from,
                     len: whole,
                 },
                 own,
-            });
+            })
         }
         Added::Long { len: own } => {
             let whole = capped_len(own, len);
             if whole > File::BYTES {
                 return Located::Over(whole);
             }
-            return Located::Over(made_len(used, whole));
+            Located::Over(made_len(used, whole))
         }
     }
 }
@@ -117,15 +115,12 @@ pub(crate) fn locate_insert(
     requires file_bytes_in_bounds { (file_bytes ≤ length copy.old) × (added_room ≤ length added.old) }
     ensures { LocatesAt s.now req.now added.new head (edit_of req.now (Edit.Insert from)) result }
 {
-    let w = requests::weigh(req, from);
-    let Weighed::Sums { len, count: _ } = w else {
-        return Located::Refused(Refusal::ILLEGAL);
+    let Some(Weight { len, .. }) = requests::weigh(req, from) else {
+        return Located::Refused(Refusal::Illegal);
     };
     let p = records::set_behind(s, head);
-    let start = p.start;
-    let end = p.end;
-    let begin = p.begin;
-    let after = p.after;
-    let a = complete(&s[start..end], &s[begin..after], req, from, copy, added);
-    located(s.len(), after, from, len, a)
+    let d = &s[p.start..p.end];
+    let part = &s[p.begin..p.after];
+    let a = complete(d, part, req, from, copy, added);
+    located(s.len(), p.after, from, len, a)
 }

@@ -5,6 +5,7 @@ ghost use Rattle.std.specs.Prelude.{◌≡◌, ◌≤◌, length, take};
 ghost use Rattle.format.specs.Calls.{placed};
 ghost use Rattle.edits.specs.Splices.{made_by, Sound};
 
+use format::Refusal;
 use splices::NewRecord;
 use words::Span;
 
@@ -50,12 +51,12 @@ pub enum Splice {
     },
 }
 
-// What a request does, or the number of the first of questions 21 to 25 and 31 that says no. Over: what it makes is not made, since it has more bytes than a file may have or a name that is longer than a field's
+// What a request does, or the first of questions 21 to 25 and 31 that says no. Over: what it makes is not made, since it has more bytes than a file may have or a name that is longer than a field's
 // may be; it has so many bytes, or more than a file may have.
 #[derive(Drop)]
 pub enum Located {
     At(Splice),
-    Refused(u32),
+    Refused(Refusal),
     Over(usize),
 }
 
@@ -67,9 +68,7 @@ pub fn carry_out(x: Splice, buf: &mut [u8], used: usize, req: &[u8], added: &[u8
         × (buf.new ≡ placed (made_by (take used buf.old) req.now added.now x) used buf.old) }
 {
     match x {
-        Splice::Record { new, own } => {
-            return splices::put_record(buf, used, new, &added[..own], req);
-        }
+        Splice::Record { new, own } => { splices::put_record(buf, used, new, &added[..own], req) }
         Splice::Field {
             at,
             old,
@@ -80,18 +79,14 @@ pub fn carry_out(x: Splice, buf: &mut [u8], used: usize, req: &[u8], added: &[u8
             let b = name.end;
             let c = value.start;
             let d = value.end;
-            return splices::put_text(buf, used, at, old, &req[a..b], &req[c..d]);
+            splices::put_text(buf, used, at, old, &req[a..b], &req[c..d])
         }
         Splice::Name { at, old, name } => {
             let a = name.start;
             let b = name.end;
-            return splices::splice(buf, used, at, old, &req[a..b]);
+            splices::splice(buf, used, at, old, &req[a..b])
         }
-        Splice::Cut { at, old } => {
-            return splices::cut_text(buf, used, at, old);
-        }
-        Splice::Unfield { start, end } => {
-            return splices::cut_fields(buf, used, start, end);
-        }
+        Splice::Cut { at, old } => splices::cut_text(buf, used, at, old),
+        Splice::Unfield { start, end } => { splices::cut_fields(buf, used, start, end) }
     }
 }

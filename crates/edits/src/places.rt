@@ -6,7 +6,6 @@ ghost use Rattle.format.specs.Sets.{sets_of};
 ghost use Rattle.format.proofs.Passing.{SetsPass};
 ghost use Rattle.records.specs.Places.{is_readable};
 ghost use Rattle.requests.specs.Kinds.{Inside};
-ghost use Rattle.requests.specs.declared.kinds.RequestOf.{RequestOf};
 ghost use Rattle.numbering.specs.Adding.{added_room};
 ghost use Rattle.edits.specs.Places.{asked_by, Locates};
 
@@ -14,30 +13,23 @@ use super::Located;
 use super::acts::locate_act;
 use super::inserts::locate_insert;
 use format::Refusal;
-use records::FoundHead;
 use requests::{Edit, Request};
 
-// What a request does to a readable text, or the number of the first of questions 21 to 25 and 31 that says no. The text of fields that an insert gets is put into `added`; the copy is spent.
+// What a request does to a readable text, or the first of questions 21 to 25 and 31 that says no. The text of fields that an insert gets is put into `added`; the copy is spent.
 pub fn locate(s: &[u8], req: &[u8], q: Request, copy: &mut [u8], added: &mut [u8]) -> Located
     requires s_value { (is_readable s.now ≡ true) × (length s.now ≤ file_bytes) × SetsPass (sets_of (read_of s.now)) × (length req.now ≤ file_bytes) }
-    requires inside { Inside req.now (RequestOf.Is q) }
+    requires inside { Inside req.now (Some q) }
     requires file_bytes_in_bounds { (file_bytes ≤ length copy.old) × (added_room ≤ length added.old) }
     ensures { Locates s.now req.now added.new (asked_by req.now q) result }
 {
     let set = q.set;
     let a = set.start;
     let b = set.end;
-    let f = records::find_head(s, &req[a..b]);
-    let FoundHead::At(head) = f else {
-        return Located::Refused(Refusal::SET);
+    let Some(head) = records::find_head(s, &req[a..b]) else {
+        return Located::Refused(Refusal::Set);
     };
-    let edit = q.edit;
-    match edit {
-        Edit::Insert { start } => {
-            return locate_insert(s, req, head, start, copy, added);
-        }
-        Edit::On { row, act } => {
-            return locate_act(s, req, head, row, act);
-        }
+    match q.edit {
+        Edit::Insert { start } => locate_insert(s, req, head, start, copy, added),
+        Edit::On { row, act } => locate_act(s, req, head, row, act),
     }
 }

@@ -24,18 +24,18 @@ pub fn fits(x: Splice, s: &[u8], req: &[u8], added: &[u8], room: usize) -> bool
 {
     let used = s.len();
     match x {
-        Splice::Record { new, own: _ } => {
+        Splice::Record { new, .. } => {
             if new.len > format::File::BYTES {
                 return false;
             }
             let f = format::File::new(made_len(used, new.len));
-            return f.fits(room);
+            f.fits(room)
         }
         Splice::Field {
-            at: _,
             old,
             name,
             value,
+            ..
         } => {
             let a = name.start;
             let b = name.end;
@@ -43,18 +43,13 @@ pub fn fits(x: Splice, s: &[u8], req: &[u8], added: &[u8], room: usize) -> bool
             let d = value.end;
             let new = writing::written_len(&req[a..b], &req[c..d]);
             let f = format::File::new(used - old + new);
-            return f.fits(room);
+            f.fits(room)
         }
-        Splice::Name { at: _, old, name } => {
+        Splice::Name { old, name, .. } => {
             let new = name.end - name.start;
             let f = format::File::new(used - old + new);
-            return f.fits(room);
+            f.fits(room)
         }
-        Splice::Cut { at: _, old: _ } => {
-            return true;
-        }
-        Splice::Unfield { start: _, end: _ } => {
-            return true;
-        }
+        Splice::Cut { .. } | Splice::Unfield { .. } => true,
     }
 }

@@ -16,17 +16,17 @@ ghost use Rattle.enums.specs.Rows.{leader_of, Texts, RowsAdded, IsSymbols, Reach
 
 use format::File;
 use terms::Table;
-use values::{Decoded, Stretch};
+use values::Decoded;
 
 // Where the symbols of the value at v begin: behind its name and the word `enum`.
 fn symbols_start(d: &[u8], v: usize) -> usize
     requires { (v ≤ length d.now) × (is_enum_at d.now v ≡ true) }
     ensures { Starts d.now v result }
 {
-    let name = values::pass(d, v, Stretch::Gaps);
-    let gap = values::pass(d, name, Stretch::Word);
-    let head = values::pass(d, gap, Stretch::Gaps);
-    values::pass(d, head, Stretch::Head)
+    let name = values::pass(d, v, words::is_gap);
+    let gap = values::pass(d, name, |b| !words::is_gap(b));
+    let head = values::pass(d, gap, words::is_gap);
+    values::pass(d, head, |b| values::is_head_byte(b))
 }
 
 // Where what follows a comment is looked for; behind its opening parenthesis the comment goes on at i.
@@ -35,12 +35,11 @@ fn comment_end(d: &[u8], i: usize) -> usize
     requires d_value { is_some (words_in (uncomment true (value_from (drop i d.now)))) ≡ true }
     ensures { (i < result) × (result ≤ length d.now) × (words_in (uncomment true (value_from (drop i d.now))) ≡ symbols_from d.now result) }
 {
-    let close = values::pass(d, i, Stretch::Comment);
-    let x = values::value_byte(d, close);
-    let Decoded::Byte { byte: _, next } = x else {
-        return close;
-    };
-    next
+    let close = values::pass(d, i, |b| values::is_comment_byte(b));
+    match values::value_byte(d, close) {
+        Some(x) => x.next,
+        None => close,
+    }
 }
 
 // The symbols of the `enum` at v, put behind the first n entries; how many entries there are then.
@@ -50,23 +49,21 @@ fn add_symbols(d: &[u8], v: usize, tag: u32, entries: &mut [u32], n: usize) -> u
     requires v_value { is_enum_at d.now v ≡ true }
     ensures { Adding d.now entries.old n (map (term_of tag) (enum_in d.now v)) [] entries.new result }
 {
+    // An index by hand: the loop goes by what the readers find, and this counts what is written.
     let mut k = n;
     let mut at = symbols_start(d, v);
     loop {
-        let x = values::value_byte(d, at);
-        let Decoded::Byte { byte, next } = x else {
+        let Some(Decoded { byte, next }) = values::value_byte(d, at) else {
             return k;
         };
         if words::is_gap(byte) {
             at = next;
+        } else if byte == b'(' {
+            at = comment_end(d, next);
         } else {
-            if byte == b'(' {
-                at = comment_end(d, next);
-            } else {
-                entries[k] = terms::entry(d, at, tag);
-                k += 1;
-                at = values::pass(d, next, Stretch::Symbol);
-            }
+            entries[k] = terms::entry(d, at, tag);
+            k += 1;
+            at = values::pass(d, next, |b| values::is_word_byte(b));
         }
     }
 }
@@ -76,14 +73,12 @@ pub fn leader(texts: &[usize], from: usize, row: usize) -> usize
     requires { (from ≤ row) × (row < length texts.now) }
     ensures { (result ≡ leader_of texts.now from row) × (from ≤ result) × (result ≤ row) }
 {
-    let mut i = from;
-    while i < row {
+    for i in from..row {
         if texts[i] == texts[row] {
             return i;
         }
-        i += 1;
     }
-    i
+    row
 }
 
 // How many entries there are, and the first row whose symbols are not among them.
@@ -100,30 +95,23 @@ fn add_rows(d: &[u8], texts: &[usize], from: usize, to: usize, entries: &mut [u3
     ensures { RowsAdded d.now texts.now from to entries.old entries.new result }
 {
     let mut n = 0;
-    let mut row = from;
-    while row < to {
+    for row in from..to {
         let v = texts[row];
-        if v < File::BYTES {
-            if leader(texts, from, row) == row {
-                if entries.len() - n < Table::VALUE {
-                    return Added {
-                        count: n,
-                        next: row,
-                    };
-                }
-                n = add_symbols(d, v, row as u32, &mut *entries, n);
-                row += 1;
-            } else {
-                row += 1;
-            }
-        } else {
-            row += 1;
+        if v >= File::BYTES {
+            continue;
         }
+        if leader(texts, from, row) != row {
+            continue;
+        }
+        if entries.len() - n < Table::VALUE {
+            return Added {
+                count: n,
+                next: row,
+            };
+        }
+        n = add_symbols(d, v, row as u32, &mut *entries, n);
     }
-    Added {
-        count: n,
-        next: row,
-    }
+    Added { count: n, next: to }
 }
 
 // The table of the symbols of the rows from one on, and the first row behind those that it has.
@@ -141,10 +129,9 @@ pub fn read(d: &[u8], texts: &[usize], from: usize, to: usize, entries: &mut [u3
     ensures { IsSymbols d.now texts.now entries.new result × Reaches from to result }
 {
     let a = add_rows(d, texts, from, to, &mut *entries);
-    let count = a.count;
-    let t = terms::build(d, &mut entries[..count]);
+    let table = terms::build(d, &mut entries[..a.count]);
     Symbols {
-        table: t,
+        table,
         from,
         next: a.next,
     }
@@ -155,6 +142,5 @@ pub fn look_up(d: &[u8], texts: &[usize], entries: &[u32], symbols: Symbols, val
     requires { IsSymbols d.now texts.now entries.now symbols }
     ensures { Found d.now texts.now symbols.from symbols.next value.now result }
 {
-    let t = symbols.table;
-    terms::find(d, entries, t, value)
+    terms::find(d, entries, symbols.table, value)
 }

@@ -34,6 +34,7 @@ pub mod Sending
 pub mod Directory
 pub mod Results
 pub mod Answers
+pub mod Refused
 pub mod Listing
 pub mod Records
 pub mod Ordinals

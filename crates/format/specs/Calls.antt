@@ -1,5 +1,5 @@
 -- The answer of each call: its result and every buffer after it.
-use Rattle.std.specs.Prelude.{ℕ, zero, suc, ◌+◌, ◌-◌, max, Bool, ◌&&◌, List, [], ◌∷◌, ◌++◌, map, leb, ltb, length, take, drop, get_or, replicate}
+use Rattle.std.specs.Prelude.{ℕ, zero, suc, ◌+◌, ◌-◌, max, Bool, ◌&&◌, List, [], ◌∷◌, ◌++◌, map, leb, ltb, length, take, drop, get_or, replicate, Result, Ok, Err}
 use Rattle.std.proofs.Math.Option.{Option, none, some}
 use Rattle.format.specs.Bytes.{Bytes, pick, all}
 use Rattle.format.specs.Lists.{only_if, onward, flat, filter, front, behind, before}
@@ -11,7 +11,8 @@ use Rattle.format.specs.Written.{Pair, written_all, is_legal_pair}
 use Rattle.format.specs.Edits.{Edit}
 use Rattle.format.specs.Questions.{Row, first_no, name_of, verdict}
 use Rattle.format.specs.Requests.{Tagged, Request, request_of, tagged_bytes}
-use Rattle.format.specs.declared.Answer.{Answer as Reply}
+use Rattle.format.specs.declared.refusals.Refusal.{Refusal}
+use Rattle.format.specs.Refusals.{refusal_no}
 use Rattle.format.specs.Plain.{Plain, plain_of, index_of, Sought, sought_members, sought_record, found_rows, Step, step}
 
 -- a number, "marked as no refusal", or a refusal's number
@@ -24,9 +25,9 @@ answer zero n = value n
 answer (suc k) n = refusal (suc k)
 
 -- what the code answers, in these words
-abbrev pub answered : Reply → Answer
-answered (Reply.Value n) = value n
-answered (Reply.Refused k) = refusal k
+abbrev pub answered : Result ℕ Refusal → Answer
+answered (Ok n) = value n
+answered (Err r) = refusal (refusal_no r)
 
 -- the same in two numbers: the refusal's, 0 if there is none, and the value, or another in its place
 abbrev pub number_in : Answer → ℕ
@@ -68,7 +69,7 @@ pub record Filled : Type 0 where
   pub out : Bytes
 
 -- what the code answers and what the buffer holds after it, in these words
-abbrev pub filled_by : Reply → Bytes → Filled
+abbrev pub filled_by : Result ℕ Refusal → Bytes → Filled
 filled_by r out = record { result = answered r; out = out }
 
 abbrev pub leaves : {A : Type 0} → Answer → A → A → A

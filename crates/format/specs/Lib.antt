@@ -21,3 +21,4 @@ pub mod Directory
 pub mod Runs
 pub mod Origins
 pub mod Demand
+pub mod Refusals

@@ -1,118 +1,23 @@
-// What every crate shares: byte classes and their table, the limits, what a call answers and the numbers of refusals. The definitions of the format stand in specs/, the laws about them in proofs/.
+// What every crate shares: byte classes and their table, the limits, and why a call is refused. The definitions of the format stand in specs/, the laws about them in proofs/.
 #![tactic(auto)]
 
 ghost use Rattle.std.specs.Prelude.{◌≡◌, ◌&&◌, leb};
-ghost use Rattle.format.specs.Bytes.{class_of, class_table};
-ghost use Rattle.format.specs.Lines.{is_first, is_later};
-ghost use Rattle.format.specs.Calls.{answered, number_in, value_or};
+ghost use Rattle.format.specs.Calls.{answered, number_in};
 ghost use Rattle.format.specs.Limits.{file_bytes, name_bytes, value_bytes, record_fields, typedefs, type_fields, list_words};
 
+mod bytes;
 mod refusals;
 
-pub use refusals::Refusal;
+pub use bytes::{Class, Classes};
+pub use refusals::{Question, Refusal};
 
-// The classes of bytes. Bytes of no class are not allowed in a file.
-#[derive(Drop)]
-pub struct Class {}
-
-impl Class {
-    pub const NONE: u8 = 0;
-
-    pub const LETTER: u8 = 1;
-
-    pub const DIGIT: u8 = 2;
-
-    pub const BLANK: u8 = 3;
-
-    pub const NEWLINE: u8 = 4;
-
-    pub const UNDERSCORE: u8 = 5;
-
-    pub const PERCENT: u8 = 6;
-
-    pub const OTHER: u8 = 7;
-}
-
-// The class of each byte, 16 bytes a line.
-const CLASSES: [u8; 256] = *b"\x00\x00\x00\x00\x00\x00\x00\x00\x00\x03\x04\x00\x00\x00\x00\x00\
-    \x00\x00\x00\x00\x00\x00\x00\x00\x00\x00\x00\x00\x00\x00\x00\x00\
-    \x03\x07\x07\x07\x07\x06\x07\x07\x07\x07\x07\x07\x07\x07\x07\x07\
-    \x02\x02\x02\x02\x02\x02\x02\x02\x02\x02\x07\x07\x07\x07\x07\x07\
-    \x07\x01\x01\x01\x01\x01\x01\x01\x01\x01\x01\x01\x01\x01\x01\x01\
-    \x01\x01\x01\x01\x01\x01\x01\x01\x01\x01\x01\x07\x07\x07\x07\x05\
-    \x07\x01\x01\x01\x01\x01\x01\x01\x01\x01\x01\x01\x01\x01\x01\x01\
-    \x01\x01\x01\x01\x01\x01\x01\x01\x01\x01\x01\x07\x07\x07\x07\x00\
-    \x07\x07\x07\x07\x07\x07\x07\x07\x07\x07\x07\x07\x07\x07\x07\x07\
-    \x07\x07\x07\x07\x07\x07\x07\x07\x07\x07\x07\x07\x07\x07\x07\x07\
-    \x07\x07\x07\x07\x07\x07\x07\x07\x07\x07\x07\x07\x07\x07\x07\x07\
-    \x07\x07\x07\x07\x07\x07\x07\x07\x07\x07\x07\x07\x07\x07\x07\x07\
-    \x07\x07\x07\x07\x07\x07\x07\x07\x07\x07\x07\x07\x07\x07\x07\x07\
-    \x07\x07\x07\x07\x07\x07\x07\x07\x07\x07\x07\x07\x07\x07\x07\x07\
-    \x07\x07\x07\x07\x07\x07\x07\x07\x07\x07\x07\x07\x07\x07\x07\x07\
-    \x07\x07\x07\x07\x07\x07\x07\x07\x07\x07\x07\x07\x07\x07\x07\x07";
-
-// The table, for whoever asks for the classes of many bytes: an array that is copied once is cheaper than a constant that is indexed.
-pub fn classes() -> [u8; 256]
-    ensures { result ≡ class_table }
+// The number of an answer's refusal, 0 if there is none.
+pub fn number_in(answer: Result<usize, Refusal>) -> u32
+    ensures { result ≡ number_in (answered answer) }
 {
-    CLASSES
-}
-
-pub fn class_of(table: &[u8; 256], b: u8) -> u8
-    requires { table.now ≡ class_table }
-    ensures { result ≡ class_of b }
-{
-    let i = b as usize;
-    table[i]
-}
-
-// May a name begin with this byte?
-pub fn is_first(table: &[u8; 256], b: u8) -> bool
-    requires { table.now ≡ class_table }
-    ensures { result ≡ is_first b }
-{
-    let k = class_of(table, b);
-    k == Class::LETTER || k == Class::PERCENT
-}
-
-// May a name go on with this byte?
-pub fn is_later(table: &[u8; 256], b: u8) -> bool
-    requires { table.now ≡ class_table }
-    ensures { result ≡ is_later b }
-{
-    let k = class_of(table, b);
-    if k == Class::LETTER {
-        return true;
-    }
-    k == Class::DIGIT || k == Class::UNDERSCORE
-}
-
-// What a call answers: a number, or that of its refusal.
-#[derive(Clone, Copy)]
-pub enum Answer {
-    Value(usize),
-    Refused(u32),
-}
-
-impl Answer {
-    // The number of the refusal, 0 if there is none.
-    pub fn number(self) -> u32
-        ensures { result ≡ number_in (answered self) }
-    {
-        match self {
-            Answer::Value(_) => 0,
-            Answer::Refused(k) => k,
-        }
-    }
-
-    // The number that is answered, another where it is refused.
-    pub fn value_or(self, other: usize) -> usize
-        ensures { result ≡ value_or other (answered self) }
-    {
-        match self {
-            Answer::Value(n) => n,
-            Answer::Refused(_) => other,
-        }
+    match answer {
+        Ok(_) => 0,
+        Err(refusal) => refusal.number(),
     }
 }
 

@@ -1,72 +1,135 @@
-// The numbers of refusals: of the first question that says no.
-#[derive(Drop)]
-pub struct Refusal {}
+// Why a call is refused: the first question that says no, and the numbers of all of them.
+ghost use Rattle.std.specs.Prelude.{◌≡◌};
+ghost use Rattle.format.specs.Refusals.{question_no, refusal_no};
+
+// The questions of a file, in their order. They are asked again of what an edit makes.
+#[derive(Clone, Copy)]
+pub enum Question {
+    // The used length is more than the buffer's or than a file may have.
+    Length,
+    // A byte is not allowed, or the last one is no newline.
+    Byte,
+    // A line has no form.
+    Line,
+    // A limit is passed.
+    Limit,
+    // A record with a `%` name has no `%rec`, or several.
+    Rec,
+    // A descriptor is not well formed, or two sets have one name.
+    Descriptor,
+    // A typedef or a `%type` field is not well formed.
+    Type,
+    // A record has a prohibited name, or one that is not allowed.
+    Prohibited,
+    NotAllowed,
+    // A mandatory name or the key is missing in a record, a unique one or the key is repeated.
+    Missing,
+    Repeated,
+    // A value does not meet its type.
+    Value,
+    // Two records of a set have the same key.
+    Key,
+    // A set's size is not met.
+    Size,
+    // Two fields of a singular name have the same value in a set.
+    Singular,
+}
+
+impl Question {
+    pub fn number(self) -> u32
+        ensures { result ≡ question_no self }
+    {
+        match self {
+            Question::Length => 1,
+            Question::Byte => 2,
+            Question::Line => 3,
+            Question::Limit => 4,
+            Question::Rec => 5,
+            Question::Descriptor => 6,
+            Question::Type => 7,
+            Question::Prohibited => 8,
+            Question::NotAllowed => 9,
+            Question::Missing => 10,
+            Question::Repeated => 11,
+            Question::Value => 12,
+            Question::Key => 13,
+            Question::Size => 14,
+            Question::Singular => 30,
+        }
+    }
+}
+
+#[derive(Clone, Copy)]
+pub enum Refusal {
+    // The file fails a question.
+    File(Question),
+    // The request is not of the form of one.
+    Form,
+    // There is no such set, no such record in it, no such field in that.
+    Set,
+    Record,
+    Field,
+    // The record would be left without a field.
+    Emptied,
+    // A name or a value is not legal.
+    Illegal,
+    // A name that an insert omits has no number; asked between the one above and the one below.
+    Numberless,
+    // The result is larger than the buffer or than a file may be.
+    Large,
+    // What an edit would make fails a question.
+    Result(Question),
+    // The text is longer than the buffer that it is written to.
+    Room,
+    // The list has fewer entries than the file has sets.
+    List,
+    // A run is not made of requests, has too many, or its list of answers is too short.
+    Run,
+    // A value of a field that is to be added up does not count.
+    Uncounted,
+    // An expression is not of the form of one.
+    Expression,
+    // The list is too short for the numbers of all records that are found.
+    Numbers,
+    // The file whose records are to be brought over fails the check, or has a set that is not there.
+    Spare,
+    SpareSet,
+}
 
 impl Refusal {
-    // The questions of a file. The used length is more than the buffer's or than a file may have.
-    pub const LENGTH: u32 = 1;
-    // A byte is not allowed, or the last one is no newline.
-    pub const BYTE: u32 = 2;
-    // A line has no form.
-    pub const LINE: u32 = 3;
-    // A limit is passed.
-    pub const LIMIT: u32 = 4;
-    // A record with a `%` name has no `%rec`, or several.
-    pub const REC: u32 = 5;
-    // A descriptor is not well formed, or two sets have one name.
-    pub const DESCRIPTOR: u32 = 6;
-    // A typedef or a `%type` field is not well formed.
-    pub const TYPE: u32 = 7;
-    // A record has a prohibited name, or one that is not allowed.
-    pub const PROHIBITED: u32 = 8;
+    pub fn number(self) -> u32
+        ensures { result ≡ refusal_no self }
+    {
+        match self {
+            Refusal::File(q) => q.number(),
+            Refusal::Form => 20,
+            Refusal::Set => 21,
+            Refusal::Record => 22,
+            Refusal::Field => 23,
+            Refusal::Emptied => 24,
+            Refusal::Illegal => 25,
+            Refusal::Numberless => 31,
+            Refusal::Large => 26,
+            Refusal::Result(q) => 100 + q.number(),
+            Refusal::Room => 27,
+            Refusal::List => 28,
+            Refusal::Run => 29,
+            Refusal::Uncounted => 32,
+            Refusal::Expression => 33,
+            Refusal::Numbers => 34,
+            Refusal::Spare => 35,
+            Refusal::SpareSet => 36,
+        }
+    }
+}
 
-    pub const NOT_ALLOWED: u32 = 9;
-    // A mandatory name or the key is missing in a record, a unique one or the key is repeated.
-    pub const MISSING: u32 = 10;
+// A file's refusal is its question's, so that `?` hands it on.
+impl From<Question> for Refusal {
+    ghost use Rattle.format.specs.declared.refusals.Refusal.TheVariants.{File};
 
-    pub const REPEATED: u32 = 11;
-    // A value does not meet its type.
-    pub const VALUE: u32 = 12;
-    // Two records of a set have the same key.
-    pub const KEY: u32 = 13;
-    // A set's size is not met.
-    pub const SIZE: u32 = 14;
-    // Two fields of a singular name have the same value in a set; asked behind the one above.
-    pub const SINGULAR: u32 = 30;
-    // The questions of a request. It is not of the form of one.
-    pub const FORM: u32 = 20;
-    // There is no such set, no such record in it, no such field in that.
-    pub const SET: u32 = 21;
+    ghost from_gives = { λ q r. r ≡ File q };
 
-    pub const RECORD: u32 = 22;
-
-    pub const FIELD: u32 = 23;
-    // The record would be left without a field.
-    pub const EMPTIED: u32 = 24;
-    // A name or a value is not legal.
-    pub const ILLEGAL: u32 = 25;
-    // A name that an insert omits has no number; asked between the one above and the one below.
-    pub const NUMBERLESS: u32 = 31;
-    // The result is larger than the buffer or than a file may be.
-    pub const LARGE: u32 = 26;
-    // The text is longer than the buffer that it is written to.
-    pub const ROOM: u32 = 27;
-    // The list has fewer entries than the file has sets.
-    pub const LIST: u32 = 28;
-    // A run is not made of requests, has too many, or its list of answers is too short.
-    pub const RUN: u32 = 29;
-    // A value of a field that is to be added up does not count.
-    pub const UNCOUNTED: u32 = 32;
-    // An expression is not of the form of one.
-    pub const EXPRESSION: u32 = 33;
-    // The list is too short for the numbers of all records that are found.
-    pub const NUMBERS: u32 = 34;
-    // The file whose records are to be brought over fails the check, or has a set that is not there.
-    pub const SPARE: u32 = 35;
-
-    pub const SPARE_SET: u32 = 36;
-    // What the questions of a result are raised by, and the one about the fields of a record.
-    pub const RESULT: u32 = 100;
-
-    pub const RESULT_LIMIT: u32 = 104;
+    fn from(question: Question) -> Refusal {
+        Refusal::File(question)
+    }
 }

@@ -17,11 +17,15 @@ use Rattle.format.specs.Records.{Record}
 use Rattle.format.specs.Limits.{file_bytes, descriptors}
 use Rattle.format.specs.Questions.{fits_record, fits_rules}
 use Rattle.format.specs.Calls.{check_answer}
+use Rattle.format.specs.Refusals.{question_no}
+use Rattle.format.specs.declared.refusals.Question.{Question}
 use Rattle.format.proofs.Table.{each-byte}
 use Rattle.format.proofs.Judging.{read_no, text_no, verdict-text}
 use Rattle.format.proofs.Walking.{is_head, heads, walk_fits, walk_once, walk_well, walk_types, walk_no, records_no, text-walk}
 use Rattle.lines.proofs.Cuts.{at-cons}
 use Rattle.records.specs.Places.{is_readable}
+use Rattle.limits.specs.Bounds.{bounds_no}
+use Rattle.rules.proofs.Leasts.{some-no}
 use Rattle.records.proofs.Readings.{readable-pieces}
 
 -- a byte is allowed where the tests of the code say so
@@ -102,6 +106,18 @@ module _ (rs : List Record) where
         pub sets-no : walk_types int_bounds rs ≡ true → walk_no int_bounds rs ≡ records_no int_bounds rs
         unfolding records_no
         sets-no h = sym (λ i. pick (a i) (pick (b i) (pick (c i) (pick (h i) (walk_no int_bounds rs) 7) 6) 5) 4)
+
+-- questions 3, 4 and 5 together
+module _ (s : Bytes) (t : (all is_allowed s && is_ended s) ≡ true) where
+  bounds-by : (a b c : Bool) → is_readable s ≡ a → walk_fits (records (read_of s)) ≡ b → walk_once (records (read_of s)) ≡ c → (n : ℕ) → 0 < n → n ≡ pick a (pick b (pick c 0 5) 4) 3 → n ≡ text_no s
+  bounds-by false b c e f g n h q = q ∙ lines-no s t e
+  bounds-by true false c e f g n h q = q ∙ limits-no (records (read_of s)) f ∙ sym (text-records s t e)
+  bounds-by true true false e f g n h q = q ∙ once-no (records (read_of s)) f g ∙ sym (text-records s t e)
+  bounds-by true true true e f g n h q = absurd (omega arith)
+
+  pub bounds-told : (q : Question) → question_no q ≡ bounds_no s → question_no q ≡ text_no s
+  unfolding bounds_no
+  bounds-told q e = bounds-by (is_readable s) (walk_fits (records (read_of s))) (walk_once (records (read_of s))) refl refl refl (question_no q) (some-no q) e
 
 -- so many descriptors, within their limit
 pub few-heads : (rs : List Record) → walk_fits rs ≡ true → (n : ℕ) → n ≡ length (heads rs) → n ≤ descriptors

@@ -7,6 +7,7 @@ ghost use Rattle.format.proofs.Records.{records};
 ghost use Rattle.format.specs.Bytes.{pick, is_allowed, all};
 ghost use Rattle.format.specs.Lines.{is_ended};
 ghost use Rattle.format.specs.Limits.{file_bytes, value_bytes, descriptors};
+ghost use Rattle.format.specs.Refusals.{no_of};
 ghost use Rattle.format.specs.Numbers.{int_bounds};
 ghost use Rattle.format.specs.Rules.{is_typed_well};
 ghost use Rattle.format.specs.Calls.{check_answer};
@@ -16,8 +17,7 @@ ghost use Rattle.records.specs.Heads.{HeadRows, HeadParts};
 ghost use Rattle.records.specs.Walk.{record_in};
 ghost use Rattle.integrity.specs.Stages.{IsFormed, Granted};
 
-use format::{Descriptor, File, Record, Refusal};
-use limits::Bounded;
+use format::{Descriptor, File, Question, Record};
 use rules::questions;
 use rules::tables::Tables;
 
@@ -32,12 +32,9 @@ fn is_allowed(b: u8) -> bool
 fn all_allowed(s: &[u8]) -> bool
     ensures { result ≡ all is_allowed s.now }
 {
-    let mut i = 0;
     let mut ok = true;
-    while i < s.len() {
-        let good = is_allowed(s[i]);
-        ok = ok & good;
-        i += 1;
+    for &b in s {
+        ok = ok & is_allowed(b);
     }
     ok
 }
@@ -88,14 +85,10 @@ fn types_defined(
     requires value_bytes_in_bounds { value_bytes ≤ length scratch.old }
     ensures { result ≡ walk_types int_bounds (records (read_of s.now)) }
 {
-    let mut k = 0;
-    while k < count {
-        let a = starts[k];
-        let e = ends[k];
-        if !typed_well(&s[a..e], &mut *scratch) {
+    for k in 0..count {
+        if !typed_well(&s[starts[k]..ends[k]], &mut *scratch) {
             return false;
         }
-        k += 1;
     }
     true
 }
@@ -111,7 +104,7 @@ fn members_end(starts: &[usize], k: usize, count: usize, len: usize) -> usize
     len
 }
 
-// Questions 8 to 14 and 30 of all sets: the least number of a descriptor's set, else 0. count descriptors stand in s, from each start to the end beside it, and the members of
+// Questions 8 to 14 and 30 of all sets: the first that some set fails. count descriptors stand in s, from each start to the end beside it, and the members of
 // each behind its block.
 fn judge_sets(
     s: &[u8],
@@ -120,24 +113,20 @@ fn judge_sets(
     afters: &[usize],
     count: usize,
     scratch: &mut [u8],
-) -> u32
+) -> Result<(), Question>
     requires s_len_bound { length s.now ≤ file_bytes }
     requires granted { Granted (records (read_of s.now)) }
     requires head_rows { HeadRows s.now starts.now ends.now afters.now count }
     requires value_bytes_in_bounds { value_bytes ≤ length scratch.old }
-    ensures { result ≡ walk_no int_bounds (records (read_of s.now)) }
+    ensures { no_of result ≡ walk_no int_bounds (records (read_of s.now)) }
 {
     let mut entries = [0u32; Tables::END];
-    let mut k = 0;
-    let mut worst = 0;
-    while k < count {
-        let a = starts[k];
-        let e = ends[k];
-        let b = afters[k];
+    let mut worst = Ok(());
+    for k in 0..count {
+        let d = &s[starts[k]..ends[k]];
         let next = members_end(starts, k + 1, count, s.len());
-        let n = rules::judge_set(&s[a..e], &s[b..next], &mut *scratch, &mut entries);
+        let n = rules::judge_set(d, &s[afters[k]..next], &mut *scratch, &mut entries);
         worst = questions::lesser(worst, n);
-        k += 1;
     }
     worst
 }
@@ -149,70 +138,65 @@ fn judge_described(
     ends: &[usize],
     afters: &[usize],
     count: usize,
-) -> u32
+) -> Result<(), Question>
     requires s_len_bound { length s.now ≤ file_bytes }
     requires s_value { (walk_fits (records (read_of s.now)) ≡ true) × (walk_once (records (read_of s.now)) ≡ true) }
     requires head_rows { HeadRows s.now starts.now ends.now afters.now count × (count ≤ descriptors) }
-    ensures { result ≡ records_no int_bounds (records (read_of s.now)) }
+    ensures { no_of result ≡ records_no int_bounds (records (read_of s.now)) }
 {
     let mut scratch = [0u8; Record::VALUE];
     if !descriptors::described_well(s, starts, ends, count, &mut scratch) {
-        return Refusal::DESCRIPTOR;
+        return Err(Question::Descriptor);
     }
     if !types_defined(s, starts, ends, count, &mut scratch) {
-        return Refusal::TYPE;
+        return Err(Question::Type);
     }
     judge_sets(s, starts, ends, afters, count, &mut scratch)
 }
 
 // Questions 3 to 14 and 30 of a text of which 2 says yes.
-fn judge_lines(s: &[u8]) -> u32
+fn judge_lines(s: &[u8]) -> Result<(), Question>
     requires s_value { (all is_allowed s.now && is_ended s.now) ≡ true }
     requires s_len_bound { length s.now ≤ file_bytes }
-    ensures { result ≡ text_no s.now }
+    ensures { no_of result ≡ text_no s.now }
 {
     let mut starts = [0usize; Descriptor::COUNT];
     let mut ends = [0usize; Descriptor::COUNT];
     let mut afters = [0usize; Descriptor::COUNT];
-    let b = limits::bounds_of(s, &mut starts, &mut ends, &mut afters);
-    match b {
-        Bounded::Fault => Refusal::LINE,
-        Bounded::Past => Refusal::LIMIT,
-        Bounded::Unnamed => Refusal::REC,
-        Bounded::Heads(count) => judge_described(s, &starts, &ends, &afters, count),
-    }
+    let count = limits::bounds_of(s, &mut starts, &mut ends, &mut afters)?;
+    judge_described(s, &starts, &ends, &afters, count)
 }
 
-// Questions 2 to 14 and 30 of a text: the number of the first that says no, else 0.
-fn judge(s: &[u8]) -> u32
+// Questions 2 to 14 and 30 of a text.
+fn judge(s: &[u8]) -> Result<(), Question>
     requires { length s.now ≤ file_bytes }
-    ensures { result ≡ text_no s.now }
+    ensures { no_of result ≡ text_no s.now }
 {
     if is_text(s) {
         return judge_lines(s);
     }
-    Refusal::BYTE
+    Err(Question::Byte)
 }
 
 // The same of the text of `used` bytes at the front of a slice, which is spent: the text is made dense first.
-fn judge_dense(text: &mut [u8], used: usize) -> u32
+fn judge_dense(text: &mut [u8], used: usize) -> Result<(), Question>
     requires { (used ≤ length text.old) × (used ≤ file_bytes) }
-    ensures { result ≡ text_no (take used text.old) }
+    ensures { no_of result ≡ text_no (take used text.old) }
 {
     if !is_text(&text[..used]) {
-        return Refusal::BYTE;
+        return Err(Question::Byte);
     }
     if !records::is_readable(&text[..used]) {
-        return Refusal::LINE;
+        return Err(Question::Line);
     }
     let n = joints::make_dense(text, used);
     judge_lines(&text[..n])
 }
 
 // The same of a text that the caller has no further use for.
-pub fn judge_spent(text: &mut [u8], used: usize) -> u32
+pub fn judge_spent(text: &mut [u8], used: usize) -> Result<(), Question>
     requires { (used ≤ length text.old) × (used ≤ file_bytes) }
-    ensures { result ≡ text_no (take used text.old) }
+    ensures { no_of result ≡ text_no (take used text.old) }
 {
     if joints::may_join(&text[..used]) {
         return judge_dense(text, used);
@@ -221,9 +205,9 @@ pub fn judge_spent(text: &mut [u8], used: usize) -> u32
 }
 
 // The same of a text that is to stay as it is, with room for a copy of it.
-fn judge_kept(s: &[u8], copy: &mut [u8]) -> u32
+fn judge_kept(s: &[u8], copy: &mut [u8]) -> Result<(), Question>
     requires { (length s.now ≤ file_bytes) × (file_bytes ≤ length copy.old) }
-    ensures { result ≡ text_no s.now }
+    ensures { no_of result ≡ text_no s.now }
 {
     if joints::may_join(s) {
         writing::put_bytes(&mut *copy, s);
@@ -232,21 +216,21 @@ fn judge_kept(s: &[u8], copy: &mut [u8]) -> u32
     judge(s)
 }
 
-// The number of the first question that says no of the first `used` bytes of a buffer, else 0, with room for a copy of them.
-pub fn check_with(buf: &[u8], used: usize, copy: &mut [u8]) -> u32
+// The first question that says no of the first `used` bytes of a buffer, with room for a copy of them.
+pub fn check_with(buf: &[u8], used: usize, copy: &mut [u8]) -> Result<(), Question>
     requires { file_bytes ≤ length copy.old }
-    ensures { result ≡ check_answer buf.now used }
+    ensures { no_of result ≡ check_answer buf.now used }
 {
     let f = File::new(used);
     if !f.fits(buf.len()) {
-        return Refusal::LENGTH;
+        return Err(Question::Length);
     }
     judge_kept(&buf[0..used], copy)
 }
 
-// The number of the first question that says no of the first `used` bytes of a buffer, else 0.
-pub fn check(buf: &[u8], used: usize) -> u32
-    ensures { result ≡ check_answer buf.now used }
+// The first question that says no of the first `used` bytes of a buffer.
+pub fn check(buf: &[u8], used: usize) -> Result<(), Question>
+    ensures { no_of result ≡ check_answer buf.now used }
 {
     let mut copy = [0u8; File::BYTES];
     check_with(buf, used, &mut copy)

@@ -11,11 +11,9 @@ ghost use Rattle.words.specs.Spans.{span};
 
 // May there be a bare joint? All pairs of bytes are looked at, so that many can be asked at once. Nothing is promised: no answer depends on it.
 pub fn may_join(s: &[u8]) -> bool {
-    let mut i = 1;
     let mut found = false;
-    while i < s.len() {
-        found = found | ((s[i - 1] == b'\n') & (s[i] == b'\\'));
-        i += 1;
+    for i in 1..s.len() {
+        found |= (s[i - 1] == b'\n') & (s[i] == b'\\');
     }
     found
 }

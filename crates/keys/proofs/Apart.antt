@@ -10,7 +10,7 @@ use lib.ListN.{length, get_or}
 use Rattle.format.specs.Bytes.{Bytes, same, among}
 use Rattle.format.specs.Rules.{distinct}
 use Rattle.keys.specs.Order.{ranked}
-use Rattle.sorting.specs.declared.Compared.{Compared}
+use Rattle.std.specs.declared.cmp.Ordering.{Ordering}
 use Rattle.format.proofs.Listing.{same_true}
 use Rattle.values.proofs.Tests.{by_bool, dec-lt, same_self}
 use Rattle.keys.proofs.Order.{ranked-trans, ranked-apart}
@@ -64,15 +64,15 @@ module _ (f : ℕ → Bytes) where
 
   -- neighbours
   abbrev pub Rising : ℕ → List ℕ → Type 0
-  Rising n l = (q : ℕ) → q < n → 0 < q → ranked (f (get_or l (q - 1) 0)) (f (get_or l q 0)) ≡ Compared.Before
+  Rising n l = (q : ℕ) → q < n → 0 < q → ranked (f (get_or l (q - 1) 0)) (f (get_or l q 0)) ≡ Ordering.Less
 
-  rises : (l : List ℕ) → Rising (length l) l → (j : ℕ) → j < length l → (i : ℕ) → i < j → ranked (f (get_or l i 0)) (f (get_or l j 0)) ≡ Compared.Before
+  rises : (l : List ℕ) → Rising (length l) l → (j : ℕ) → j < length l → (i : ℕ) → i < j → ranked (f (get_or l i 0)) (f (get_or l j 0)) ≡ Ordering.Less
   rises l h zero g i k = absurd (omega arith)
   rises l h (suc j) g i k =
       let one : suc j - 1 ≡ j = omega arith in
-      let step : ranked (f (get_or l j 0)) (f (get_or l (suc j) 0)) ≡ Compared.Before = rw one at (h (suc j) g (omega arith)) in
+      let step : ranked (f (get_or l j 0)) (f (get_or l (suc j) 0)) ≡ Ordering.Less = rw one at (h (suc j) g (omega arith)) in
       dec-lt i j (λ d. ranked-trans (f (get_or l i 0)) (f (get_or l j 0)) (f (get_or l (suc j) 0)) (rises l h j (omega arith) i d) step)
-      (λ d. let e : j ≡ i = omega arith in subst (λ (p : ℕ). ranked (f (get_or l p 0)) (f (get_or l (suc j) 0)) ≡ Compared.Before) e step)
+      (λ d. let e : j ≡ i = omega arith in subst (λ (p : ℕ). ranked (f (get_or l p 0)) (f (get_or l (suc j) 0)) ≡ Ordering.Less) e step)
 
   pub rising-distinct : (l : List ℕ) → Rising (length l) l → distinct (map f l) ≡ true
   rising-distinct l h = apart_distinct l (λ j g i k. ranked-apart (f (get_or l i 0)) (f (get_or l j 0)) (rises l h j g i k))

@@ -15,8 +15,9 @@ ghost use Rattle.keys.specs.Keys.{entry_of};
 ghost use Rattle.keys.specs.Order.{ranked, Tells};
 ghost use Rattle.keys.specs.Gathered.{Gathered};
 
-use records::FoundField;
-use sorting::{Compared, Entry};
+use records::ValuePlace;
+use sorting::Entry;
+use std::cmp::Ordering;
 
 // The entry of the key that begins at a place.
 fn entry(s: &[u8], at: usize) -> u32
@@ -27,18 +28,19 @@ fn entry(s: &[u8], at: usize) -> u32
     sorting::narrow(at) + Entry::PLACES * p
 }
 
-// What two entries stand for, compared: as values only where the numbers are equal.
-fn compare_entries(s: &[u8], x: u32, y: u32) -> Compared
+// What two entries stand for, compared: as values only where the numbers are equal. By hand:
+// values stand in the file.
+fn compare_entries(s: &[u8], x: u32, y: u32) -> Ordering
     requires { (x % 65536 ≤ length s.now) × (y % 65536 ≤ length s.now) }
     ensures { result ≡ ranked (mark_at s.now x) (mark_at s.now y) }
 {
     let p = x / Entry::PLACES;
     let q = y / Entry::PLACES;
     if p < q {
-        return Compared::Before;
+        return Ordering::Less;
     }
     if q < p {
-        return Compared::Behind;
+        return Ordering::Greater;
     }
     let a = sorting::place(x);
     let b = sorting::place(y);
@@ -46,26 +48,18 @@ fn compare_entries(s: &[u8], x: u32, y: u32) -> Compared
 }
 
 // Is each before the next? The first neighbours that are not decide.
-fn neighbours(s: &[u8], entries: &[u32]) -> Compared
+fn neighbours(s: &[u8], entries: &[u32]) -> Ordering
     requires { Inside s.now (length entries.now) entries.now }
     ensures { Tells result (distinct (marks_of s.now entries.now)) }
 {
-    let mut i = 1;
-    while i < entries.len() {
-        let c = compare_entries(s, entries[i - 1], entries[i]);
-        match c {
-            Compared::Equal => {
-                return Compared::Equal;
-            }
-            Compared::Before => {
-                i += 1;
-            }
-            Compared::Behind => {
-                return Compared::Behind;
-            }
+    for i in 1..entries.len() {
+        match compare_entries(s, entries[i - 1], entries[i]) {
+            Ordering::Less => {}
+            Ordering::Equal => return Ordering::Equal,
+            Ordering::Greater => return Ordering::Greater,
         }
     }
-    Compared::Before
+    Ordering::Less
 }
 
 // Do two entries stand for the same?
@@ -87,12 +81,10 @@ fn mark_among(s: &[u8], x: u32, entries: &[u32]) -> bool
     requires inside { Inside s.now (length entries.now) entries.now }
     ensures { result ≡ among (mark_at s.now x) (marks_of s.now entries.now) }
 {
-    let mut i = 0;
-    while i < entries.len() {
-        if alike(s, x, entries[i]) {
+    for &y in entries {
+        if alike(s, x, y) {
             return true;
         }
-        i += 1;
     }
     false
 }
@@ -102,13 +94,10 @@ fn distinct_pairs(s: &[u8], entries: &[u32]) -> bool
     requires { Inside s.now (length entries.now) entries.now }
     ensures { result ≡ distinct (marks_of s.now entries.now) }
 {
-    let mut i = 0;
-    while i < entries.len() {
-        let next = i + 1;
-        if mark_among(s, entries[i], &entries[next..]) {
+    for i in 0..entries.len() {
+        if mark_among(s, entries[i], &entries[i + 1..]) {
             return false;
         }
-        i = next;
     }
     true
 }
@@ -119,11 +108,10 @@ fn distinct_entries(s: &[u8], entries: &mut [u32]) -> bool
     ensures { result ≡ distinct (marks_of s.now entries.old) }
 {
     sorting::sort(s, &mut *entries, false);
-    let c = neighbours(s, &*entries);
-    match c {
-        Compared::Equal => false,
-        Compared::Before => true,
-        Compared::Behind => distinct_pairs(s, &*entries),
+    match neighbours(s, &*entries) {
+        Ordering::Equal => false,
+        Ordering::Less => true,
+        Ordering::Greater => distinct_pairs(s, &*entries),
     }
 }
 
@@ -143,15 +131,10 @@ fn gather(name: &[u8], s: &[u8], entries: &mut [u32]) -> usize
     ensures { Gathered name.now s.now entries.new result }
 {
     let mut i = 0;
+    // An index by hand: the loop goes by what the readers find, and this counts what is written.
     let mut n = 0;
     loop {
-        let f = records::next_named(&s[i..], name);
-        let FoundField::At {
-            start: _,
-            value,
-            end,
-        } = f
-        else {
+        let Some(ValuePlace { value, end, .. }) = records::next_named(&s[i..], name) else {
             return n;
         };
         entries[n] = entry(s, i + value);

@@ -4,5 +4,5 @@ pub mod Tallies
 pub mod Once
 pub mod Opens
 pub mod Runs
-pub mod Walked
 pub mod Questions
+pub mod Walked

@@ -1,4 +1,5 @@
 -- What the walk over a file's pieces knows at a place: the record that goes on there, what was counted of it, the questions of the records before it, and their descriptors' rows.
+use Rattle.std.specs.Prelude.{Ok}
 use Prim.Native.Nat.{ℕ, zero, suc, ◌+◌, ◌-◌, ◌≤◌, ◌<◌}
 use native.Mathlib.Omega.{arith}
 use mathlib.Core.Path.{◌≡◌, refl, sym, ap, ◌∙◌, subst}
@@ -16,6 +17,8 @@ use Rattle.format.specs.Pieces.{Piece, read_of}
 use Rattle.format.specs.Questions.{fits_record, has_rec_once}
 use Rattle.format.specs.Records.{Field, Record, fields_of}
 use Rattle.format.specs.Sets.{values_of}
+use Rattle.format.specs.Refusals.{question_no}
+use Rattle.format.specs.declared.refusals.Question.{Question}
 use Rattle.format.proofs.Records.{close, records}
 use Rattle.format.proofs.Walking.{is_head, heads, walk_once}
 use Rattle.lines.specs.Piece.{next_of}
@@ -32,9 +35,9 @@ use Rattle.records.proofs.Cuts.{records_from, head-one}
 use Rattle.records.proofs.Rows.{row_next}
 use Rattle.records.proofs.Going.{go_on, going_from, going-none, going-comment}
 use Rattle.limits.specs.Opens.{not_open, open_on, put_row}
-use Rattle.limits.specs.Bounds.{Scanned}
+use Rattle.limits.specs.Bounds.{bounds_no, Scanned}
 use Rattle.limits.specs.declared.Open.{Open}
-use Rattle.limits.specs.declared.Scan.{Scan}
+use Rattle.limits.proofs.Questions.{past-told, line-no, limit-no}
 use Rattle.limits.proofs.Fits.{fits_from, fits-start, fits-end, fits_here, fits_on, fits-stop}
 use Rattle.limits.proofs.Once.{once_from, once-start, once-end, once-on}
 use Rattle.limits.proofs.Runs.{field_of, field-on, blank-passed, head-filled, Pending, pending-none, pending-comment, pending-first, pending-field, pending-member, pending-head, head-here, none_left, left-none}
@@ -342,7 +345,7 @@ module _ {s : Bytes} {i : ℕ} {o : Open} {count : ℕ} {once : Bool} {starts en
     end_by y true e = none_left w.pending y (counted-head w.counted true e)
     end_by y false e = ap (λ (rs : List Record). heads rs) (left-none s i w.fields y)
 
-    pub walked_end : is_readable s ≡ true → read_of (drop i s) ≡ [] → Scanned s bs es ns (Scan.Met n (once && here))
+    pub walked_end : is_readable s ≡ true → read_of (drop i s) ≡ [] → Scanned s bs es ns (Ok (record { count = n; once = once && here }))
     walked_end r y =
         let b : Bool = eqb o.recs 0 in
         let q = shut-asked b refl i refl in
@@ -380,10 +383,10 @@ field-few n x y b e h =
     leb-true (n + 1) record_fields ((and-eq-true_iff t x).0 ((and-eq-true_iff (t && x) y).0 (sym e ∙ h)).0).0
 
 -- a limit is not held: the rest tells whether the file is readable
-past_by : (s : Bytes) (bs es ns : List ℕ) (r : Scan) (b : Bool) → is_readable s ≡ b → r ≡ pick b Scan.Past Scan.Fault → (is_readable s ≡ true → all fits_record (records (read_of s)) ≡ false) → Scanned s bs es ns r
-past_by s bs es ns r true e q f = subst (Scanned s bs es ns) (sym q) (e, f e)
-past_by s bs es ns r false e q f = subst (Scanned s bs es ns) (sym q) e
+past_by : (s : Bytes) (q : Question) (b : Bool) → is_readable s ≡ b → q ≡ pick b Question.Limit Question.Line → (is_readable s ≡ true → all fits_record (records (read_of s)) ≡ false) → question_no q ≡ bounds_no s
+past_by s q true e p f = ap question_no p ∙ sym (limit-no s e (past-told (records (read_of s)) (f e)))
+past_by s q false e p f = ap question_no p ∙ sym (line-no s e)
 
-pub past-scanned : (s : Bytes) (bs es ns : List ℕ) (r : Scan) (j : ℕ) → is_readable s ≡ is_readable (drop j s) → r ≡ pick (is_readable (take (length s - j) (drop j s))) Scan.Past Scan.Fault → (is_readable s ≡ true → all fits_record (records (read_of s)) ≡ false) → Scanned s bs es ns r
-past-scanned s bs es ns r j e q f =
-    past_by s bs es ns r (is_readable s) refl (q ∙ ap (λ (x : Bytes). pick (is_readable x) Scan.Past Scan.Fault) (rest s j) ∙ ap (λ (b : Bool). pick b Scan.Past Scan.Fault) (sym e)) f
+pub past-scanned : (s : Bytes) (q : Question) (j : ℕ) → is_readable s ≡ is_readable (drop j s) → q ≡ pick (is_readable (take (length s - j) (drop j s))) Question.Limit Question.Line → (is_readable s ≡ true → all fits_record (records (read_of s)) ≡ false) → question_no q ≡ bounds_no s
+past-scanned s q j e p f =
+    past_by s q (is_readable s) refl (p ∙ ap (λ (x : Bytes). pick (is_readable x) Question.Limit Question.Line) (rest s j) ∙ ap (λ (b : Bool). pick b Question.Limit Question.Line) (sym e)) f

@@ -5,7 +5,7 @@ ghost use Rattle.std.specs.Prelude.{◌≡◌, true, ◌&&◌, ◌+◌, ◌*◌,
 ghost use Rattle.format.specs.Pieces.{read_of};
 ghost use Rattle.format.proofs.Records.{records};
 ghost use Rattle.format.proofs.Walking.{heads};
-ghost use Rattle.format.specs.Bytes.{class_table, pick, all};
+ghost use Rattle.format.specs.Bytes.{pick, all};
 ghost use Rattle.format.specs.Words.{words};
 ghost use Rattle.format.specs.Limits.{file_bytes, record_fields, name_bytes, value_bytes, descriptors};
 ghost use Rattle.format.specs.Records.{fields_of};
@@ -18,9 +18,8 @@ ghost use Rattle.limits.specs.Counts.{count_on, total};
 ghost use Rattle.limits.specs.Opens.{not_open, open_on, put_row};
 ghost use Rattle.limits.specs.Bounds.{Scanned, BoundedAs};
 
-use format::{Descriptor, Record};
+use format::{Classes, Descriptor, Question, Record};
 use lines::Next;
-use records::NextField;
 use words::Rule;
 
 // A length that is within a value's limit where that of the value is which begins where s does. No value is longer than its bytes in the file, so few are decoded.
@@ -116,41 +115,40 @@ fn counted(d: Descriptor, name: &[u8], value: &[u8]) -> Descriptor
     ensures { (result ≡ count_on d name.now (value_from value.now)) × (total result ≤ total d + 1 + length value.now) }
 {
     let mut c = d;
-    let k = words::rule_of(name);
-    match k {
-        Rule::TYPEDEF => {
+    match words::rule_of(name) {
+        Rule::Typedef => {
             c.typedefs += 1;
             return c;
         }
-        Rule::TYPE => {
+        Rule::Type => {
             c.types += 1;
             return c;
         }
-        Rule::MANDATORY => {
+        Rule::Mandatory => {
             c.mandatory += values::count_words(value);
             return c;
         }
-        Rule::PROHIBIT => {
+        Rule::Prohibit => {
             c.prohibited += values::count_words(value);
             return c;
         }
-        Rule::ALLOWED => {
+        Rule::Allowed => {
             c.allowed += values::count_words(value);
             return c;
         }
-        Rule::UNIQUE => {
+        Rule::Unique => {
             c.unique += values::count_words(value);
             return c;
         }
-        Rule::SINGULAR => {
+        Rule::Singular => {
             c.singular += values::count_words(value);
             return c;
         }
-        Rule::AUTO => {
+        Rule::Auto => {
             c.auto += values::count_words(value);
             return c;
         }
-        _ => {
+        Rule::Rec | Rule::Doc | Rule::Key | Rule::Size | Rule::Other => {
             return c;
         }
     }
@@ -165,18 +163,11 @@ fn rules_fit(d: &[u8]) -> bool
     let mut i = 0;
     let mut c = Descriptor::new();
     loop {
-        let n = records::next_field(&d[i..]);
-        let NextField::At {
-            start,
-            named,
-            value,
-            end,
-        } = n
-        else {
+        let Some(f) = records::next_field(&d[i..]) else {
             return c.fits();
         };
-        c = counted(c, &d[i + start..i + named], &d[i + value..i + end]);
-        i += end;
+        c = counted(c, &d[i + f.start..i + f.named], &d[i + f.value..i + f.end]);
+        i += f.end;
     }
 }
 
@@ -208,34 +199,32 @@ fn count_head(
     count + 1
 }
 
-// What a walk over the pieces of a file tells: a line has no form; the limits of some record are not held; or neither, then how many descriptors there are,
+// What a walk over the pieces of a file tells where every line has a form and the limits of every record are held: how many descriptors there are,
 // and whether each record has no `%` name, or `%rec` once.
-#[derive(Drop)]
-enum Scan {
-    Fault,
-    Past,
-    Met { count: usize, once: bool },
+#[derive(Clone, Copy)]
+struct Scan {
+    count: usize,
+    once: bool,
 }
 
 // Some limit is not held; s is what is left of the file.
-fn past(s: &[u8]) -> Scan
-    ensures { result ≡ pick (is_readable s.now) Scan.Past Scan.Fault }
+fn past(s: &[u8]) -> Question
+    ensures { result ≡ pick (is_readable s.now) Question.Limit Question.Line }
 {
     if records::is_readable(s) {
-        return Scan::Past;
+        return Question::Limit;
     }
-    Scan::Fault
+    Question::Line
 }
 
 // Question 3, and questions 4 and 5 of each record: one walk over the pieces. The rows tell where the descriptors stand.
 fn walk_pieces(
-    table: &[u8; 256],
+    table: &Classes,
     s: &[u8],
     starts: &mut [usize],
     ends: &mut [usize],
     afters: &mut [usize],
-) -> Scan
-    requires table_value { table.now ≡ class_table }
+) -> Result<Scan, Question>
     requires s_value { (is_ended s.now ≡ true) × (length s.now ≤ file_bytes) }
     requires starts_len { (length starts.old ≡ descriptors) × (length ends.old ≡ descriptors) × (length afters.old ≡ descriptors) }
     ensures { Scanned s.now starts.new ends.new afters.new result }
@@ -245,8 +234,7 @@ fn walk_pieces(
     let mut count = 0;
     let mut once = true;
     loop {
-        let n = lines::next_piece(table, &s[i..]);
-        match n {
+        match lines::next_piece(table, &s[i..]) {
             Next::Comment { size } => {
                 i += size;
             }
@@ -255,7 +243,7 @@ fn walk_pieces(
                 let from = i + value;
                 let e = i + size;
                 if !field_fits(o.fields, name, &s[from..e]) {
-                    return past(&s[e..]);
+                    return Err(past(&s[e..]));
                 }
                 o = with_field(o, &s[i..named], i, e);
                 i = e;
@@ -270,13 +258,13 @@ fn walk_pieces(
             Next::End => {
                 let all = count_head(o, i, count, &mut *starts, &mut *ends, &mut *afters);
                 let here = is_once(o);
-                return Scan::Met {
+                return Ok(Scan {
                     count: all,
                     once: once & here,
-                };
+                });
             }
             Next::Fault => {
-                return Scan::Fault;
+                return Err(Question::Line);
             }
         }
     }
@@ -288,60 +276,36 @@ fn rules_held(s: &[u8], starts: &[usize], ends: &[usize], count: usize) -> bool
     requires head_parts { HeadParts s.now starts.now ends.now count }
     ensures { result ≡ all fits_rules (heads (records (read_of s.now))) }
 {
-    let mut k = 0;
-    while k < count {
-        let a = starts[k];
-        let e = ends[k];
-        if !rules_fit(&s[a..e]) {
+    for k in 0..count {
+        if !rules_fit(&s[starts[k]..ends[k]]) {
             return false;
         }
-        k += 1;
     }
     true
 }
 
-// Of a file: a line has no form; or all have one, but some limit is not held; or all are, but a record with a `%` name has not `%rec`, once;
-// or it has so many descriptors, and nothing of that is the case.
-#[derive(Drop)]
-pub enum Bounded {
-    Fault,
-    Past,
-    Unnamed,
-    Heads(usize),
-}
-
 // Questions 3, 4 and 5 of a text that ends in a newline, or is empty: has every line a form, are the limits of every record held and the descriptors not too many,
-// and has every record with a `%` name `%rec`, once? The rows tell where the descriptors stand.
+// and has every record with a `%` name `%rec`, once? The answer is the number of descriptors; the rows tell where they stand.
 pub fn bounds_of(
     s: &[u8],
     starts: &mut [usize],
     ends: &mut [usize],
     afters: &mut [usize],
-) -> Bounded
+) -> Result<usize, Question>
     requires s_value { (is_ended s.now ≡ true) × (length s.now ≤ file_bytes) }
     requires starts_len { (length starts.old ≡ descriptors) × (length ends.old ≡ descriptors) × (length afters.old ≡ descriptors) }
     ensures { BoundedAs s.now starts.new ends.new afters.new result }
 {
-    let table = format::classes();
-    let r = walk_pieces(&table, s, &mut *starts, &mut *ends, &mut *afters);
-    match r {
-        Scan::Fault => {
-            return Bounded::Fault;
-        }
-        Scan::Past => {
-            return Bounded::Past;
-        }
-        Scan::Met { count, once } => {
-            if count > Descriptor::COUNT {
-                return Bounded::Past;
-            }
-            if !rules_held(s, starts, ends, count) {
-                return Bounded::Past;
-            }
-            if once {
-                return Bounded::Heads(count);
-            }
-            return Bounded::Unnamed;
-        }
+    let table = Classes::new();
+    let Scan { count, once } = walk_pieces(&table, s, &mut *starts, &mut *ends, &mut *afters)?;
+    if count > Descriptor::COUNT {
+        return Err(Question::Limit);
     }
+    if !rules_held(s, starts, ends, count) {
+        return Err(Question::Limit);
+    }
+    if !once {
+        return Err(Question::Rec);
+    }
+    Ok(count)
 }

@@ -1,4 +1,5 @@
 -- How far a field goes, line by line from an index on.
+use Rattle.std.specs.Prelude.{Some, None}
 use Prim.Native.Nat.{ℕ, suc, ◌+◌, ◌-◌, ◌≤◌, ◌<◌}
 use native.Mathlib.Nat.{not-suc-le-zero, add-suc}
 use native.Mathlib.Numerals.{add-one}
@@ -14,7 +15,6 @@ use Rattle.format.specs.Bytes.{Bytes, pick, is_newline}
 use Rattle.format.specs.Lines.{lines, joins}
 use Rattle.lines.specs.Line.{line_len, first_line, GoesOn}
 use Rattle.lines.specs.Piece.{is_plus, extent_of}
-use Rattle.lines.specs.declared.Extent.{Extent}
 use Rattle.lines.proofs.Cuts.{lines_cut, first-length, line-from, first-joins, joins_at}
 
 -- a line begins with a plus if its text does
@@ -35,11 +35,11 @@ plus-at : (s : Bytes) (i : ℕ) → i < length s → is_plus (first_line (drop i
 plus-at s i h = first-plus (drop i s) (simp length-drop (omega arith)) ∙ ap (λ (c : ℕ). eqb c 43) (get_or-drop i s 0 0 ∙ ap (λ (k : ℕ). get_or s k 0) (omega arith))
 
 module _ (s : Bytes) (taken : Bool) (i : ℕ) where
-  pub extent-step : i < length s → extent_of taken i (lines (drop i s)) ≡ pick (taken || eqb (get_or s i 0) 43) (extent_of (joins (first_line (drop i s))) (i + suc (line_len (drop i s))) (lines (drop (i + suc (line_len (drop i s))) s))) (Extent.Size i)
+  pub extent-step : i < length s → extent_of taken i (lines (drop i s)) ≡ pick (taken || eqb (get_or s i 0) 43) (extent_of (joins (first_line (drop i s))) (i + suc (line_len (drop i s))) (lines (drop (i + suc (line_len (drop i s))) s))) (Some i)
   unfolding extent_of
   extent-step h = rw (lines_at s i h, first-length (drop i s), plus-at s i h)
 
-pub extent-end : (s : Bytes) (taken : Bool) (i : ℕ) → length s ≤ i → extent_of taken i (lines (drop i s)) ≡ pick taken Extent.Open (Extent.Size i)
+pub extent-end : (s : Bytes) (taken : Bool) (i : ℕ) → length s ≤ i → extent_of taken i (lines (drop i s)) ≡ pick taken None (Some i)
 unfolding extent_of
 extent-end s true i h = rw (drop_of_length-le s)
 extent-end s false i h = rw (drop_of_length-le s)

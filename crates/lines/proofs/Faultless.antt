@@ -1,4 +1,5 @@
 -- What a text goes on with where it is no fault: its first byte tells the form, and a colon follows a name.
+use Rattle.std.specs.Prelude.{Option}
 use Prim.Native.Nat.{ℕ, suc, ◌+◌, ◌≤◌, ◌<◌}
 use native.Mathlib.Nat.{not-suc-le-zero}
 use native.Mathlib.Omega.{arith}
@@ -12,7 +13,6 @@ use Rattle.format.specs.Bytes.{Bytes, pick, is_newline, is_blank, all}
 use Rattle.format.specs.Lines.{lines, is_ended, is_first}
 use Rattle.lines.specs.Line.{line_len, first_line, GoesOn, name_len}
 use Rattle.lines.specs.Piece.{extent_of, field_next, next_of, is_fault}
-use Rattle.lines.specs.declared.Extent.{Extent}
 use Rattle.lines.specs.declared.Next.{Next}
 use Rattle.lines.proofs.Heads.{name-first, colon-inside, goes-empty, goes-value}
 use Rattle.lines.proofs.Nexts.{next_named, next-named, next-unnamed}
@@ -47,10 +47,10 @@ pub high-named : (s : Bytes) → 0 < length s → 35 < get_or s 0 0 → is_fault
 high-named s h l f = omega (arith, name-first s h (high-first s h l f))
 
 -- a line that begins with a name, and is no fault: a colon follows the name, and a newline or a blank follows that
-abbrev Formed : Bool → Bool → Bool → ℕ → Extent → Next → Type 0
+abbrev Formed : Bool → Bool → Bool → ℕ → Option ℕ → Next → Type 0
 Formed a e k n x y = (a ≡ true) × (e ≡ false → k ≡ true) × (y ≡ field_next n (pick e (n + 1) (n + 2)) x)
 
-formed-by : (a e k : Bool) (n : ℕ) (x : Extent) (y : Next) → y ≡ next_named a e k n x → is_fault y ≡ false → Formed a e k n x y
+formed-by : (a e k : Bool) (n : ℕ) (x : Option ℕ) (y : Next) → y ≡ next_named a e k n x → is_fault y ≡ false → Formed a e k n x y
 formed-by false e k n x y q f = absurd (false≢true (sym f ∙ ap is_fault q))
 formed-by true true k n x y q f = (refl, λ z. absurd (false≢true (sym z)), q)
 formed-by true false true n x y q f = (refl, λ z. refl, q)

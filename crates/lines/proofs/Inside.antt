@@ -1,4 +1,5 @@
 -- What a text goes on with lies in the text, and takes some of its bytes.
+use Rattle.std.specs.Prelude.{Option, Some, None}
 use Prim.Native.Nat.{ℕ, suc, ◌+◌, ◌≤◌, ◌<◌}
 use native.Mathlib.Omega.{arith}
 use mathlib.Core.Path.{◌≡◌, refl, sym, ap, ◌∙◌, subst}
@@ -11,7 +12,6 @@ use Rattle.format.proofs.Elements.{Each}
 use Rattle.format.proofs.Lines.{Clean}
 use Rattle.lines.specs.Line.{line_len, first_line}
 use Rattle.lines.specs.Piece.{line_size, extent_of, value_at, field_next, next_by, next_of}
-use Rattle.lines.specs.declared.Extent.{Extent}
 use Rattle.lines.specs.declared.Next.{Next}
 use Rattle.lines.proofs.Nexts.{next-first}
 use Rattle.lines.proofs.Owned.{Owns, owns}
@@ -29,9 +29,9 @@ module _ (s : Bytes) (l : Line) (ls : List Line) (clean : Each Clean (l ∷ ls))
   line-fits : line_size l ≤ length s
   line-fits = part-le s (l ∷ []) ls (line_size l) clean are (omega (arith, length-append l (10 ∷ [])))
 
-  field-inside : (n v : Bytes) → form l ≡ Form.field n v → (e : Extent) → Owns (joins l) (0 + line_size l) ls e → Inside (length s) (field_next (length n) (value_at (length n) l) e)
-  field-inside n v is Extent.Open h = tt
-  field-inside n v is (Extent.Size k) h =
+  field-inside : (n v : Bytes) → form l ≡ Form.field n v → (e : Option ℕ) → Owns (joins l) (0 + line_size l) ls e → Inside (length s) (field_next (length n) (value_at (length n) l) e)
+  field-inside n v is None h = tt
+  field-inside n v is (Some k) h =
       let shape = shaped l n v is in
       let a : List Line = l ∷ h.own in
       let size : k ≡ length (bytes a) = omega (arith, h.size, length-append l (10 ∷ bytes h.own)) in

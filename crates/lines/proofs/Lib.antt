@@ -1,4 +1,5 @@
 -- Laws of the readers.
+pub mod Scans
 pub mod Cuts
 pub mod Heads
 pub mod Extents

@@ -1,4 +1,5 @@
 -- What a text goes on with, by its first bytes.
+use Rattle.std.specs.Prelude.{Option}
 use Prim.Native.Nat.{ℕ, suc, ◌+◌, ◌<◌}
 use native.Mathlib.Nat.{not-suc-le-zero}
 use native.Mathlib.Numerals.{add-one}
@@ -15,7 +16,6 @@ use Rattle.format.specs.Lines.{Line, lines, is_ended, is_first, Form, form, afte
 use Rattle.format.proofs.Table.{newline-class, blank-class}
 use Rattle.lines.specs.Line.{line_len, first_line, name_len}
 use Rattle.lines.specs.Piece.{extent_of, line_size, value_at, field_next, next_by, next_of}
-use Rattle.lines.specs.declared.Extent.{Extent}
 use Rattle.lines.specs.declared.Next.{Next}
 use Rattle.lines.proofs.Cuts.{lines_cut, first-length, line-stop}
 use Rattle.lines.proofs.Heads.{Told, name-le, name-told}
@@ -31,7 +31,7 @@ next-end [] e = refl
 next-end (c ∷ s) e = absurd (omega arith)
 
 -- a text that begins with a name of n bytes: by whether a colon follows, and by whether the byte behind that is a newline or a blank
-abbrev pub next_named : Bool → Bool → Bool → ℕ → Extent → Next
+abbrev pub next_named : Bool → Bool → Bool → ℕ → Option ℕ → Next
 next_named false e k n x = Next.Fault
 next_named true true k n x = field_next n (n + 1) x
 next_named true false true n x = field_next n (n + 2) x

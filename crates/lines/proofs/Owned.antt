@@ -1,4 +1,5 @@
 -- The lines that a field takes on: as many as extent_of counts, and reading goes on behind them with no field open.
+use Rattle.std.specs.Prelude.{Option as Maybe, Some, None}
 use Prim.Native.Nat.{ℕ, ◌+◌}
 use native.Mathlib.Omega.{arith}
 use mathlib.Core.Path.{◌≡◌, refl, sym, ap, ◌∙◌}
@@ -13,7 +14,6 @@ use Rattle.format.specs.Bytes.{Bytes, pick, is_blank, all}
 use Rattle.format.specs.Lines.{Line, bytes, is_first, Form, form, after_plus, joins, cut, is_later, after_colon, after_name}
 use Rattle.format.specs.Pieces.{Mode, after, unopened, seen, Reading, goes_on, take_line, read_from}
 use Rattle.lines.specs.Piece.{line_size, is_plus, extent_of}
-use Rattle.lines.specs.declared.Extent.{Extent}
 
 -- a plus line, and whether it takes the next one on
 space-joins : (b : Bool) (c : ℕ) (s : Bytes) → eqb c 32 ≡ b → joins (10 ∷ pick b s (c ∷ s)) ≡ joins (c ∷ s)
@@ -84,9 +84,9 @@ pub record Owned (taken : Bool) (n : ℕ) (ls : List Line) (k : ℕ) : Type 0 wh
   pub reads : read_from (pick taken Mode.joined Mode.opened) ls ≡ opening value own (read_from Mode.closed rest)
   pub whole : read_from (pick taken Mode.joined Mode.opened) own ≡ opening value own (read_from Mode.closed [])
 
-abbrev pub Owns : Bool → ℕ → List Line → Extent → Type 0
-Owns taken n ls Extent.Open = read_from (pick taken Mode.joined Mode.opened) ls ≡ none
-Owns taken n ls (Extent.Size k) = Owned taken n ls k
+abbrev pub Owns : Bool → ℕ → List Line → Maybe ℕ → Type 0
+Owns taken n ls None = read_from (pick taken Mode.joined Mode.opened) ls ≡ none
+Owns taken n ls (Some k) = Owned taken n ls k
 
 -- one more line of the field
 module _ (taken : Bool) (l : Line) (F : Form) (w : Bytes) (is : seen (pick taken Mode.joined Mode.opened) l ≡ F) (next : after F ≡ pick (joins l) Mode.joined Mode.opened) (adds : (r : Reading) → take_line F l r ≡ some (goes_on w l r)) where
@@ -97,9 +97,9 @@ module _ (taken : Bool) (l : Line) (F : Form) (w : Bytes) (is : seen (pick taken
   line-opens v own none = refl
   line-opens v own (some r) = adds (record { value = v; own = own; pieces = r.pieces })
 
-  line-owned : (n : ℕ) (ls : List Line) (e : Extent) → Owns (joins l) (n + line_size l) ls e → Owns taken n (l ∷ ls) e
-  line-owned n ls Extent.Open h = line_reads ls ∙ ap (onward (take_line F l)) h
-  line-owned n ls (Extent.Size k) h =
+  line-owned : (n : ℕ) (ls : List Line) (e : Maybe ℕ) → Owns (joins l) (n + line_size l) ls e → Owns taken n (l ∷ ls) e
+  line-owned n ls None h = line_reads ls ∙ ap (onward (take_line F l)) h
+  line-owned n ls (Some k) h =
       record {
         own = l ∷ h.own;
         rest = h.rest;
@@ -110,7 +110,7 @@ module _ (taken : Bool) (l : Line) (F : Form) (w : Bytes) (is : seen (pick taken
         whole = line_reads h.own ∙ ap (onward (take_line F l)) h.whole ∙ line-opens h.value h.own (read_from Mode.closed []);
       }
 
-plus-owned : (l : Line) (n : ℕ) (ls : List Line) (e : Extent) → is_plus l ≡ true → Owns (joins l) (n + line_size l) ls e → Owns false n (l ∷ ls) e
+plus-owned : (l : Line) (n : ℕ) (ls : List Line) (e : Maybe ℕ) → is_plus l ≡ true → Owns (joins l) (n + line_size l) ls e → Owns false n (l ∷ ls) e
 plus-owned l n ls e q h =
     let p = plus-form l q in
     line-owned false l (Form.more p.0) (cut p.0) p.1 (ap (λ (b : Bool). pick b Mode.joined Mode.opened) p.2) (λ r. refl) n ls e h
@@ -122,6 +122,6 @@ owns [] false n = record { own = []; rest = []; value = []; parts = refl; size =
 owns (l ∷ ls) true n = line-owned true l (Form.more l) (cut l) refl refl (λ r. refl) n ls (extent_of (joins l) (n + line_size l) ls) (owns ls (joins l) (n + line_size l))
 owns (l ∷ ls) false n = go (is_plus l) refl (owns ls (joins l) (n + line_size l))
   where
-    go : (b : Bool) → is_plus l ≡ b → Owns (joins l) (n + line_size l) ls (extent_of (joins l) (n + line_size l) ls) → Owns false n (l ∷ ls) (pick b (extent_of (joins l) (n + line_size l) ls) (Extent.Size n))
+    go : (b : Bool) → is_plus l ≡ b → Owns (joins l) (n + line_size l) ls (extent_of (joins l) (n + line_size l) ls) → Owns false n (l ∷ ls) (pick b (extent_of (joins l) (n + line_size l) ls) (Some n))
     go true q h = plus-owned l n ls (extent_of (joins l) (n + line_size l) ls) q h
     go false q h = record { own = []; rest = l ∷ ls; value = []; parts = refl; size = omega arith; reads = other-reads l ls (other-stands l q); whole = refl }

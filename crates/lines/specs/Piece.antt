@@ -1,8 +1,7 @@
 -- The first piece of a text, as lengths.
-use Rattle.std.specs.Prelude.{ℕ, suc, ◌+◌, Bool, true, false, ◌||◌, List, [], ◌∷◌, eqb, length, get_or}
+use Rattle.std.specs.Prelude.{ℕ, suc, ◌+◌, Bool, true, false, ◌||◌, List, [], ◌∷◌, eqb, length, get_or, Option, Some, None}
 use Rattle.format.specs.Bytes.{Bytes, pick}
 use Rattle.format.specs.Lines.{Line, lines, Form, form, joins}
-use Rattle.lines.specs.declared.Extent.{Extent}
 use Rattle.lines.specs.declared.Next.{Next}
 
 -- a line with its newline
@@ -13,18 +12,18 @@ abbrev pub is_plus : Line → Bool
 is_plus l = eqb (get_or l 0 0) 43
 
 -- the bytes of a field, n of them before these lines; taken: the line before takes the next one on
-unfoldable pub extent_of : Bool → ℕ → List Line → Extent
-extent_of true n [] = Extent.Open
-extent_of false n [] = Extent.Size n
-extent_of taken n (l ∷ ls) = pick (taken || is_plus l) (extent_of (joins l) (n + line_size l) ls) (Extent.Size n)
+unfoldable pub extent_of : Bool → ℕ → List Line → Option ℕ
+extent_of true n [] = None
+extent_of false n [] = Some n
+extent_of taken n (l ∷ ls) = pick (taken || is_plus l) (extent_of (joins l) (n + line_size l) ls) (Some n)
 
 -- where a field's value begins: behind its name, the colon and the dropped blank, or at the newline behind the colon
 abbrev pub value_at : ℕ → Line → ℕ
 value_at name l = pick (eqb (length l) (name + 1)) (name + 1) (name + 2)
 
-abbrev pub field_next : ℕ → ℕ → Extent → Next
-field_next name value (Extent.Size size) = Next.Field name value size
-field_next name value Extent.Open = Next.Fault
+abbrev pub field_next : ℕ → ℕ → Option ℕ → Next
+field_next name value (Some size) = Next.Field name value size
+field_next name value None = Next.Fault
 
 abbrev pub next_by : Form → Line → List Line → Next
 next_by Form.blank l ls = Next.Blank (line_size l)

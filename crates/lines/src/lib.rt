@@ -2,12 +2,12 @@
 #![tactic(auto)]
 
 ghost use Rattle.std.specs.Prelude.{◌≡◌, true, false, ◌+◌, ◌-◌, ◌<◌, ◌≤◌, length, drop, get_or};
-ghost use Rattle.format.specs.Bytes.{class_table, same, pick, is_blank, all};
+ghost use Rattle.format.specs.Bytes.{same, pick, is_blank, all};
 ghost use Rattle.format.specs.Lines.{lines, is_ended, is_special};
 ghost use Rattle.lines.specs.Line.{line_len, first_line, GoesOn, name_len};
 ghost use Rattle.lines.specs.Piece.{extent_of, next_of, is_fault};
 
-use format::Class;
+use format::{Class, Classes};
 
 // The byte at i, 0 past the end.
 pub fn byte(s: &[u8], i: usize) -> u8
@@ -34,31 +34,14 @@ pub fn is_special(name: &[u8]) -> bool
 pub fn same_bytes(a: &[u8], b: &[u8]) -> bool
     ensures { result ≡ same a.now b.now }
 {
-    if a.len() != b.len() {
-        return false;
-    }
-    let mut i = 0;
-    while i < a.len() {
-        if a[i] != b[i] {
-            return false;
-        }
-        i += 1;
-    }
-    true
+    a == b
 }
 
 // The number of bytes before the first newline.
 pub fn line_len(s: &[u8]) -> usize
     ensures { result ≡ line_len s.now }
 {
-    let mut i = 0;
-    while i < s.len() {
-        if s[i] == b'\n' {
-            return i;
-        }
-        i += 1;
-    }
-    i
+    s.iter().position(|b| *b == b'\n').unwrap_or(s.len())
 }
 
 // The place of the first newline from i on, in a text that ends with one.
@@ -67,6 +50,7 @@ fn line_end(s: &[u8], i: usize) -> usize
     requires i_in_bounds { i < length s.now }
     ensures { (result ≡ i + line_len (drop i s.now)) × (get_or s.now result 0 ≡ 10) }
 {
+    // An index by hand: the hottest walk; a search would look at each turn for an end that cannot come.
     let mut at = i;
     loop {
         if s[at] == b'\n' {
@@ -77,57 +61,41 @@ fn line_end(s: &[u8], i: usize) -> usize
 }
 
 // Is the first physical line empty or all blanks?
-pub fn blank_line(table: &[u8; 256], s: &[u8]) -> bool
-    requires { table.now ≡ class_table }
+pub fn blank_line(table: &Classes, s: &[u8]) -> bool
     ensures { result ≡ all is_blank (first_line s.now) }
 {
-    let mut i = 0;
-    while i < s.len() {
-        let k = format::class_of(table, s[i]);
-        if k == Class::NEWLINE {
-            return true;
-        }
-        if k != Class::BLANK {
-            return false;
-        }
-        i += 1;
-    }
-    true
+    s[..line_len(s)]
+        .iter()
+        .all(|b| table.class(*b) == Class::BLANK)
 }
 
 // The number of bytes of the name that s begins with, 0 where it begins with none.
-pub fn name_len(table: &[u8; 256], s: &[u8]) -> usize
-    requires { table.now ≡ class_table }
+pub fn name_len(table: &Classes, s: &[u8]) -> usize
     ensures { result ≡ name_len s.now }
 {
-    if s.len() == 0 {
+    if s.is_empty() {
         return 0;
     }
-    if format::is_first(table, s[0]) {
-        let mut i = 1;
-        while i < s.len() {
-            if format::is_later(table, s[i]) {
-                i += 1;
-            } else {
-                return i;
-            }
-        }
-        i
-    } else {
-        0
+    if !table.is_first(s[0]) {
+        return 0;
     }
+    let rest = &s[1..];
+    1 + rest
+        .iter()
+        .position(|b| !table.is_later(*b))
+        .unwrap_or(rest.len())
 }
 
 // The same where a text that ends with a newline begins with a name.
-fn name_end(table: &[u8; 256], s: &[u8]) -> usize
-    requires table_value { table.now ≡ class_table }
+fn name_end(table: &Classes, s: &[u8]) -> usize
     requires s_value { is_ended s.now ≡ true }
     requires s_nonzero { 0 < name_len s.now }
     ensures { result ≡ name_len s.now }
 {
+    // An index by hand: the hottest walk; a search would look at each turn for an end that cannot come.
     let mut i = 1;
     loop {
-        if format::is_later(table, s[i]) {
+        if table.is_later(s[i]) {
             i += 1;
         } else {
             return i;
@@ -135,15 +103,8 @@ fn name_end(table: &[u8; 256], s: &[u8]) -> usize
     }
 }
 
-// How many bytes a field takes, or that a line is to be taken on and there is none.
-#[derive(Drop)]
-pub enum Extent {
-    Size(usize),
-    Open,
-}
-
-// A field's line, looked at from a place within it on, the lines that it takes on, and the plus lines that directly follow.
-fn field_extent(s: &[u8], at: usize) -> Extent
+// How many bytes a field takes: its line, looked at from a place within it on, the lines that it takes on, and the plus lines that directly follow. None: a line is to be taken on and there is none.
+fn field_extent(s: &[u8], at: usize) -> Option<usize>
     requires s_value { is_ended s.now ≡ true }
     requires goes_on { GoesOn s.now at }
     ensures { result ≡ extent_of true 0 (lines s.now) }
@@ -155,13 +116,13 @@ fn field_extent(s: &[u8], at: usize) -> Extent
         i = e + 1;
         if i == s.len() {
             if taken {
-                return Extent::Open;
+                return None;
             }
-            return Extent::Size(i);
+            return Some(i);
         }
         if !taken {
             if s[i] != b'+' {
-                return Extent::Size(i);
+                return Some(i);
             }
         }
     }
@@ -186,8 +147,7 @@ pub enum Next {
 }
 
 // A line that begins as a name does.
-fn next_field(table: &[u8; 256], s: &[u8]) -> Next
-    requires table_value { table.now ≡ class_table }
+fn next_field(table: &Classes, s: &[u8]) -> Next
     requires s_value { is_ended s.now ≡ true }
     requires s_nonzero { 0 < name_len s.now }
     ensures { result ≡ next_of s.now }
@@ -196,25 +156,21 @@ fn next_field(table: &[u8; 256], s: &[u8]) -> Next
     if s[name] != b':' {
         return Next::Fault;
     }
-    let k = format::class_of(table, s[name + 1]);
+    let k = table.class(s[name + 1]);
     let mut value = name + 2;
     if k == Class::NEWLINE {
         value = name + 1;
-    } else {
-        if k != Class::BLANK {
-            return Next::Fault;
-        }
+    } else if k != Class::BLANK {
+        return Next::Fault;
     }
-    let e = field_extent(s, value);
-    match e {
-        Extent::Size(size) => Next::Field { name, value, size },
-        Extent::Open => Next::Fault,
+    match field_extent(s, value) {
+        Some(size) => Next::Field { name, value, size },
+        None => Next::Fault,
     }
 }
 
 // The next piece of a part that begins where a piece may begin.
-pub fn next_piece(table: &[u8; 256], s: &[u8]) -> Next
-    requires table_value { table.now ≡ class_table }
+pub fn next_piece(table: &Classes, s: &[u8]) -> Next
     requires s_value { is_ended s.now ≡ true }
     ensures { result ≡ next_of s.now }
 {
@@ -225,7 +181,7 @@ pub fn next_piece(table: &[u8; 256], s: &[u8]) -> Next
     if b == b'\n' {
         return Next::Blank { size: 1 };
     }
-    if format::is_first(table, b) {
+    if table.is_first(b) {
         return next_field(table, s);
     }
     if b == b'#' {
@@ -245,6 +201,7 @@ fn name_to_colon(s: &[u8]) -> usize
     requires s_nonzero { (0 < name_len s.now) × (get_or s.now (name_len s.now) 0 ≡ 58) }
     ensures { result ≡ name_len s.now }
 {
+    // An index by hand: the hottest walk; a search would look at each turn for an end that cannot come.
     let mut i = 1;
     while s[i] != b':' {
         i += 1;
@@ -264,10 +221,9 @@ fn read_field(s: &[u8]) -> Next
     if s[value] != b'\n' {
         value += 1;
     }
-    let e = field_extent(s, value);
-    match e {
-        Extent::Size(size) => Next::Field { name, value, size },
-        Extent::Open => Next::Fault,
+    match field_extent(s, value) {
+        Some(size) => Next::Field { name, value, size },
+        None => Next::Fault,
     }
 }
 

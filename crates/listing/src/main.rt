@@ -4,7 +4,7 @@
 ghost use Rattle.std.specs.Prelude.{◌≡◌, true};
 ghost use Rattle.records.specs.Places.{is_readable};
 
-use format::Answer;
+use format::Question;
 use lookup::inside;
 
 // A byte more than a file may have, so that a longer one is seen to be longer.
@@ -16,13 +16,21 @@ fn main() {
     list(&file, n);
 }
 
+// The number of a check's answer, 0 where the file passes.
+fn number_of(checked: Result<(), Question>) -> u32 {
+    match checked {
+        Ok(()) => 0,
+        Err(question) => question.number(),
+    }
+}
+
 // The file is checked once; what is listed is looked up inside.
 fn list(file: &[u8], used: usize) {
-    let k = integrity::check(file, used);
+    let checked = integrity::check(file, used);
     io::write_all(1, b"check ");
-    io::print_decimal(1, k as u64);
+    io::print_decimal(1, number_of(checked) as u64);
     io::write_all(1, b"\n");
-    if k == 0 {
+    if let Ok(()) = checked {
         list_sets(&file[..used]);
     }
 }
@@ -33,25 +41,21 @@ fn list_sets(s: &[u8])
 {
     let mut space = io::buffer();
     let name: &mut [u8] = &mut space;
-    let mut k = 0;
-    while k <= format::Descriptor::COUNT {
-        let f = inside::name_in(s, k, name);
-        let Answer::Value(n) = f else {
+    for k in 0..=format::Descriptor::COUNT {
+        let Ok(n) = inside::name_in(s, k, name) else {
             return;
         };
         list_set(s, &name[..n]);
-        k += 1;
     }
 }
 
 fn list_set(s: &[u8], name: &[u8])
     requires { is_readable s.now ≡ true }
 {
-    let c = inside::count_in(s, name);
-    let Answer::Value(n) = c else {
+    let Ok(n) = inside::count_in(s, name) else {
         return;
     };
-    if name.len() == 0 {
+    if name.is_empty() {
         io::write_all(1, b"-");
     }
     io::write_all(1, name);

@@ -2,3 +2,4 @@
 pub mod Looking
 pub mod Names
 pub mod Buffers
+pub mod Meeting

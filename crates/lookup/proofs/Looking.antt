@@ -1,4 +1,5 @@
 -- What the searches find is what the questions 21, 22, 23 and 27 ask, and the values are the definitions'.
+use Rattle.std.specs.Prelude.{Some}
 use Prim.Native.Nat.{ℕ, zero, suc, ◌+◌, ◌-◌, ◌≤◌, ◌<◌}
 use native.Mathlib.Omega.{arith}
 use mathlib.Core.Path.{◌≡◌, refl, sym, ap, ◌∙◌, subst}
@@ -19,9 +20,7 @@ use Rattle.values.specs.Value.{value_from}
 use Rattle.records.specs.Places.{is_readable, places_of, head_place, record_place}
 use Rattle.records.specs.declared.Place.{Place}
 use Rattle.records.specs.declared.Head.{Head}
-use Rattle.records.specs.declared.FoundHead.{FoundHead}
 use Rattle.records.specs.declared.RecordSet.{RecordSet}
-use Rattle.records.specs.declared.FoundRecord.{FoundRecord}
 use Rattle.records.proofs.Readings.{reads_of, reads-readable}
 use Rattle.records.proofs.Members.{members_of, record_of, has_record, has_occurrence, HeadFound, RecordFound}
 use Rattle.records.proofs.SetOf.{SetOf, members-at}
@@ -93,7 +92,7 @@ module _ (s n : Bytes) (row : ℕ) where
         ap (λ (x : Bool). viewed_at (pick x (pick (has_record n row (sets_from s)) 0 22) 21) (groups (read_of s)) (index_of n (sets_from s)) row) set_there
         ∙ (λ i. viewed_at (pick (row-missing h i) 0 22) (groups (read_of s)) (f.set.there i) row)
 
-    pub view-found : (q : Place) → is_readable s ≡ true → head_place n (places_of s) ≡ FoundHead.At head → record_place (places_of (drop head.begin s)) row ≡ FoundRecord.At q → RecordFound (drop head.begin s) (members_at 0 (sets_of (read_of (drop head.begin s)))) row q → view_in s n row ≡ record { result = Answer.value (head.begin + q.start); part = part_of s (head.begin + q.start) (head.begin + q.end) }
+    pub view-found : (q : Place) → is_readable s ≡ true → head_place n (places_of s) ≡ Some head → record_place (places_of (drop head.begin s)) row ≡ Some q → RecordFound (drop head.begin s) (members_at 0 (sets_of (read_of (drop head.begin s)))) row q → view_in s n row ≡ record { result = Answer.value (head.begin + q.start); part = part_of s (head.begin + q.start) (head.begin + q.end) }
     unfolding view_in
     view-found q e g h r =
         ap (λ (x : Bool). viewed_at (pick x (pick (has_record n row (sets_from s)) 0 22) 21) (groups (read_of s)) (index_of n (sets_from s)) row) set_there

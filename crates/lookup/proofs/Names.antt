@@ -1,4 +1,5 @@
 -- The sets' names, by the places of the descriptors.
+use Rattle.std.specs.Prelude.{Option, Some, None, Result, Ok}
 use Prim.Native.Nat.{ℕ, zero, suc, ◌-◌, ◌≤◌, ◌<◌}
 use native.Mathlib.Omega.{arith}
 use mathlib.Core.Path.{◌≡◌, refl, sym, ap, ◌∙◌, subst}
@@ -22,14 +23,13 @@ use Rattle.records.specs.Places.{is_readable, Placed, places_of, is_descriptor}
 use Rattle.records.specs.Walk.{record_in}
 use Rattle.records.specs.declared.Place.{Place}
 use Rattle.records.specs.declared.RecordSet.{RecordSet}
-use Rattle.records.specs.declared.FoundRecord.{FoundRecord}
 use Rattle.records.proofs.Shifts.{fields_in}
 use Rattle.records.proofs.Readings.{reads_of}
 use Rattle.records.proofs.Searches.{places_at, Stand}
 use Rattle.records.proofs.Sets.{from_head, SetMet}
 use Rattle.records.proofs.Members.{sets-places, Stands, stands, others, others_by, others-enter}
 use Rattle.records.proofs.Fields.{FieldFound}
-use Rattle.format.specs.declared.Answer.{Answer as Reply}
+use Rattle.format.specs.declared.refusals.Refusal.{Refusal}
 use Rattle.lookup.specs.Answers.{sets_from, name_in}
 use Rattle.lookup.proofs.Looking.{filled-long, filled-fits}
 use Rattle.lookup.specs.Names.{titled, descriptor_by, descriptor_at}
@@ -45,7 +45,7 @@ descriptor-from (p ∷ ps) k = go (is_descriptor p) refl (descriptor-from ps k)
     go false e x = x ∙ sym (ap (λ (b : Bool). descriptor_by b k p (λ (j : ℕ). descriptor_at ps j)) e)
 
 module _ (s : Bytes) (i : ℕ) where
-  pub descriptor-none : (k : ℕ) → from_head (places_at s i) ≡ [] → descriptor_at (places_at s i) k ≡ FoundRecord.Missing
+  pub descriptor-none : (k : ℕ) → from_head (places_at s i) ≡ [] → descriptor_at (places_at s i) k ≡ None
   unfolding descriptor_at
   descriptor-none k e = sym (descriptor-from (places_at s i) k) ∙ ap (λ (ps : List Placed). descriptor_at ps k) e
 
@@ -57,10 +57,10 @@ module _ (s : Bytes) (i : ℕ) where
         ∙ ap (λ (ps : List Placed). descriptor_at ps k) m.places
         ∙ ap (λ (b : Bool). descriptor_by b k m.here (λ (j : ℕ). descriptor_at m.later j)) m.head
 
-    pub descriptor-here : (k : ℕ) → k ≡ 0 → descriptor_at (places_at s i) k ≡ FoundRecord.At (record { start = q.start; end = q.end; after = q.begin; descriptor = true })
+    pub descriptor-here : (k : ℕ) → k ≡ 0 → descriptor_at (places_at s i) k ≡ Some (record { start = q.start; end = q.end; after = q.begin; descriptor = true })
     descriptor-here k z =
         descriptor-on k ∙ ap (λ (x : ℕ). descriptor_by true x m.here (λ (j : ℕ). descriptor_at m.later j)) z
-        ∙ (λ t. FoundRecord.At (record { start = (m.is t).start; end = (m.is t).end; after = (m.is t).begin; descriptor = m.head t }))
+        ∙ (λ t. Some (record { start = (m.is t).start; end = (m.is t).end; after = (m.is t).begin; descriptor = m.head t }))
 
     pub descriptor-later : (k j : ℕ) → k ≡ suc j → descriptor_at (places_at s i) k ≡ descriptor_at (places_at s q.after) j
     descriptor-later k j z =
@@ -77,15 +77,15 @@ pub record DescriptorFound (s : Bytes) (ds : List RecSet) (k : ℕ) (q : Place) 
   pub titles : values_of (text "%rec") fields ≡ value ∷ values
   pub named : get_or (map name_of ds) k [] ≡ first_word value
 
-abbrev pub DescriptorTold : Bytes → List RecSet → ℕ → FoundRecord → Type 0
-DescriptorTold s ds k FoundRecord.Missing = length ds ≤ k
-DescriptorTold s ds k (FoundRecord.At q) = DescriptorFound s ds k q
+abbrev pub DescriptorTold : Bytes → List RecSet → ℕ → Option Place → Type 0
+DescriptorTold s ds k None = length ds ≤ k
+DescriptorTold s ds k (Some q) = DescriptorFound s ds k q
 
-told-on : (s : Bytes) (d : RecSet) (ds : List RecSet) (k : ℕ) (x : FoundRecord) → DescriptorTold s ds k x → DescriptorTold s (d ∷ ds) (suc k) x
-told-on s d ds k FoundRecord.Missing h = omega arith
-told-on s d ds k (FoundRecord.At q) h = record { there = omega (arith, h.there); fields = h.fields; stand = h.stand; value = h.value; values = h.values; titles = h.titles; named = h.named }
+told-on : (s : Bytes) (d : RecSet) (ds : List RecSet) (k : ℕ) (x : Option Place) → DescriptorTold s ds k x → DescriptorTold s (d ∷ ds) (suc k) x
+told-on s d ds k None h = omega arith
+told-on s d ds k (Some q) h = record { there = omega (arith, h.there); fields = h.fields; stand = h.stand; value = h.value; values = h.values; titles = h.titles; named = h.named }
 
-told-by : (s : Bytes) (vs : List Bytes) (p : Placed) (ss : List RecSet) (k : ℕ) (later : ℕ → FoundRecord) → values_of (text "%rec") p.fields ≡ vs → Stand s p.start p.end p.after p.fields → ((j : ℕ) → DescriptorTold s (others ss) j (later j)) → DescriptorTold s (others_by vs p.fields ss) k (descriptor_by (is_filled vs) k p later)
+told-by : (s : Bytes) (vs : List Bytes) (p : Placed) (ss : List RecSet) (k : ℕ) (later : ℕ → Option Place) → values_of (text "%rec") p.fields ≡ vs → Stand s p.start p.end p.after p.fields → ((j : ℕ) → DescriptorTold s (others ss) j (later j)) → DescriptorTold s (others_by vs p.fields ss) k (descriptor_by (is_filled vs) k p later)
 told-by s [] p ss k later e h ih = ih k
 told-by s (v ∷ vs) p ss zero later e h ih = record { there = omega arith; fields = p.fields; stand = h; value = v; values = vs; titles = e; named = refl }
 told-by s (v ∷ vs) p ss (suc k) later e h ih = told-on s _ (others ss) k (later k) (ih k)
@@ -99,7 +99,7 @@ told_in s (p ∷ ps) k h =
     (told-by s vs p (sets (fields_in ps)) k (λ (j : ℕ). descriptor_at ps j) refl h.0 (λ j. told_in s ps j h.2))
 
 -- of an answer, once its form is known
-pub descriptor-told : (s : Bytes) (k : ℕ) (x : FoundRecord) {y : FoundRecord} → is_readable s ≡ true → x ≡ descriptor_at (places_of s) k → x ≡ y → DescriptorTold s (others (sets_from s)) k y
+pub descriptor-told : (s : Bytes) (k : ℕ) (x : Option Place) {y : Option Place} → is_readable s ≡ true → x ≡ descriptor_at (places_of s) k → x ≡ y → DescriptorTold s (others (sets_from s)) k y
 descriptor-told s k x {y} e f g =
     subst (DescriptorTold s (others (sets_from s)) k) (sym f ∙ g)
     (subst (λ (ss : List RecSet). DescriptorTold s (others ss) k (descriptor_at (places_of s) k)) (sym (sets-places s)) (told_in s (places_of s) k (stands s e)))
@@ -175,9 +175,9 @@ unfolding InsideIf
 over-inside zero t out = omega (arith, length-append t (drop (length t) out))
 over-inside (suc k) t out = tt
 
-pub name-inside : (s : Bytes) (k : ℕ) (out : Bytes) (x : Reply) {n : ℕ} (o : Bytes) → name_in s k out ≡ record { result = answered x; out = o } → x ≡ Reply.Value n → n ≤ length o
+pub name-inside : (s : Bytes) (k : ℕ) (out : Bytes) (x : Result ℕ Refusal) {n : ℕ} (o : Bytes) → name_in s k out ≡ record { result = answered x; out = o } → x ≡ Ok n → n ≤ length o
 unfolding name_in InsideIf
 name-inside s k out x {n} o e f =
     let v : Bytes = get_or (map name_of (sets_from s)) k [] in
     let i = over-inside (then_no (first_no found_rows (sought_order (sets_from s) k)) (pick (leb (length v) (length out)) 0 27)) v out in
-    subst (λ (y : Reply). InsideIf (answered y) o) f (subst (λ (y : Filled). InsideIf y.result y.out) e i)
+    subst (λ (y : Result ℕ Refusal). InsideIf (answered y) o) f (subst (λ (y : Filled). InsideIf y.result y.out) e i)

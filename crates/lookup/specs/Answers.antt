@@ -1,22 +1,24 @@
 -- The paper's number and values for each answer, and what a lookup in a readable text answers.
-use Rattle.std.specs.Prelude.{ℕ, ◌-◌, ◌≤◌, List, [], map, length, take, drop, get_or}
+use Rattle.std.specs.Prelude.{ℕ, ◌-◌, ◌≤◌, List, [], map, length, take, drop, get_or, Result, Ok, Err}
 use Rattle.format.specs.Bytes.{Bytes}
 use Rattle.format.specs.Pieces.{read_of}
 use Rattle.format.specs.Sets.{values_of, groups, RecSet, sets_of}
 use Rattle.format.specs.Questions.{first_no, name_of}
 use Rattle.format.specs.Plain.{Sought, sought_members, sought_record, found_rows}
 use Rattle.format.specs.Calls.{Answer, answer, sought_set, Filled, filled, sought_field, sought_order, Viewed, viewed_at, sought_row}
-use Rattle.lookup.specs.declared.inside.Seen.{Seen}
+use Rattle.format.specs.declared.refusals.Refusal.{Refusal}
+use Rattle.format.specs.Refusals.{refusal_no}
+use Rattle.words.specs.declared.Span.{Span}
 
 -- a view as a place of the text
-abbrev pub seen_answer : Bytes → Seen → Viewed
-seen_answer s (Seen.At a e) = record { result = Answer.value a; part = take (e - a) (drop a s) }
-seen_answer s (Seen.Refused k) = record { result = Answer.refusal k; part = [] }
+abbrev pub seen_answer : Bytes → Result Span Refusal → Viewed
+seen_answer s (Ok v) = record { result = Answer.value v.start; part = take (v.end - v.start) (drop v.start s) }
+seen_answer s (Err r) = record { result = Answer.refusal (refusal_no r); part = [] }
 
 -- a view lies in the text
-abbrev pub SeenInside : Bytes → Seen → Type 0
-SeenInside b (Seen.At a e) = (a ≤ e) × (e ≤ length b)
-SeenInside b (Seen.Refused k) = Unit {0}
+abbrev pub SeenInside : Bytes → Result Span Refusal → Type 0
+SeenInside b (Ok v) = (v.start ≤ v.end) × (v.end ≤ length b)
+SeenInside b (Err r) = Unit {0}
 
 -- the sets of a text
 abbrev pub sets_from : Bytes → List RecSet

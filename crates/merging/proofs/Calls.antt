@@ -1,7 +1,7 @@
 -- A list of calls with merges in it leaves what the edits leave that it stands for, sent singly, and so meets demand 3. A merge of a spare without records changes nothing.
 use Prim.Native.Nat.{ℕ}
 use mathlib.Core.Path.{◌≡◌, refl, sym, ap, ◌∙◌, subst}
-use mathlib.Core.List.{List, [], ◌∷◌, ◌++◌}
+use mathlib.Core.List.{List, [], ◌∷◌}
 use lib.ListN.{length, take}
 use Rattle.format.specs.Bytes.{Bytes}
 use Rattle.format.specs.Pieces.{read_of}
@@ -11,7 +11,7 @@ use Rattle.format.specs.Calls.{Answer, value_or, then_no, sets_in, Filled, leave
 use Rattle.format.specs.Runs.{Single, Ran, singly, plain_run, then_ran}
 use Rattle.format.specs.Demand.{Demand}
 use Rattle.format.proofs.Demand.{edits-meet-demand, singly-append}
-use Rattle.merging.specs.Merging.{SpareRecord, records_of, records_answer, spare_no, unless_no, merge_answer, merge_inserts, MergeCall, edits_of, call_ran, calls_ran, edits_in}
+use Rattle.merging.specs.Merging.{records_of, records_answer, spare_no, unless_no, merge_answer, merge_inserts, MergeCall, edits_of, call_ran, calls_ran, edits_in}
 use Rattle.merging.proofs.Singly.{merge-accepted, merge-refused}
 
 -- A spare that passes, has no set that the main file lacks, and has no record.

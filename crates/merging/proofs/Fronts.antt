@@ -1,29 +1,29 @@
 -- The records that are appended before anything is judged: they are a granted front of those that are not skipped, and what stops them is the merge's number if the front passes.
-use Prim.Native.Nat.{ℕ, zero, suc, ◌+◌, ◌≤◌, ◌<◌}
+use Prim.Native.Nat.{ℕ, zero, suc, ◌≤◌, ◌<◌}
 use native.Mathlib.Omega.{arith}
-use mathlib.Core.Path.{◌≡◌, refl, sym, ap, ◌∙◌, subst}
-use mathlib.Core.Bool.{Bool, true, false, ◌&&◌, false≢true, and-eq-true_iff}
-use mathlib.Core.List.{List, [], ◌∷◌, ◌++◌, map}
+use mathlib.Core.Path.{◌≡◌, refl, sym, ap, ◌∙◌}
+use mathlib.Core.Bool.{Bool, true, false, false≢true}
+use mathlib.Core.List.{List, [], ◌∷◌, ◌++◌}
 use mathlib.Core.Option
 use mathlib.Core.Option.{Option, none, some}
 use lib.Dec.{leb, eqb}
 use lib.ListN.{length, take, drop}
 use borrow.Author.Tests.{leb-true, leb-false, ne_eqb}
-use Rattle.format.specs.Bytes.{Bytes, pick, all, is_some}
+use Rattle.format.specs.Bytes.{pick, all, is_some}
 use Rattle.format.specs.Limits.{file_bytes}
 use Rattle.format.specs.Numbers.{int_bounds}
-use Rattle.format.specs.Questions.{Row, first_no, fits_limits}
+use Rattle.format.specs.Questions.{first_no, fits_limits}
 use Rattle.format.specs.Written.{Pair}
 use Rattle.format.specs.Numbering.{completed}
 use Rattle.format.specs.Edits.{Edit}
-use Rattle.format.specs.Requests.{Request, request_of}
-use Rattle.format.specs.Plain.{Plain, length_of, set_at, index_of, apply, completed_by, request_or, Asked, edit_questions, Step, step_by, step_of, step}
+use Rattle.format.specs.Requests.{Request}
+use Rattle.format.specs.Plain.{Plain, length_of, set_at, index_of, apply, completed_by, request_or, Asked, edit_questions, step_by, step_of, step}
 use Rattle.format.specs.Calls.{then_no}
 use Rattle.format.proofs.Elements.{Each, Filled}
 use Rattle.format.proofs.Least.{first-append}
 use Rattle.format.proofs.Completing.{completed-insert}
 use Rattle.format.proofs.Overlong.{is_short, overlong-limits}
-use Rattle.format.proofs.Questions.{Yes, first-yes, asked}
+use Rattle.format.proofs.Questions.{first-yes, asked}
 use Rattle.format.proofs.Results.{place_rows}
 use Rattle.merging.specs.Merging.{SpareRecord, insert_for, request_for, is_skipped}
 use Rattle.merging.specs.Appending.{with_insert, with_inserts, inserted_unless, left_unless, left_by, new_pairs, has_short_names, is_room_for, grant_no, Front, front_by, front_of}

@@ -1,21 +1,19 @@
 -- The name of the set that a descriptor opens: the first word of its first `%rec` value, which is no longer than a value may be.
-use Prim.Native.Nat.{ℕ, zero, suc, ◌-◌, ◌≤◌, ◌<◌}
+use Prim.Native.Nat.{ℕ, suc, ◌-◌, ◌≤◌, ◌<◌}
 use native.Mathlib.Omega.{arith}
-use mathlib.Core.Path.{◌≡◌, refl, sym, ap, ◌∙◌, subst}
-use mathlib.Core.Bool.{Bool, true, false, ◌&&◌, and-eq-true_iff, false≢true}
+use mathlib.Core.Path.{◌≡◌, refl, sym, ap, ◌∙◌}
+use mathlib.Core.Bool.{Bool, true, false, and-eq-true_iff, false≢true}
 use mathlib.Core.List.{List, [], ◌∷◌}
-use lib.Dec.{leb}
 use lib.ListN.{length, take, drop, get_or}
 use borrow.Author.Tests.{leb-true}
 use Rattle.format.specs.Bytes.{Bytes, text, pick, all, same}
 use Rattle.format.specs.Lists.{is_filled, front, behind}
 use Rattle.format.specs.Limits.{value_bytes}
-use Rattle.format.specs.Records.{Field, Record}
+use Rattle.format.specs.Records.{Record}
 use Rattle.format.specs.Sets.{values_of}
 use Rattle.format.specs.Words.{is_gap, not_gap, first_word}
 use Rattle.format.proofs.Walking.{is_head, name_in, head_name}
 use Rattle.values.specs.Value.{value_from}
-use Rattle.words.specs.Spans.{span}
 use Rattle.records.specs.Walk.{record_in}
 use Rattle.records.proofs.Fields.{FieldFound}
 use Rattle.merging.specs.Texts.{fits_value}

@@ -1,8 +1,8 @@
 -- The answer of a merge by what is appended first: if the sets then pass, the merge is accepted or refused with what stopped the front; if not, it is refused with the number of the sets where passing turns.
-use Prim.Native.Nat.{ℕ, zero, suc, ◌+◌, ◌<◌}
-use mathlib.Core.Path.{◌≡◌, refl, sym, ap, ◌∙◌}
-use mathlib.Core.Bool.{Bool, true, false}
-use mathlib.Core.List.{List, [], ◌∷◌}
+use Prim.Native.Nat.{ℕ, suc, ◌+◌, ◌<◌}
+use mathlib.Core.Path.{◌≡◌, refl, ap, ◌∙◌}
+use mathlib.Core.Bool.{true}
+use mathlib.Core.List.{List}
 use lib.Dec.{eqb}
 use lib.ListN.{length, take}
 use lib.Seq.{take-length}
@@ -12,7 +12,7 @@ use Rattle.format.specs.Bytes.{Bytes}
 use Rattle.format.specs.Pieces.{bytes_of, read_of}
 use Rattle.format.specs.Questions.{verdict}
 use Rattle.format.specs.Plain.{Plain, plain_of, length_of}
-use Rattle.format.specs.Calls.{Answer, sets_in, Filled, over}
+use Rattle.format.specs.Calls.{Answer, sets_in, over}
 use Rattle.merging.specs.Merging.{SpareRecord, records_of, is_skipped, spare_no, merge_answer}
 use Rattle.merging.specs.Appending.{with_inserts, sets_no, Front, front_of}
 use Rattle.merging.proofs.Singly.{merge-refused}

@@ -1,4 +1,6 @@
 -- Where a spare's record goes in a text that records can be appended to, what it makes there, and what speaks against it: by the head of its set, its pairs, and the fields that it gets.
+use Rattle.records.specs.declared.ValuePlace.{ValuePlace}
+use Rattle.std.specs.Prelude.{Option as Maybe, Some, None}
 use Prim.Native.Nat.{ℕ, ◌+◌, ◌-◌, ◌≤◌, ◌<◌, max}
 use native.Mathlib.Omega.{arith}
 use mathlib.Core.Path.{◌≡◌, refl, sym, ap, ◌∙◌, subst}
@@ -6,10 +8,12 @@ use mathlib.Core.Bool.{Bool, true, false, ◌&&◌, not, and-eq-true_iff, and-tr
 use mathlib.Core.List.{List, [], ◌∷◌, ◌++◌, map, append_assoc}
 use mathlib.Core.Option
 use mathlib.Core.Option.{Option, none, some}
-use lib.Dec.{leb}
 use lib.ListN.{length, take, drop, replicate, length-append, length-take, length-drop}
 use lib.Seq.{length-take-le}
 use borrow.Author.Tests.{le-leb, lt-leb}
+use Rattle.format.specs.declared.refusals.Question.{Question}
+use Rattle.format.specs.declared.refusals.Refusal.{Refusal}
+use Rattle.format.specs.Refusals.{refusal_no}
 use Rattle.format.specs.Bytes.{Bytes, text, pick, all, any, is_some}
 use Rattle.format.specs.Pieces.{bytes_of as pieces_text, read_of}
 use Rattle.format.specs.Records.{Record}
@@ -24,11 +28,10 @@ use Rattle.format.specs.Written.{Pair, written, written_all, is_legal_name, is_l
 use Rattle.format.specs.Numbering.{added as added_by, completed, or_else}
 use Rattle.format.specs.Edits.{Edit}
 use Rattle.format.specs.Requests.{Request}
-use Rattle.format.specs.Plain.{Plain, plain_of, length_of, index_of, set_at, apply, request_or}
+use Rattle.format.specs.Plain.{Plain, plain_of, length_of, set_at, apply, request_or}
 use Rattle.format.specs.Calls.{then_no}
 use Rattle.format.proofs.Lines.{all_append}
 use Rattle.format.proofs.Elements.{Filled, each_all, each-imp, all-each}
-use Rattle.format.proofs.Grouping.{HasPairs}
 use Rattle.format.proofs.Applying.{agrees-length}
 use Rattle.format.proofs.Completing.{completed-insert}
 use Rattle.format.proofs.Overlong.{is_short}
@@ -38,13 +41,11 @@ use Rattle.format.proofs.Records.{records}
 use Rattle.format.proofs.Results.{place_rows}
 use Rattle.format.proofs.Walking.{ruled}
 use Rattle.words.specs.Spans.{span}
-use Rattle.records.specs.Places.{is_readable, places_of, head_place}
+use Rattle.records.specs.Places.{places_of, head_place}
 use Rattle.records.specs.Sets.{set_behind}
 use Rattle.records.specs.Walk.{record_in}
 use Rattle.records.specs.Named.{ValueNext, NamedNext}
-use Rattle.records.specs.declared.FoundField.{FoundField}
 use Rattle.records.specs.declared.Head.{Head}
-use Rattle.records.specs.declared.FoundHead.{FoundHead}
 use Rattle.records.specs.declared.RecordSet.{RecordSet}
 use Rattle.records.proofs.Members.{HeadFound, head-told}
 use Rattle.records.proofs.SetOf.{SetOf, head-set, each_set}
@@ -92,9 +93,9 @@ fields_fit t h = ap (all fits_value) (fields-records (read_of t)) ∙ all-flat (
     all-flat [] = refl
     all-flat (r ∷ rs) = all_append fits_value r (flat rs) ∙ ap (λ (b : Bool). all fits_value r && b) (all-flat rs)
 
-module _ (s : Bytes) (h : Appendable s) (head : Head) (set : Bytes) (found : head_place set (places_of s) ≡ FoundHead.At head) (p : RecordSet) (is : p ≡ set_behind s head) where
+module _ (s : Bytes) (h : Appendable s) (head : Head) (set : Bytes) (found : head_place set (places_of s) ≡ Some head) (p : RecordSet) (is : p ≡ set_behind s head) where
   head-found : HeadFound s set (sets_of (read_of s)) head
-  head-found = head-told s set (FoundHead.At head) h.readable (sym found) refl
+  head-found = head-told s set (Some head) h.readable (sym found) refl
 
   pub set-stands : SetOf s set p
   set-stands = subst (SetOf s set) (sym is) (head-set s set head head-found)
@@ -186,7 +187,7 @@ module _ (s : Bytes) (h : Appendable s) (head : Head) (set : Bytes) (found : hea
           ∙ (λ i. pick (is_room_for room (insert-size i)) (pick (short-names i) 0 104) 26)
 
 -- What was put is what becomes of the record.
-module _ (before : Bytes) (used room : ℕ) (fits : used ≤ length before) (h : Appendable (take used before)) (head : Head) (set : Bytes) (found : head_place set (places_of (take used before)) ≡ FoundHead.At head) (p : RecordSet) (is : p ≡ set_behind (take used before) head) (request added after : Bytes) (filled : Filled (pairs_at request 0)) (legal : all is_legal_pair (pairs_at request 0) ≡ true) (len : ℕ) (len_is : len ≡ length (written_all (pairs_at request 0))) where
+module _ (before : Bytes) (used room : ℕ) (fits : used ≤ length before) (h : Appendable (take used before)) (head : Head) (set : Bytes) (found : head_place set (places_of (take used before)) ≡ Some head) (p : RecordSet) (is : p ≡ set_behind (take used before) head) (request added after : Bytes) (filled : Filled (pairs_at request 0)) (legal : all is_legal_pair (pairs_at request 0) ≡ true) (len : ℕ) (len_is : len ≡ length (written_all (pairs_at request 0))) where
   abbrev s : Bytes
   s = take used before
 
@@ -203,14 +204,14 @@ module _ (before : Bytes) (used room : ℕ) (fits : used ≤ length before) (h :
     grants : place_grant room (record { set = set; pairs = new }) (plain_of (read_of s)) ≡ pick (is_room_for room (made_len used (own + len))) (pick (all is_short ps) 0 104) 26
     grants = grant-made s h head set found p is new filled legal ps e room ∙ (λ i. pick (is_room_for room (made_len (sized i) (sym own_is i + sym len_is i))) (pick (all is_short ps) 0 104) 26)
 
-    over-some : (t : Bool) → 0 < pick t 104 26
-    over-some true = omega arith
-    over-some false = omega arith
+    over-number : (t : Bool) → pick t 104 26 ≡ refusal_no (pick t (Refusal.Result Question.Limit) Refusal.Large)
+    over-number true = refl
+    over-number false = refl
 
-    told-long : all is_short ps ≡ false → (r : Inserted) → r ≡ Inserted.Refused (pick (is_room_for room (made_len used (own + len))) 104 26) → after ≡ before → PlacedAs before used room (record { set = set; pairs = new }) after r
+    told-long : all is_short ps ≡ false → (r : Inserted) → r ≡ Inserted.Refused (pick (is_room_for room (made_len used (own + len))) (Refusal.Result Question.Limit) Refusal.Large) → after ≡ before → PlacedAs before used room (record { set = set; pairs = new }) after r
     told-long z r q o =
         let b : Bool = is_room_for room (made_len used (own + len)) in
-        subst (PlacedAs before used room (record { set = set; pairs = new }) after) (sym q) (grants ∙ ap (λ (t : Bool). pick b (pick t 0 104) 26) z, over-some b, o)
+        subst (PlacedAs before used room (record { set = set; pairs = new }) after) (sym q) (grants ∙ ap (λ (t : Bool). pick b (pick t 0 104) 26) z ∙ over-number b, o)
 
     told_text : all is_short ps ≡ true → take own added ≡ written_all ps → (b : Bool) → is_room_for room (made_len used (own + len)) ≡ b → (r : Inserted) → PutIf b before used (inserted (take used before) p.after (record_text (take own added) request 0)) after r → PlacedAs before used room (record { set = set; pairs = new }) after r
     told_text z t true w r q =
@@ -222,18 +223,18 @@ module _ (before : Bytes) (used room : ℕ) (fits : used ≤ length before) (h :
           omega (arith, ap length q.1, length-append made (replicate (used - length made) 0 ++ drop (max used (length made)) before)),
           ap (take (length made)) q.1 ∙ placed-take made used before ∙ is_made,
         )
-    told_text z t false w r q = subst (PlacedAs before used room (record { set = set; pairs = new }) after) (sym q.0) (grants ∙ ap (λ (b : Bool). pick b (pick (all is_short ps) 0 104) 26) w, omega arith, q.1)
+    told_text z t false w r q = subst (PlacedAs before used room (record { set = set; pairs = new }) after) (sym q.0) (grants ∙ ap (λ (b : Bool). pick b (pick (all is_short ps) 0 104) 26) w, q.1)
 
   pub placed-told : (x : Added) → AddedAs (added_by int_bounds (ruled (record_in (span p.start p.end (take used before))) (records (read_of (span p.begin p.after (take used before))))) (pairs_at request 0)) added x
       → (r : Inserted) → PutBy before used room p.after len request added after x r → PlacedAs before used room (record { set = set; pairs = pairs_at request 0 }) after r
-  placed-told Added.Numberless y r q = subst (PlacedAs before used room (record { set = set; pairs = new }) after) (sym q.0) (grant-numberless s h head set found p is new filled room legal y, omega arith, q.1)
+  placed-told Added.Numberless y r q = subst (PlacedAs before used room (record { set = set; pairs = new }) after) (sym q.0) (grant-numberless s h head set found p is new filled room legal y, q.1)
   placed-told (Added.Long own) y r q = told-long y.0 y.1.0 own y.1.1.len_is y.1.1.long r q.0 q.1
   placed-told (Added.Text own) y r q = told_text y.0 y.1.0 own y.1.1.len_is y.1.1.short y.1.1.text (is_room_for room (made_len used (own + len))) refl r q
 
 -- the key of a set, as a search for its field finds it
-abbrev is_found : FoundField → Bool
-is_found FoundField.Missing = false
-is_found (FoundField.At a v e) = true
+abbrev is_found : Maybe ValuePlace → Bool
+is_found None = false
+is_found (Some f) = true
 
 module _ (d : Bytes) (h : Described d) where
   key-filled : (vs : List Bytes) → length (key (record_in d)) ≡ length vs → is_filled (key (record_in d)) ≡ is_filled vs
@@ -245,18 +246,18 @@ module _ (d : Bytes) (h : Described d) where
       go (k ∷ ks) [] q = absurd (omega arith)
       go (k ∷ ks) (v ∷ ws) q = refl
 
-  pub key-found : (x : FoundField) {y : FoundField} → NamedNext d (text "%key") 0 x → x ≡ y → is_filled (key (record_in d)) ≡ is_found y
+  pub key-found : (x : Maybe ValuePlace) {y : Maybe ValuePlace} → NamedNext d (text "%key") 0 x → x ≡ y → is_filled (key (record_in d)) ≡ is_found y
   key-found x {y} n e = key-filled (values_of (text "%key") (record_in d)) (key-length (record_in d) (all-shaped d h)) ∙ go y (subst (NamedNext d (text "%key") 0) e n).value
     where
-      go : (z : FoundField) → ValueNext d (text "%key") 0 z → is_filled (values_of (text "%key") (record_in d)) ≡ is_found z
-      go FoundField.Missing q = ap is_filled q
-      go (FoundField.At a v b) q = ap is_filled q.values
+      go : (z : Maybe ValuePlace) → ValueNext d (text "%key") 0 z → is_filled (values_of (text "%key") (record_in d)) ≡ is_found z
+      go None q = ap is_filled q
+      go (Some f) q = ap is_filled q.values
 
 -- the text of the fields that a record gets is inside what was lent for it
 pub added-inside : (o : Option (List Pair)) (added : Bytes) (x : Added) → AddedAs o added x → OwnInside added x
 added-inside o added Added.Numberless h = tt
-added-inside o added (Added.Text own) h = h.1.1.inside
-added-inside o added (Added.Long own) h = tt
+added-inside o added (Added.Text n) h = h.1.1.inside
+added-inside o added (Added.Long n) h = tt
 
 -- a record is skipped by what is read of its set
 pub skipped-set : (s set : Bytes) (p : RecordSet) → SetOf s set p → (new : List Pair)
@@ -276,14 +277,14 @@ inserted-placed before used room set new ps after r s l e h = go r (subst (λ (q
 
     go : (q : Inserted) → PlacedAs before used room (record { set = set; pairs = new }) after q → InsertedAs before used room (record { set = set; pairs = new }) after q
     go Inserted.Skipped k = absurd k
-    go (Inserted.Refused k) z = (s, grant k z.0, z.1, z.2)
+    go (Inserted.Refused k) z = (s, grant (refusal_no k) z.0, z.1)
     go (Inserted.Grown m) z = (s, grant 0 z.0, z.1, z.2)
 
 pub inserted-long : (before : Bytes) (used room : ℕ) (set : Bytes) (new : List Pair) → is_skipped (record { set = set; pairs = new }) (plain_of (read_of (take used before))).sets ≡ false
-    → file_bytes < length (request_for (record { set = set; pairs = new })) → InsertedAs before used room (record { set = set; pairs = new }) before (Inserted.Refused 20)
+    → file_bytes < length (request_for (record { set = set; pairs = new })) → InsertedAs before used room (record { set = set; pairs = new }) before (Inserted.Refused Refusal.Form)
 inserted-long before used room set new s l =
     let x : SpareRecord = record { set = set; pairs = new } in
-    (s, ap (λ (b : Bool). pick b (place_grant room x (plain_of (read_of (take used before)))) 20) (lt-leb (length (request_for x)) file_bytes l), omega arith, refl)
+    (s, ap (λ (b : Bool). pick b (place_grant room x (plain_of (read_of (take used before)))) 20) (lt-leb (length (request_for x)) file_bytes l), refl)
 
 pub filled-pairs : (r : Record) → Filled r → Filled (map pair_of r)
 filled-pairs [] h = absurd h

@@ -1,10 +1,10 @@
 -- A record written as the pairs of a request, field by field.
-use Prim.Native.Nat.{ℕ, zero, suc, ◌+◌, ◌-◌, ◌≤◌, ◌<◌}
+use Prim.Native.Nat.{ℕ, ◌+◌, ◌-◌, ◌≤◌, ◌<◌}
 use native.Mathlib.Nat.{zero-add}
 use native.Mathlib.Omega.{arith}
-use mathlib.Core.Path.{◌≡◌, refl, sym, ap, ◌∙◌, subst}
-use mathlib.Core.Bool.{Bool, true, ◌&&◌, and-eq-true_iff}
-use mathlib.Core.List.{List, [], ◌∷◌, ◌++◌, map}
+use mathlib.Core.Path.{◌≡◌, refl, sym, ap, ◌∙◌}
+use mathlib.Core.Bool.{true, ◌&&◌, and-eq-true_iff}
+use mathlib.Core.List.{List, [], ◌∷◌, map}
 use lib.ListN.{length, take, drop, length-append}
 use lib.Seq.{sets, take-append_seam}
 use mathlib.Core.Option.{some}
@@ -13,7 +13,7 @@ use Rattle.format.specs.Lists.{flat, onward}
 use Rattle.format.specs.Limits.{file_bytes}
 use Rattle.format.specs.Written.{Pair}
 use Rattle.format.specs.Requests.{Tagged, tagged, tag, pairs_of, pair_fields, tagged_bytes, encoded}
-use Rattle.format.specs.Records.{Field, Record}
+use Rattle.format.specs.Records.{Record}
 use Rattle.format.specs.Calls.{over, Built, field_answer, built}
 use Rattle.format.proofs.Elements.{Each}
 use Rattle.format.proofs.Encoding.{fields_back}

@@ -3,7 +3,6 @@ use Prim.Native.Nat.{ℕ, ◌+◌, ◌≤◌, ◌<◌}
 use native.Mathlib.Omega.{arith}
 use mathlib.Core.Path.{◌≡◌, refl, sym, ap, ◌∙◌, subst}
 use mathlib.Core.Bool.{Bool, true, false, ◌&&◌, and-false, and-eq-true_iff}
-use mathlib.Core.List.{◌++◌}
 use lib.Dec.{leb}
 use lib.ListN.{length, take, length-append}
 use lib.Seq.{length-take-le}
@@ -12,6 +11,8 @@ use Rattle.format.specs.Bytes.{Bytes, pick}
 use Rattle.format.specs.Limits.{file_bytes}
 use Rattle.format.specs.Written.{written_all}
 use Rattle.format.specs.Calls.{placed}
+use Rattle.format.specs.declared.refusals.Question.{Question}
+use Rattle.format.specs.declared.refusals.Refusal.{Refusal}
 use Rattle.requests.specs.Pairs.{pairs_at}
 use Rattle.splices.specs.Space.{inserted, record_text}
 use Rattle.numbering.specs.declared.Added.{Added}
@@ -36,17 +37,17 @@ module _ (room used n m f : ℕ) (r : Bool) (e : r ≡ (leb f room && leb f file
 
 -- what is put, by the fields that a record gets
 module _ (before : Bytes) (used room at len : ℕ) (request added : Bytes) (a : Added) where
-  pub put-numberless : a ≡ Added.Numberless → PutBy before used room at len request added before a (Inserted.Refused 31)
-  put-numberless e = subst (λ (y : Added). PutBy before used room at len request added before y (Inserted.Refused 31)) (sym e) (refl, refl)
+  pub put-numberless : a ≡ Added.Numberless → PutBy before used room at len request added before a (Inserted.Refused Refusal.Numberless)
+  put-numberless e = subst (λ (y : Added). PutBy before used room at len request added before y (Inserted.Refused Refusal.Numberless)) (sym e) (refl, refl)
 
   module _ (own : ℕ) (b : Bool) (w : b ≡ is_room_for room (made_len used (own + len))) where
-    pub put-long : a ≡ Added.Long own → (t : Bool) → b ≡ t → PutBy before used room at len request added before a (Inserted.Refused (pick t 104 26))
-    put-long e t h = subst (λ (y : Added). PutBy before used room at len request added before y (Inserted.Refused (pick t 104 26))) (sym e) (ap (λ (x : Bool). Inserted.Refused (pick x 104 26)) (sym h ∙ w), refl)
+    pub put-long : a ≡ Added.Long own → (t : Bool) → b ≡ t → PutBy before used room at len request added before a (Inserted.Refused (pick t (Refusal.Result Question.Limit) Refusal.Large))
+    put-long e t h = subst (λ (y : Added). PutBy before used room at len request added before y (Inserted.Refused (pick t (Refusal.Result Question.Limit) Refusal.Large))) (sym e) (ap (λ (x : Bool). Inserted.Refused (pick x (Refusal.Result Question.Limit) Refusal.Large)) (sym h ∙ w), refl)
 
-    pub put_full : a ≡ Added.Text own → b ≡ false → PutBy before used room at len request added before a (Inserted.Refused 26)
+    pub put_full : a ≡ Added.Text own → b ≡ false → PutBy before used room at len request added before a (Inserted.Refused Refusal.Large)
     put_full e h =
         let made : Bytes = inserted (take used before) at (record_text (take own added) request 0) in
-        subst (λ (y : Added). PutBy before used room at len request added before y (Inserted.Refused 26)) (sym e) (subst (λ (x : Bool). PutIf x before used made before (Inserted.Refused 26)) (sym h ∙ w) (refl, refl))
+        subst (λ (y : Added). PutBy before used room at len request added before y (Inserted.Refused Refusal.Large)) (sym e) (subst (λ (x : Bool). PutIf x before used made before (Inserted.Refused Refusal.Large)) (sym h ∙ w) (refl, refl))
 
     pub put-done : a ≡ Added.Text own → b ≡ true → (n : ℕ) (after : Bytes) → n ≡ length (inserted (take used before) at (record_text (take own added) request 0)) → after ≡ placed (inserted (take used before) at (record_text (take own added) request 0)) used before
         → PutBy before used room at len request added after a (Inserted.Grown n)

@@ -1,29 +1,26 @@
 -- Texts that records can be appended to, passing or not: they read, their descriptors pass 4 to 7, and no value is longer than it may be. An insert that is granted leaves such a text.
 use Prim.Native.Nat.{ℕ, zero, suc, ◌≤◌}
-use native.Mathlib.Omega.{arith}
 use mathlib.Core.Path.{◌≡◌, refl, sym, ap, ◌∙◌, subst}
-use mathlib.Core.Bool.{Bool, true, false, ◌&&◌, and-eq-true_iff}
-use mathlib.Core.List.{List, [], ◌∷◌, ◌++◌, map}
+use mathlib.Core.Bool.{Bool, true, ◌&&◌, and-eq-true_iff}
+use mathlib.Core.List.{List, [], ◌∷◌, map}
 use mathlib.Core.Option.{Option, none, some}
 use lib.Dec.{leb}
-use lib.ListN.{length, take}
-use Rattle.format.specs.Bytes.{Bytes, pick, is_allowed, all, is_some}
+use lib.ListN.{length}
+use Rattle.format.specs.Bytes.{Bytes, pick, is_allowed, all}
 use Rattle.format.specs.Lists.{is_filled, filter, nth}
-use Rattle.format.specs.Lines.{is_ended}
 use Rattle.format.specs.Words.{split}
-use Rattle.format.specs.Pieces.{Piece, bytes_of, pieces, read_of}
+use Rattle.format.specs.Pieces.{bytes_of, read_of}
 use Rattle.format.specs.Records.{Field, Record}
 use Rattle.format.specs.Sets.{RecSet, sets_of}
 use Rattle.format.specs.Limits.{file_bytes, name_bytes, value_bytes, record_fields, descriptors}
 use Rattle.format.specs.Numbers.{int_bounds}
-use Rattle.format.specs.Questions.{first_no, fits_field, fits_record, fits_rules, fits_limits, describes_once, describes_well, types_well, limit_rows, rule_rows}
+use Rattle.format.specs.Questions.{first_no, fits_field, fits_record, fits_rules, fits_limits, describes_once, describes_well, types_well, rule_rows}
 use Rattle.format.specs.Written.{Pair, new_field, none_joins, is_legal_value}
-use Rattle.format.specs.Edits.{Edit, in_members, in_set}
+use Rattle.format.specs.Edits.{Edit, in_set}
 use Rattle.format.specs.Requests.{Request}
 use Rattle.format.specs.Plain.{Plain, plain_of, index_of, apply_in, apply, completed_by, request_or}
-use Rattle.format.proofs.Elements.{Each, each-imp, each_all, all-each, each-parts}
+use Rattle.format.proofs.Elements.{Each, each-imp, each_all, all-each}
 use Rattle.format.proofs.Lines.{all_append}
-use Rattle.format.proofs.Whole.{Sound, pieces-sound, sound-pieces}
 use Rattle.format.specs.Rules.{is_ordinary}
 use Rattle.format.proofs.Legal.{is_writable}
 use Rattle.format.proofs.Keeping.{is_writable_edit, legal-edit}
@@ -31,9 +28,9 @@ use Rattle.format.proofs.Grouping.{HasPairs}
 use Rattle.format.proofs.Applying.{Agrees, agrees-sets, Granted, apply-agrees, apply-allowed}
 use Rattle.format.proofs.Completing.{Whole, WholeRequest, completed-whole, whole-pairs}
 use Rattle.format.proofs.Questions.{first-yes, asked, completed-some, whole-granted}
-use Rattle.format.proofs.Describing.{apply-map, describes-once, describes-well, types-well}
-use Rattle.format.proofs.Passing.{SetsPass, bytes-ended}
-use Rattle.format.proofs.Judging.{set_questions, read_no, text_no}
+use Rattle.format.proofs.Describing.{describes-once, describes-well, types-well}
+use Rattle.format.proofs.Passing.{SetsPass}
+use Rattle.format.proofs.Judging.{read_no, text_no}
 use Rattle.format.proofs.Results.{place_rows}
 use Rattle.records.specs.Places.{is_readable}
 use Rattle.records.proofs.Readings.{reads_of, reads-readable, readable-ended, readable-pieces, readable-reads}

@@ -1,6 +1,8 @@
 -- Two records compared field by field, and one with those of a part.
+use Rattle.records.specs.declared.FieldPlace.{FieldPlace}
+use Rattle.std.specs.Prelude.{Option, Some, None}
 use Prim.Native.Nat.{ℕ, ◌-◌}
-use mathlib.Core.Path.{◌≡◌, refl, sym, ap, ◌∙◌, subst}
+use mathlib.Core.Path.{◌≡◌, sym, ap, ◌∙◌, subst}
 use mathlib.Core.Bool.{Bool, true, false, ◌&&◌, ◌||◌}
 use mathlib.Core.List.{List, [], ◌∷◌, map}
 use lib.ListN.{length, take, drop}
@@ -11,7 +13,6 @@ use Rattle.values.specs.Value.{value_from}
 use Rattle.words.specs.Spans.{span}
 use Rattle.records.specs.Fields.{fields_from, field_between, FieldHere, FieldNext}
 use Rattle.records.specs.Walk.{record_in}
-use Rattle.records.specs.declared.NextField.{NextField}
 use Rattle.merging.specs.Merging.{pair_of, is_same_pair, is_twin}
 use Rattle.merging.specs.Texts.{is_nothing}
 
@@ -19,11 +20,11 @@ use Rattle.merging.specs.Texts.{is_nothing}
 abbrev pub twins_from : Bytes → ℕ → Bytes → ℕ → Bool
 twins_from a i b j = is_twin (map pair_of (fields_from a i)) (fields_from b j)
 
-twin-none : (r : Record) (y : NextField) → (b : Bytes) (j : ℕ) → r ≡ [] → FieldNext b j y → is_twin (map pair_of r) (fields_from b j) ≡ is_nothing y
-twin-none r NextField.Nothing b j e h = λ i. is_twin (map pair_of (e i)) (h i)
-twin-none r (NextField.At s n v z) b j e h = λ i. is_twin (map pair_of (e i)) (h.fields i)
+twin-none : (r : Record) (y : Option FieldPlace) → (b : Bytes) (j : ℕ) → r ≡ [] → FieldNext b j y → is_twin (map pair_of r) (fields_from b j) ≡ is_nothing y
+twin-none r None b j e h = λ i. is_twin (map pair_of (e i)) (h i)
+twin-none r (Some f) b j e h = λ i. is_twin (map pair_of (e i)) (h.fields i)
 
-pub twins-end : (a : Bytes) (i : ℕ) (b : Bytes) (j : ℕ) (y : NextField) → fields_from a i ≡ [] → FieldNext b j y → is_nothing y ≡ twins_from a i b j
+pub twins-end : (a : Bytes) (i : ℕ) (b : Bytes) (j : ℕ) (y : Option FieldPlace) → fields_from a i ≡ [] → FieldNext b j y → is_nothing y ≡ twins_from a i b j
 twins-end a i b j y e h = sym (twin-none (fields_from a i) y b j e h)
 
 pub twins-short : (a : Bytes) (i : ℕ) (b : Bytes) (j : ℕ) (f : Field) (r : Record) → fields_from a i ≡ f ∷ r → fields_from b j ≡ [] → false ≡ twins_from a i b j
@@ -43,7 +44,7 @@ module _ (a : Bytes) (i : ℕ) (b : Bytes) (j : ℕ) (f g : Field) (r q : Record
   pub twins-on : same f.name g.name ≡ true → same f.value g.value ≡ true → twins_from a i b j ≡ is_twin (map pair_of r) q
   twins-on n v = both ∙ (λ k. n k && v k && is_twin (map pair_of r) q)
 
-pub field_told : (s : Bytes) (x : NextField) {y : NextField} → FieldNext s 0 x → x ≡ y → FieldNext s 0 y
+pub field_told : (s : Bytes) (x : Option FieldPlace) {y : Option FieldPlace} → FieldNext s 0 x → x ≡ y → FieldNext s 0 y
 field_told s x h e = subst (FieldNext s 0) e h
 
 -- behind a field of each

@@ -1,23 +1,23 @@
 -- A walk over the records of a part: the first one and those behind it; and the records of a spare as a walk meets them.
+use Rattle.std.specs.Prelude.{Option, Some, None}
 use Prim.Native.Nat.{ℕ, ◌+◌, ◌-◌, ◌≤◌, ◌<◌}
 use native.Mathlib.Nat.{zero-add}
 use native.Mathlib.Omega.{arith}
 use mathlib.Core.Path.{◌≡◌, refl, sym, ap, ◌∙◌, subst}
 use mathlib.Core.Bool.{Bool, true, false, ◌&&◌, not, ◌||◌}
-use mathlib.Core.List.{List, [], ◌∷◌, ◌++◌, map}
+use mathlib.Core.List.{List, [], ◌∷◌}
 use lib.ListN.{length, take, drop}
 use Rattle.format.specs.Bytes.{Bytes, pick, all, is_some}
 use Rattle.format.specs.Pieces.{Piece, read_of}
 use Rattle.format.specs.Records.{Record}
 use Rattle.format.specs.Sets.{RecSet, sets_of}
 use Rattle.format.specs.Plain.{index_of}
-use Rattle.format.proofs.Records.{records, default, sets-records}
+use Rattle.format.proofs.Records.{records, sets-records}
 use Rattle.format.proofs.Walking.{is_head, head_name, before, head_set, head_sets, sets-heads}
 use Rattle.words.specs.Spans.{span}
 use Rattle.records.specs.Places.{is_readable, places_of, first_place}
 use Rattle.records.specs.Walk.{record_in}
 use Rattle.records.specs.declared.Place.{Place}
-use Rattle.records.specs.declared.NextRecord.{NextRecord}
 use Rattle.records.proofs.Readings.{reads-readable}
 use Rattle.records.proofs.Searches.{Meets, Met, meets-first}
 use Rattle.records.proofs.Cuts.{records-none, records-met, head-met}
@@ -35,13 +35,13 @@ pub record FirstRecord (s : Bytes) (q : Place) : Type 0 where
   pub head : is_head (record_in (span q.start q.end s)) ≡ q.descriptor
 
 module _ (s : Bytes) (r : is_readable s ≡ true) where
-  met : (x : NextRecord) {y : NextRecord} → x ≡ first_place (places_of s) → x ≡ y → Meets s 0 y
+  met : (x : Option Place) {y : Option Place} → x ≡ first_place (places_of s) → x ≡ y → Meets s 0 y
   met x e f = subst (Meets s 0) (sym e ∙ f) (meets-first s 0 (omega arith) r)
 
-  pub first-none : (x : NextRecord) → x ≡ first_place (places_of s) → x ≡ NextRecord.Nothing → records (read_of s) ≡ []
+  pub first-none : (x : Option Place) → x ≡ first_place (places_of s) → x ≡ None → records (read_of s) ≡ []
   first-none x e f = records-none s 0 (met x e f)
 
-  pub first-record : (x : NextRecord) (q : Place) → x ≡ first_place (places_of s) → x ≡ NextRecord.At q → FirstRecord s q
+  pub first-record : (x : Option Place) (q : Place) → x ≡ first_place (places_of s) → x ≡ Some q → FirstRecord s q
   first-record x q e f =
       let m : Met s 0 q = met x e f in
       let part : take ((0 + q.end) - (0 + q.start)) (drop (0 + q.start) s) ≡ span q.start q.end s = λ i. take (zero-add q.end i - zero-add q.start i) (drop (zero-add q.start i) s) in

@@ -25,22 +25,22 @@ ghost use Rattle.merging.specs.Merging.{pair_of, is_twin};
 ghost use Rattle.merging.specs.Appending.{is_room_for, spare_record};
 ghost use Rattle.merging.specs.Texts.{fits_value, Appendable, SetAt, OwnInside, PutBy, PlacedIn, InsertedAs};
 
-use format::{File, Refusal};
+use format::{File, Question, Refusal};
 use numbering::Added;
-use records::{FoundField, FoundHead, NextField, RecordSet};
-use requests::Weighed;
+use records::RecordSet;
+use requests::Weight;
 use splices::NewRecord;
 
-// What becomes of a record: it is skipped, refused with a number, or put in, and the text then has
-// so many bytes.
+// What becomes of a record: it is skipped, refused, or put in, and the text then has so many
+// bytes.
 #[derive(Drop)]
 pub(crate) enum Inserted {
     Skipped,
-    Refused(u32),
+    Refused(Refusal),
     Grown(usize),
 }
 
-// The tags of a pair in a request.
+// The tags of a pair in a request: bytes of its form, as `put_field` takes them from any caller.
 #[derive(Drop)]
 struct Tag {}
 
@@ -60,20 +60,13 @@ fn put_pairs(own: &[u8], scratch: &mut [u8], out: &mut [u8]) -> usize
     let mut rest = own;
     let mut at = 0;
     loop {
-        let f = records::next_field(rest);
-        let NextField::At {
-            start,
-            named,
-            value,
-            end,
-        } = f
-        else {
+        let Some(f) = records::next_field(rest) else {
             return at;
         };
-        at = requests::put_field(&mut *out, at, Tag::NAME, &rest[start..named]);
-        let n = values::copy_value(&rest[value..end], &mut *scratch);
+        at = requests::put_field(&mut *out, at, Tag::NAME, &rest[f.start..f.named]);
+        let n = values::copy_value(&rest[f.value..f.end], &mut *scratch);
         at = requests::put_field(&mut *out, at, Tag::VALUE, &scratch[..n]);
-        rest = &rest[end..];
+        rest = &rest[f.end..];
     }
 }
 
@@ -114,18 +107,16 @@ fn put(
     ensures { PutBy text.old used room at len request.now added.now text.new a result }
 {
     match a {
-        Added::Numberless => {
-            return Inserted::Refused(Refusal::NUMBERLESS);
-        }
+        Added::Numberless => Inserted::Refused(Refusal::Numberless),
         Added::Long { len: own } => {
             if has_room(used, own, len, room) {
-                return Inserted::Refused(Refusal::RESULT_LIMIT);
+                return Inserted::Refused(Refusal::Result(Question::Limit));
             }
-            return Inserted::Refused(Refusal::LARGE);
+            Inserted::Refused(Refusal::Large)
         }
         Added::Text { len: own } => {
             if !has_room(used, own, len, room) {
-                return Inserted::Refused(Refusal::LARGE);
+                return Inserted::Refused(Refusal::Large);
             }
             let new = NewRecord {
                 at,
@@ -133,7 +124,7 @@ fn put(
                 len: own + len,
             };
             let n = splices::put_record(text, used, new, &added[..own], request);
-            return Inserted::Grown(n);
+            Inserted::Grown(n)
         }
     }
 }
@@ -165,9 +156,8 @@ fn place(
     requires request_len_bound { (length request.now ≤ file_bytes) × (is_some (pairs_from request.now 0) ≡ true) × Filled (pairs_at request.now 0) × (added_room ≤ length added.old) }
     ensures { PlacedIn text.old used room p (pairs_at request.now 0) text.new result }
 {
-    let w = requests::weigh(request, 0);
-    let Weighed::Sums { len, count: _ } = w else {
-        return Inserted::Refused(Refusal::ILLEGAL);
+    let Some(Weight { len, .. }) = requests::weigh(request, 0) else {
+        return Inserted::Refused(Refusal::Illegal);
     };
     let a = number(&text[..used], p, request, &mut *added);
     put(text, used, room, p.after, len, a, request, added)
@@ -182,13 +172,7 @@ fn is_skipped(s: &[u8], p: RecordSet, own: &[u8]) -> bool
     let end = p.end;
     let begin = p.begin;
     let after = p.after;
-    let f = records::next_named(&s[start..end], b"%key");
-    let FoundField::At {
-        start: _,
-        value: _,
-        end: _,
-    } = f
-    else {
+    let Some(_) = records::next_named(&s[start..end], b"%key") else {
         return false;
     };
     super::twins::is_among(own, &s[begin..after])
@@ -211,9 +195,8 @@ pub(crate) fn insert_record(
     requires value_bytes_in_bounds { (value_bytes ≤ length scratch.old) × (length request.old ≡ file_bytes) × (added_room ≤ length added.old) }
     ensures { InsertedAs text.old used room (spare_record set.now (record_in own.now)) text.new result }
 {
-    let f = records::find_head(&text[..used], set);
-    let FoundHead::At(head) = f else {
-        return Inserted::Refused(Refusal::SET);
+    let Some(head) = records::find_head(&text[..used], set) else {
+        return Inserted::Refused(Refusal::Set);
     };
     let p = records::set_behind(&text[..used], head);
     if is_skipped(&text[..used], p, own) {
@@ -221,10 +204,10 @@ pub(crate) fn insert_record(
     }
     let n = put_pairs(own, scratch, &mut *request);
     if n > File::BYTES {
-        return Inserted::Refused(Refusal::FORM);
+        return Inserted::Refused(Refusal::Form);
     }
     if 7 + set.len() + n > File::BYTES {
-        return Inserted::Refused(Refusal::FORM);
+        return Inserted::Refused(Refusal::Form);
     }
     place(text, used, room, p, &request[..n], added)
 }

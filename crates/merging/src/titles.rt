@@ -8,24 +8,16 @@ ghost use Rattle.records.specs.Places.{is_readable};
 ghost use Rattle.records.specs.Walk.{record_in};
 ghost use Rattle.merging.specs.Texts.{fits_value};
 
-use records::FoundField;
-
 // The name of the set of a descriptor, which fills d, at the front of out: its length.
 pub(crate) fn set_name(d: &[u8], out: &mut [u8]) -> usize
     requires { (is_readable d.now ≡ true) × (is_head (record_in d.now) ≡ true) × (all fits_value (record_in d.now) ≡ true) × (value_bytes ≤ length out.old) }
     ensures { (result ≡ length (head_name (record_in d.now))) × (out.new ≡ over (head_name (record_in d.now)) out.old) × (result ≤ value_bytes) }
 {
-    let f = records::find_field(d, b"%rec", 0);
-    let FoundField::At {
-        start: _,
-        value,
-        end,
-    } = f
-    else {
+    let Some(v) = records::find_field(d, b"%rec", 0) else {
         return 0;
     };
-    let i = values::word_start(&d[value..end]);
-    let n = values::word_len(&d[value..end], i);
-    values::copy_word(&d[value..end], i, &mut *out);
+    let i = values::word_start(&d[v.value..v.end]);
+    let n = values::word_len(&d[v.value..v.end], i);
+    values::copy_word(&d[v.value..v.end], i, &mut *out);
     n
 }

@@ -8,7 +8,7 @@ ghost use Rattle.records.specs.Walk.{record_in};
 ghost use Rattle.merging.specs.Merging.{pair_of, is_twin};
 ghost use Rattle.merging.specs.Texts.{is_nothing};
 
-use records::{NextField, NextRecord};
+use records::FieldPlace;
 
 // Have two parts the same fields, by name and value, in the same order?
 fn are_twins(a: &[u8], b: &[u8]) -> bool
@@ -18,50 +18,29 @@ fn are_twins(a: &[u8], b: &[u8]) -> bool
     let mut p = a;
     let mut q = b;
     loop {
-        let x = records::next_field(p);
         let y = records::next_field(q);
-        let NextField::At {
-            start: s,
-            named: n,
-            value: v,
-            end: e,
-        } = x
-        else {
+        let Some(f) = records::next_field(p) else {
             return is_last(y);
         };
-        let NextField::At {
-            start: t,
-            named: m,
-            value: w,
-            end: f,
-        } = y
-        else {
+        let Some(g) = y else {
             return false;
         };
-        if !lines::same_bytes(&p[s..n], &q[t..m]) {
+        if !lines::same_bytes(&p[f.start..f.named], &q[g.start..g.named]) {
             return false;
         }
-        if !values::are_equal(&p[v..e], &q[w..f]) {
+        if !values::are_equal(&p[f.value..f.end], &q[g.value..g.end]) {
             return false;
         }
-        p = &p[e..];
-        q = &q[f..];
+        p = &p[f.end..];
+        q = &q[g.end..];
     }
 }
 
 // Is there no next field?
-fn is_last(y: NextField) -> bool
+fn is_last(y: Option<FieldPlace>) -> bool
     ensures { result ≡ is_nothing y }
 {
-    match y {
-        NextField::At {
-            start: _,
-            named: _,
-            value: _,
-            end: _,
-        } => false,
-        NextField::Nothing => true,
-    }
+    y.is_none()
 }
 
 // Is a record among those of a part?
@@ -71,16 +50,12 @@ pub(crate) fn is_among(own: &[u8], part: &[u8]) -> bool
 {
     let mut rest = part;
     loop {
-        let r = records::next_record(rest);
-        let NextRecord::At(p) = r else {
+        let Some(p) = records::next_record(rest) else {
             return false;
         };
-        let a = p.start;
-        let e = p.end;
-        if are_twins(own, &rest[a..e]) {
+        if are_twins(own, &rest[p.start..p.end]) {
             return true;
         }
-        let after = p.after;
-        rest = &rest[after..];
+        rest = &rest[p.after..];
     }
 }

@@ -1,4 +1,5 @@
 -- The types of a descriptor by the ints that they are met by; and question 7 of the names of `%auto` lists, type by type.
+use Rattle.std.specs.Prelude.{Option as Maybe, Some, None}
 use Prim.Native.Nat.{ℕ, suc, ◌+◌, ◌≤◌, ◌<◌, suc-le-suc}
 use native.Mathlib.Nat.{zero-lt-suc}
 use native.Mathlib.Omega.{arith}
@@ -28,7 +29,6 @@ use Rattle.records.specs.Walk.{record_in}
 use Rattle.records.specs.Named.{values_from, ValueHere}
 use Rattle.typing.specs.Meaning.{typed_in, type_answer}
 use Rattle.typing.specs.declared.Shape.{Shape}
-use Rattle.typing.specs.declared.TypeOf.{TypeOf}
 use Rattle.typing.specs.contracts.Shape.{the_type}
 use Rattle.typedefs.specs.Names.{AreNames}
 use Rattle.typedefs.specs.Typedefs.{type_text, IsTypedef, AreTypedefs, end_row}
@@ -77,14 +77,14 @@ module _ (d : Bytes) (h : Described d) (names : Names) (are : AreNames d names) 
   ended : Ended d v r
   ended = subst (Ended d v) (sym q) (type-ended d h names are defs table v t.there t.fits own is t.ends)
 
-  answers : (k : TypeOf) → r.kind ≡ k → type_span d (value_from (drop v d)) ≡ onward (span_of int_bounds) (kind_only (type_answer (type_text d r.value) k))
+  answers : (k : Maybe Shape) → r.kind ≡ k → type_span d (value_from (drop v d)) ≡ onward (span_of int_bounds) (kind_only (type_answer (type_text d r.value) k))
   answers k e = ap (onward (span_of int_bounds)) (ended.ends ∙ ap kind_only (sym ended.told.answers ∙ ap (type_answer (type_text d r.value)) e))
 
-  pub span-read : (k : Shape) → r.kind ≡ TypeOf.Is k → span_in k ≡ type_span d (value_from (drop v d))
-  span-read k e = span-shape (type_text d r.value) k ∙ sym (answers (TypeOf.Is k) e)
+  pub span-read : (k : Shape) → r.kind ≡ Some k → span_in k ≡ type_span d (value_from (drop v d))
+  span-read k e = span-shape (type_text d r.value) k ∙ sym (answers (Some k) e)
 
-  pub span-fault : r.kind ≡ TypeOf.Fault → span_in Shape.Line ≡ type_span d (value_from (drop v d))
-  span-fault e = sym (answers TypeOf.Fault e)
+  pub span-fault : r.kind ≡ None → span_in Shape.Line ≡ type_span d (value_from (drop v d))
+  span-fault e = sym (answers None e)
 
 -- the values of `%type` fields from a byte on have such types
 abbrev is_good : Bytes → Bytes → Bool

@@ -1,4 +1,5 @@
 -- A walk over words: the fields added so far, and the words that are left.
+use Rattle.std.specs.Prelude.{Option as Maybe, Some, None}
 use Prim.Native.Nat.{ℕ, suc, ◌+◌, ◌-◌, ◌≤◌}
 use native.Mathlib.Omega.{arith}
 use mathlib.Core.Path.{◌≡◌, refl, sym, ap, ◌∙◌, subst}
@@ -12,7 +13,6 @@ use Rattle.words.specs.Spans.{span}
 use Rattle.numbering.specs.Adding.{State, unadded, behind_all, stepped, step_all, Seen, Sums, SummedAs, AddedAs}
 use Rattle.numbering.specs.declared.Added.{Added}
 use Rattle.numbering.specs.declared.adding.Sum.{Sum}
-use Rattle.numbering.specs.declared.adding.Summed.{Summed}
 
 module _ (f : Bytes → Option Pair) where
   -- where one has no number, none is told
@@ -49,14 +49,14 @@ module _ (f : Bytes → Option Pair) where
     going_end e = subst (λ (t : State). Sums ws t out r) (sym (ap (step_all f g.reached) e) ∙ g.left) g.sums
 
     -- words of which the sums are told, and those behind them
-    module _ (ms later : List Bytes) (e : rest ≡ ms ++ later) (now : Bytes) (y : Summed) (h : SummedAs ws (step_all f g.reached ms) now y) where
+    module _ (ms later : List Bytes) (e : rest ≡ ms ++ later) (now : Bytes) (y : Maybe Sum) (h : SummedAs ws (step_all f g.reached ms) now y) where
       goal-is : step_all f (step_all f g.reached ms) later ≡ goal
       goal-is = sym (step-append g.reached ms later) ∙ ap (step_all f g.reached) (sym e) ∙ g.left
 
-      pub going-none : y ≡ Summed.Numberless → goal.pairs ≡ none
+      pub going-none : y ≡ None → goal.pairs ≡ none
       going-none q = sym (ap (λ (t : State). t.pairs) goal-is) ∙ none_stays (step_all f g.reached ms) later (subst (SummedAs ws (step_all f g.reached ms) now) q h)
 
-      pub going_on : (next : Sum) → y ≡ Summed.Is next → Going ws now next later goal
+      pub going_on : (next : Sum) → y ≡ Some next → Going ws now next later goal
       going_on next q =
           record {
             reached = step_all f g.reached ms;
@@ -77,11 +77,11 @@ pub sums-start : (ws : List Bytes) (ns : List Bytes) (out : Bytes) (x : ℕ) →
 sums-start ws ns out x h = record { added = []; are = refl; few = omega arith; marks = h; len_is = refl; len-most = omega arith; short-is = refl; text = λ e. (refl, omega arith) }
 
 -- what the sums tell where no word is left
-module _ (ws : List Bytes) (s : State) (out : Bytes) (y : Summed) (h : SummedAs ws s out y) where
-  pub told_none : y ≡ Summed.Numberless → s.pairs ≡ none
+module _ (ws : List Bytes) (s : State) (out : Bytes) (y : Maybe Sum) (h : SummedAs ws s out y) where
+  pub told_none : y ≡ None → s.pairs ≡ none
   told_none e = subst (SummedAs ws s out) e h
 
-  module _ (r : Sum) (e : y ≡ Summed.Is r) where
+  module _ (r : Sum) (e : y ≡ Some r) where
     abbrev sums : Sums ws s out r
     sums = subst (SummedAs ws s out) e h
 

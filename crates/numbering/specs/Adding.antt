@@ -1,5 +1,5 @@
 -- The fields that are added, word by word of the lists, and their text.
-use Rattle.std.specs.Prelude.{ℕ, suc, ◌+◌, ◌*◌, ◌≤◌, ◌≡◌, Bool, true, false, ◌||◌, List, [], ◌∷◌, ◌++◌, ltb, length, take, get_or}
+use Rattle.std.specs.Prelude.{ℕ, suc, ◌+◌, ◌*◌, ◌≤◌, ◌≡◌, Bool, true, false, ◌||◌, List, [], ◌∷◌, ◌++◌, ltb, length, take, get_or, Option as Maybe, Some, None}
 use Rattle.std.proofs.Math.Option.{Option, none, some, map}
 use Rattle.format.specs.Bytes.{Bytes, pick, all, same, among}
 use Rattle.format.specs.Lists.{only_if}
@@ -10,7 +10,6 @@ use Rattle.words.specs.RuleNames.{place_in}
 use Rattle.terms.specs.Sets.{in_set}
 use Rattle.numbering.specs.declared.Added.{Added}
 use Rattle.numbering.specs.declared.adding.Sum.{Sum}
-use Rattle.numbering.specs.declared.adding.Summed.{Summed}
 
 -- room for 64 names of 64 bytes, each with a colon, a space, 19 digits and a newline
 abbrev pub added_room : ℕ
@@ -73,9 +72,9 @@ pub record Sums (ws : List Bytes) (s : State) (out : Bytes) (r : Sum) : Type 0 w
   pub short-is : r.short ≡ all is_short added
   pub text : r.short ≡ true → (take r.len out ≡ written_all added) × (r.len ≤ 86 * length added)
 
-abbrev pub SummedAs : List Bytes → State → Bytes → Summed → Type 0
-SummedAs ws s out (Summed.Is r) = Sums ws s out r
-SummedAs ws s out Summed.Numberless = s.pairs ≡ none
+abbrev pub SummedAs : List Bytes → State → Bytes → Maybe Sum → Type 0
+SummedAs ws s out (Some r) = Sums ws s out r
+SummedAs ws s out None = s.pairs ≡ none
 
 -- what is told of the added fields
 pub record Written (ps : List Pair) (out : Bytes) (len : ℕ) : Type 0 where

@@ -9,18 +9,18 @@ ghost use Rattle.format.specs.Rules.{auto};
 ghost use Rattle.records.specs.Walk.{record_in};
 ghost use Rattle.requests.specs.Pairs.{pairs_from, pairs_at};
 ghost use Rattle.dictionary.specs.Known.{Described};
-ghost use Rattle.dictionary.specs.Numbered.{IsWords, IsListed};
+ghost use Rattle.dictionary.specs.Numbered.{IsListed};
 ghost use Rattle.numbering.specs.Bounds.{numbers, Limited};
 ghost use Rattle.numbering.specs.Adding.{added_room, added_most, State, pair_by, stepped, step_all, unadded, Seen, Marked, Sums, SummedAs, AddedAs};
 
 use super::Added;
 use super::bounds::Bounds;
 use dictionary::wordsets;
-use dictionary::wordsets::{Listed, Words};
+use dictionary::wordsets::Listed;
 use format::Record;
-use records::FoundField;
+use records::ValuePlace;
 use requests::Pair;
-use words::Word;
+use words::Span;
 
 // The decimal digits of a number, at the end of a text; where they begin.
 fn put_decimal(number: u64, text: &mut [u8]) -> usize
@@ -29,6 +29,7 @@ fn put_decimal(number: u64, text: &mut [u8]) -> usize
 {
     let mut n = number;
     let mut at = text.len();
+    // An index by hand: it goes down as the number is divided, and is the answer.
     loop {
         at -= 1;
         text[at] = b'0' + (n % 10) as u8;
@@ -46,9 +47,10 @@ fn put_text(name: &[u8], value: &[u8], short: bool, len: usize, out: &mut [u8]) 
     ensures { (result ≡ len + length (written name.now value.now)) × (short ≡ true → take result out.new ≡ take len out.old ++ written name.now value.now) }
 {
     if short {
-        return len + writing::put_field(&mut out[len..], name, value);
+        len + writing::put_field(&mut out[len..], name, value)
+    } else {
+        len + writing::written_len(name, value)
     }
-    len + writing::written_len(name, value)
 }
 
 // The field of a name with a number, at a place of out, where it is to be written; where it ends.
@@ -59,8 +61,7 @@ fn put_number(name: &[u8], number: u64, short: bool, len: usize, out: &mut [u8])
 {
     let mut digits = [0u8; 20];
     let at = put_decimal(number, &mut digits);
-    let text = &digits[..];
-    put_text(name, &text[at..], short, len, out)
+    put_text(name, &digits[at..], short, len, out)
 }
 
 // What is known of the added fields: the length of their text, whether their names are short enough to write it, and which places of the lists have a field.
@@ -71,18 +72,12 @@ pub(crate) struct Sum {
     seen: u64,
 }
 
-#[derive(Drop)]
-pub(crate) enum Summed {
-    Is(Sum),
-    Numberless,
-}
-
 // The places of the lists that have a field, with those of one name more.
-fn mark(d: &[u8], entries: &[u32], sets: &[u64], w: Words, seen: u64, name: &[u8]) -> u64
-    requires { IsWords d.now (auto (record_in d.now)) entries.now sets.now w }
+fn mark(d: &[u8], l: Listed, seen: u64, name: &[u8]) -> u64
+    requires { IsListed d.now (auto (record_in d.now)) l }
     ensures { Marked (auto (record_in d.now)) name.now seen result }
 {
-    seen | wordsets::places_in(d, entries, sets, w, name)
+    seen | wordsets::places(d, l, name)
 }
 
 // The places of the lists that the pairs of a request have.
@@ -91,24 +86,13 @@ pub(crate) fn mark_pairs(d: &[u8], l: Listed, req: &[u8], from: usize) -> u64
     requires req_len_bound { (length req.now ≤ file_bytes) × (from ≤ length req.now) × (is_some (pairs_from req.now from) ≡ true) }
     ensures { Seen (auto (record_in d.now)) (pair_names (pairs_at req.now from)) result }
 {
-    let entries = l.entries;
-    let sets = l.sets;
-    let w = l.words;
     let mut seen: u64 = 0;
     let mut i = from;
     loop {
-        let p = requests::pair_at(req, i);
-        let Pair::At {
-            name,
-            value: _,
-            next,
-        } = p
-        else {
+        let Some(Pair { name, next, .. }) = requests::pair_at(req, i) else {
             return seen;
         };
-        let a = name.start;
-        let b = name.end;
-        seen = mark(d, &entries, &sets, w, seen, &req[a..b]);
+        seen = mark(d, l, seen, &req[name.start..name.end]);
         i = next;
     }
 }
@@ -117,41 +101,40 @@ pub(crate) fn mark_pairs(d: &[u8], l: Listed, req: &[u8], from: usize) -> u64
 fn stays_short(short: bool, name: &[u8]) -> bool
     ensures { result ≡ (short && leb (length name.now) name_bytes) }
 {
-    if short {
-        return name.len() <= Record::NAME;
-    }
-    false
+    short && name.len() <= Record::NAME
 }
 
 // One word of the lists more: it has a field, or gets one with its floor as number, if that is below its limit.
-fn add_word(d: &[u8], l: Listed, name: &[u8], bounds: Bounds, sum: Sum, out: &mut [u8]) -> Summed
+fn add_word(
+    d: &[u8],
+    l: Listed,
+    name: &[u8],
+    bounds: Bounds,
+    sum: Sum,
+    out: &mut [u8],
+) -> Option<Sum>
     requires listed { IsListed d.now (auto (record_in d.now)) l }
     requires limited { Limited (auto (record_in d.now)) bounds }
     requires d_value { (among name.now (auto (record_in d.now)) ≡ true) × (length name.now ≤ value_bytes) × (added_room ≤ length out.old) }
     requires sums { (s : State) × Sums (auto (record_in d.now)) s out.old sum × (s.passed < list_words) }
     ensures { (s : State) → Sums (auto (record_in d.now)) s out.old sum → SummedAs (auto (record_in d.now)) (stepped (pair_by (auto (record_in d.now)) bounds.floors bounds.limits) s name.now) out.new result }
 {
-    let entries = l.entries;
-    let sets = l.sets;
-    let w = l.words;
-    let k = wordsets::place_in(d, &entries, &sets, w, name);
+    let k = wordsets::place_in(d, &l.entries, &l.sets, l.words, name);
     if terms::has(sum.seen, k as u64) {
-        return Summed::Is(sum);
+        return Some(sum);
     }
-    let floors = bounds.floors;
-    let limits = bounds.limits;
-    let number = floors[k];
-    if limits[k] <= number {
-        return Summed::Numberless;
+    let number = bounds.floors[k];
+    if bounds.limits[k] <= number {
+        return None;
     }
     let short = stays_short(sum.short, name);
     let len = put_number(name, number, short, sum.len, out);
-    let seen = mark(d, &entries, &sets, w, sum.seen, name);
-    Summed::Is(Sum { len, short, seen })
+    let seen = mark(d, l, sum.seen, name);
+    Some(Sum { len, short, seen })
 }
 
 // The words of a text more.
-fn add_words(d: &[u8], l: Listed, s: &[u8], bounds: Bounds, sum: Sum, out: &mut [u8]) -> Summed
+fn add_words(d: &[u8], l: Listed, s: &[u8], bounds: Bounds, sum: Sum, out: &mut [u8]) -> Option<Sum>
     requires listed { IsListed d.now (auto (record_in d.now)) l }
     requires limited { Limited (auto (record_in d.now)) bounds }
     requires s_value { (all (λ n. among n (auto (record_in d.now))) (words_of s.now) ≡ true) × (length s.now ≤ value_bytes) × (added_room ≤ length out.old) }
@@ -161,15 +144,10 @@ fn add_words(d: &[u8], l: Listed, s: &[u8], bounds: Bounds, sum: Sum, out: &mut 
     let mut sums = sum;
     let mut rest = s;
     loop {
-        let x = words::next_word(rest);
-        let Word::At { start, end } = x else {
-            return Summed::Is(sums);
+        let Some(Span { start, end }) = words::next_word(rest) else {
+            return Some(sums);
         };
-        let y = add_word(d, l, &rest[start..end], bounds, sums, &mut *out);
-        let Summed::Is(next) = y else {
-            return Summed::Numberless;
-        };
-        sums = next;
+        sums = add_word(d, l, &rest[start..end], bounds, sums, &mut *out)?;
         rest = &rest[end..];
     }
 }
@@ -182,7 +160,7 @@ pub(crate) fn add_lists(
     seen: u64,
     scratch: &mut [u8],
     out: &mut [u8],
-) -> Summed
+) -> Option<Sum>
     requires listed { IsListed d.now (auto (record_in d.now)) l }
     requires described { Described d.now × (value_bytes ≤ length scratch.old) × (added_room ≤ length out.old) }
     requires limited { Limited (auto (record_in d.now)) bounds }
@@ -196,35 +174,25 @@ pub(crate) fn add_lists(
     };
     let mut i = 0;
     loop {
-        let v = records::next_named(&d[i..], b"%auto");
-        let FoundField::At {
-            start: _,
-            value,
-            end,
-        } = v
-        else {
-            return Summed::Is(sums);
+        let Some(ValuePlace { value, end, .. }) = records::next_named(&d[i..], b"%auto") else {
+            return Some(sums);
         };
         let n = values::copy_value(&d[i + value..], &mut *scratch);
-        let y = add_words(d, l, &scratch[..n], bounds, sums, &mut *out);
-        let Summed::Is(next) = y else {
-            return Summed::Numberless;
-        };
-        sums = next;
+        sums = add_words(d, l, &scratch[..n], bounds, sums, &mut *out)?;
         i += end;
     }
 }
 
 // What the sums tell of all words.
-pub(crate) fn told(r: Summed) -> Added
+pub(crate) fn told(r: Option<Sum>) -> Added
     ensures { (ws : List Bytes) (s : State) (out : Bytes) → SummedAs ws s out r → s.passed ≤ list_words → added_room ≤ length out → AddedAs s.pairs out result }
 {
-    let Summed::Is(sum) = r else {
+    let Some(sum) = r else {
         return Added::Numberless;
     };
-    let len = sum.len;
     if sum.short {
-        return Added::Text { len };
+        Added::Text { len: sum.len }
+    } else {
+        Added::Long { len: sum.len }
     }
-    Added::Long { len }
 }

@@ -20,17 +20,12 @@ use super::types::kind_at;
 use dictionary::wordsets;
 use dictionary::wordsets::Listed;
 use format::Descriptor;
-use numbers::{IntOf, Whole};
-use records::{FoundField, NextField};
+use numbers::Whole;
+use records::{FieldPlace, ValuePlace};
 use typing::Shape;
 
 // How many numbers there are: the limit of a name that has no range.
-#[derive(Drop)]
-struct Limit {}
-
-impl Limit {
-    const ALL: u64 = 9223372036854775808;
-}
+const NUMBERS: u64 = 9223372036854775808;
 
 // The ends of a range.
 #[derive(Clone, Copy)]
@@ -43,10 +38,10 @@ struct Range {
 fn raise(floor: u64, low: Whole) -> u64
     ensures { result ≡ max floor (from (int_in low)) }
 {
-    let Whole::Plus(n) = low else {
-        return floor;
-    };
-    if floor < n { n } else { floor }
+    match low {
+        Whole::Plus(n) => floor.max(n),
+        Whole::Minus(_) => floor,
+    }
 }
 
 // A limit that is not beyond the upper end of a range.
@@ -100,11 +95,10 @@ fn exceed(floor: u64, x: Whole) -> u64
 fn exceed_value(floor: u64, v: &[u8]) -> u64
     ensures { result ≡ max floor (above_in (int_of int_bounds (trim v.now))) }
 {
-    let i = values::int_in(v);
-    let IntOf::Value(x) = i else {
-        return floor;
-    };
-    exceed(floor, x)
+    match values::int_in(v) {
+        Some(x) => exceed(floor, x),
+        None => floor,
+    }
 }
 
 // The bounds at place k by the ends of a range, if the place is one of so many.
@@ -113,10 +107,8 @@ fn narrow_place(k: usize, count: usize, range: Range, floors: &mut [u64], limits
     ensures { (floors.new ≡ joined_at max count k (from (int_in range.low)) floors.old) × (limits.new ≡ joined_at min count k (above (int_in range.high)) limits.old) }
 {
     if k < count {
-        let low = range.low;
-        let high = range.high;
-        floors[k] = raise(floors[k], low);
-        limits[k] = lower(limits[k], high);
+        floors[k] = raise(floors[k], range.low);
+        limits[k] = lower(limits[k], range.high);
     }
 }
 
@@ -126,15 +118,11 @@ fn narrow_parts(d: &[u8], l: Listed, s: &[u8], range: Range, floors: &mut [u64],
     requires list_words_in_bounds { (list_words ≤ length floors.old) × (list_words ≤ length limits.old) × AreLimits (auto (record_in d.now)) limits.old }
     ensures { Joins max (auto (record_in d.now)) (λ n. pick (among n (split 44 s.now)) (from (int_in range.low)) 0) floors.old floors.new × Joins min (auto (record_in d.now)) (λ n. pick (among n (split 44 s.now)) (above (int_in range.high)) numbers) limits.old limits.new }
 {
-    let entries = l.entries;
-    let sets = l.sets;
-    let w = l.words;
-    let count = w.count;
     let mut rest = s;
     loop {
         let e = words::part_end(rest, b',');
-        let k = wordsets::place_in(d, &entries, &sets, w, &rest[..e]);
-        narrow_place(k, count, range, &mut *floors, &mut *limits);
+        let k = wordsets::place_in(d, &l.entries, &l.sets, l.words, &rest[..e]);
+        narrow_place(k, l.words.count, range, &mut *floors, &mut *limits);
         if e == rest.len() {
             return;
         }
@@ -175,13 +163,7 @@ fn narrow_all(d: &[u8], l: Listed, scratch: &mut [u8], floors: &mut [u64], limit
     let defs = typedefs::read_typedefs(d, names, &mut *scratch);
     let mut i = 0;
     loop {
-        let v = records::next_named(&d[i..], b"%type");
-        let FoundField::At {
-            start: _,
-            value,
-            end,
-        } = v
-        else {
+        let Some(ValuePlace { value, end, .. }) = records::next_named(&d[i..], b"%type") else {
             return;
         };
         let kind = kind_at(d, names, defs, i + value, &mut *scratch);
@@ -216,24 +198,22 @@ fn raise_all(d: &[u8], l: Listed, s: &[u8], scratch: &mut [u8], floors: &mut [u6
     requires list_words_in_bounds { list_words ≤ length floors.old }
     ensures { Joins max (auto (record_in d.now)) (λ n. largest (field_floor n) (record_in s.now)) floors.old floors.new }
 {
-    let entries = l.entries;
-    let sets = l.sets;
-    let w = l.words;
-    let count = w.count;
     let mut i = 0;
     loop {
-        let f = records::next_field(&s[i..]);
-        let NextField::At {
-            start,
-            named,
-            value,
-            end,
-        } = f
+        let Some(
+            FieldPlace {
+                start,
+                named,
+                value,
+                end,
+            },
+        ) = records::next_field(&s[i..])
         else {
             return;
         };
-        let k = wordsets::place_in(d, &entries, &sets, w, &s[i + start..i + named]);
-        raise_place(s, i + value, k, count, &mut *scratch, &mut *floors);
+        let name = &s[i + start..i + named];
+        let k = wordsets::place_in(d, &l.entries, &l.sets, l.words, name);
+        raise_place(s, i + value, k, l.words.count, &mut *scratch, &mut *floors);
         i += end;
     }
 }
@@ -252,7 +232,7 @@ pub(crate) fn bounds_of(d: &[u8], l: Listed, s: &[u8], scratch: &mut [u8]) -> Bo
     ensures { AreBounds d.now (record_in s.now) result }
 {
     let mut floors = [0u64; Descriptor::WORDS];
-    let mut limits = [Limit::ALL; Descriptor::WORDS];
+    let mut limits = [NUMBERS; Descriptor::WORDS];
     raise_all(d, l, s, &mut *scratch, &mut floors);
     narrow_all(d, l, scratch, &mut floors, &mut limits);
     Bounds { floors, limits }

@@ -21,7 +21,6 @@ ghost use Rattle.numbering.specs.Adding.{added_room, AddedAs};
 use dictionary::wordsets;
 use dictionary::wordsets::Listed;
 use format::Record;
-use records::FoundField;
 
 mod adding;
 mod bounds;
@@ -32,13 +31,7 @@ pub fn autos_counted(d: &[u8], scratch: &mut [u8]) -> bool
     requires { Described d.now × (value_bytes ≤ length scratch.old) }
     ensures { result ≡ autos_counted int_bounds (record_in d.now) }
 {
-    let f = records::next_named(d, b"%auto");
-    let FoundField::At {
-        start: _,
-        value: _,
-        end: _,
-    } = f
-    else {
+    let Some(_) = records::next_named(d, b"%auto") else {
         return true;
     };
     let l = wordsets::list(d, b"%auto");
@@ -74,13 +67,7 @@ pub fn add_numbers(d: &[u8], part: &[u8], req: &[u8], from: usize, out: &mut [u8
     requires req_len_bound { (length req.now ≤ file_bytes) × (from ≤ length req.now) × (is_some (pairs_from req.now from) ≡ true) }
     ensures { AddedAs (added int_bounds (ruled (record_in d.now) (records (read_of part.now))) (pairs_at req.now from)) out.new result }
 {
-    let f = records::next_named(d, b"%auto");
-    let FoundField::At {
-        start: _,
-        value: _,
-        end: _,
-    } = f
-    else {
+    let Some(_) = records::next_named(d, b"%auto") else {
         return Added::Text { len: 0 };
     };
     let l = wordsets::list(d, b"%auto");

@@ -15,9 +15,9 @@ ghost use Rattle.numbering.specs.Types.{span_in, type_span, HasType, is_type_cou
 
 use dictionary::wordsets;
 use dictionary::wordsets::Listed;
-use records::FoundField;
+use records::ValuePlace;
 use typedefs::{Names, Typedefs};
-use typing::{Shape, TypeOf};
+use typing::Shape;
 
 // The kind at the end of the type of the value at a place.
 pub(crate) fn kind_at(
@@ -33,22 +33,17 @@ pub(crate) fn kind_at(
 {
     let own = typedefs::read_typedef(d, names, value, &mut *scratch);
     let t = typedefs::end_of(defs, own);
-    let kind = t.kind;
-    let TypeOf::Is(shape) = kind else {
-        return Shape::Line;
-    };
-    shape
+    match t.kind {
+        Some(shape) => shape,
+        None => Shape::Line,
+    }
 }
 
 // Is a kind int or range?
 fn is_counted(kind: Shape) -> bool
     ensures { result ≡ is_some (span_in kind) }
 {
-    match kind {
-        Shape::Int => true,
-        Shape::Range(_, _) => true,
-        _ => false,
-    }
+    matches!(kind, Shape::Int | Shape::Range(..))
 }
 
 // Is a part, between commas, of a word among the names of `%auto` lists?
@@ -56,13 +51,10 @@ fn part_listed(d: &[u8], l: Listed, s: &[u8]) -> bool
     requires { IsListed d.now (auto (record_in d.now)) l }
     ensures { result ≡ any (λ n. among n (auto (record_in d.now))) (split 44 s.now) }
 {
-    let entries = l.entries;
-    let sets = l.sets;
-    let w = l.words;
     let mut rest = s;
     loop {
         let e = words::part_end(rest, b',');
-        if wordsets::place_in(d, &entries, &sets, w, &rest[..e]) < w.count {
+        if wordsets::place_in(d, &l.entries, &l.sets, l.words, &rest[..e]) < l.words.count {
             return true;
         }
         if e == rest.len() {
@@ -104,13 +96,7 @@ fn all_counted(d: &[u8], l: Listed, names: Names, defs: Typedefs, scratch: &mut 
 {
     let mut i = 0;
     loop {
-        let v = records::next_named(&d[i..], b"%type");
-        let FoundField::At {
-            start: _,
-            value,
-            end,
-        } = v
-        else {
+        let Some(ValuePlace { value, end, .. }) = records::next_named(&d[i..], b"%type") else {
             return true;
         };
         let kind = kind_at(d, names, defs, i + value, &mut *scratch);

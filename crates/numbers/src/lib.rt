@@ -2,7 +2,7 @@
 #![tactic(auto)]
 
 ghost use Rattle.std.specs.Prelude.{◌≡◌, true, false, ◌<◌, ◌≤◌, drop};
-ghost use Rattle.format.specs.Bytes.{within, is_some};
+ghost use Rattle.format.specs.Bytes.{is_some};
 ghost use Rattle.format.specs.Numbers.{int_bounds, digit, are_digits, natural, unsigned, int_of, is_at_most, number_of, decimal_in, is_real};
 ghost use Rattle.numbers.specs.Meaning.{int_in, int_answer, natural_answer, bounds_in, up_to_limit};
 
@@ -27,88 +27,56 @@ impl Ends {
     pub const GREATEST: u64 = 9223372036854775807;
 }
 
-#[derive(Clone, Copy)]
-pub enum IntOf {
-    Value(Whole),
-    NotInt,
-}
-
-#[derive(Drop)]
-pub enum Natural {
-    Of(u64),
-    Not,
-}
-
-// Is this byte from low to high?
-fn is_within(low: u8, high: u8, b: u8) -> bool
-    ensures { result ≡ within low high b }
-{
-    if low <= b { b <= high } else { false }
-}
-
 // The value of a digit of either case, 16 of any other byte.
 pub fn digit_of(b: u8) -> u64
     ensures { result ≡ digit b }
 {
-    if is_within(48, 57, b) {
-        return b as u64 - 48;
+    match b {
+        b'0'..=b'9' => b as u64 - 48,
+        b'A'..=b'F' => b as u64 - 55,
+        b'a'..=b'f' => b as u64 - 87,
+        _ => 16,
     }
-    if is_within(65, 70, b) {
-        return b as u64 - 55;
-    }
-    if is_within(97, 102, b) {
-        return b as u64 - 87;
-    }
-    16
 }
 
 // Is this text one or more digits of a base?
 pub fn are_digits(s: &[u8], base: u64) -> bool
     ensures { result ≡ are_digits base s.now }
 {
-    if s.len() == 0 {
+    if s.is_empty() {
         return false;
     }
-    let mut i = 0;
-    while i < s.len() {
-        if base <= digit_of(s[i]) {
-            return false;
-        }
-        i += 1;
-    }
-    true
+    s.iter().all(|b| digit_of(*b) < base)
 }
 
 // The number that the digits from `from` on stand for, where it is at most limit: no product passes the limit.
-fn natural_of(s: &[u8], from: usize, base: u64, limit: u64) -> Natural
+fn natural_of(s: &[u8], from: usize, base: u64, limit: u64) -> Option<u64>
     requires { 0 < base }
     ensures { natural_answer result ≡ up_to_limit limit (natural base (drop from s.now)) }
 {
     if s.len() <= from {
-        return Natural::Not;
+        return None;
     }
     let most = limit / base;
-    let mut i = from;
     let mut m: u64 = 0;
-    while i < s.len() {
-        let d = digit_of(s[i]);
+    for b in &s[from..] {
+        let d = digit_of(*b);
         if base <= d {
-            return Natural::Not;
+            return None;
         }
         if most < m {
-            return Natural::Not;
+            return None;
         }
         if limit - m * base < d {
-            return Natural::Not;
+            return None;
         }
         m = m * base + d;
-        i += 1;
     }
-    Natural::Of(m)
+    Some(m)
 }
 
 // A number with no sign from `from` on: hexadecimal behind `0x`, octal from 0 on, else decimal.
-fn unsigned_of(s: &[u8], from: usize, limit: u64) -> Natural
+fn unsigned_of(s: &[u8], from: usize, limit: u64) -> Option<u64>
     requires { from ≤ 1 }
     ensures { natural_answer result ≡ up_to_limit limit (unsigned (drop from s.now)) }
 {
@@ -122,26 +90,17 @@ fn unsigned_of(s: &[u8], from: usize, limit: u64) -> Natural
 }
 
 // An int within any ends.
-fn int_within(s: &[u8], ends: Ends) -> IntOf
+fn int_within(s: &[u8], ends: Ends) -> Option<Whole>
     ensures { int_answer result ≡ int_of (bounds_in ends) s.now }
 {
     if lines::byte(s, 0) == b'-' {
-        let m = unsigned_of(s, 1, ends.least);
-        match m {
-            Natural::Of(n) => IntOf::Value(Whole::Minus(n)),
-            Natural::Not => IntOf::NotInt,
-        }
-    } else {
-        let m = unsigned_of(s, 0, ends.greatest);
-        match m {
-            Natural::Of(n) => IntOf::Value(Whole::Plus(n)),
-            Natural::Not => IntOf::NotInt,
-        }
+        return Some(Whole::Minus(unsigned_of(s, 1, ends.least)?));
     }
+    Some(Whole::Plus(unsigned_of(s, 0, ends.greatest)?))
 }
 
 // The int that a text stands for.
-pub fn int_of(s: &[u8]) -> IntOf
+pub fn int_of(s: &[u8]) -> Option<Whole>
     ensures { int_answer result ≡ int_of int_bounds s.now }
 {
     int_within(
@@ -154,32 +113,26 @@ pub fn int_of(s: &[u8]) -> IntOf
 }
 
 // The int of at least 0 that a text stands for.
-pub fn number_of(s: &[u8]) -> Natural
+pub fn number_of(s: &[u8]) -> Option<u64>
     ensures { natural_answer result ≡ number_of int_bounds s.now }
 {
-    let x = int_of(s);
-    let IntOf::Value(w) = x else {
-        return Natural::Not;
-    };
-    match w {
-        Whole::Plus(n) => Natural::Of(n),
-        Whole::Minus(n) => { if n == 0 { Natural::Of(0) } else { Natural::Not } }
+    match int_of(s)? {
+        Whole::Plus(n) => Some(n),
+        Whole::Minus(0) => Some(0),
+        Whole::Minus(_) => None,
     }
 }
 
-// Is the first int at most the second?
+// Is the first int at most the second? By hand: 0 and -0 are equal, and a derived order would
+// tell them apart.
 pub fn at_most(a: Whole, b: Whole) -> bool
     ensures { result ≡ is_at_most (int_in a) (int_in b) }
 {
-    match a {
-        Whole::Minus(m) => match b {
-            Whole::Minus(n) => n <= m,
-            Whole::Plus(_) => true,
-        },
-        Whole::Plus(m) => match b {
-            Whole::Minus(n) => { if m == 0 { n == 0 } else { false } }
-            Whole::Plus(n) => m <= n,
-        },
+    match (a, b) {
+        (Whole::Minus(m), Whole::Minus(n)) => n <= m,
+        (Whole::Minus(_), Whole::Plus(_)) => true,
+        (Whole::Plus(m), Whole::Minus(n)) => m == 0 && n == 0,
+        (Whole::Plus(m), Whole::Plus(n)) => m <= n,
     }
 }
 
@@ -188,15 +141,10 @@ fn is_decimal(s: &[u8]) -> bool
     ensures { result ≡ is_some (decimal_in false s.now) }
 {
     let e = words::part_end(s, b'.');
-    if are_digits(&s[..e], 10) {
-        if e < s.len() {
-            are_digits(&s[e + 1..], 10)
-        } else {
-            true
-        }
-    } else {
-        false
+    if !are_digits(&s[..e], 10) {
+        return false;
     }
+    s.len() <= e || are_digits(&s[e + 1..], 10)
 }
 
 // Is this text a real?

@@ -1,4 +1,5 @@
 -- What C is told of the answers that come with a list.
+use Rattle.std.specs.Prelude.{Result}
 use Prim.Native.Nat.{ℕ}
 use mathlib.Core.Path.{◌≡◌, ap, ◌∙◌}
 use mathlib.Core.List.{List}
@@ -6,10 +7,10 @@ use Rattle.format.specs.Bytes.{Bytes}
 use Rattle.format.specs.Calls.{answered, number_in, value_or}
 use Rattle.format.specs.Directory.{Listed, Kept}
 use Rattle.format.specs.Runs.{Numbered}
-use Rattle.format.specs.declared.Answer.{Answer}
+use Rattle.format.specs.declared.refusals.Refusal.{Refusal}
 use Rattle.format.specs.declared.Entry.{Entry}
 
-module _ (r : Answer) (other m k : ℕ) (em : m ≡ value_or other (answered r)) (ek : k ≡ number_in (answered r)) where
+module _ (r : Result ℕ Refusal) (other m k : ℕ) (em : m ≡ value_or other (answered r)) (ek : k ≡ number_in (answered r)) where
   pub listed-told : (es : List Entry) (l : Listed) → record { result = answered r; entries = es } ≡ l → (m ≡ value_or other l.result) × (k ≡ number_in l.result) × (es ≡ l.entries)
   listed-told es l e = (em ∙ ap (λ (x : Listed). value_or other x.result) e, ek ∙ ap (λ (x : Listed). number_in x.result) e, ap (λ (x : Listed). x.entries) e)
 

@@ -9,17 +9,18 @@ ghost use Rattle.format.specs.Runs.{run_answer};
 ghost use Rattle.drafts.specs.Drafts.{to_fill_answer};
 ghost use Rattle.selection.specs.Found.{find_answer};
 
-use format::{Answer, Entry};
-use lookup::Seen;
+use format::{Entry, Refusal};
+use words::Span;
 
 mod sums;
 
-// What C is told of an answer: its number, or another where it is refused, and the refusal's through a pointer.
-fn tell(a: Answer, other: usize, number: &mut u32) -> usize
+// What C is told of an answer: its number, or another where it is refused, and the refusal's
+// through a pointer, as the C interface has it.
+fn tell(a: Result<usize, Refusal>, other: usize, number: &mut u32) -> usize
     ensures { (result ≡ value_or other (answered a)) × (number.new ≡ number_in (answered a)) }
 {
-    *number = a.number();
-    a.value_or(other)
+    *number = format::number_in(a);
+    a.unwrap_or(other)
 }
 
 // The number of the first question that says no of the file in the first `used` bytes of a buffer, else 0.
@@ -27,7 +28,10 @@ fn tell(a: Answer, other: usize, number: &mut u32) -> usize
 pub extern "C" fn recfile_check(buf: &[u8], used: usize) -> u32
     ensures { result ≡ check_answer buf.now used }
 {
-    integrity::check(buf, used)
+    match integrity::check(buf, used) {
+        Ok(()) => 0,
+        Err(question) => question.number(),
+    }
 }
 
 // The number of records of a set, 0 where it is refused.
@@ -90,15 +94,14 @@ pub extern "C" fn recfile_view(
         × (start.new ≡ value_or 0 (view_answer buf.now used set.now row).result)
         × (number.new ≡ number_in (view_answer buf.now used set.now row).result) }
 {
-    let v = lookup::view_place(buf, used, set, row);
-    match v {
-        Seen::At { start: a, end } => {
+    match lookup::view_place(buf, used, set, row) {
+        Ok(Span { start: a, end }) => {
             *start = a;
-            tell(Answer::Value(end - a), 0, number)
+            tell(Ok(end - a), 0, number)
         }
-        Seen::Refused(k) => {
+        Err(refusal) => {
             *start = 0;
-            tell(Answer::Refused(k), 0, number)
+            tell(Err(refusal), 0, number)
         }
     }
 }

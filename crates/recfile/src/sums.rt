@@ -22,20 +22,21 @@ pub extern "C" fn recfile_total(
         × (millionths.new ≡ millionths_or millionths.old (total_answer buf.now used set.now name.now))
         × (number.new ≡ refusal_in (total_answer buf.now used set.now name.now)) }
 {
-    let t = totals::total(buf, used, set, name);
-    match t {
-        Totalled::Value {
-            hundredths: h,
-            millionths: m,
-            number: n,
-        } => {
+    match totals::total(buf, used, set, name) {
+        Ok(
+            Totalled {
+                hundredths: h,
+                millionths: m,
+                number: n,
+            },
+        ) => {
             *hundredths = h;
             *millionths = m;
             *number = 0;
             n
         }
-        Totalled::Refused(k) => {
-            *number = k;
+        Err(refusal) => {
+            *number = refusal.number();
             0
         }
     }

@@ -1,4 +1,6 @@
 -- The search for an occurrence of a name, step by step; and what is found is the field's value.
+use Rattle.records.specs.declared.ValuePlace.{ValuePlace}
+use Rattle.std.specs.Prelude.{Option as Maybe, Some, None}
 use Prim.Native.Nat.{ℕ, zero, suc, ◌+◌, ◌-◌, ◌≤◌, ◌<◌}
 use native.Mathlib.Omega.{arith}
 use mathlib.Core.Path.{◌≡◌, refl, sym, ap, ◌∙◌, subst}
@@ -25,7 +27,6 @@ use Rattle.records.specs.Places.{is_readable, size_in, names_set, head_line, fie
 use Rattle.records.specs.Walk.{opens_set}
 use Rattle.records.specs.Fields.{fields_from, FieldHere}
 use Rattle.records.specs.Named.{occurrence, first_or}
-use Rattle.records.specs.declared.FoundField.{FoundField}
 use Rattle.records.proofs.Walks.{size-piece, size_none}
 use Rattle.records.proofs.Readings.{Reads, reads-length, readable-reads, reads-drop}
 
@@ -45,18 +46,18 @@ module _ (name : Bytes) where
   in-fieldless (Piece.comment l ∷ b) ps at o e = in-fieldless b ps (at + count_of (l ∷ [])) o e ∙ ap (λ (j : ℕ). field_in name ps j o) (omega (arith, size-piece (Piece.comment l) b))
   in-fieldless (Piece.field n v ls ∷ b) ps at o e = absurd (omega (arith, ap length e))
 
-  in-none : (ps : List Piece) (at o : ℕ) → fields_of ps ≡ [] → field_in name ps at o ≡ FoundField.Missing
+  in-none : (ps : List Piece) (at o : ℕ) → fields_of ps ≡ [] → field_in name ps at o ≡ None
   in-none [] at o e = refl
   in-none (Piece.blank l ∷ ps) at o e = in-none ps (at + count_of (l ∷ [])) o e
   in-none (Piece.comment l ∷ ps) at o e = in-none ps (at + count_of (l ∷ [])) o e
   in-none (Piece.field n v ls ∷ ps) at o e = absurd (omega (arith, ap length e))
 
 module _ (s name : Bytes) (i : ℕ) where
-  pub occurrence-none : fields_from s i ≡ [] → (o : ℕ) → occurrence s name i o ≡ FoundField.Missing
+  pub occurrence-none : fields_from s i ≡ [] → (o : ℕ) → occurrence s name i o ≡ None
   occurrence-none e o = in-none name (read_of (drop i s)) i o e
 
   module _ (a n v e : ℕ) (f : FieldHere s i a n v e) where
-    abbrev onward : Bool → ℕ → FoundField
+    abbrev onward : Bool → ℕ → Maybe ValuePlace
     onward t o = field_by t o a (span a n s) f.piece.own (occurrence s name e)
 
     by_name : (o : ℕ) (t : Bool) → same name (span a n s) ≡ t → occurrence s name i o ≡ onward t o
@@ -73,11 +74,11 @@ module _ (s name : Bytes) (i : ℕ) where
     pub occurrence-other : same name (span a n s) ≡ false → (o : ℕ) → occurrence s name i o ≡ occurrence s name e o
     occurrence-other q o = by_name o false q
 
-    first-here : (o : ℕ) → onward true o ≡ first_or (FoundField.At a v e) (occurrence s name e) o
-    first-here zero = λ d. FoundField.At a (f.piece.begins d) (f.piece.ends d)
+    first-here : (o : ℕ) → onward true o ≡ first_or (Some (record { start = a; value = v; end = e })) (occurrence s name e) o
+    first-here zero = λ d. Some (record { start = a; value = f.piece.begins d; end = f.piece.ends d })
     first-here (suc o) = refl
 
-    pub occurrence-here : same name (span a n s) ≡ true → (o : ℕ) → occurrence s name i o ≡ first_or (FoundField.At a v e) (occurrence s name e) o
+    pub occurrence-here : same name (span a n s) ≡ true → (o : ℕ) → occurrence s name i o ≡ first_or (Some (record { start = a; value = v; end = e })) (occurrence s name e) o
     occurrence-here q o = by_name o true q ∙ first-here o
 
 -- What is found is the value of the occurrence, and nothing is found where there are not so many.
@@ -89,9 +90,9 @@ pub record FieldFound (s : Bytes) (vs : List Bytes) (o start value end : ℕ) : 
   pub inside : end ≤ length s
   pub decodes : value_from (take (end - value) (drop value s)) ≡ get_or vs o []
 
-abbrev pub FieldTold : Bytes → List Bytes → ℕ → FoundField → Type 0
-FieldTold s vs o FoundField.Missing = length vs ≤ o
-FieldTold s vs o (FoundField.At start value end) = FieldFound s vs o start value end
+abbrev pub FieldTold : Bytes → List Bytes → ℕ → Maybe ValuePlace → Type 0
+FieldTold s vs o None = length vs ≤ o
+FieldTold s vs o (Some f) = FieldFound s vs o f.start f.value f.end
 
 -- a field among sound pieces: its value begins inside it, and its bytes from there on decode to its value
 head-value : (n v : Bytes) (ls : List Line) → Sound (Piece.field n v ls) → (0 < value_at (length n) (head_line ls)) × (value_at (length n) (head_line ls) ≤ count_of ls) × (v ≡ value_from (drop (value_at (length n) (head_line ls)) (bytes ls)))
@@ -119,9 +120,9 @@ module _ (s : Bytes) (i : ℕ) (fits : i ≤ length s) where
       let part : drop (i + x) s ≡ drop x (bytes ls) ++ bytes_of ps = sym (drop-drop x i s) ∙ ap (drop x) whole ∙ drop-append-le x (bytes ls) (bytes_of ps) h.1 in
       ap value_from (ap (take m) part ∙ take_at (drop x (bytes ls)) (bytes_of ps) m size) ∙ sym h.2
 
-told-on : (s v : Bytes) (vs : List Bytes) (o : ℕ) (x : FoundField) → FieldTold s vs o x → FieldTold s (v ∷ vs) (suc o) x
-told-on s v vs o FoundField.Missing h = omega arith
-told-on s v vs o (FoundField.At a b e) h = record { there = omega (arith, h.there); begins = h.begins; within = h.within; inside = h.inside; decodes = h.decodes }
+told-on : (s v : Bytes) (vs : List Bytes) (o : ℕ) (x : Maybe ValuePlace) → FieldTold s vs o x → FieldTold s (v ∷ vs) (suc o) x
+told-on s v vs o None h = omega arith
+told-on s v vs o (Some f) h = record { there = omega (arith, h.there); begins = h.begins; within = h.within; inside = h.inside; decodes = h.decodes }
 
 module _ (name s : Bytes) where
   told-by : (t : Bool) (n v : Bytes) (ls : List Line) (ps : List Piece) (i o : ℕ) → i ≤ length s → Reads (drop i s) (Piece.field n v ls ∷ ps)
@@ -151,7 +152,7 @@ module _ (name s : Bytes) where
   field-value o e = subst (FieldTold s (values_of name (fields_of (read_of s))) o) (sym (field-read name s o)) (told_in (read_of s) 0 o (omega arith) (readable-reads s e))
 
   -- the same of an answer, once its form is known
-  pub field_told : (o : ℕ) (x : FoundField) {y : FoundField} → is_readable s ≡ true → x ≡ field_place name s o → x ≡ y → FieldTold s (values_of name (fields_of (read_of s))) o y
+  pub field_told : (o : ℕ) (x : Maybe ValuePlace) {y : Maybe ValuePlace} → is_readable s ≡ true → x ≡ field_place name s o → x ≡ y → FieldTold s (values_of name (fields_of (read_of s))) o y
   field_told o x {y} e f g = subst (FieldTold s (values_of name (fields_of (read_of s))) o) (sym f ∙ g) (field-value o e)
 
 -- So the first value of a descriptor's `%rec` tells which set it opens.

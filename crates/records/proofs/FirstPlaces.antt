@@ -1,4 +1,5 @@
 -- The first record of a readable part: where it stands, what its own part reads as, and the places behind it, which are those of the rest.
+use Rattle.std.specs.Prelude.{Some, None}
 use Prim.Native.Nat.{ℕ, ◌+◌, ◌-◌, ◌≤◌, ◌<◌}
 use native.Mathlib.Omega.{arith}
 use mathlib.Core.Path.{◌≡◌, refl, sym, ap, ◌∙◌, subst}
@@ -22,7 +23,6 @@ use Rattle.records.specs.Walk.{record_in, lead_size, until_blank, from_blank, ru
 use Rattle.records.specs.Fields.{FieldHere}
 use Rattle.records.specs.declared.Run.{Run}
 use Rattle.records.specs.declared.Place.{Place}
-use Rattle.records.specs.declared.NextRecord.{NextRecord}
 use Rattle.records.proofs.Walks.{size-append, size-piece, places_run, places-walk, run-told}
 use Rattle.records.proofs.Shifts.{raise, places-raised}
 use Rattle.records.proofs.Readings.{Reads, reads-readable, reads_of, reads-length, readable-reads, reads-take, reads-drop, places-read, reads-places}
@@ -147,15 +147,15 @@ places-cut s p ps e q = subst (First s) q (first-place s e)
 abbrev pub place_run : ℕ → Run → Place
 place_run k r = record { start = k; end = r.end; after = r.after; descriptor = r.descriptor }
 
-nothing-by : (s : Bytes) (xs : List Placed) → First s xs → lead_size s ≡ length s → first_place xs ≡ NextRecord.Nothing
+nothing-by : (s : Bytes) (xs : List Placed) → First s xs → lead_size s ≡ length s → first_place xs ≡ None
 nothing-by s [] f e = refl
 nothing-by s (p ∷ ps) f e = absurd (omega (arith, f.begins, f.filled, f.within, f.inside))
 
-found-by : (s : Bytes) (xs : List Placed) (k : ℕ) → First s xs → lead_size s ≡ k → k < length s → first_place xs ≡ NextRecord.At (place_run k (run_at k s))
+found-by : (s : Bytes) (xs : List Placed) (k : ℕ) → First s xs → lead_size s ≡ k → k < length s → first_place xs ≡ Some (place_run k (run_at k s))
 found-by s [] k f e h = absurd (omega (arith, f, e, h))
 found-by s (p ∷ ps) k f e h =
     let b : p.start ≡ k = sym f.begins ∙ e in
-    ap NextRecord.At (sym (ap (place_run p.start) f.runs) ∙ ap (λ (j : ℕ). place_run j (run_at j s)) b)
+    ap Some (sym (ap (place_run p.start) f.runs) ∙ ap (λ (j : ℕ). place_run j (run_at j s)) b)
 
 -- what stands before a field leads
 lead-before : (b ps : List Piece) → fields_of b ≡ [] → lead (b ++ ps) ≡ b ++ lead ps
@@ -165,7 +165,7 @@ lead-before (Piece.comment l ∷ b) ps e = ap {B = List Piece} (λ x. Piece.comm
 lead-before (Piece.field n v ls ∷ b) ps e = absurd (omega (arith, ap length e))
 
 -- a part without a field
-pub next-nothing : (s : Bytes) → is_readable s ≡ true → record_in s ≡ [] → first_place (places_of s) ≡ NextRecord.Nothing
+pub next-nothing : (s : Bytes) → is_readable s ≡ true → record_in s ≡ [] → first_place (places_of s) ≡ None
 unfolding lead_size
 next-nothing s r e =
     let ps = read_of s in
@@ -225,8 +225,8 @@ module _ (s : Bytes) (a n v e : ℕ) (t : Bool) (r : Run) (h : is_readable s ≡
       ∙ ap size_in (lead-before l.before (Piece.field (span a n s) (value_from (span v e s)) p.own ∷ read_of (drop e s)) l.none ∙ append-nil l.before)
       ∙ omega (arith, l.size)
 
-  pub next-found : first_place (places_of s) ≡ NextRecord.At (place_run a (moved_run e r))
-  next-found = found-by s (places_of s) a (first-place s h) lead-here (omega (arith, f.moves, f.inside)) ∙ ap (λ (x : Run). NextRecord.At (place_run a x)) run-here
+  pub next-found : first_place (places_of s) ≡ Some (place_run a (moved_run e r))
+  next-found = found-by s (places_of s) a (first-place s h) lead-here (omega (arith, f.moves, f.inside)) ∙ ap (λ (x : Run). Some (place_run a x)) run-here
 
   -- it ends inside
   pub next-inside : (r.end ≤ r.after) × (e + r.after ≤ length s)

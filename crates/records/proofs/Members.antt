@@ -1,4 +1,5 @@
 -- What the searches find, by the sets of the part: the count of the default set, the record of a number, the records of a set.
+use Rattle.std.specs.Prelude.{Option as Maybe, Some, None}
 use Prim.Native.Nat.{ℕ, zero, suc, ◌+◌, ◌-◌, ◌≤◌, ◌<◌}
 use native.Mathlib.Omega.{arith}
 use mathlib.Core.Path.{◌≡◌, refl, sym, ap, ◌∙◌, subst}
@@ -17,11 +18,8 @@ use Rattle.format.specs.Words.{first_word}
 use Rattle.format.specs.Plain.{index_of, set_at, members_at, members_in}
 use Rattle.records.specs.Places.{is_readable, Placed, places_of, is_descriptor, first_place, names_set, head_of, descriptor_head, head_place, record_by, record_place, count_before}
 use Rattle.records.specs.declared.Place.{Place}
-use Rattle.records.specs.declared.NextRecord.{NextRecord}
 use Rattle.records.specs.Walk.{record_in}
 use Rattle.records.specs.declared.Head.{Head}
-use Rattle.records.specs.declared.FoundHead.{FoundHead}
-use Rattle.records.specs.declared.FoundRecord.{FoundRecord}
 use Rattle.records.proofs.Walks.{places-records}
 use Rattle.records.proofs.Shifts.{raise, fields_in, raise-fields}
 use Rattle.records.proofs.Readings.{reads_of, reads-readable, places-read}
@@ -59,9 +57,9 @@ abbrev pub Stands : Bytes → List Placed → Type 0
 Stands s [] = Unit {0}
 Stands s (p ∷ ps) = Stand s p.start p.end p.after p.fields × (ps ≡ places_at s p.after) × Stands s ps
 
-stand-on : (s : Bytes) (i : ℕ) (p : Placed) (ps : List Placed) (x : NextRecord) → ((j : ℕ) → j ≤ length s → is_readable (drop j s) ≡ true → places_at s j ≡ ps → Stands s ps) → places_at s i ≡ p ∷ ps → Meets s i x → Stands s (p ∷ ps)
-stand-on s i p ps NextRecord.Nothing ih e m = absurd (let z : ◌≡◌ {A = ℕ} 0 1 = cc in omega arith)
-stand-on s i p ps (NextRecord.At q) ih e m =
+stand-on : (s : Bytes) (i : ℕ) (p : Placed) (ps : List Placed) (x : Maybe Place) → ((j : ℕ) → j ≤ length s → is_readable (drop j s) ≡ true → places_at s j ≡ ps → Stands s ps) → places_at s i ≡ p ∷ ps → Meets s i x → Stands s (p ∷ ps)
+stand-on s i p ps None ih e m = absurd (let z : ◌≡◌ {A = ℕ} 0 1 = cc in omega arith)
+stand-on s i p ps (Some q) ih e m =
     let y : Placed = raise i m.here in
     let z : p ∷ ps ≡ y ∷ places_at s (i + q.after) = sym e ∙ m.places in
     let a : y ≡ p = cc in
@@ -107,15 +105,15 @@ pub record RecordFound (s : Bytes) (rs : List Record) (k : ℕ) (q : Place) : Ty
   pub there : k < length rs
   pub stand : Stand s q.start q.end q.after (get_or rs k [])
 
-abbrev pub RecordTold : Bytes → List Record → ℕ → FoundRecord → Type 0
-RecordTold s rs k FoundRecord.Missing = length rs ≤ k
-RecordTold s rs k (FoundRecord.At q) = RecordFound s rs k q
+abbrev pub RecordTold : Bytes → List Record → ℕ → Maybe Place → Type 0
+RecordTold s rs k None = length rs ≤ k
+RecordTold s rs k (Some q) = RecordFound s rs k q
 
-record-on : (s : Bytes) (r : Record) (rs : List Record) (k : ℕ) (x : FoundRecord) → RecordTold s rs k x → RecordTold s (r ∷ rs) (suc k) x
-record-on s r rs k FoundRecord.Missing h = omega arith
-record-on s r rs k (FoundRecord.At q) h = record { there = omega (arith, h.there); stand = h.stand }
+record-on : (s : Bytes) (r : Record) (rs : List Record) (k : ℕ) (x : Maybe Place) → RecordTold s rs k x → RecordTold s (r ∷ rs) (suc k) x
+record-on s r rs k None h = omega arith
+record-on s r rs k (Some q) h = record { there = omega (arith, h.there); stand = h.stand }
 
-record-by : (s : Bytes) (t : Bool) (p : Placed) (rs : List Record) (k : ℕ) (later : ℕ → FoundRecord) → Stand s p.start p.end p.after p.fields → ((j : ℕ) → RecordTold s rs j (later j)) → RecordTold s (pick t [] (p.fields ∷ rs)) k (record_by t k p later)
+record-by : (s : Bytes) (t : Bool) (p : Placed) (rs : List Record) (k : ℕ) (later : ℕ → Maybe Place) → Stand s p.start p.end p.after p.fields → ((j : ℕ) → RecordTold s rs j (later j)) → RecordTold s (pick t [] (p.fields ∷ rs)) k (record_by t k p later)
 record-by s true p rs k later h ih = omega arith
 record-by s false p rs zero later h ih = record { there = omega arith; stand = h }
 record-by s false p rs (suc k) later h ih = record-on s p.fields rs k (later k) (ih k)
@@ -131,7 +129,7 @@ pub record-member : (s : Bytes) (k : ℕ) → is_readable s ≡ true → RecordT
 record-member s k e = subst (λ (ss : List RecSet). RecordTold s (members_at 0 ss) k (record_place (places_of s) k)) (sym (sets-places s)) (record-in s (places_of s) k (stands s e))
 
 -- the same of an answer, once its form is known
-pub record-told : (s : Bytes) (k : ℕ) (x : FoundRecord) {y : FoundRecord} → is_readable s ≡ true → x ≡ record_place (places_of s) k → x ≡ y → RecordTold s (members_at 0 (sets_of (read_of s))) k y
+pub record-told : (s : Bytes) (k : ℕ) (x : Maybe Place) {y : Maybe Place} → is_readable s ≡ true → x ≡ record_place (places_of s) k → x ≡ y → RecordTold s (members_at 0 (sets_of (read_of s))) k y
 record-told s k x {y} e f g = subst (RecordTold s (members_at 0 (sets_of (read_of s))) k) (sym f ∙ g) (record-member s k e)
 
 -- The records of the set of a name begin where its descriptor's block ends: they are the first set of the part from there on.
@@ -153,9 +151,9 @@ pub record HeadFound (s n : Bytes) (ss : List RecSet) (h : Head) : Type 0 where
   pub own-readable : is_readable (head_part s h) ≡ true
   pub rules : (set_at set.index ss).rules ≡ record_in (head_part s h)
 
-abbrev pub HeadTold : Bytes → Bytes → List RecSet → FoundHead → Type 0
-HeadTold s n ss FoundHead.Missing = index_of n ss ≡ none
-HeadTold s n ss (FoundHead.At h) = HeadFound s n ss h
+abbrev pub HeadTold : Bytes → Bytes → List RecSet → Maybe Head → Type 0
+HeadTold s n ss None = index_of n ss ≡ none
+HeadTold s n ss (Some h) = HeadFound s n ss h
 
 -- a set of another name in front
 pub other-index : (n : Bytes) (d : RecSet) (ds : List RecSet) → same n d.name ≡ false → index_of n (d ∷ ds) ≡ step_on (index_of n ds)
@@ -175,10 +173,10 @@ set_on s n d ds a e h =
       members = ap (members_in (d ∷ ds)) (other-index n d ds e) ∙ members_step d ds (index_of n ds) ∙ h.members;
     }
 
-head-on : (s n : Bytes) (d : RecSet) (ds : List RecSet) (x : FoundHead) → same n d.name ≡ false → HeadTold s n ds x → HeadTold s n (d ∷ ds) x
+head-on : (s n : Bytes) (d : RecSet) (ds : List RecSet) (x : Maybe Head) → same n d.name ≡ false → HeadTold s n ds x → HeadTold s n (d ∷ ds) x
 unfolding set_on
-head-on s n d ds FoundHead.Missing e h = other-index n d ds e ∙ ap step_on h
-head-on s n d ds (FoundHead.At q) e h = record { set = set_on s n d ds q.begin e h.set; ordered = h.ordered; within = h.within; own-readable = h.own-readable; rules = h.rules }
+head-on s n d ds None e h = other-index n d ds e ∙ ap step_on h
+head-on s n d ds (Some q) e h = record { set = set_on s n d ds q.begin e h.set; ordered = h.ordered; within = h.within; own-readable = h.own-readable; rules = h.rules }
 
 -- the sets but the default one, by the next record
 abbrev pub others : List RecSet → List RecSet
@@ -200,7 +198,7 @@ module _ (s n : Bytes) where
   abbrev Own : Placed → Type 0
   Own p = Stand s p.start p.end p.after p.fields
 
-  named_by : (t : Bool) (p : Placed) (d : RecSet) (ds : List RecSet) (x : FoundHead) → same n d.name ≡ t → Own p → d.rules ≡ p.fields → d.members ≡ members_at 0 (sets_of (read_of (drop p.after s))) → HeadTold s n ds x → HeadTold s n (d ∷ ds) (pick t (FoundHead.At (head_of p)) x)
+  named_by : (t : Bool) (p : Placed) (d : RecSet) (ds : List RecSet) (x : Maybe Head) → same n d.name ≡ t → Own p → d.rules ≡ p.fields → d.members ≡ members_at 0 (sets_of (read_of (drop p.after s))) → HeadTold s n ds x → HeadTold s n (d ∷ ds) (pick t (Some (head_of p)) x)
   named_by true p d ds x e o r m ih =
       let f : index_of n (d ∷ ds) ≡ some 0 = ap (λ (b : Bool). index_by b (index_of n ds)) e in
       record {
@@ -212,7 +210,7 @@ module _ (s n : Bytes) where
       }
   named_by false p d ds x e o r m ih = head-on s n d ds x e ih
 
-  others_by_lem : (vs : List Bytes) (p : Placed) (ss : List RecSet) (x : FoundHead) → Own p → members_at 0 ss ≡ members_at 0 (sets_of (read_of (drop p.after s))) → HeadTold s n (others ss) x → HeadTold s n (others_by vs p.fields ss) (pick (names_set n vs) (FoundHead.At (head_of p)) x)
+  others_by_lem : (vs : List Bytes) (p : Placed) (ss : List RecSet) (x : Maybe Head) → Own p → members_at 0 ss ≡ members_at 0 (sets_of (read_of (drop p.after s))) → HeadTold s n (others ss) x → HeadTold s n (others_by vs p.fields ss) (pick (names_set n vs) (Some (head_of p)) x)
   others_by_lem [] p ss x o m ih = ih
   others_by_lem (v ∷ vs) p ss x o m ih = named_by (same n (first_word v)) p (record { name = first_word v; rules = p.fields; members = members_at 0 ss }) (others ss) x refl o refl m ih
 
@@ -225,7 +223,7 @@ module _ (s n : Bytes) where
       subst (λ (ds : List RecSet). HeadTold s n ds (descriptor_head n (p ∷ ps))) (sym (others-enter vs p.fields ss))
       (others_by_lem vs p ss (descriptor_head n ps) h.0 m (others-in ps h.2))
 
-  named_in : (ss : List RecSet) (x : FoundHead) → GoodSets ss → same n [] ≡ false → HeadTold s n (others ss) x → HeadTold s n ss x
+  named_in : (ss : List RecSet) (x : Maybe Head) → GoodSets ss → same n [] ≡ false → HeadTold s n (others ss) x → HeadTold s n ss x
   named_in [] x g e h = absurd g
   named_in (d ∷ ds) x g e h = head-on s n d ds x (ap (same n) g.0 ∙ e) h
 
@@ -256,5 +254,5 @@ pub head-members : (s n : Bytes) → is_readable s ≡ true → HeadTold s n (se
 head-members s n e = subst (λ (ss : List RecSet). HeadTold s n ss (head_place n (places_of s))) (sym (sets-places s)) (head_in s n e)
 
 -- the same of an answer, once its form is known
-pub head-told : (s n : Bytes) (x : FoundHead) {y : FoundHead} → is_readable s ≡ true → x ≡ head_place n (places_of s) → x ≡ y → HeadTold s n (sets_of (read_of s)) y
+pub head-told : (s n : Bytes) (x : Maybe Head) {y : Maybe Head} → is_readable s ≡ true → x ≡ head_place n (places_of s) → x ≡ y → HeadTold s n (sets_of (read_of s)) y
 head-told s n x {y} e f g = subst (HeadTold s n (sets_of (read_of s))) (sym f ∙ g) (head-members s n e)

@@ -1,4 +1,6 @@
 -- The next field of a readable part: pieces that are no field are passed over, and a field's value is decoded from the bytes where it begins.
+use Rattle.records.specs.declared.FieldPlace.{FieldPlace}
+use Rattle.std.specs.Prelude.{Option, Some, None}
 use Prim.Native.Nat.{ℕ, ◌+◌, ◌-◌, ◌≤◌, ◌<◌}
 use native.Mathlib.Omega.{arith}
 use mathlib.Core.Path.{◌≡◌, refl, sym, ap, ◌∙◌, subst}
@@ -23,7 +25,6 @@ use Rattle.words.specs.Spans.{span}
 use Rattle.records.specs.Places.{is_readable, head_line}
 use Rattle.records.specs.Walk.{record_in}
 use Rattle.records.specs.Fields.{fields_from, Fieldless, PieceHere, FieldHere, FieldNext}
-use Rattle.records.specs.declared.NextField.{NextField}
 use Rattle.records.proofs.Walks.{size-append, size-piece, size_none, Loose}
 use Rattle.records.proofs.Readings.{Reads, readable-reads}
 use Rattle.records.proofs.Steps.{Passed, FieldAt, record-field}
@@ -114,9 +115,9 @@ field-here s i n v k f r l =
     }
 
 -- The same of the part from byte i on and of the whole text: each place is i bytes further.
-abbrev pub moved : ℕ → NextField → NextField
-moved i NextField.Nothing = NextField.Nothing
-moved i (NextField.At a n v e) = NextField.At (i + a) (i + n) (i + v) (i + e)
+abbrev pub moved : ℕ → Option FieldPlace → Option FieldPlace
+moved i None = None
+moved i (Some f) = Some (record { start = i + f.start; named = i + f.named; value = i + f.value; end = i + f.end })
 
 pub span-moved : (s : Bytes) (i a e : ℕ) → span a e (drop i s) ≡ span (i + a) (i + e) s
 span-moved s i a e =
@@ -158,10 +159,10 @@ module _ (s : Bytes) (i : ℕ) where
         piece = piece-moved a n v e f.piece;
       }
 
-  next-moved : (x : NextField) → FieldNext (drop i s) 0 x → FieldNext s i (moved i x)
-  next-moved NextField.Nothing h = h
-  next-moved (NextField.At a n v e) h = field-moved a n v e h
+  next-moved : (x : Option FieldPlace) → FieldNext (drop i s) 0 x → FieldNext s i (moved i x)
+  next-moved None h = h
+  next-moved (Some f) h = field-moved f.start f.named f.value f.end h
 
 -- what an answer about the part `&s[i..]` says, once its form is known
-pub next-told : (s : Bytes) (i : ℕ) (x : NextField) {y : NextField} → FieldNext (take (length s - i) (drop i s)) 0 x → x ≡ y → FieldNext s i (moved i y)
+pub next-told : (s : Bytes) (i : ℕ) (x : Option FieldPlace) {y : Option FieldPlace} → FieldNext (take (length s - i) (drop i s)) 0 x → x ≡ y → FieldNext s i (moved i y)
 next-told s i x {y} h e = next-moved s i y (subst (λ (t : Bytes). FieldNext t 0 y) (rest s i) (subst (FieldNext (take (length s - i) (drop i s)) 0) e h))

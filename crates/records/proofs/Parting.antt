@@ -1,4 +1,6 @@
 -- A record's block in parts: what stands before its first field, the pieces from there to its last field, and what stands behind; and what an edit makes of it.
+use Rattle.records.specs.declared.ValuePlace.{ValuePlace}
+use Rattle.std.specs.Prelude.{Option, Some, None}
 use Prim.Native.Nat.{ℕ, zero, suc, ◌+◌}
 use native.Mathlib.Omega.{arith}
 use mathlib.Core.Path.{◌≡◌, refl, sym, ap, ◌∙◌}
@@ -13,7 +15,6 @@ use Rattle.format.specs.Edits.{is_of, unfielded}
 use Rattle.format.specs.Calls.{lead, from_first, to_last}
 use Rattle.format.proofs.Listing.{same_true}
 use Rattle.records.specs.Places.{size_in, field_by, field_in}
-use Rattle.records.specs.declared.FoundField.{FoundField}
 use Rattle.records.proofs.Walks.{size-piece, size_none}
 
 any-fields : (b : Block) → any is_field b ≡ is_filled (fields_of b)
@@ -145,17 +146,17 @@ pub record Picked (n : Bytes) (o : ℕ) (ps : List Piece) (at a e : ℕ) : Type 
   pub ends : a + count_of own ≡ e
   pub changed : (g : Piece → Block) (c : List Piece) → place_at (is_of n) o g (ps ++ c) ≡ before ++ (g (Piece.field n value own) ++ (behind ++ c))
 
-abbrev pub Picks : Bytes → ℕ → List Piece → ℕ → FoundField → Type 0
-Picks n o ps at FoundField.Missing = Unit {0}
-Picks n o ps at (FoundField.At a v e) = Picked n o ps at a e
+abbrev pub Picks : Bytes → ℕ → List Piece → ℕ → Option ValuePlace → Type 0
+Picks n o ps at None = Unit {0}
+Picks n o ps at (Some f) = Picked n o ps at f.start f.end
 
 module _ (n : Bytes) where
   -- one more piece that the search passes
-  picks-on : (p : Piece) (size : ℕ) (ps : List Piece) (at o j : ℕ) (x : FoundField) → size_in (p ∷ []) ≡ size
+  picks-on : (p : Piece) (size : ℕ) (ps : List Piece) (at o j : ℕ) (x : Option ValuePlace) → size_in (p ∷ []) ≡ size
       → ((g : Piece → Block) (c : List Piece) → place_at (is_of n) o g (p ∷ (ps ++ c)) ≡ p ∷ place_at (is_of n) j g (ps ++ c))
       → Picks n j ps (at + size) x → Picks n o (p ∷ ps) at x
-  picks-on p size ps at o j FoundField.Missing s f h = tt
-  picks-on p size ps at o j (FoundField.At a v e) s f h =
+  picks-on p size ps at o j None s f h = tt
+  picks-on p size ps at o j (Some fx) s f h =
       record {
         before = p ∷ h.before;
         value = h.value;

@@ -1,4 +1,5 @@
 -- What an edit of a record that the searches find does to the bytes.
+use Rattle.std.specs.Prelude.{Some}
 use Prim.Native.Nat.{ℕ, ◌+◌, ◌-◌, ◌<◌}
 use mathlib.Core.Path.{◌≡◌, refl, sym, ap, ◌∙◌, subst}
 use mathlib.Core.Bool.{true}
@@ -17,9 +18,6 @@ use Rattle.format.proofs.Splices.{spliced}
 use Rattle.records.specs.Places.{is_readable, Placed, places_of, head_place, record_place, field_place}
 use Rattle.records.specs.declared.Place.{Place}
 use Rattle.records.specs.declared.Head.{Head}
-use Rattle.records.specs.declared.FoundHead.{FoundHead}
-use Rattle.records.specs.declared.FoundRecord.{FoundRecord}
-use Rattle.records.specs.declared.FoundField.{FoundField}
 use Rattle.records.proofs.Walks.{placed-path}
 use Rattle.records.proofs.Readings.{readable-reads}
 use Rattle.records.proofs.Views.{located, row-there}
@@ -35,7 +33,7 @@ abbrev pub acted_on : Bytes → ℕ → ℕ → Act → Bytes
 acted_on s i row a = bytes_of (edit_pieces i (Edit.on row a) (read_of s))
 
 -- Record `row` of set i, found at q from where the set of a head begins.
-module _ (s set : Bytes) (head : Head) (row i : ℕ) (q : Place) (e : is_readable s ≡ true) (f : head_place set (places_of s) ≡ FoundHead.At head) (g : record_place (places_of (drop head.begin s)) row ≡ FoundRecord.At q) (d : index_of set (sets_of (read_of s)) ≡ some i) where
+module _ (s set : Bytes) (head : Head) (row i : ℕ) (q : Place) (e : is_readable s ≡ true) (f : head_place set (places_of s) ≡ Some head) (g : record_place (places_of (drop head.begin s)) row ≡ Some q) (d : index_of set (sets_of (read_of s)) ≡ some i) where
   abbrev number : ℕ
   number = ordinal (sets_of (read_of s)) i row
 
@@ -60,7 +58,7 @@ module _ (s set : Bytes) (head : Head) (row i : ℕ) (q : Place) (e : is_readabl
   delete-found = acted-as Act.delete ∙ delete-bytes (readable-reads s e) found-cut.2
 
   -- its field, found from x to z in its own part
-  module _ (n : Bytes) (o x v z : ℕ) (h : field_place n (own_part s head.begin q) o ≡ FoundField.At x v z) where
+  module _ (n : Bytes) (o x v z : ℕ) (h : field_place n (own_part s head.begin q) o ≡ Some (record { start = x; value = v; end = z })) where
     pub value_found : (w : Bytes) → acted_on s i row (Act.change n o (Change.value w)) ≡ spliced s (head.begin + q.start + x) (head.begin + q.start + z) (written n w)
     value_found w = acted-as (Act.change n o (Change.value w)) ∙ value-bytes (readable-reads s e) found-cut.2 n o x v z h w
 

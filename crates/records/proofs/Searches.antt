@@ -1,4 +1,5 @@
 -- Searches among the records of a readable part, record by record.
+use Rattle.std.specs.Prelude.{Option, Some, None}
 use Prim.Native.Nat.{ℕ, suc, ◌+◌, ◌-◌, ◌≤◌, ◌<◌}
 use native.Mathlib.Omega.{arith}
 use mathlib.Core.Path.{◌≡◌, refl, sym, ap, ◌∙◌, subst}
@@ -15,16 +16,13 @@ use Rattle.lines.proofs.Cuts.{rest}
 use Rattle.records.specs.Places.{is_readable, Placed, places_of, is_descriptor, place_of, first_place, names_set, descriptor_head, head_place, record_by, record_place, count_before}
 use Rattle.records.specs.Walk.{opens_set}
 use Rattle.records.specs.declared.Place.{Place}
-use Rattle.records.specs.declared.NextRecord.{NextRecord}
 use Rattle.records.specs.declared.Head.{Head}
-use Rattle.records.specs.declared.FoundHead.{FoundHead}
-use Rattle.records.specs.declared.FoundRecord.{FoundRecord}
 use Rattle.records.proofs.Shifts.{raise, raise-none, raise-twice}
 use Rattle.records.proofs.Readings.{Reads, reads_of}
 use Rattle.records.proofs.FirstPlaces.{First, first-place}
 
 -- the set of no name is the default set, and stands first
-pub head-default : (n : Bytes) (ps : List Placed) → length n ≡ 0 → head_place n ps ≡ FoundHead.At (record { start = 0; end = 0; begin = 0 })
+pub head-default : (n : Bytes) (ps : List Placed) → length n ≡ 0 → head_place n ps ≡ Some (record { start = 0; end = 0; begin = 0 })
 unfolding head_place
 head-default [] ps e = refl
 head-default (c ∷ n) ps e = absurd (omega arith)
@@ -62,9 +60,9 @@ pub record Met (s : Bytes) (i : ℕ) (q : Place) : Type 0 where
   pub places : places_at s i ≡ raise i here ∷ places_at s (i + q.after)
   pub stand : Stand s (i + q.start) (i + q.end) (i + q.after) here.fields
 
-abbrev pub Meets : Bytes → ℕ → NextRecord → Type 0
-Meets s i NextRecord.Nothing = places_at s i ≡ []
-Meets s i (NextRecord.At q) = Met s i q
+abbrev pub Meets : Bytes → ℕ → Option Place → Type 0
+Meets s i None = places_at s i ≡ []
+Meets s i (Some q) = Met s i q
 
 meets-by : (s : Bytes) (i : ℕ) → i ≤ length s → (xs : List Placed) → places_of (drop i s) ≡ xs → First (drop i s) xs → Meets s i (first_place xs)
 meets-by s i h [] e f = ap (map (raise i)) e
@@ -91,7 +89,7 @@ pub meets-first : (s : Bytes) (i : ℕ) → i ≤ length s → is_readable (drop
 meets-first s i h e = meets-by s i h (places_of (drop i s)) refl (first-place (drop i s) e)
 
 -- what an answer about the part from byte i on says, once its form is known
-pub meets : (s : Bytes) (i : ℕ) (x : NextRecord) {y : NextRecord} → i ≤ length s → is_readable (drop i s) ≡ true → x ≡ first_place (places_of (take (length s - i) (drop i s))) → x ≡ y → Meets s i y
+pub meets : (s : Bytes) (i : ℕ) (x : Option Place) {y : Option Place} → i ≤ length s → is_readable (drop i s) ≡ true → x ≡ first_place (places_of (take (length s - i) (drop i s))) → x ≡ y → Meets s i y
 meets s i x {y} h e f g =
     subst (Meets s i) (ap (λ (t : Bytes). first_place (places_of t)) (sym (rest s i)) ∙ sym f ∙ g) (meets-first s i h e)
 
@@ -100,11 +98,11 @@ module _ (s : Bytes) (i : ℕ) where
   unfolding count_before
   count-end e = ap count_before e
 
-  pub record-end : (k : ℕ) → places_at s i ≡ [] → record_place (places_at s i) k ≡ FoundRecord.Missing
+  pub record-end : (k : ℕ) → places_at s i ≡ [] → record_place (places_at s i) k ≡ None
   unfolding record_place
   record-end k e = ap (λ (ps : List Placed). record_place ps k) e
 
-  pub head-end : (n : Bytes) → places_at s i ≡ [] → descriptor_head n (places_at s i) ≡ FoundHead.Missing
+  pub head-end : (n : Bytes) → places_at s i ≡ [] → descriptor_head n (places_at s i) ≡ None
   head-end n e = ap (descriptor_head n) e
 
   module _ (q : Place) (m : Met s i q) where
@@ -129,14 +127,14 @@ module _ (s : Bytes) (i : ℕ) where
     unfolding record_place later
     record-on k = ap (λ (ps : List Placed). record_place ps k) m.places ∙ ap (λ (b : Bool). record_by b k (raise i m.here) (λ (j : ℕ). record_place (places_at s (i + q.after)) j)) described
 
-    pub record-stops : (k : ℕ) → q.descriptor ≡ true → record_place (places_at s i) k ≡ FoundRecord.Missing
+    pub record-stops : (k : ℕ) → q.descriptor ≡ true → record_place (places_at s i) k ≡ None
     record-stops k d = record-on k ∙ ap (λ (b : Bool). record_by b k (raise i m.here) (λ (j : ℕ). record_place later j)) d
 
-    pub record-here : (k : ℕ) → q.descriptor ≡ false → k ≡ 0 → record_place (places_at s i) k ≡ FoundRecord.At (record { start = i + q.start; end = i + q.end; after = i + q.after; descriptor = false })
+    pub record-here : (k : ℕ) → q.descriptor ≡ false → k ≡ 0 → record_place (places_at s i) k ≡ Some (record { start = i + q.start; end = i + q.end; after = i + q.after; descriptor = false })
     record-here k d z =
         record-on k ∙ ap (λ (b : Bool). record_by b k (raise i m.here) (λ (j : ℕ). record_place later j)) d
         ∙ ap (λ (n : ℕ). record_by false n (raise i m.here) (λ (j : ℕ). record_place later j)) z
-        ∙ (λ t. FoundRecord.At (record { start = i + (m.is t).start; end = i + (m.is t).end; after = i + (m.is t).after; descriptor = (described ∙ d) t }))
+        ∙ (λ t. Some (record { start = i + (m.is t).start; end = i + (m.is t).end; after = i + (m.is t).after; descriptor = (described ∙ d) t }))
 
     pub record-later : (k j : ℕ) → q.descriptor ≡ false → k ≡ suc j → record_place (places_at s i) k ≡ record_place (places_at s (i + q.after)) j
     unfolding later
@@ -144,11 +142,11 @@ module _ (s : Bytes) (i : ℕ) where
         record-on k ∙ ap (λ (b : Bool). record_by b k (raise i m.here) (λ (n : ℕ). record_place later n)) d
         ∙ ap (λ (n : ℕ). record_by false n (raise i m.here) (λ (x : ℕ). record_place later x)) z
 
-    head-on : (n : Bytes) → descriptor_head n (places_at s i) ≡ pick (names_set n (values_of (text "%rec") m.here.fields)) (FoundHead.At (head_at i q)) (descriptor_head n later)
+    head-on : (n : Bytes) → descriptor_head n (places_at s i) ≡ pick (names_set n (values_of (text "%rec") m.here.fields)) (Some (head_at i q)) (descriptor_head n later)
     unfolding later
     head-on n =
         ap (descriptor_head n) m.places
-        ∙ ap (λ (x : Place). pick (names_set n (values_of (text "%rec") m.here.fields)) (FoundHead.At (head_at i x)) (descriptor_head n (places_at s (i + q.after)))) m.is
+        ∙ ap (λ (x : Place). pick (names_set n (values_of (text "%rec") m.here.fields)) (Some (head_at i x)) (descriptor_head n (places_at s (i + q.after)))) m.is
 
     -- a record that is no descriptor names no set
     no_name : (n : Bytes) (vs : List Bytes) → is_filled vs ≡ false → names_set n vs ≡ false
@@ -157,16 +155,16 @@ module _ (s : Bytes) (i : ℕ) where
 
     pub head-member : (n : Bytes) → q.descriptor ≡ false → descriptor_head n (places_at s i) ≡ descriptor_head n (places_at s (i + q.after))
     unfolding later
-    head-member n d = head-on n ∙ ap (λ (b : Bool). pick b (FoundHead.At (head_at i q)) (descriptor_head n later)) (no_name n (values_of (text "%rec") m.here.fields) (described ∙ d))
+    head-member n d = head-on n ∙ ap (λ (b : Bool). pick b (Some (head_at i q)) (descriptor_head n later)) (no_name n (values_of (text "%rec") m.here.fields) (described ∙ d))
 
     -- the descriptor's own part tells which set it opens
     opened : (n : Bytes) → opens_set n (take ((i + q.end) - (i + q.start)) (drop (i + q.start) s)) ≡ names_set n (values_of (text "%rec") m.here.fields)
     unfolding opens_set
     opened n = ap (λ (ps : List Piece). names_set n (values_of (text "%rec") (fields_of ps))) (reads_of m.stand.own-reads) ∙ ap (λ r. names_set n (values_of (text "%rec") r)) m.stand.own-fields
 
-    pub head-here : (n : Bytes) (t : Bool) → t ≡ opens_set n (take ((i + q.end) - (i + q.start)) (drop (i + q.start) s)) → t ≡ true → descriptor_head n (places_at s i) ≡ FoundHead.At (head_at i q)
-    head-here n t e d = head-on n ∙ ap (λ (b : Bool). pick b (FoundHead.At (head_at i q)) (descriptor_head n later)) (sym (opened n) ∙ sym e ∙ d)
+    pub head-here : (n : Bytes) (t : Bool) → t ≡ opens_set n (take ((i + q.end) - (i + q.start)) (drop (i + q.start) s)) → t ≡ true → descriptor_head n (places_at s i) ≡ Some (head_at i q)
+    head-here n t e d = head-on n ∙ ap (λ (b : Bool). pick b (Some (head_at i q)) (descriptor_head n later)) (sym (opened n) ∙ sym e ∙ d)
 
     pub head-other : (n : Bytes) (t : Bool) → t ≡ opens_set n (take ((i + q.end) - (i + q.start)) (drop (i + q.start) s)) → t ≡ false → descriptor_head n (places_at s i) ≡ descriptor_head n (places_at s (i + q.after))
     unfolding later
-    head-other n t e d = head-on n ∙ ap (λ (b : Bool). pick b (FoundHead.At (head_at i q)) (descriptor_head n later)) (sym (opened n) ∙ sym e ∙ d)
+    head-other n t e d = head-on n ∙ ap (λ (b : Bool). pick b (Some (head_at i q)) (descriptor_head n later)) (sym (opened n) ∙ sym e ∙ d)

@@ -1,4 +1,5 @@
 -- An insert into a set goes to where its records end: behind the block of the last one, else of the descriptor; into a default set without records, in front of the file.
+use Rattle.std.specs.Prelude.{Option, Some, None}
 use Prim.Native.Nat.{ℕ, zero, suc, ◌+◌, ◌<◌}
 use native.Mathlib.Omega.{arith}
 use mathlib.Core.Path.{◌≡◌, refl, sym, ap, ◌∙◌, subst}
@@ -24,7 +25,6 @@ use Rattle.format.proofs.Splices.{spliced, gap_bytes, front_bytes_lem}
 use Rattle.records.specs.Places.{is_readable, Placed, places_of, is_descriptor, names_set, head_of, descriptor_head, head_place}
 use Rattle.records.specs.Sets.{set_end}
 use Rattle.records.specs.declared.Head.{Head}
-use Rattle.records.specs.declared.FoundHead.{FoundHead}
 use Rattle.records.proofs.Shifts.{fields_in}
 use Rattle.records.proofs.Readings.{readable-reads, places-read}
 use Rattle.records.proofs.Searches.{places_at, head-default, head-named}
@@ -49,9 +49,9 @@ last-in p (q ∷ ps) r =
     subst (λ (ms : List Record). EndsAt (p ∷ q ∷ ps) (last_at (r ∷ ms)) (pick (is_descriptor q) p.after z)) (sym (members-on q ps)) (last-by p q ps r (first_members ps) z (is_descriptor q) (last-in q ps q.fields))
 
 -- The last record of the set of a name, else its descriptor, ends where the records from its beginning on do: ms are the records before the sets ds.
-abbrev Lasts : Bytes → Bytes → List Placed → List Record → List RecSet → FoundHead → Type 0
-Lasts s n ps ms ds FoundHead.Missing = Unit {0}
-Lasts s n ps ms ds (FoundHead.At head) = (i : ℕ) × (index_of n ds ≡ some i) × EndsAt ps (past ms (last_of ds i)) (set_end head.begin (places_at s head.begin))
+abbrev Lasts : Bytes → Bytes → List Placed → List Record → List RecSet → Option Head → Type 0
+Lasts s n ps ms ds None = Unit {0}
+Lasts s n ps ms ds (Some head) = (i : ℕ) × (index_of n ds ≡ some i) × EndsAt ps (past ms (last_of ds i)) (set_end head.begin (places_at s head.begin))
 
 -- a descriptor is a record
 closed : (r : Record) (v : Bytes) (vs : List Bytes) (rs : List Record) → values_of (text "%rec") r ≡ v ∷ vs → close r rs ≡ r ∷ rs
@@ -59,21 +59,21 @@ closed [] v vs rs e = absurd (let z : ◌≡◌ {A = ℕ} 0 1 = cc in omega arit
 closed (f ∷ fs) v vs rs e = refl
 
 module _ (s n : Bytes) where
-  lasts-member : (p : Placed) (ps : List Placed) (ms : List Record) (ds : List RecSet) (x : FoundHead) → Lasts s n ps ms ds x → Lasts s n (p ∷ ps) (p.fields ∷ ms) ds x
-  lasts-member p ps ms ds FoundHead.Missing h = tt
-  lasts-member p ps ms ds (FoundHead.At head) h = h
+  lasts-member : (p : Placed) (ps : List Placed) (ms : List Record) (ds : List RecSet) (x : Option Head) → Lasts s n ps ms ds x → Lasts s n (p ∷ ps) (p.fields ∷ ms) ds x
+  lasts-member p ps ms ds None h = tt
+  lasts-member p ps ms ds (Some head) h = h
 
   module _ (p : Placed) (ps : List Placed) (v : Bytes) (vs : List Bytes) (is : values_of (text "%rec") p.fields ≡ v ∷ vs) (behind : ps ≡ places_at s p.after) (ds : List RecSet) where
     abbrev opened : RecSet
     opened = record { name = first_word v; rules = p.fields; members = first_members ps }
 
-    lasts-other : (x : FoundHead) → same n (first_word v) ≡ false → Lasts s n ps (first_members ps) ds x → Lasts s n (p ∷ ps) [] (opened ∷ ds) x
-    lasts-other FoundHead.Missing e h = tt
-    lasts-other (FoundHead.At head) e h =
+    lasts-other : (x : Option Head) → same n (first_word v) ≡ false → Lasts s n ps (first_members ps) ds x → Lasts s n (p ∷ ps) [] (opened ∷ ds) x
+    lasts-other None e h = tt
+    lasts-other (Some head) e h =
         let k : ℕ = past (first_members ps) (last_of ds h.0) in
         (suc h.0, other-index n opened ds e ∙ ap step_on h.1, subst (λ (rs : List Record). EndsAt (p ∷ ps) (past rs k) (set_end head.begin (places_at s head.begin))) (sym (closed p.fields v vs [] is)) h.2)
 
-    lasts-named : (t : Bool) (x : FoundHead) → same n (first_word v) ≡ t → Lasts s n ps (first_members ps) ds x → Lasts s n (p ∷ ps) [] (opened ∷ ds) (pick t (FoundHead.At (head_of p)) x)
+    lasts-named : (t : Bool) (x : Option Head) → same n (first_word v) ≡ t → Lasts s n ps (first_members ps) ds x → Lasts s n (p ∷ ps) [] (opened ∷ ds) (pick t (Some (head_of p)) x)
     lasts-named true x e h = (
       0,
       ap (λ (b : Bool). index_by b (index_of n ds)) e,
@@ -82,8 +82,8 @@ module _ (s n : Bytes) where
     )
     lasts-named false x e h = lasts-other x e h
 
-  lasts-by : (vs : List Bytes) (p : Placed) (ps : List Placed) (x : FoundHead) → values_of (text "%rec") p.fields ≡ vs → ps ≡ places_at s p.after → Lasts s n ps (first_members ps) (others (sets (fields_in ps))) x
-      → Lasts s n (p ∷ ps) (pick (is_filled vs) [] (p.fields ∷ first_members ps)) (others_by vs p.fields (sets (fields_in ps))) (pick (names_set n vs) (FoundHead.At (head_of p)) x)
+  lasts-by : (vs : List Bytes) (p : Placed) (ps : List Placed) (x : Option Head) → values_of (text "%rec") p.fields ≡ vs → ps ≡ places_at s p.after → Lasts s n ps (first_members ps) (others (sets (fields_in ps))) x
+      → Lasts s n (p ∷ ps) (pick (is_filled vs) [] (p.fields ∷ first_members ps)) (others_by vs p.fields (sets (fields_in ps))) (pick (names_set n vs) (Some (head_of p)) x)
   lasts-by [] p ps x e b h = lasts-member p ps (first_members ps) (others (sets (fields_in ps))) x h
   lasts-by (v ∷ vs) p ps x e b h = lasts-named p ps v vs e b (others (sets (fields_in ps))) (same n (first_word v)) x refl h
 
@@ -92,12 +92,12 @@ module _ (s n : Bytes) where
   lasts (p ∷ ps) h =
       let vs : List Bytes = values_of (text "%rec") p.fields in
       let ss : List RecSet = sets (fields_in ps) in
-      let x : FoundHead = descriptor_head n (p ∷ ps) in
+      let x : Option Head = descriptor_head n (p ∷ ps) in
       subst (λ (ds : List RecSet). Lasts s n (p ∷ ps) (first_members (p ∷ ps)) ds x) (sym (others-enter vs p.fields ss))
       (subst (λ (ms : List Record). Lasts s n (p ∷ ps) ms (others_by vs p.fields ss) x) (sym (members-on p ps)) (lasts-by vs p ps (descriptor_head n ps) refl h.1 (lasts ps h.2)))
 
   -- the default set in front
-  lasts-all : (ps : List Placed) (ss : List RecSet) (head : Head) → GoodSets ss → same n [] ≡ false → Lasts s n ps (members_at 0 ss) (others ss) (FoundHead.At head) → (j : ℕ) × (index_of n ss ≡ some (suc j)) × EndsAt ps (last_of ss (suc j)) (set_end head.begin (places_at s head.begin))
+  lasts-all : (ps : List Placed) (ss : List RecSet) (head : Head) → GoodSets ss → same n [] ≡ false → Lasts s n ps (members_at 0 ss) (others ss) (Some head) → (j : ℕ) × (index_of n ss ≡ some (suc j)) × EndsAt ps (last_of ss (suc j)) (set_end head.begin (places_at s head.begin))
   lasts-all ps [] head g e h = absurd g
   lasts-all ps (d ∷ ds) head g e h = (
     h.0,
@@ -178,7 +178,7 @@ module _ (s : Bytes) (new : List Pair) (e : is_readable s ≡ true) where
   default-inserted : InsertTold s (set_end 0 (places_of s)) new (inserted_at s 0 new)
   default-inserted = default-by ss (members_at 0 ss) good refl (ap (members_at 0) (sym (sets-places s))) refl
 
-  named-inserted : (n : Bytes) (head : Head) (i : ℕ) → same n [] ≡ false → Lasts s n (places_of s) (members_at 0 ss) (others ss) (FoundHead.At head) → index_of n ss ≡ some i → InsertTold s (set_end head.begin (places_at s head.begin)) new (inserted_at s i new)
+  named-inserted : (n : Bytes) (head : Head) (i : ℕ) → same n [] ≡ false → Lasts s n (places_of s) (members_at 0 ss) (others ss) (Some head) → index_of n ss ≡ some i → InsertTold s (set_end head.begin (places_at s head.begin)) new (inserted_at s i new)
   named-inserted n head i q h f =
       let l = lasts-all s n (places_of s) ss head good q h in
       let x : suc l.0 ≡ i = some-injective (suc l.0) i (sym l.1 ∙ f) in
@@ -187,9 +187,9 @@ module _ (s : Bytes) (new : List Pair) (e : is_readable s ≡ true) where
       (subst (InsertTold s (set_end head.begin (places_at s head.begin)) new) (ap bytes_of (sym (insert-last new (suc l.0) (read_of s) last))) (last-inserted (last_of ss (suc l.0)) (set_end head.begin (places_at s head.begin)) l.2))
 
   -- into the set of a head
-  pub insert-told : (set : Bytes) (head : Head) (i : ℕ) → head_place set (places_of s) ≡ FoundHead.At head → index_of set (sets_of (read_of s)) ≡ some i → InsertTold s (head.begin + set_end 0 (places_of (drop head.begin s))) new (inserted_at s i new)
+  pub insert-told : (set : Bytes) (head : Head) (i : ℕ) → head_place set (places_of s) ≡ Some head → index_of set (sets_of (read_of s)) ≡ some i → InsertTold s (head.begin + set_end 0 (places_of (drop head.begin s))) new (inserted_at s i new)
   insert-told [] head i f d =
-      let p : FoundHead.At (record { start = 0; end = 0; begin = 0 }) ≡ FoundHead.At head = sym (head-default [] (places_of s) refl) ∙ f in
+      let p : Some (record { start = 0; end = 0; begin = 0 }) ≡ Some head = sym (head-default [] (places_of s) refl) ∙ f in
       let y : ◌≡◌ {A = Head} (record { start = 0; end = 0; begin = 0 }) head = cc in
       let x : 0 ≡ head.begin = ap (λ (z : Head). z.begin) y in
       let w : 0 ≡ i = some-injective 0 i (sym (default-index ss good) ∙ d) in
@@ -197,7 +197,7 @@ module _ (s : Bytes) (new : List Pair) (e : is_readable s ≡ true) where
       subst (λ (j : ℕ). InsertTold s (head.begin + set_end 0 (places_of (drop head.begin s))) new (inserted_at s j new)) w (subst (λ (b : ℕ). InsertTold s (b + set_end 0 (places_of (drop b s))) new (inserted_at s 0 new)) x z)
   insert-told (c ∷ n) head i f d =
       let m : Bytes = c ∷ n in
-      let q : descriptor_head m (places_of s) ≡ FoundHead.At head = sym (head-named m (places_of s) (λ q. omega arith)) ∙ f in
-      let h : Lasts s m (places_of s) (members_at 0 ss) (others ss) (FoundHead.At head) =
-      subst (λ (ds : List RecSet). Lasts s m (places_of s) (members_at 0 ds) (others ds) (FoundHead.At head)) (sym (sets-places s)) (subst (Lasts s m (places_of s) (first_members (places_of s)) (others (sets (fields_in (places_of s))))) q (lasts s m (places_of s) (stands s e))) in
+      let q : descriptor_head m (places_of s) ≡ Some head = sym (head-named m (places_of s) (λ q. omega arith)) ∙ f in
+      let h : Lasts s m (places_of s) (members_at 0 ss) (others ss) (Some head) =
+      subst (λ (ds : List RecSet). Lasts s m (places_of s) (members_at 0 ds) (others ds) (Some head)) (sym (sets-places s)) (subst (Lasts s m (places_of s) (first_members (places_of s)) (others (sets (fields_in (places_of s))))) q (lasts s m (places_of s) (stands s e))) in
       subst (λ (k : ℕ). InsertTold s k new (inserted_at s i new)) (end_whole s head.begin) (named-inserted m head i refl h d)

@@ -1,4 +1,5 @@
 -- The set of a name: where its descriptor and its records stand, the rules and the records that are read there, and what a file that passes grants of both.
+use Rattle.std.specs.Prelude.{Option, Some, None}
 use Prim.Native.Nat.{ℕ, zero, suc, ◌+◌, ◌-◌, ◌≤◌}
 use native.Mathlib.Omega.{arith}
 use mathlib.Core.Path.{◌≡◌, refl, sym, ap, ◌∙◌, subst}
@@ -26,9 +27,7 @@ use Rattle.records.specs.Places.{is_readable, places_of, head_place}
 use Rattle.records.specs.Sets.{set_end, set_behind, set_found, set_place}
 use Rattle.records.specs.Walk.{record_in}
 use Rattle.records.specs.declared.Head.{Head}
-use Rattle.records.specs.declared.FoundHead.{FoundHead}
 use Rattle.records.specs.declared.RecordSet.{RecordSet}
-use Rattle.records.specs.declared.FoundSet.{FoundSet}
 use Rattle.records.proofs.Members.{HeadFound, HeadTold, head-members, count-sets}
 use Rattle.records.proofs.Leading.{leading-readable, leading-records}
 use Rattle.records.proofs.SetEnds.{end-inside}
@@ -48,9 +47,9 @@ pub record SetOf (s n : Bytes) (p : RecordSet) : Type 0 where
   pub counted : p.count ≡ length (set_at index (sets_of (read_of s))).members
 
 -- it is missing where there is no set of that name, and only then
-abbrev pub SetOfTold : Bytes → Bytes → FoundSet → Type 0
-SetOfTold s n FoundSet.Missing = index_of n (sets_of (read_of s)) ≡ none
-SetOfTold s n (FoundSet.At p) = SetOf s n p
+abbrev pub SetOfTold : Bytes → Bytes → Option RecordSet → Type 0
+SetOfTold s n None = index_of n (sets_of (read_of s)) ≡ none
+SetOfTold s n (Some p) = SetOf s n p
 
 -- the records of a set, asked for by its place
 pub members-at : (i : ℕ) (ss : List RecSet) → members_at i ss ≡ (set_at i ss).members
@@ -94,16 +93,16 @@ module _ (s n : Bytes) where
           counted = count-sets (drop begin s) ∙ ap length members-are;
         }
 
-  of-head : (x : FoundHead) → HeadTold s n (sets_of (read_of s)) x → SetOfTold s n (set_found s x)
-  of-head FoundHead.Missing h = h
-  of-head (FoundHead.At h) f = head-set h f
+  of-head : (x : Option Head) → HeadTold s n (sets_of (read_of s)) x → SetOfTold s n (set_found s x)
+  of-head None h = h
+  of-head (Some h) f = head-set h f
 
   pub set-of : is_readable s ≡ true → SetOfTold s n (set_place n s)
   unfolding set_place
   set-of e = of-head (head_place n (places_of s)) (head-members s n e)
 
   -- the same of an answer, once its form is known
-  pub set_told : (x : FoundSet) {y : FoundSet} → is_readable s ≡ true → x ≡ set_place n s → x ≡ y → SetOfTold s n y
+  pub set_told : (x : Option RecordSet) {y : Option RecordSet} → is_readable s ≡ true → x ≡ set_place n s → x ≡ y → SetOfTold s n y
   set_told x {y} e f g = subst (SetOfTold s n) (sym f ∙ g) (set-of e)
 
 -- What a file that passes grants of the set of a name: its rules pass questions 4, 6 and 7, and its records question 4.

@@ -1,4 +1,5 @@
 -- The sets of a part, one after another: what stands from the first descriptor on, that descriptor, the records behind it and the part behind them.
+use Rattle.std.specs.Prelude.{Option, Some, None}
 use Prim.Native.Nat.{ℕ, suc, ◌+◌, ◌-◌, ◌≤◌}
 use native.Mathlib.Omega.{arith}
 use mathlib.Core.Path.{◌≡◌, refl, sym, ap, ◌∙◌, subst}
@@ -13,7 +14,6 @@ use Rattle.records.specs.declared.Place.{Place}
 use Rattle.records.specs.declared.Head.{Head}
 use Rattle.records.specs.declared.MemberRun.{MemberRun}
 use Rattle.records.specs.declared.RecordSet.{RecordSet}
-use Rattle.records.specs.declared.NextSet.{NextSet}
 use Rattle.records.proofs.Shifts.{raise}
 use Rattle.records.proofs.Searches.{places_at, Stand, Met}
 use Rattle.records.proofs.Members.{Stands, stands_at}
@@ -54,16 +54,16 @@ pub record SetMet (s : Bytes) (hs : List Placed) (q : RecordSet) : Type 0 where
   pub stand : Stand s q.start q.end q.begin here.fields
   pub behind : Ended s q.begin q.after later
 
-abbrev pub SetTold : Bytes → List Placed → NextSet → Type 0
-SetTold s hs NextSet.Nothing = hs ≡ []
-SetTold s hs (NextSet.At q) = SetMet s hs q
+abbrev pub SetTold : Bytes → List Placed → Option RecordSet → Type 0
+SetTold s hs None = hs ≡ []
+SetTold s hs (Some q) = SetMet s hs q
 
 told : (s : Bytes) (ps : List Placed) → Stands s ps → SetTold s (from_head ps) (first_set ps)
 unfolding first_set
 told s [] h = refl
 told s (p ∷ ps) h = go (is_descriptor p) refl (told s ps h.2)
   where
-    go : (b : Bool) → is_descriptor p ≡ b → SetTold s (from_head ps) (first_set ps) → SetTold s (pick b (p ∷ ps) (from_head ps)) (pick b (NextSet.At (set_at p ps)) (first_set ps))
+    go : (b : Bool) → is_descriptor p ≡ b → SetTold s (from_head ps) (first_set ps) → SetTold s (pick b (p ∷ ps) (from_head ps)) (pick b (Some (set_at p ps)) (first_set ps))
     go true e x = record { here = p; later = ps; places = refl; is = refl; head = e; stand = h.0; behind = ended s p.after ps h.2 h.1 h.0.inside h.0.readable }
     go false e x = x
 
@@ -71,9 +71,9 @@ told s (p ∷ ps) h = go (is_descriptor p) refl (told s ps h.2)
 abbrev pub raise_set : ℕ → RecordSet → RecordSet
 raise_set a q = record { start = a + q.start; end = a + q.end; begin = a + q.begin; after = a + q.after; count = q.count }
 
-abbrev raise_next : ℕ → NextSet → NextSet
-raise_next a NextSet.Nothing = NextSet.Nothing
-raise_next a (NextSet.At q) = NextSet.At (raise_set a q)
+abbrev raise_next : ℕ → Option RecordSet → Option RecordSet
+raise_next a None = None
+raise_next a (Some q) = Some (raise_set a q)
 
 count-raised : (a : ℕ) (ps : List Placed) → count_before (map (raise a) ps) ≡ count_before ps
 unfolding count_before
@@ -85,15 +85,15 @@ unfolding first_set
 set-raised a [] = refl
 set-raised a (p ∷ ps) = go (is_descriptor p) (set-raised a ps)
   where
-    go : (b : Bool) → first_set (map (raise a) ps) ≡ raise_next a (first_set ps) → pick b (NextSet.At (set_at (raise a p) (map (raise a) ps))) (first_set (map (raise a) ps)) ≡ raise_next a (pick b (NextSet.At (set_at p ps)) (first_set ps))
-    go true e = λ d. NextSet.At (record { start = a + p.start; end = a + p.end; begin = a + p.after; after = end-raised a p.after ps d; count = count-raised a ps d })
+    go : (b : Bool) → first_set (map (raise a) ps) ≡ raise_next a (first_set ps) → pick b (Some (set_at (raise a p) (map (raise a) ps))) (first_set (map (raise a) ps)) ≡ raise_next a (pick b (Some (set_at p ps)) (first_set ps))
+    go true e = λ d. Some (record { start = a + p.start; end = a + p.end; begin = a + p.after; after = end-raised a p.after ps d; count = count-raised a ps d })
     go false e = e
 
 -- what an answer about the part from byte i on says, once its form is known
-abbrev pub SetsMet : Bytes → ℕ → NextSet → Type 0
+abbrev pub SetsMet : Bytes → ℕ → Option RecordSet → Type 0
 SetsMet s i x = SetTold s (from_head (places_at s i)) (raise_next i x)
 
-pub sets-met : (s : Bytes) (i : ℕ) (x : NextSet) {y : NextSet} → i ≤ length s → is_readable (drop i s) ≡ true → x ≡ first_set (places_of (take (length s - i) (drop i s))) → x ≡ y → SetsMet s i y
+pub sets-met : (s : Bytes) (i : ℕ) (x : Option RecordSet) {y : Option RecordSet} → i ≤ length s → is_readable (drop i s) ≡ true → x ≡ first_set (places_of (take (length s - i) (drop i s))) → x ≡ y → SetsMet s i y
 sets-met s i x {y} h e f g =
     subst (SetsMet s i) (ap (λ (t : Bytes). first_set (places_of t)) (sym (rest s i)) ∙ sym f ∙ g)
     (subst (SetTold s (from_head (places_at s i))) (set-raised i (places_of (drop i s))) (told s (places_at s i) (stands_at s (places_at s i) i h e refl)))
@@ -118,7 +118,7 @@ members-behind s h r e = ap (λ (m : MemberRun). record { start = h.start; end =
 
 -- The next set of a part, record by record.
 module _ (s : Bytes) (i : ℕ) where
-  pub set-none : places_at s i ≡ [] → first_set (places_at s i) ≡ NextSet.Nothing
+  pub set-none : places_at s i ≡ [] → first_set (places_at s i) ≡ None
   unfolding first_set
   set-none e = ap first_set e
 
@@ -126,17 +126,17 @@ module _ (s : Bytes) (i : ℕ) where
     abbrev b : ℕ
     b = i + q.after
 
-    set_on : (t : Bool) → q.descriptor ≡ t → first_set (places_at s i) ≡ pick t (NextSet.At (record { start = i + q.start; end = i + q.end; begin = b; after = set_end b (places_at s b); count = count_before (places_at s b) })) (first_set (places_at s b))
+    set_on : (t : Bool) → q.descriptor ≡ t → first_set (places_at s i) ≡ pick t (Some (record { start = i + q.start; end = i + q.end; begin = b; after = set_end b (places_at s b); count = count_before (places_at s b) })) (first_set (places_at s b))
     unfolding first_set
     set_on t d =
         ap first_set m.places
-        ∙ ap (λ (x : Place). pick x.descriptor (NextSet.At (record { start = i + x.start; end = i + x.end; begin = i + x.after; after = set_end (i + x.after) (places_at s b); count = count_before (places_at s b) })) (first_set (places_at s b))) m.is
-        ∙ ap (λ (x : Bool). pick x (NextSet.At (record { start = i + q.start; end = i + q.end; begin = b; after = set_end b (places_at s b); count = count_before (places_at s b) })) (first_set (places_at s b))) d
+        ∙ ap (λ (x : Place). pick x.descriptor (Some (record { start = i + x.start; end = i + x.end; begin = i + x.after; after = set_end (i + x.after) (places_at s b); count = count_before (places_at s b) })) (first_set (places_at s b))) m.is
+        ∙ ap (λ (x : Bool). pick x (Some (record { start = i + q.start; end = i + q.end; begin = b; after = set_end b (places_at s b); count = count_before (places_at s b) })) (first_set (places_at s b))) d
 
     pub set-later : q.descriptor ≡ false → first_set (places_at s i) ≡ first_set (places_at s b)
     set-later d = set_on false d
 
-    pub set_here : (r : MemberRun) → q.descriptor ≡ true → r ≡ leading (places_of (take (length s - b) (drop b s))) → first_set (places_at s i) ≡ NextSet.At (record { start = i + q.start; end = i + q.end; begin = b; after = b + r.end; count = r.count })
+    pub set_here : (r : MemberRun) → q.descriptor ≡ true → r ≡ leading (places_of (take (length s - b) (drop b s))) → first_set (places_at s i) ≡ Some (record { start = i + q.start; end = i + q.end; begin = b; after = b + r.end; count = r.count })
     set_here r d e =
         set_on true d
-        ∙ (λ t. NextSet.At (record { start = i + q.start; end = i + q.end; begin = b; after = (end_whole s b ∙ ap (λ (x : ℕ). b + x) (sym (members-end s b r e))) t; count = (count-raised b (places_of (drop b s)) ∙ sym (members-count s b r e)) t }))
+        ∙ (λ t. Some (record { start = i + q.start; end = i + q.end; begin = b; after = (end_whole s b ∙ ap (λ (x : ℕ). b + x) (sym (members-end s b r e))) t; count = (count-raised b (places_of (drop b s)) ∙ sym (members-count s b r e)) t }))

@@ -1,4 +1,5 @@
 -- What an edit of the file's k-th record does to the bytes: one splice at the record's place.
+use Rattle.std.specs.Prelude.{Some}
 use Prim.Native.Nat.{ℕ, zero, suc, ◌+◌, ◌-◌, ◌<◌}
 use native.Mathlib.Omega.{arith}
 use mathlib.Core.Path.{◌≡◌, refl, sym, ap, ◌∙◌, subst}
@@ -22,7 +23,6 @@ use Rattle.format.proofs.Elements.{Each, each-parts}
 use Rattle.format.proofs.Whole.{Sound}
 use Rattle.format.proofs.Splices.{spliced, splice, splice-from, splice-behind, piece_bytes, new-bytes, newline-bytes, rename-bytes}
 use Rattle.records.specs.Places.{Placed, size_in, placed_at, place_on, places_in, field_in, field_place}
-use Rattle.records.specs.declared.FoundField.{FoundField}
 use Rattle.records.proofs.Walks.{size-append, size-piece, size_none}
 use Rattle.records.proofs.Readings.{Reads, reads_of, reads-take, reads-drop}
 use Rattle.records.proofs.Fields.{field-read}
@@ -170,7 +170,7 @@ module _ {s : Bytes} {ps : List Piece} {k : ℕ} {p : Placed} (r : Reads s ps) (
       ∙ ap (λ (x : Block). spliced s p.start p.end (bytes_of (unfielded x))) (sym (reads_of own-reads))
 
   -- a change of the o-th field of a name, which stands from a to e in the record's own part
-  module _ (n : Bytes) (o a v e : ℕ) (found : field_place n (take (p.end - p.start) (drop p.start s)) o ≡ FoundField.At a v e) where
+  module _ (n : Bytes) (o a v e : ℕ) (found : field_place n (take (p.end - p.start) (drop p.start s)) o ≡ Some (record { start = a; value = v; end = e })) where
     -- the field among the record's pieces
     f : Picked n o (own_of b) 0 a e
     f = subst (Picks n o (own_of b) 0) (sym (ap (λ (x : Block). field_in n x 0 o) (reads_of own-reads)) ∙ sym (field-read n (take (p.end - p.start) (drop p.start s)) o) ∙ found) (picks n (own_of b) 0 o)

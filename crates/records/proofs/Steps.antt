@@ -1,4 +1,5 @@
 -- One step of a walk over a readable part: the piece that the part goes on with, its size, and the readable rest behind it.
+use Rattle.std.specs.Prelude.{Option as Maybe, Some, None}
 use Prim.Native.Nat.{ℕ, zero, suc, ◌+◌, ◌-◌, ◌≤◌, ◌<◌}
 use native.Mathlib.Omega.{arith}
 use mathlib.Core.Path.{◌≡◌, refl, sym, ap, ◌∙◌, subst}
@@ -19,7 +20,6 @@ use Rattle.lines.specs.Line.{line_len, first_line}
 use Rattle.lines.specs.Piece.{value_at, field_next, extent_of, next_by, next_of, is_fault, size_of}
 use Rattle.values.specs.Pieces.{piece_of, on_piece}
 use Rattle.values.specs.Value.{value_from}
-use Rattle.lines.specs.declared.Extent.{Extent}
 use Rattle.lines.specs.declared.Next.{Next}
 use Rattle.lines.proofs.Cuts.{rest, lines_cut, ended-drop}
 use Rattle.lines.proofs.Nexts.{next-first}
@@ -103,9 +103,9 @@ ValueBy l (Next.Blank k) = Unit {0}
 ValueBy l (Next.Comment k) = Unit {0}
 ValueBy l (Next.Field n v k) = v ≡ value_at n l
 
-value-extent : (n : ℕ) (l : Line) (e : Extent) → ValueBy l (field_next n (value_at n l) e)
-value-extent n l (Extent.Size k) = refl
-value-extent n l Extent.Open = tt
+value-extent : (n : ℕ) (l : Line) (e : Maybe ℕ) → ValueBy l (field_next n (value_at n l) e)
+value-extent n l (Some k) = refl
+value-extent n l None = tt
 
 value-form : (F : Form) (l : Line) (ls : List Line) → ValueBy l (next_by F l ls)
 value-form Form.blank l ls = tt

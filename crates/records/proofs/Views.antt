@@ -1,4 +1,5 @@
 -- The part that view shows is the place that the searches find: the definitions count the records of the whole file, the searches those of the part behind a descriptor.
+use Rattle.std.specs.Prelude.{Option as Maybe, Some, None}
 use Prim.Native.Nat.{ℕ, zero, suc, ◌+◌, ◌-◌, ◌<◌}
 use native.Mathlib.Omega.{arith}
 use mathlib.Core.Path.{◌≡◌, refl, sym, ap, ◌∙◌, subst}
@@ -24,8 +25,6 @@ use Rattle.format.proofs.Whole.{bytesOf-append}
 use Rattle.records.specs.Places.{is_readable, Placed, size_in, placed_at, place_on, places_in, places_of, is_descriptor, place_of, names_set, head_of, descriptor_head, head_place, record_by, record_place}
 use Rattle.records.specs.declared.Place.{Place}
 use Rattle.records.specs.declared.Head.{Head}
-use Rattle.records.specs.declared.FoundHead.{FoundHead}
-use Rattle.records.specs.declared.FoundRecord.{FoundRecord}
 use Rattle.records.proofs.Shifts.{raise, fields_in}
 use Rattle.records.proofs.Walks.{size-append, size_none}
 use Rattle.records.proofs.Readings.{readable-reads, places-read}
@@ -69,9 +68,9 @@ block-part s at b ps e =
     sym (ap (take m) z ∙ take_at (bytes_of (to_last f)) (bytes_of (c.0 ++ ps)) m (omega arith))
 
 -- A record's number in the whole file, by its number in the part where its set begins: ms are the records before the sets ds.
-abbrev Ranked : Bytes → Bytes → List Placed → List Record → List RecSet → FoundHead → Type 0
-Ranked s n ps ms ds FoundHead.Missing = Unit {0}
-Ranked s n ps ms ds (FoundHead.At a) = (i : ℕ) × (index_of n ds ≡ some i) × ((j : ℕ) → get_elem? ps (past ms (ordinal ds i j)) ≡ get_elem? (places_at s a.begin) j)
+abbrev Ranked : Bytes → Bytes → List Placed → List Record → List RecSet → Maybe Head → Type 0
+Ranked s n ps ms ds None = Unit {0}
+Ranked s n ps ms ds (Some a) = (i : ℕ) × (index_of n ds ≡ some i) × ((j : ℕ) → get_elem? ps (past ms (ordinal ds i j)) ≡ get_elem? (places_at s a.begin) j)
 
 -- a descriptor is one record
 past-descriptor : (r : Record) (v : Bytes) (vs : List Bytes) (k : ℕ) → values_of (text "%rec") r ≡ v ∷ vs → past (close r []) k ≡ suc k
@@ -79,24 +78,24 @@ past-descriptor [] v vs k e = absurd (let z : ◌≡◌ {A = ℕ} 0 1 = cc in om
 past-descriptor (f ∷ fs) v vs k e = refl
 
 module _ (s n : Bytes) where
-  ranked-member : (p : Placed) (ps : List Placed) (ms : List Record) (ds : List RecSet) (x : FoundHead) → Ranked s n ps ms ds x → Ranked s n (p ∷ ps) (p.fields ∷ ms) ds x
-  ranked-member p ps ms ds FoundHead.Missing h = tt
-  ranked-member p ps ms ds (FoundHead.At a) h = h
+  ranked-member : (p : Placed) (ps : List Placed) (ms : List Record) (ds : List RecSet) (x : Maybe Head) → Ranked s n ps ms ds x → Ranked s n (p ∷ ps) (p.fields ∷ ms) ds x
+  ranked-member p ps ms ds None h = tt
+  ranked-member p ps ms ds (Some a) h = h
 
   module _ (p : Placed) (ps : List Placed) (v : Bytes) (vs : List Bytes) (is : values_of (text "%rec") p.fields ≡ v ∷ vs) (behind : ps ≡ places_at s p.after) (d : RecSet) (rules : d.rules ≡ p.fields) (ds : List RecSet) where
     one : (k : ℕ) → past (close d.rules []) k ≡ suc k
     one k = past-descriptor d.rules v vs k (ap (values_of (text "%rec")) rules ∙ is)
 
-    ranked-other : (x : FoundHead) → same n d.name ≡ false → Ranked s n ps d.members ds x → Ranked s n (p ∷ ps) [] (d ∷ ds) x
-    ranked-other FoundHead.Missing e h = tt
-    ranked-other (FoundHead.At a) e h = (suc h.0, other-index n d ds e ∙ ap step_on h.1, λ j. ap (get_elem? (p ∷ ps)) (one (past d.members (ordinal ds h.0 j))) ∙ h.2 j)
+    ranked-other : (x : Maybe Head) → same n d.name ≡ false → Ranked s n ps d.members ds x → Ranked s n (p ∷ ps) [] (d ∷ ds) x
+    ranked-other None e h = tt
+    ranked-other (Some a) e h = (suc h.0, other-index n d ds e ∙ ap step_on h.1, λ j. ap (get_elem? (p ∷ ps)) (one (past d.members (ordinal ds h.0 j))) ∙ h.2 j)
 
-    ranked-named : (t : Bool) (x : FoundHead) → same n d.name ≡ t → Ranked s n ps d.members ds x → Ranked s n (p ∷ ps) [] (d ∷ ds) (pick t (FoundHead.At (head_of p)) x)
+    ranked-named : (t : Bool) (x : Maybe Head) → same n d.name ≡ t → Ranked s n ps d.members ds x → Ranked s n (p ∷ ps) [] (d ∷ ds) (pick t (Some (head_of p)) x)
     ranked-named true x e h = (0, ap (λ (b : Bool). index_by b (index_of n ds)) e, λ j. ap (get_elem? (p ∷ ps)) (one j) ∙ ap (λ (qs : List Placed). get_elem? qs j) behind)
     ranked-named false x e h = ranked-other x e h
 
-  ranked-by : (vs : List Bytes) (p : Placed) (ps : List Placed) (ss : List RecSet) (x : FoundHead) → values_of (text "%rec") p.fields ≡ vs → ps ≡ places_at s p.after → Ranked s n ps (members_at 0 ss) (others ss) x
-      → Ranked s n (p ∷ ps) (pick (is_filled vs) [] (p.fields ∷ members_at 0 ss)) (others_by vs p.fields ss) (pick (names_set n vs) (FoundHead.At (head_of p)) x)
+  ranked-by : (vs : List Bytes) (p : Placed) (ps : List Placed) (ss : List RecSet) (x : Maybe Head) → values_of (text "%rec") p.fields ≡ vs → ps ≡ places_at s p.after → Ranked s n ps (members_at 0 ss) (others ss) x
+      → Ranked s n (p ∷ ps) (pick (is_filled vs) [] (p.fields ∷ members_at 0 ss)) (others_by vs p.fields ss) (pick (names_set n vs) (Some (head_of p)) x)
   ranked-by [] p ps ss x e b h = ranked-member p ps (members_at 0 ss) (others ss) x h
   ranked-by (v ∷ vs) p ps ss x e b h = ranked-named p ps v vs e b (record { name = first_word v; rules = p.fields; members = members_at 0 ss }) refl (others ss) (same n (first_word v)) x refl h
 
@@ -105,18 +104,18 @@ module _ (s n : Bytes) where
   ranked (p ∷ ps) h =
       let vs : List Bytes = values_of (text "%rec") p.fields in
       let ss : List RecSet = sets (fields_in ps) in
-      let x : FoundHead = descriptor_head n (p ∷ ps) in
+      let x : Maybe Head = descriptor_head n (p ∷ ps) in
       subst (λ (ds : List RecSet). Ranked s n (p ∷ ps) (first_members (p ∷ ps)) ds x) (sym (others-enter vs p.fields ss))
       (subst (λ (ms : List Record). Ranked s n (p ∷ ps) ms (others_by vs p.fields ss) x) (sym (members-on p ps)) (ranked-by vs p ps ss (descriptor_head n ps) refl h.1 (ranked ps h.2)))
 
   -- the default set in front
-  ranked-all : (ps : List Placed) (ss : List RecSet) (x : FoundHead) → GoodSets ss → same n [] ≡ false → Ranked s n ps (members_at 0 ss) (others ss) x → Ranked s n ps [] ss x
+  ranked-all : (ps : List Placed) (ss : List RecSet) (x : Maybe Head) → GoodSets ss → same n [] ≡ false → Ranked s n ps (members_at 0 ss) (others ss) x → Ranked s n ps [] ss x
   ranked-all ps [] x g e h = absurd g
-  ranked-all ps (d ∷ ds) FoundHead.Missing g e h = tt
-  ranked-all ps (d ∷ ds) (FoundHead.At a) g e h =
+  ranked-all ps (d ∷ ds) None g e h = tt
+  ranked-all ps (d ∷ ds) (Some a) g e h =
       (suc h.0, other-index n d ds (ap (same n) g.0 ∙ e) ∙ ap step_on h.1, λ j. ap (λ (r : Record). get_elem? ps (past (close r []) (past d.members (ordinal ds h.0 j)))) g.1 ∙ h.2 j)
 
-default-ranked : (s : Bytes) (ss : List RecSet) → GoodSets ss → Ranked s [] (places_of s) [] ss (FoundHead.At (record { start = 0; end = 0; begin = 0 }))
+default-ranked : (s : Bytes) (ss : List RecSet) → GoodSets ss → Ranked s [] (places_of s) [] ss (Some (record { start = 0; end = 0; begin = 0 }))
 default-ranked s [] g = absurd g
 default-ranked s (d ∷ ds) g =
     (0, ap (λ (m : Bytes). index_by (same [] m) (index_of [] ds)) g.0, λ j. ap (λ (r : Record). get_elem? (places_of s) (past (close r []) j)) g.1 ∙ ap (λ (ps : List Placed). get_elem? ps j) (places-all s))
@@ -132,15 +131,15 @@ set-ranked s (c ∷ n) e =
     (ranked-all s m (places_of s) ss (descriptor_head m (places_of s)) (good-sets (fields_in (places_of s))) refl (ranked s m (places_of s) (stands s e)))
 
 -- a record that is found by its number is the one of that number among all of the part
-abbrev Nth : List Placed → ℕ → FoundRecord → Type 0
-Nth ps k FoundRecord.Missing = Unit {0}
-Nth ps k (FoundRecord.At q) = (p : Placed) × (place_of p ≡ q) × (get_elem? ps k ≡ some p)
+abbrev Nth : List Placed → ℕ → Maybe Place → Type 0
+Nth ps k None = Unit {0}
+Nth ps k (Some q) = (p : Placed) × (place_of p ≡ q) × (get_elem? ps k ≡ some p)
 
-nth_on : (p : Placed) (ps : List Placed) (k : ℕ) (x : FoundRecord) → Nth ps k x → Nth (p ∷ ps) (suc k) x
-nth_on p ps k FoundRecord.Missing h = tt
-nth_on p ps k (FoundRecord.At q) h = h
+nth_on : (p : Placed) (ps : List Placed) (k : ℕ) (x : Maybe Place) → Nth ps k x → Nth (p ∷ ps) (suc k) x
+nth_on p ps k None h = tt
+nth_on p ps k (Some q) h = h
 
-nth-by : (t : Bool) (p : Placed) (ps : List Placed) (k : ℕ) (later : ℕ → FoundRecord) → ((j : ℕ) → Nth ps j (later j)) → Nth (p ∷ ps) k (record_by t k p later)
+nth-by : (t : Bool) (p : Placed) (ps : List Placed) (k : ℕ) (later : ℕ → Maybe Place) → ((j : ℕ) → Nth ps j (later j)) → Nth (p ∷ ps) k (record_by t k p later)
 nth-by true p ps k later h = tt
 nth-by false p ps zero later h = (p, refl, refl)
 nth-by false p ps (suc k) later h = nth_on p ps k (later k) (h k)
@@ -164,12 +163,12 @@ pub record Located (s n : Bytes) (k start end : ℕ) : Type 0 where
   pub starts : place.start ≡ start
   pub ends : place.end ≡ end
 
-module _ (s n : Bytes) (head : Head) (k : ℕ) (q : Place) (e : is_readable s ≡ true) (f : head_place n (places_of s) ≡ FoundHead.At head) (g : record_place (places_of (drop head.begin s)) k ≡ FoundRecord.At q) where
+module _ (s n : Bytes) (head : Head) (k : ℕ) (q : Place) (e : is_readable s ≡ true) (f : head_place n (places_of s) ≡ Some head) (g : record_place (places_of (drop head.begin s)) k ≡ Some q) where
   pub located : Located s n k (head.begin + q.start) (head.begin + q.end)
   located =
       let ss : List RecSet = sets_of (read_of s) in
-      let r : Ranked s n (places_of s) [] ss (FoundHead.At head) = subst (Ranked s n (places_of s) [] ss) f (subst (λ (ds : List RecSet). Ranked s n (places_of s) [] ds (head_place n (places_of s))) (sym (sets-places s)) (set-ranked s n e)) in
-      let m : Nth (places_of (drop head.begin s)) k (FoundRecord.At q) = subst (Nth (places_of (drop head.begin s)) k) g (nth (places_of (drop head.begin s)) k) in
+      let r : Ranked s n (places_of s) [] ss (Some head) = subst (Ranked s n (places_of s) [] ss) f (subst (λ (ds : List RecSet). Ranked s n (places_of s) [] ds (head_place n (places_of s))) (sym (sets-places s)) (set-ranked s n e)) in
+      let m : Nth (places_of (drop head.begin s)) k (Some q) = subst (Nth (places_of (drop head.begin s)) k) g (nth (places_of (drop head.begin s)) k) in
       record {
         index = r.0;
         set = r.1;
@@ -183,8 +182,8 @@ module _ (s n : Bytes) (head : Head) (k : ℕ) (q : Place) (e : is_readable s �
   pub row-there : (i : ℕ) → index_of n (sets_of (read_of s)) ≡ some i → There (sets_of (read_of s)) i k
   row-there i d =
       let ss : List RecSet = sets_of (read_of s) in
-      let m = (head-told s n (FoundHead.At head) e (sym f) refl).set in
-      let r = record-told (drop head.begin s) k (FoundRecord.At q) m.readable (sym g) refl in
+      let m = (head-told s n (Some head) e (sym f) refl).set in
+      let r = record-told (drop head.begin s) k (Some q) m.readable (sym g) refl in
       let here : members_at i ss ≡ members_at 0 (sets_of (read_of (drop head.begin s))) = ap (members_in ss) (sym d) ∙ m.members in
       there-at ss i k (below-has (members_at i ss) k (subst (λ (rs : List Record). k < length rs) (sym here) r.there))
 

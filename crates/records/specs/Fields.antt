@@ -1,5 +1,6 @@
 -- The next field of a part: where it stands, and the part behind it.
-use Rattle.std.specs.Prelude.{ℕ, ◌+◌, ◌-◌, ◌≤◌, ◌<◌, ◌≡◌, true, List, [], ◌∷◌, ◌++◌, length, drop}
+use Rattle.records.specs.declared.FieldPlace.{FieldPlace}
+use Rattle.std.specs.Prelude.{ℕ, ◌+◌, ◌-◌, ◌≤◌, ◌<◌, ◌≡◌, true, List, [], ◌∷◌, ◌++◌, length, drop, Option, Some, None}
 use Rattle.format.specs.Bytes.{Bytes}
 use Rattle.format.specs.Lines.{Line}
 use Rattle.format.specs.Pieces.{Piece, read_of}
@@ -9,7 +10,6 @@ use Rattle.values.specs.Value.{value_from}
 use Rattle.words.specs.Spans.{span}
 use Rattle.records.specs.Places.{is_readable, size_in, head_line}
 use Rattle.records.specs.Walk.{record_in}
-use Rattle.records.specs.declared.NextField.{NextField}
 
 -- the fields from a byte on
 abbrev pub fields_from : Bytes → ℕ → Record
@@ -49,6 +49,6 @@ pub record FieldHere (s : Bytes) (i a n v e : ℕ) : Type 0 where
   pub loose : Fieldless s i a
   pub piece : PieceHere s a n v e
 
-abbrev pub FieldNext : Bytes → ℕ → NextField → Type 0
-FieldNext s i NextField.Nothing = fields_from s i ≡ []
-FieldNext s i (NextField.At a n v e) = FieldHere s i a n v e
+abbrev pub FieldNext : Bytes → ℕ → Option FieldPlace → Type 0
+FieldNext s i None = fields_from s i ≡ []
+FieldNext s i (Some f) = FieldHere s i f.start f.named f.value f.end

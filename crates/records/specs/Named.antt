@@ -1,5 +1,6 @@
 -- The next field of a name: where it stands, its value, and the values behind it.
-use Rattle.std.specs.Prelude.{ℕ, zero, suc, ◌≤◌, ◌<◌, ◌≡◌, true, List, [], ◌∷◌, length, drop}
+use Rattle.records.specs.declared.ValuePlace.{ValuePlace}
+use Rattle.std.specs.Prelude.{ℕ, zero, suc, ◌≤◌, ◌<◌, ◌≡◌, true, List, [], ◌∷◌, length, drop, Option, Some, None}
 use Rattle.format.specs.Bytes.{Bytes}
 use Rattle.format.specs.Pieces.{read_of}
 use Rattle.format.specs.Sets.{values_of}
@@ -7,7 +8,6 @@ use Rattle.values.specs.Value.{value_from}
 use Rattle.words.specs.Spans.{span}
 use Rattle.records.specs.Places.{is_readable, field_in}
 use Rattle.records.specs.Fields.{fields_from}
-use Rattle.records.specs.declared.FoundField.{FoundField}
 
 -- the values of a name from byte i on
 abbrev pub values_from : Bytes → Bytes → ℕ → List Bytes
@@ -23,29 +23,29 @@ pub record ValueHere (s name : Bytes) (i v e : ℕ) : Type 0 where
   pub ends-itself : value_from (drop v s) ≡ value_from (span v e s)
   pub values : values_from s name i ≡ value_from (span v e s) ∷ values_from s name e
 
-abbrev pub ValueNext : Bytes → Bytes → ℕ → FoundField → Type 0
-ValueNext s name i FoundField.Missing = values_from s name i ≡ []
-ValueNext s name i (FoundField.At a v e) = ValueHere s name i v e
+abbrev pub ValueNext : Bytes → Bytes → ℕ → Option ValuePlace → Type 0
+ValueNext s name i None = values_from s name i ≡ []
+ValueNext s name i (Some f) = ValueHere s name i f.value f.end
 
 -- the occurrence o of a name from byte i on
-abbrev pub occurrence : Bytes → Bytes → ℕ → ℕ → FoundField
+abbrev pub occurrence : Bytes → Bytes → ℕ → ℕ → Option ValuePlace
 occurrence s name i o = field_in name (read_of (drop i s)) i o
 
 -- is the one found the first, and do the others stand behind it
-abbrev pub first_or : FoundField → (ℕ → FoundField) → ℕ → FoundField
+abbrev pub first_or : Option ValuePlace → (ℕ → Option ValuePlace) → ℕ → Option ValuePlace
 first_or x later zero = x
 first_or x later (suc o) = later o
 
-abbrev pub OccurrenceNext : Bytes → Bytes → ℕ → FoundField → Type 0
-OccurrenceNext s name i FoundField.Missing = (o : ℕ) → occurrence s name i o ≡ FoundField.Missing
-OccurrenceNext s name i (FoundField.At a v e) = (o : ℕ) → occurrence s name i o ≡ first_or (FoundField.At a v e) (occurrence s name e) o
+abbrev pub OccurrenceNext : Bytes → Bytes → ℕ → Option ValuePlace → Type 0
+OccurrenceNext s name i None = (o : ℕ) → occurrence s name i o ≡ None
+OccurrenceNext s name i (Some f) = (o : ℕ) → occurrence s name i o ≡ first_or (Some f) (occurrence s name f.end) o
 
 -- its value does not stand before it
-abbrev pub ValueBehind : FoundField → Type 0
-ValueBehind FoundField.Missing = Unit {0}
-ValueBehind (FoundField.At a v e) = a ≤ v
+abbrev pub ValueBehind : Option ValuePlace → Type 0
+ValueBehind None = Unit {0}
+ValueBehind (Some f) = f.start ≤ f.value
 
-pub record NamedNext (s name : Bytes) (i : ℕ) (x : FoundField) : Type 0 where
+pub record NamedNext (s name : Bytes) (i : ℕ) (x : Option ValuePlace) : Type 0 where
   pub behind : ValueBehind x
   pub value : ValueNext s name i x
   pub found : OccurrenceNext s name i x

@@ -1,5 +1,6 @@
 -- The places of records, and the searches among them.
-use Rattle.std.specs.Prelude.{ℕ, zero, suc, ◌+◌, Bool, true, false, ◌&&◌, List, [], ◌∷◌, length}
+use Rattle.records.specs.declared.ValuePlace.{ValuePlace}
+use Rattle.std.specs.Prelude.{ℕ, zero, suc, ◌+◌, Bool, true, false, ◌&&◌, List, [], ◌∷◌, length, Option as Maybe, Some, None}
 use Rattle.std.proofs.Math.Option.{Option, none, some}
 use Rattle.format.specs.Lists.{is_filled}
 use Rattle.format.specs.Bytes.{Bytes, text, pick, same, is_some}
@@ -12,11 +13,7 @@ use Rattle.format.specs.Calls.{lead, from_first, to_last}
 use Rattle.format.proofs.Walking.{is_head}
 use Rattle.lines.specs.Piece.{value_at}
 use Rattle.records.specs.declared.Place.{Place}
-use Rattle.records.specs.declared.NextRecord.{NextRecord}
 use Rattle.records.specs.declared.Head.{Head}
-use Rattle.records.specs.declared.FoundHead.{FoundHead}
-use Rattle.records.specs.declared.FoundRecord.{FoundRecord}
-use Rattle.records.specs.declared.FoundField.{FoundField}
 
 -- a part that can be walked: it is empty or ends in a newline, and every line has a form
 unfoldable pub is_readable : Bytes → Bool
@@ -61,9 +58,9 @@ abbrev pub place_of : Placed → Place
 place_of p = record { start = p.start; end = p.end; after = p.after; descriptor = is_descriptor p }
 
 -- the first record
-abbrev pub first_place : List Placed → NextRecord
-first_place [] = NextRecord.Nothing
-first_place (p ∷ ps) = NextRecord.At (place_of p)
+abbrev pub first_place : List Placed → Maybe Place
+first_place [] = None
+first_place (p ∷ ps) = Some (place_of p)
 
 -- does a descriptor with these `%rec` values open the set of a name
 abbrev pub names_set : Bytes → List Bytes → Bool
@@ -74,22 +71,22 @@ names_set n (v ∷ vs) = same n (first_word v)
 abbrev pub head_of : Placed → Head
 head_of p = record { start = p.start; end = p.end; begin = p.after }
 
-abbrev pub descriptor_head : Bytes → List Placed → FoundHead
-descriptor_head n [] = FoundHead.Missing
-descriptor_head n (p ∷ ps) = pick (names_set n (values_of (text "%rec") p.fields)) (FoundHead.At (head_of p)) (descriptor_head n ps)
+abbrev pub descriptor_head : Bytes → List Placed → Maybe Head
+descriptor_head n [] = None
+descriptor_head n (p ∷ ps) = pick (names_set n (values_of (text "%rec") p.fields)) (Some (head_of p)) (descriptor_head n ps)
 
 -- the head of the set of a name; the default set, which has no descriptor, stands first
-unfoldable pub head_place : Bytes → List Placed → FoundHead
-head_place n ps = pick (same n []) (FoundHead.At (record { start = 0; end = 0; begin = 0 })) (descriptor_head n ps)
+unfoldable pub head_place : Bytes → List Placed → Maybe Head
+head_place n ps = pick (same n []) (Some (record { start = 0; end = 0; begin = 0 })) (descriptor_head n ps)
 
 -- "a record number beyond the last is no record": the k-th record before any descriptor
-abbrev pub record_by : Bool → ℕ → Placed → (ℕ → FoundRecord) → FoundRecord
-record_by true k p later = FoundRecord.Missing
-record_by false zero p later = FoundRecord.At (place_of p)
+abbrev pub record_by : Bool → ℕ → Placed → (ℕ → Maybe Place) → Maybe Place
+record_by true k p later = None
+record_by false zero p later = Some (place_of p)
 record_by false (suc k) p later = later k
 
-unfoldable pub record_place : List Placed → ℕ → FoundRecord
-record_place [] k = FoundRecord.Missing
+unfoldable pub record_place : List Placed → ℕ → Maybe Place
+record_place [] k = None
 record_place (p ∷ ps) k = record_by (is_descriptor p) k p (λ (j : ℕ). record_place ps j)
 
 -- how many records stand before any descriptor
@@ -102,20 +99,20 @@ abbrev pub head_line : List Line → Line
 head_line [] = []
 head_line (l ∷ ls) = l
 
-abbrev pub field_by : Bool → ℕ → ℕ → Bytes → List Line → (ℕ → FoundField) → FoundField
+abbrev pub field_by : Bool → ℕ → ℕ → Bytes → List Line → (ℕ → Maybe ValuePlace) → Maybe ValuePlace
 field_by false o at n ls later = later o
-field_by true zero at n ls later = FoundField.At at (at + value_at (length n) (head_line ls)) (at + count_of ls)
+field_by true zero at n ls later = Some (record { start = at; value = at + value_at (length n) (head_line ls); end = at + count_of ls })
 field_by true (suc o) at n ls later = later o
 
-abbrev pub field_in : Bytes → List Piece → ℕ → ℕ → FoundField
-field_in n [] at o = FoundField.Missing
+abbrev pub field_in : Bytes → List Piece → ℕ → ℕ → Maybe ValuePlace
+field_in n [] at o = None
 field_in n (Piece.blank l ∷ ps) at o = field_in n ps (at + count_of (l ∷ [])) o
 field_in n (Piece.comment l ∷ ps) at o = field_in n ps (at + count_of (l ∷ [])) o
 field_in n (Piece.field m v ls ∷ ps) at o = field_by (same n m) o at m ls (λ (k : ℕ). field_in n ps (at + count_of ls) k)
 
-abbrev pub field_from : Bytes → Option (List Piece) → ℕ → FoundField
-field_from n none o = FoundField.Missing
+abbrev pub field_from : Bytes → Option (List Piece) → ℕ → Maybe ValuePlace
+field_from n none o = None
 field_from n (some ps) o = field_in n ps 0 o
 
-unfoldable pub field_place : Bytes → Bytes → ℕ → FoundField
+unfoldable pub field_place : Bytes → Bytes → ℕ → Maybe ValuePlace
 field_place n s o = field_from n (pieces s) o

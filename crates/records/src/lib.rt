@@ -10,13 +10,14 @@ ghost use Rattle.records.specs.Walk.{run_from, opens_set};
 ghost use Rattle.records.specs.Fields.{FieldNext};
 ghost use Rattle.records.specs.Named.{NamedNext};
 
+use format::Classes;
 use lines::Next;
 
 // Is a part empty or ended by a newline, and has every line of it a form?
 pub fn is_readable(s: &[u8]) -> bool
     ensures { result ≡ is_readable s.now }
 {
-    let table = format::classes();
+    let table = Classes::new();
     let len = s.len();
     if len == 0 {
         return true;
@@ -26,19 +27,14 @@ pub fn is_readable(s: &[u8]) -> bool
     }
     let mut i = 0;
     loop {
-        let n = lines::next_piece(&table, &s[i..]);
-        match n {
+        match lines::next_piece(&table, &s[i..]) {
             Next::Blank { size } => {
                 i += size;
             }
             Next::Comment { size } => {
                 i += size;
             }
-            Next::Field {
-                name: _,
-                value: _,
-                size,
-            } => {
+            Next::Field { size, .. } => {
                 i += size;
             }
             Next::End => {
@@ -52,26 +48,22 @@ pub fn is_readable(s: &[u8]) -> bool
 }
 
 // Where a field stands in a part: its first byte, the byte behind its name, its value's first byte, the byte behind it.
-#[derive(Drop)]
-pub enum NextField {
-    At {
-        start: usize,
-        named: usize,
-        value: usize,
-        end: usize,
-    },
-    Nothing,
+#[derive(Clone, Copy)]
+pub struct FieldPlace {
+    pub start: usize,
+    pub named: usize,
+    pub value: usize,
+    pub end: usize,
 }
 
 // The first field of a part.
-pub fn next_field(s: &[u8]) -> NextField
+pub fn next_field(s: &[u8]) -> Option<FieldPlace>
     requires { is_readable s.now ≡ true }
     ensures { FieldNext s.now 0 result }
 {
     let mut i = 0;
     loop {
-        let n = lines::read_piece(&s[i..]);
-        match n {
+        match lines::read_piece(&s[i..]) {
             Next::Blank { size } => {
                 i += size;
             }
@@ -79,18 +71,18 @@ pub fn next_field(s: &[u8]) -> NextField
                 i += size;
             }
             Next::Field { name, value, size } => {
-                return NextField::At {
+                return Some(FieldPlace {
                     start: i,
                     named: i + name,
                     value: i + value,
                     end: i + size,
-                };
+                });
             }
             Next::End => {
-                return NextField::Nothing;
+                return None;
             }
             Next::Fault => {
-                return NextField::Nothing;
+                return None;
             }
         }
     }
@@ -103,12 +95,6 @@ pub struct Place {
     pub end: usize,
     pub after: usize,
     pub descriptor: bool,
-}
-
-#[derive(Drop)]
-pub enum NextRecord {
-    Nothing,
-    At(Place),
 }
 
 // How far a record goes: the byte behind its last field, the byte behind its block, and whether it has a `%rec`.
@@ -135,23 +121,18 @@ fn record_run(s: &[u8], described: bool) -> Run
     let mut i = 0;
     let mut descriptor = described;
     loop {
-        let n = lines::read_piece(&s[i..]);
-        match n {
+        match lines::read_piece(&s[i..]) {
             Next::Comment { size } => {
                 i += size;
             }
-            Next::Field {
-                name,
-                value: _,
-                size,
-            } => {
+            Next::Field { name, size, .. } => {
                 let e = i + name;
                 let here = is_rec(&s[i..e]);
                 descriptor = descriptor | here;
                 i += size;
                 end = i;
             }
-            Next::Blank { size: _ } => {
+            Next::Blank { .. } => {
                 return Run {
                     end,
                     after: i,
@@ -177,26 +158,17 @@ fn record_run(s: &[u8], described: bool) -> Run
 }
 
 // The next record of a part: its first field, and its run behind that.
-pub fn next_record(s: &[u8]) -> NextRecord
+pub fn next_record(s: &[u8]) -> Option<Place>
     requires { is_readable s.now ≡ true }
     ensures { result ≡ first_place (places_of s.now) }
 {
-    let f = next_field(s);
-    let NextField::At {
-        start,
-        named,
-        value: _,
-        end,
-    } = f
-    else {
-        return NextRecord::Nothing;
-    };
-    let here = is_rec(&s[start..named]);
-    let r = record_run(&s[end..], here);
-    NextRecord::At(Place {
-        start,
-        end: end + r.end,
-        after: end + r.after,
+    let f = next_field(s)?;
+    let here = is_rec(&s[f.start..f.named]);
+    let r = record_run(&s[f.end..], here);
+    Some(Place {
+        start: f.start,
+        end: f.end + r.end,
+        after: f.end + r.after,
         descriptor: r.descriptor,
     })
 }
@@ -215,8 +187,7 @@ pub fn next_members(s: &[u8]) -> MemberRun
     let mut end = 0;
     let mut count = 0;
     loop {
-        let r = next_record(&s[end..]);
-        let NextRecord::At(p) = r else {
+        let Some(p) = next_record(&s[end..]) else {
             return MemberRun { count, end };
         };
         if p.descriptor {
@@ -238,27 +209,18 @@ pub struct RecordSet {
     pub count: usize,
 }
 
-#[derive(Drop)]
-pub enum NextSet {
-    Nothing,
-    At(RecordSet),
-}
-
 // The next set of a part that has a descriptor there.
-pub fn next_set(s: &[u8]) -> NextSet
+pub fn next_set(s: &[u8]) -> Option<RecordSet>
     requires { is_readable s.now ≡ true }
     ensures { result ≡ first_set (places_of s.now) }
 {
     let mut i = 0;
     loop {
-        let r = next_record(&s[i..]);
-        let NextRecord::At(p) = r else {
-            return NextSet::Nothing;
-        };
+        let p = next_record(&s[i..])?;
         let begin = i + p.after;
         if p.descriptor {
             let m = next_members(&s[begin..]);
-            return NextSet::At(RecordSet {
+            return Some(RecordSet {
                 start: i + p.start,
                 end: i + p.end,
                 begin,
@@ -271,28 +233,19 @@ pub fn next_set(s: &[u8]) -> NextSet
 }
 
 // Where record k of those before any descriptor stands.
-#[derive(Drop)]
-pub enum FoundRecord {
-    At(Place),
-    Missing,
-}
-
-pub fn find_record(s: &[u8], k: usize) -> FoundRecord
+pub fn find_record(s: &[u8], k: usize) -> Option<Place>
     requires { is_readable s.now ≡ true }
     ensures { result ≡ record_place (places_of s.now) k }
 {
     let mut i = 0;
     let mut left = k;
     loop {
-        let r = next_record(&s[i..]);
-        let NextRecord::At(p) = r else {
-            return FoundRecord::Missing;
-        };
+        let p = next_record(&s[i..])?;
         if p.descriptor {
-            return FoundRecord::Missing;
+            return None;
         }
         if left == 0 {
-            return FoundRecord::At(Place {
+            return Some(Place {
                 start: i + p.start,
                 end: i + p.end,
                 after: i + p.after,
@@ -305,62 +258,47 @@ pub fn find_record(s: &[u8], k: usize) -> FoundRecord
 }
 
 // Where a field stands in a part: its first byte, its value's first byte, the byte behind it.
-#[derive(Drop)]
-pub enum FoundField {
-    At {
-        start: usize,
-        value: usize,
-        end: usize,
-    },
-    Missing,
+#[derive(Clone, Copy)]
+pub struct ValuePlace {
+    pub start: usize,
+    pub value: usize,
+    pub end: usize,
 }
 
 // The first field of a name in a part.
-pub fn next_named(s: &[u8], name: &[u8]) -> FoundField
+pub fn next_named(s: &[u8], name: &[u8]) -> Option<ValuePlace>
     requires { is_readable s.now ≡ true }
     ensures { NamedNext s.now name.now 0 result }
 {
     let mut i = 0;
     loop {
-        let f = next_field(&s[i..]);
-        let NextField::At {
-            start,
-            named,
-            value,
-            end,
-        } = f
-        else {
-            return FoundField::Missing;
-        };
-        if lines::same_bytes(name, &s[i + start..i + named]) {
-            return FoundField::At {
-                start: i + start,
-                value: i + value,
-                end: i + end,
-            };
+        let f = next_field(&s[i..])?;
+        if lines::same_bytes(name, &s[i + f.start..i + f.named]) {
+            return Some(ValuePlace {
+                start: i + f.start,
+                value: i + f.value,
+                end: i + f.end,
+            });
         }
-        i += end;
+        i += f.end;
     }
 }
 
 // The occurrence o of a name among the fields of a part.
-pub fn find_field(s: &[u8], name: &[u8], o: usize) -> FoundField
+pub fn find_field(s: &[u8], name: &[u8], o: usize) -> Option<ValuePlace>
     requires { is_readable s.now ≡ true }
     ensures { result ≡ field_place name.now s.now o }
 {
     let mut i = 0;
     let mut left = o;
     loop {
-        let f = next_named(&s[i..], name);
-        let FoundField::At { start, value, end } = f else {
-            return FoundField::Missing;
-        };
+        let ValuePlace { start, value, end } = next_named(&s[i..], name)?;
         if left == 0 {
-            return FoundField::At {
+            return Some(ValuePlace {
                 start: i + start,
                 value: i + value,
                 end: i + end,
-            };
+            });
         }
         left -= 1;
         i += end;
@@ -372,13 +310,7 @@ fn opens_set(s: &[u8], name: &[u8]) -> bool
     requires { is_readable s.now ≡ true }
     ensures { result ≡ opens_set name.now s.now }
 {
-    let f = find_field(s, b"%rec", 0);
-    let FoundField::At {
-        start: _,
-        value,
-        end,
-    } = f
-    else {
+    let Some(ValuePlace { value, end, .. }) = find_field(s, b"%rec", 0) else {
         return false;
     };
     values::word_is(&s[value..end], name)
@@ -392,18 +324,13 @@ pub struct Head {
     pub begin: usize,
 }
 
-#[derive(Drop)]
-pub enum FoundHead {
-    At(Head),
-    Missing,
-}
-
-pub fn find_head(s: &[u8], name: &[u8]) -> FoundHead
+// Where the set of a name stands.
+pub fn find_head(s: &[u8], name: &[u8]) -> Option<Head>
     requires { is_readable s.now ≡ true }
     ensures { result ≡ head_place name.now (places_of s.now) }
 {
     if name.len() == 0 {
-        return FoundHead::At(Head {
+        return Some(Head {
             start: 0,
             end: 0,
             begin: 0,
@@ -411,15 +338,12 @@ pub fn find_head(s: &[u8], name: &[u8]) -> FoundHead
     }
     let mut i = 0;
     loop {
-        let r = next_record(&s[i..]);
-        let NextRecord::At(p) = r else {
-            return FoundHead::Missing;
-        };
+        let p = next_record(&s[i..])?;
         if p.descriptor {
             let a = i + p.start;
             let e = i + p.end;
             if opens_set(&s[a..e], name) {
-                return FoundHead::At(Head {
+                return Some(Head {
                     start: a,
                     end: e,
                     begin: i + p.after,
@@ -449,19 +373,10 @@ pub fn set_behind(s: &[u8], head: Head) -> RecordSet
 }
 
 // The set of a name. Who wants one record of it walks from its head on, and not over all of them.
-#[derive(Drop)]
-pub enum FoundSet {
-    At(RecordSet),
-    Missing,
-}
-
-pub fn find_set(s: &[u8], name: &[u8]) -> FoundSet
+pub fn find_set(s: &[u8], name: &[u8]) -> Option<RecordSet>
     requires { is_readable s.now ≡ true }
     ensures { result ≡ set_place name.now s.now }
 {
-    let h = find_head(s, name);
-    match h {
-        FoundHead::At(p) => FoundSet::At(set_behind(s, p)),
-        FoundHead::Missing => FoundSet::Missing,
-    }
+    let head = find_head(s, name)?;
+    Some(set_behind(s, head))
 }

@@ -1,4 +1,5 @@
 -- Writing a record: the answer of each case, and that what is written reads back.
+use Rattle.std.specs.Prelude.{Some, None, Result, Ok, Err}
 use Prim.Native.Nat.{ℕ, zero, suc, ◌≤◌}
 use native.Mathlib.Omega.{arith}
 use mathlib.Core.Path.{◌≡◌, refl, sym, ap, ◌∙◌, subst}
@@ -9,9 +10,8 @@ use lib.Dec.{leb}
 use lib.ListN.{length, take, drop}
 use lib.Seq.{take-append_seam}
 use borrow.Author.Tests.{leb-true, leb-false}
-use types.Run.{OneOf, miss}
-use denote.Enum.Declared.{tag_of}
 use Rattle.format.proofs.Legal.{legals-writable}
+use Rattle.format.proofs.Refused.{answer-refused}
 use Rattle.format.proofs.Splices.{set-reads-back}
 use Rattle.format.specs.Lists.{onward}
 use Rattle.format.specs.Bytes.{Bytes, all}
@@ -24,13 +24,13 @@ use Rattle.format.specs.Edits.{Edit}
 use Rattle.format.specs.Calls.{Answer, answer, Filled, leaves, over, filled, insert_of, written_by, write_answer, filled_by}
 use Rattle.format.proofs.Grouping.{HasPairs, set_by}
 use Rattle.format.proofs.Requested.{request-pairs}
-use Rattle.requests.specs.contracts.kinds.Edit.{the_type}
+use Rattle.requests.specs.declared.kinds.Act.{Act as ReadAct}
 use Rattle.requests.specs.declared.kinds.Edit.{Edit as ReadEdit}
 use Rattle.requests.specs.declared.kinds.Request.{Request}
-use Rattle.requests.specs.declared.kinds.RequestOf.{RequestOf}
-use Rattle.format.specs.declared.Answer.{Answer as Reply}
+use Rattle.format.specs.declared.refusals.Refusal.{Refusal}
+use Rattle.format.specs.Refusals.{refusal_no}
 use Rattle.requests.specs.Pairs.{pairs_at}
-use Rattle.requests.specs.Kinds.{edit_of, request_answer, InEdit, Inside}
+use Rattle.requests.specs.Kinds.{edit_of, request_answer}
 use Rattle.requests.proofs.Kinding.{request-long}
 use Rattle.requests.proofs.Weighing.{asked-illegal}
 use Rattle.requests.specs.Writes.{write_no}
@@ -39,11 +39,11 @@ use Rattle.requests.specs.Writes.{write_no}
 abbrev pub filled_as : ℕ → Bytes → Bytes → Filled
 filled_as n text out = record { result = answer n (length text); out = leaves (answer n (length text)) (over text out) out }
 
-pub filled-refused : (n : ℕ) (text out : Bytes) → (n ≡ 0 → ⊥) → filled_by (Reply.Refused n) out ≡ filled_as n text out
-filled-refused zero text out h = absurd (h refl)
-filled-refused (suc n) text out h = refl
+pub filled-refused : (r : Refusal) (n : ℕ) (text out : Bytes) → refusal_no r ≡ n → filled_by (Err r) out ≡ filled_as n text out
+filled-refused r n text out e =
+    subst (λ (k : ℕ). filled_by (Err r) out ≡ filled_as k text out) e (ap (λ (a : Answer). record { result = a; out = leaves a (over text out) out }) (sym (answer-refused r (length text))))
 
-pub filled-written : (n k : ℕ) (text out after : Bytes) → k ≡ length text → after ≡ over text out → n ≡ 0 → filled_by (Reply.Value k) after ≡ filled_as n text out
+pub filled-written : (n k : ℕ) (text out after : Bytes) → k ≡ length text → after ≡ over text out → n ≡ 0 → filled_by (Ok k) after ≡ filled_as n text out
 filled-written n k text out after l a e = rw (l, a, e)
 
 module _ (s out : Bytes) where
@@ -51,37 +51,23 @@ module _ (s out : Bytes) where
   abbrev answered : Option Asked → Filled
   answered x = written_by (onward (λ (q : Asked). insert_of q.edit) x) out
 
-  pub write-fault : request_answer s RequestOf.Fault ≡ request_of s → filled_by (Reply.Refused 20) out ≡ write_answer s out
+  pub write-fault : request_answer s None ≡ request_of s → filled_by (Err Refusal.Form) out ≡ write_answer s out
   unfolding write_answer
   write-fault e = ap answered e
 
-  module _ (q : Request) (e : request_answer s (RequestOf.Is q) ≡ request_of s) where
+  module _ (q : Request) (e : request_answer s (Some q) ≡ request_of s) where
     by-asked : written_by (insert_of (edit_of s q.edit)) out ≡ write_answer s out
     unfolding write_answer
     by-asked = ap answered e
 
-    pub write-other : OneOf (1 ∷ []) (tag_of the_type q.edit) → filled_by (Reply.Refused 20) out ≡ write_answer s out
-    write-other h = go q.edit h ∙ by-asked
-      where
-        go : (a : ReadEdit) → OneOf (1 ∷ []) (tag_of the_type a) → filled_by (Reply.Refused 20) out ≡ written_by (insert_of (edit_of s a)) out
-        go (ReadEdit.Insert i) k = absurd (miss (1 ∷ []) 0 tt k)
-        go (ReadEdit.On r a) k = refl
+    pub write-other : (r : ℕ) (a : ReadAct) → q.edit ≡ ReadEdit.On r a → filled_by (Err Refusal.Form) out ≡ write_answer s out
+    write-other r a h = ap (λ (x : ReadEdit). written_by (insert_of (edit_of s x)) out) (sym h) ∙ by-asked
 
     pub write-insert : (i : ℕ) → q.edit ≡ ReadEdit.Insert i → filled_as (write_no (pairs_at s i) (length out)) (written_all (pairs_at s i)) out ≡ write_answer s out
     write-insert i a = ap (λ (x : ReadEdit). written_by (insert_of (edit_of s x)) out) (sym a) ∙ by-asked
 
--- a request that was read, and the pairs of an insert
-pub request-found : (s : Bytes) (r : RequestOf) (q : Request) → request_answer s r ≡ request_of s → r ≡ RequestOf.Is q → request_answer s (RequestOf.Is q) ≡ request_of s
-request-found s r q h e = subst (λ (x : RequestOf). request_answer s x ≡ request_of s) e h
-
-pub request-missed : (s : Bytes) (r : RequestOf) → request_answer s r ≡ request_of s → r ≡ RequestOf.Fault → request_answer s RequestOf.Fault ≡ request_of s
-request-missed s r h e = subst (λ (x : RequestOf). request_answer s x ≡ request_of s) e h
-
-pub insert-inside : (s : Bytes) (r : RequestOf) (q : Request) (i : ℕ) → Inside s r → r ≡ RequestOf.Is q → q.edit ≡ ReadEdit.Insert i → InEdit s (ReadEdit.Insert i)
-insert-inside s r q i h e a = subst (InEdit s) a (subst (Inside s) e h).1
-
 -- it is not too long
-pub request-bytes : (s : Bytes) (q : Request) → request_answer s (RequestOf.Is q) ≡ request_of s → length s ≤ file_bytes
+pub request-bytes : (s : Bytes) (q : Request) → request_answer s (Some q) ≡ request_of s → length s ≤ file_bytes
 request-bytes s q e = go (leb (length s) file_bytes) refl
   where
     go : (t : Bool) → leb (length s) file_bytes ≡ t → length s ≤ file_bytes
@@ -135,5 +121,5 @@ module _ (s out after : Bytes) (n : ℕ) (e : record { result = Answer.value n; 
   by-request (some q) h = by-edit q q.edit h refl (request-pairs s q h) (asked-value (some q) h)
 
 -- where the answer of `write_record` is a length
-pub write-reads-back : (s out after : Bytes) (r : Reply) (n : ℕ) → filled_by r after ≡ write_answer s out → r ≡ Reply.Value n → ReadsBack s (take n after)
-write-reads-back s out after r n e l = by-request s out after n (ap (λ (x : Reply). filled_by x after) (sym l) ∙ e) (request_of s) refl
+pub write-reads-back : (s out after : Bytes) (r : Result ℕ Refusal) (n : ℕ) → filled_by r after ≡ write_answer s out → r ≡ Ok n → ReadsBack s (take n after)
+write-reads-back s out after r n e l = by-request s out after n (ap (λ (x : Result ℕ Refusal). filled_by x after) (sym l) ∙ e) (request_of s) refl

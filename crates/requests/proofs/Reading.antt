@@ -1,4 +1,5 @@
 -- What follows from the next field: a text of a tag, a number of two bytes, the end.
+use Rattle.std.specs.Prelude.{Some, None}
 use Prim.Native.Nat.{ℕ, ◌+◌, ◌-◌, ◌*◌, ◌≤◌, ◌<◌}
 use native.Mathlib.Nat.{add-zero}
 use native.Mathlib.Omega.{arith}
@@ -10,19 +11,13 @@ use lib.Dec.{eqb}
 use lib.ListN.{length, drop, get_or, length-take, length-drop}
 use lib.Seq.{get_or-take, get_or-drop}
 use borrow.Author.Tests.{eq-eqb, ne_eqb}
-use types.Run.{OneOf, miss}
-use denote.Enum.Declared.{tag_of}
 use Rattle.format.specs.Lists.{onward}
 use Rattle.format.specs.Bytes.{Bytes, pick}
 use Rattle.format.specs.Requests.{Tagged, short_at, with_text, with_number, ends}
 use Rattle.format.specs.Edits.{Change, Act, Edit}
 use Rattle.words.specs.declared.Span.{Span}
-use Rattle.requests.specs.contracts.fields.Tagged.{the_type}
 use Rattle.words.specs.Spans.{span}
 use Rattle.requests.specs.declared.fields.Tagged.{Tagged as Read}
-use Rattle.requests.specs.declared.fields.Text.{Text}
-use Rattle.requests.specs.declared.fields.Number.{Number}
-use Rattle.requests.specs.declared.fields.Place.{Place}
 use Rattle.requests.specs.Fields.{bytes_of, InSpan, fields_from, in_front, FieldAt, NoText, TextAt, NumberAt, in_field, PlaceAt}
 use Rattle.requests.proofs.Tagging.{Ample, fields-ample, fields-end}
 
@@ -80,10 +75,10 @@ ends_more q s i h = go (fields_from s i) (fields-ample s i h)
 
 -- A field that was read is a text of its tag, and of no other.
 module _ (s : Bytes) (i tag : ℕ) where
-  pub no_field : (r : Read) → OneOf (1 ∷ 2 ∷ []) (tag_of the_type r) → FieldAt s i r → NoText tag (fields_from s i)
-  no_field (Read.At t a b) k h = absurd (miss (1 ∷ 2 ∷ []) 0 tt k)
-  no_field Read.End k h = subst (NoText tag) (sym h.0) tt
-  no_field Read.Fault k h = subst (NoText tag) (sym h.0) tt
+  pub no_field : (r : Read) → FieldAt s i r → ((t a b : ℕ) → r ≡ Read.At t a b → ⊥) → NoText tag (fields_from s i)
+  no_field (Read.At t a b) h k = absurd (k t a b refl)
+  no_field Read.End h k = subst (NoText tag) (sym h.0) tt
+  no_field Read.Fault h k = subst (NoText tag) (sym h.0) tt
 
   pub other_tag : (t a b : ℕ) → FieldAt s i (Read.At t a b) → (t ≡ tag → ⊥) → NoText tag (fields_from s i)
   other_tag t a b h e = subst (NoText tag) (sym h.0) (go (fields_from s b))
@@ -92,37 +87,24 @@ module _ (s : Bytes) (i tag : ℕ) where
       go none = tt
       go (some fs) = ne_eqb tag t (λ q. e (sym q))
 
-  pub same_tag : (t a b : ℕ) → FieldAt s i (Read.At t a b) → t ≡ tag → TextAt s i tag (Text.At (record { start = a; end = b }))
+  pub same_tag : (t a b : ℕ) → FieldAt s i (Read.At t a b) → t ≡ tag → TextAt s i tag (Some (record { start = a; end = b }))
   same_tag t a b h e = (h.0 ∙ ap (λ (x : ℕ). in_front x (span a b s) (fields_from s b)) e, h.1, (h.2, h.3))
 
-  -- a text that was read, or that there is none
-  pub text-found : (r : Text) (p : Span) → TextAt s i tag r → r ≡ Text.At p → TextAt s i tag (Text.At p)
-  text-found r p h e = subst (TextAt s i tag) e h
-
-  pub text-missed : (r : Text) → TextAt s i tag r → r ≡ Text.Fault → NoText tag (fields_from s i)
-  text-missed r h e = subst (TextAt s i tag) e h
-
   -- and the number that it is
-  pub no_number : NoText tag (fields_from s i) → NumberAt s i tag Number.Fault
+  pub no_number : NoText tag (fields_from s i) → NumberAt s i tag None
   no_number h f = text-none tag (read tag f) (fields_from s i) h
 
-  module _ (p : Span) (h : TextAt s i tag (Text.At p)) where
-    pub wrong-number : (p.end - p.start ≡ 2 → ⊥) → NumberAt s i tag Number.Fault
+  module _ (p : Span) (h : TextAt s i tag (Some p)) where
+    pub wrong-number : (p.end - p.start ≡ 2 → ⊥) → NumberAt s i tag None
     wrong-number e f = ap (onward (with_number tag f)) h.0 ∙ number-none tag f (bytes_of s p) (fields_from s p.end) (λ q. e (sym (span-length s p h.2) ∙ q))
 
-    pub right-number : p.end - p.start ≡ 2 → NumberAt s i tag (Number.Is (get_or s p.start 0 * 256 + get_or s (p.start + 1) 0) p.end)
+    pub right-number : p.end - p.start ≡ 2 → NumberAt s i tag (Some (record { value = get_or s p.start 0 * 256 + get_or s (p.start + 1) 0; next = p.end }))
     right-number e =
         let c : Bytes = bytes_of s p in
         let high : get_or c 0 0 ≡ get_or s p.start 0 = span-first s p (omega arith) in
         let low : get_or c 1 0 ≡ get_or s (p.start + 1) 0 = span-byte s p 1 (omega arith) in
         let q : short_at c ≡ get_or s p.start 0 * 256 + get_or s (p.start + 1) 0 = cc in
         (λ f. ap (onward (with_number tag f)) h.0 ∙ number-then tag f c (fields_from s p.end) (span-length s p h.2 ∙ e) ∙ ap (λ (n : ℕ). onward (f n) (fields_from s p.end)) q, h.2.1)
-
-  pub number-found : (r : Number) (n k : ℕ) → NumberAt s i tag r → r ≡ Number.Is n k → NumberAt s i tag (Number.Is n k)
-  number-found r n k h e = subst (NumberAt s i tag) e h
-
-  pub number-missed : (r : Number) → NumberAt s i tag r → r ≡ Number.Fault → NumberAt s i tag Number.Fault
-  number-missed r h e = subst (NumberAt s i tag) e h
 
 -- what follows from what follows
 pub onward-onward : {A B C : Type 0} (g : B → Option C) (f : A → Option B) (x : Option A) → onward (λ (a : A). onward g (f a)) x ≡ onward g (onward f x)
@@ -146,29 +128,23 @@ module _ (s : Bytes) (i : ℕ) where
   abbrev after_row : Then → ℕ → List Tagged → Option Edit
   after_row f r = with_text 4 (after_name f r)
 
-  pub no_row : NumberAt s i 3 Number.Fault → PlaceAt s i Place.Fault
+  pub no_row : NumberAt s i 3 None → PlaceAt s i None
   no_row h f = h (after_row f)
 
-  module _ (r j : ℕ) (h : NumberAt s i 3 (Number.Is r j)) where
-    pub no-place-name : NoText 4 (fields_from s j) → PlaceAt s i Place.Fault
+  module _ (r j : ℕ) (h : NumberAt s i 3 (Some (record { value = r; next = j }))) where
+    pub no-place-name : NoText 4 (fields_from s j) → PlaceAt s i None
     no-place-name k f = h.0 (after_row f) ∙ text-none 4 (after_name f r) (fields_from s j) k
 
-    module _ (p : Span) (k : TextAt s j 4 (Text.At p)) where
+    module _ (p : Span) (k : TextAt s j 4 (Some p)) where
       to-name : (f : Then) → onward (after_row f r) (fields_from s j) ≡ onward (after_name f r (bytes_of s p)) (fields_from s p.end)
       to-name f = ap (onward (after_row f r)) k.0 ∙ text-then 4 (after_name f r) (bytes_of s p) (fields_from s p.end)
 
-      pub no-occurrence : NumberAt s p.end 5 Number.Fault → PlaceAt s i Place.Fault
+      pub no-occurrence : NumberAt s p.end 5 None → PlaceAt s i None
       no-occurrence m f = h.0 (after_row f) ∙ to-name f ∙ m (after_place f r (bytes_of s p))
 
-      pub whole-place : (o e : ℕ) → NumberAt s p.end 5 (Number.Is o e) → PlaceAt s i (Place.At r p o e)
+      pub whole-place : (o e : ℕ) → NumberAt s p.end 5 (Some (record { value = o; next = e })) → PlaceAt s i (Some (record { row = r; name = p; occurrence = o; next = e }))
       whole-place o e m = (
         λ f. h.0 (after_row f) ∙ to-name f ∙ m.0 (after_place f r (bytes_of s p)) ∙ onward-onward (made r (bytes_of s p) o) f (fields_from s e),
         k.2,
         m.1,
       )
-
-  pub place_found : (x : Place) (r : ℕ) (n : Span) (o k : ℕ) → PlaceAt s i x → x ≡ Place.At r n o k → PlaceAt s i (Place.At r n o k)
-  place_found x r n o k h e = subst (PlaceAt s i) e h
-
-  pub place-missed : (x : Place) → PlaceAt s i x → x ≡ Place.Fault → PlaceAt s i Place.Fault
-  place-missed x h e = subst (PlaceAt s i) e h

@@ -1,29 +1,27 @@
 -- The pairs of an insert, summed and asked in order, and their text in a buffer.
-use Prim.Native.Nat.{ℕ, zero, suc, ◌+◌, ◌*◌, ◌≤◌, ◌<◌}
+use Rattle.std.specs.Prelude.{Some, None}
+use Prim.Native.Nat.{ℕ, zero, suc, ◌+◌, ◌*◌, ◌≤◌}
 use native.Mathlib.Omega.{arith}
-use mathlib.Core.Path.{◌≡◌, refl, sym, ap, ◌∙◌}
+use mathlib.Core.Path.{◌≡◌, refl, ap, ◌∙◌}
 use mathlib.Core.Bool.{Bool, true, false, ◌&&◌}
 use mathlib.Core.List.{List, ◌∷◌, ◌++◌}
 use lib.Dec.{leb}
 use lib.ListN.{length, length-append}
 use lib.Seq.{sets}
-use borrow.Author.Tests.{lt-leb, le-leb, leb-true}
+use borrow.Author.Tests.{leb-true}
 use Rattle.format.specs.Bytes.{Bytes, pick, all}
-use Rattle.format.specs.Limits.{file_bytes, record_fields}
 use Rattle.format.specs.Questions.{first_no}
 use Rattle.format.specs.Written.{written, Pair as Written, written_all, is_legal_name, is_legal_value, is_legal_pair}
 use Rattle.format.specs.Calls.{then_no, write_rows}
 use Rattle.writing.proofs.Texts.{indent-length, written-length, sets-append}
 use Rattle.words.specs.declared.Span.{Span}
-use Rattle.requests.specs.declared.pairs.Pair.{Pair}
-use Rattle.requests.specs.declared.pairs.Weighed.{Weighed}
 use Rattle.requests.specs.Fields.{bytes_of}
 use Rattle.requests.specs.Pairs.{PairAt, Weighs}
 use Rattle.requests.proofs.Reading.{span-length}
 use Rattle.requests.specs.Writes.{write_no}
 
 -- a pair's text has at most three bytes for each byte that it takes in the request
-pub pair_size : (s : Bytes) (i : ℕ) (n v : Span) (k : ℕ) → PairAt s i (Pair.At n v k) → length (written (bytes_of s n) (bytes_of s v)) + 3 * i ≤ 3 * k
+pub pair_size : (s : Bytes) (i : ℕ) (n v : Span) (k : ℕ) → PairAt s i (Some (record { name = n; value = v; next = k })) → length (written (bytes_of s n) (bytes_of s v)) + 3 * i ≤ 3 * k
 pair_size s i n v k h =
     omega (arith, written-length (bytes_of s n) (bytes_of s v), indent-length (bytes_of s v), span-length s n h.3, span-length s v h.5, h.2, h.4, h.6)
 
@@ -59,30 +57,8 @@ module _ (ps : List Written) (room : ℕ) where
   abbrev no : Bool → Bool → Bool → Bool → ℕ
   no legal fits few free = then_no (pick legal (pick fits (pick few 0 104) 26) 25) (pick free 0 27)
 
-  pub asked-illegal : Weighs ps Weighed.Illegal → write_no ps room ≡ 25
+  pub asked-illegal : Weighs ps None → write_no ps room ≡ 25
   asked-illegal h = rw h
-
-  module _ (len count : ℕ) (h : Weighs ps (Weighed.Sums len count)) where
-    asked : (a b c : Bool) → leb len file_bytes ≡ a → leb count record_fields ≡ b → leb len room ≡ c → write_no ps room ≡ no true a b c
-    asked a b c p q r =
-        let p' : leb (length (written_all ps)) file_bytes ≡ a = ap (λ (n : ℕ). leb n file_bytes) (sym h.1) ∙ p in
-        let q' : leb (length ps) record_fields ≡ b = ap (λ (n : ℕ). leb n record_fields) (sym h.2) ∙ q in
-        let r' : leb (length (written_all ps)) room ≡ c = ap (λ (n : ℕ). leb n room) (sym h.1) ∙ r in
-        λ i. no (h.0 i) (p' i) (q' i) (r' i)
-
-    pub asked-long : file_bytes < len → write_no ps room ≡ 26
-    asked-long l = asked false (leb count record_fields) (leb len room) (lt-leb len file_bytes l) refl refl
-
-    module _ (l : len ≤ file_bytes) where
-      pub asked-many : record_fields < count → write_no ps room ≡ 104
-      asked-many m = asked true false (leb len room) (le-leb len file_bytes l) (lt-leb count record_fields m) refl
-
-      module _ (m : count ≤ record_fields) where
-        pub asked-room : room < len → write_no ps room ≡ 27
-        asked-room k = asked true true false (le-leb len file_bytes l) (le-leb count record_fields m) (lt-leb len room k)
-
-        pub asked-none : len ≤ room → write_no ps room ≡ 0
-        asked-none k = asked true true true (le-leb len file_bytes l) (le-leb count record_fields m) (le-leb len room k)
 
 -- where all say yes, the text fits
 pub asked-fits : (ps : List Written) (room : ℕ) → write_no ps room ≡ 0 → length (written_all ps) ≤ room

@@ -1,16 +1,17 @@
 -- The six kinds, and what a request that was read stands for.
-use Rattle.std.specs.Prelude.{ℕ, ◌<◌, ◌≡◌, true, List, eqb, length}
+use Rattle.requests.specs.declared.kinds.Changed.{Changed}
+use Rattle.requests.specs.declared.kinds.Request.{Request}
+use Rattle.std.specs.Prelude.{ℕ, ◌<◌, ◌≡◌, true, List, [], ◌∷◌, length, Option as Maybe, Some, None}
 use Rattle.std.proofs.Math.Option.{Option, none, some}
 use Rattle.format.specs.Lists.{onward}
-use Rattle.format.specs.Bytes.{Bytes, is_some, pick}
-use Rattle.format.specs.Requests.{Tagged, Request as Asked, with_text, with_number, ends, pairs_of, inserts}
+use Rattle.format.specs.Bytes.{Bytes, is_some}
+use Rattle.format.specs.Requests.{Tagged, Request as Asked, with_text, with_number, ends, pairs_of, inserts, changes, by_kind}
 use Rattle.format.specs.Edits.{Change, Act, Edit}
 use Rattle.requests.specs.declared.kinds.Change.{Change as ReadChange}
 use Rattle.requests.specs.declared.kinds.Act.{Act as ReadAct}
 use Rattle.requests.specs.declared.kinds.Edit.{Edit as ReadEdit}
-use Rattle.requests.specs.declared.kinds.ChangeOf.{ChangeOf}
-use Rattle.requests.specs.declared.kinds.EditOf.{EditOf}
-use Rattle.requests.specs.declared.kinds.RequestOf.{RequestOf}
+use Rattle.requests.specs.declared.kinds.Kind.{Kind as ReadKind}
+use Rattle.requests.specs.declared.kinds.Means.{Means}
 use Rattle.requests.specs.Fields.{bytes_of, InSpan, fields_from}
 use Rattle.requests.specs.Pairs.{pairs_from, pairs_at, with_pair}
 
@@ -43,8 +44,21 @@ drops fs = ends Change.dropped fs
 abbrev pub renames : List Tagged → Option Change
 renames fs = with_text 7 (λ (m : Bytes). ends (Change.name m)) fs
 
-abbrev pub change_kind : ℕ → List Tagged → Option Change
-change_kind k fs = pick (eqb k 5) (drops fs) (pick (eqb k 4) (sets fs) (renames fs))
+abbrev pub change_kind : Means → List Tagged → Option Change
+change_kind Means.Set = sets
+change_kind Means.Drop = drops
+change_kind Means.Rename = renames
+
+-- the fields of a kind, and the kind of a number
+abbrev pub kind_fields : ReadKind → Kind
+kind_fields ReadKind.Insert = insert_kind
+kind_fields ReadKind.Delete = delete_kind
+kind_fields ReadKind.Add = add_kind
+kind_fields (ReadKind.Change m) = changes (change_kind m)
+
+abbrev pub KindOf : ℕ → Maybe ReadKind → Type 0
+KindOf n (Some k) = (fs : List Tagged) → by_kind (n ∷ []) fs ≡ kind_fields k fs
+KindOf n None = (fs : List Tagged) → by_kind (n ∷ []) fs ≡ none
 
 -- what a request that was read stands for
 abbrev pub change_of : Bytes → ReadChange → Change
@@ -61,13 +75,13 @@ abbrev pub edit_of : Bytes → ReadEdit → Edit
 edit_of s (ReadEdit.Insert i) = Edit.insert (pairs_at s i)
 edit_of s (ReadEdit.On r a) = Edit.on r (act_of s a)
 
-abbrev pub edit_answer : Bytes → EditOf → Option Edit
-edit_answer s (EditOf.Is e) = some (edit_of s e)
-edit_answer s EditOf.Fault = none
+abbrev pub edit_answer : Bytes → Maybe ReadEdit → Option Edit
+edit_answer s (Some e) = some (edit_of s e)
+edit_answer s None = none
 
-abbrev pub request_answer : Bytes → RequestOf → Option Asked
-request_answer s (RequestOf.Is q) = some (record { set = bytes_of s q.set; edit = edit_of s q.edit })
-request_answer s RequestOf.Fault = none
+abbrev pub request_answer : Bytes → Maybe Request → Option Asked
+request_answer s (Some q) = some (record { set = bytes_of s q.set; edit = edit_of s q.edit })
+request_answer s None = none
 
 -- all its parts lie in the request, and an insert's fields are pairs
 abbrev pub InChange : Bytes → ReadChange → Type 0
@@ -84,25 +98,25 @@ abbrev pub InEdit : Bytes → ReadEdit → Type 0
 InEdit s (ReadEdit.Insert i) = (i < length s) × (is_some (pairs_from s i) ≡ true)
 InEdit s (ReadEdit.On r a) = InAct s a
 
-abbrev pub Formed : Bytes → EditOf → Type 0
-Formed s (EditOf.Is e) = InEdit s e
-Formed s EditOf.Fault = Unit {0}
+abbrev pub Formed : Bytes → Maybe ReadEdit → Type 0
+Formed s (Some e) = InEdit s e
+Formed s None = Unit {0}
 
-abbrev pub Inside : Bytes → RequestOf → Type 0
-Inside s (RequestOf.Is q) = InSpan s q.set × InEdit s q.edit
-Inside s RequestOf.Fault = Unit {0}
+abbrev pub Inside : Bytes → Maybe Request → Type 0
+Inside s (Some q) = InSpan s q.set × InEdit s q.edit
+Inside s None = Unit {0}
 
 -- a change of a kind, by its fields from a place on: what follows is what its last field ends with
-abbrev pub ChangeAt : ℕ → Bytes → ℕ → ChangeOf → Type 0
-ChangeAt k s i (ChangeOf.Is c e) = (onward (change_kind k) (fields_from s i) ≡ onward (ends (change_of s c)) (fields_from s e)) × InChange s c
-ChangeAt k s i ChangeOf.Fault = onward (change_kind k) (fields_from s i) ≡ none
+abbrev pub ChangeAt : Means → Bytes → ℕ → Maybe Changed → Type 0
+ChangeAt k s i (Some cx) = (onward (change_kind k) (fields_from s i) ≡ onward (ends (change_of s cx.change)) (fields_from s cx.end)) × InChange s cx.change
+ChangeAt k s i None = onward (change_kind k) (fields_from s i) ≡ none
 
 -- an edit of a kind, by its fields from a place on
-abbrev pub Reads : Kind → Bytes → ℕ → EditOf → Type 0
+abbrev pub Reads : Kind → Bytes → ℕ → Maybe ReadEdit → Type 0
 Reads kind s i r = (edit_answer s r ≡ onward kind (fields_from s i)) × Formed s r
 
 -- an edit whose last field ends at k
-abbrev pub Ends : Bytes → ReadEdit → ℕ → EditOf → Type 0
+abbrev pub Ends : Bytes → ReadEdit → ℕ → Maybe ReadEdit → Type 0
 Ends s e k r = Reads (ends (edit_of s e)) s k r
 
 -- an edit of a set, where there is one

@@ -1,26 +1,35 @@
 // Tagged fields, read from a slice: their contents, the number of two bytes, and the place of a changed field.
-ghost use Rattle.requests.specs.Fields.{FieldAt, TextAt, NumberAt, PlaceAt};
+ghost use Rattle.std.specs.Prelude.{◌≡◌};
+ghost use Rattle.requests.specs.Fields.{tag_no, FieldAt, TextAt, NumberAt, PlaceAt};
 
 use words::Span;
 
-// The tag of each field.
-#[derive(Drop)]
-pub(crate) struct Tag {}
+// What a field is: its tag is a number of the request's form.
+#[derive(Clone, Copy)]
+pub(crate) enum Tag {
+    Kind,
+    Set,
+    Record,
+    Name,
+    Occurrence,
+    Value,
+    NewName,
+}
 
 impl Tag {
-    pub(crate) const KIND: u8 = 1;
-
-    pub(crate) const SET: u8 = 2;
-
-    pub(crate) const RECORD: u8 = 3;
-
-    pub(crate) const NAME: u8 = 4;
-
-    pub(crate) const OCCURRENCE: u8 = 5;
-
-    pub(crate) const VALUE: u8 = 6;
-
-    pub(crate) const NEW_NAME: u8 = 7;
+    fn number(self) -> u8
+        ensures { result ≡ tag_no self }
+    {
+        match self {
+            Tag::Kind => 1,
+            Tag::Set => 2,
+            Tag::Record => 3,
+            Tag::Name => 4,
+            Tag::Occurrence => 5,
+            Tag::Value => 6,
+            Tag::NewName => 7,
+        }
+    }
 }
 
 // The tagged field at a place: its contents stand from start to end. End is the slice's end; Fault, that the head is cut off or the length runs past the end.
@@ -55,89 +64,59 @@ pub(crate) fn field_at(req: &[u8], i: usize) -> Tagged
 }
 
 // The contents of the field of a tag.
-#[derive(Drop)]
-pub(crate) enum Text {
-    At(Span),
-    Fault,
-}
-
-pub(crate) fn text_at(req: &[u8], i: usize, tag: u8) -> Text
-    ensures { TextAt req.now i tag result }
+pub(crate) fn text_at(req: &[u8], i: usize, tag: Tag) -> Option<Span>
+    ensures { TextAt req.now i (tag_no tag) result }
 {
-    let f = field_at(req, i);
-    let Tagged::At { tag: t, start, end } = f else {
-        return Text::Fault;
+    let Tagged::At { tag: t, start, end } = field_at(req, i) else {
+        return None;
     };
-    if t != tag {
-        return Text::Fault;
+    if t != tag.number() {
+        return None;
     }
-    Text::At(Span { start, end })
+    Some(Span { start, end })
 }
 
 // The number of two bytes that the field of a tag holds.
-#[derive(Drop)]
-pub(crate) enum Number {
-    Is { value: usize, next: usize },
-    Fault,
+#[derive(Clone, Copy)]
+pub(crate) struct Number {
+    pub(crate) value: usize,
+    pub(crate) next: usize,
 }
 
-pub(crate) fn number_at(req: &[u8], i: usize, tag: u8) -> Number
-    ensures { NumberAt req.now i tag result }
+pub(crate) fn number_at(req: &[u8], i: usize, tag: Tag) -> Option<Number>
+    ensures { NumberAt req.now i (tag_no tag) result }
 {
-    let t = text_at(req, i, tag);
-    let Text::At(p) = t else {
-        return Number::Fault;
-    };
+    let p = text_at(req, i, tag)?;
     if p.end - p.start != 2 {
-        return Number::Fault;
+        return None;
     }
     let high = lines::byte(req, p.start) as usize;
     let low = lines::byte(req, p.start + 1) as usize;
-    Number::Is {
+    Some(Number {
         value: high * 256 + low,
         next: p.end,
-    }
+    })
 }
 
 // The record, the name and the occurrence of a changed field.
-#[derive(Drop)]
-pub(crate) enum Place {
-    At {
-        row: usize,
-        name: Span,
-        occurrence: usize,
-        next: usize,
-    },
-    Fault,
+#[derive(Clone, Copy)]
+pub(crate) struct Place {
+    pub(crate) row: usize,
+    pub(crate) name: Span,
+    pub(crate) occurrence: usize,
+    pub(crate) next: usize,
 }
 
-pub(crate) fn place_at(req: &[u8], i: usize) -> Place
+pub(crate) fn place_at(req: &[u8], i: usize) -> Option<Place>
     ensures { PlaceAt req.now i result }
 {
-    let a = number_at(req, i, Tag::RECORD);
-    let Number::Is {
-        value: row,
-        next: j,
-    } = a
-    else {
-        return Place::Fault;
-    };
-    let n = text_at(req, j, Tag::NAME);
-    let Text::At(name) = n else {
-        return Place::Fault;
-    };
-    let o = number_at(req, name.end, Tag::OCCURRENCE);
-    let Number::Is {
-        value: occurrence,
-        next,
-    } = o
-    else {
-        return Place::Fault;
-    };
-    Place::At {
-        row,
+    let row = number_at(req, i, Tag::Record)?;
+    let name = text_at(req, row.next, Tag::Name)?;
+    let occurrence = number_at(req, name.end, Tag::Occurrence)?;
+    Some(Place {
+        row: row.value,
         name,
-        occurrence,
-        next,
-    }
+        occurrence: occurrence.value,
+        next: occurrence.next,
+    })
 }

@@ -8,36 +8,28 @@ ghost use Rattle.format.specs.Calls.{over};
 ghost use Rattle.requests.specs.Fields.{bytes_of, InSpan};
 ghost use Rattle.requests.specs.Pairs.{pairs_from, pairs_at, pair_of, PairAt, Weighs};
 
-use super::fields::{Tag, Text, text_at};
+use super::fields::{Tag, text_at};
 use words::Span;
 
-// A pair of an insert: its name, its value, and where the next one is looked for. End: there is none, since nothing is left or what is left is no pair.
-#[derive(Drop)]
-pub enum Pair {
-    At {
-        name: Span,
-        value: Span,
-        next: usize,
-    },
-    End,
+// A pair of an insert: its name, its value, and where the next one is looked for.
+#[derive(Clone, Copy)]
+pub struct Pair {
+    pub name: Span,
+    pub value: Span,
+    pub next: usize,
 }
 
-pub fn pair_at(req: &[u8], i: usize) -> Pair
+// The pair at a place, none where nothing is left or what is left is no pair.
+pub fn pair_at(req: &[u8], i: usize) -> Option<Pair>
     ensures { PairAt req.now i result }
 {
-    let n = text_at(req, i, Tag::NAME);
-    let Text::At(name) = n else {
-        return Pair::End;
-    };
-    let v = text_at(req, name.end, Tag::VALUE);
-    let Text::At(value) = v else {
-        return Pair::End;
-    };
-    Pair::At {
+    let name = text_at(req, i, Tag::Name)?;
+    let value = text_at(req, name.end, Tag::Value)?;
+    Some(Pair {
         name,
         value,
         next: value.end,
-    }
+    })
 }
 
 // Are the fields from a place on pairs?
@@ -46,16 +38,10 @@ pub(crate) fn are_pairs(req: &[u8], from: usize) -> bool
 {
     let mut i = from;
     loop {
-        let p = pair_at(req, i);
-        let Pair::At {
-            name: _,
-            value: _,
-            next,
-        } = p
-        else {
+        let Some(pair) = pair_at(req, i) else {
             return req.len() <= i;
         };
-        i = next;
+        i = pair.next;
     }
 }
 
@@ -101,14 +87,15 @@ fn put_pair(out: &mut [u8], at: usize, req: &[u8], name: Span, value: Span) -> u
     at + n
 }
 
-// The length of the text of pairs and their number, or that one of them is not legal.
-#[derive(Drop)]
-pub enum Weighed {
-    Illegal,
-    Sums { len: usize, count: usize },
+// The length of the text of pairs, and their number.
+#[derive(Clone, Copy)]
+pub struct Weight {
+    pub len: usize,
+    pub count: usize,
 }
 
-pub fn weigh(req: &[u8], from: usize) -> Weighed
+// None: a pair is not legal.
+pub fn weigh(req: &[u8], from: usize) -> Option<Weight>
     requires req_len_bound { (length req.now ≤ file_bytes) × (from ≤ length req.now) }
     requires from_value { is_some (pairs_from req.now from) ≡ true }
     ensures { Weighs (pairs_at req.now from) result }
@@ -117,12 +104,11 @@ pub fn weigh(req: &[u8], from: usize) -> Weighed
     let mut len: usize = 0;
     let mut count: usize = 0;
     loop {
-        let p = pair_at(req, i);
-        let Pair::At { name, value, next } = p else {
-            return Weighed::Sums { len, count };
+        let Some(Pair { name, value, next }) = pair_at(req, i) else {
+            return Some(Weight { len, count });
         };
         if !is_legal_pair(req, name, value) {
-            return Weighed::Illegal;
+            return None;
         }
         len += pair_len(req, name, value);
         count += 1;
@@ -139,8 +125,7 @@ pub fn put_pairs(req: &[u8], from: usize, out: &mut [u8]) -> usize
     let mut i = from;
     let mut at = 0;
     loop {
-        let p = pair_at(req, i);
-        let Pair::At { name, value, next } = p else {
+        let Some(Pair { name, value, next }) = pair_at(req, i) else {
             return at;
         };
         at = put_pair(out, at, req, name, value);

@@ -7,6 +7,7 @@ use mathlib.Core.List.{List, [], ◌∷◌, map}
 use lib.Dec.{eqb}
 use lib.ListN.{length, take}
 use borrow.Author.Tests.{ne_eqb}
+use Rattle.format.specs.Refusals.{no_of}
 use Rattle.format.specs.Bytes.{Bytes, text, pick, all}
 use Rattle.format.specs.Records.{Field, Record}
 use Rattle.format.specs.Numbers.{int_bounds}
@@ -71,7 +72,7 @@ module _ (d : Bytes) (rs : List Record) where
       ∙ sym (least-both names (pick (met from m) 0 12) (pick (met (from + m) n) 0 12))
 
   -- worst is the least by the `%type` fields before one; a chunk of those from there on
-  module _ (count worst from : ℕ) (h : least worst (part_no d from (count - from) rs) ≡ part_no d 0 count rs) (c : Chunk) (k : Chunked d from count rs c) (best : ℕ) (b : best ≡ least worst c.number) where
+  module _ (count worst from : ℕ) (h : least worst (part_no d from (count - from) rs) ≡ part_no d 0 count rs) (c : Chunk) (k : Chunked d from count rs c) (best : ℕ) (b : best ≡ least worst (no_of c.answer)) where
     pub chunk-more : least best (part_no d c.next (count - c.next) rs) ≡ part_no d 0 count rs
     chunk-more =
         let m : ℕ = c.next - from in

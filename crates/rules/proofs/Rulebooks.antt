@@ -5,6 +5,7 @@ use mathlib.Core.Path.{◌≡◌, sym, ap, ◌∙◌, subst}
 use mathlib.Core.List.{List}
 use lib.ListN.{length}
 use borrow.Rule.Slice.PartMut.{put_mid, mid_len}
+use Rattle.format.specs.Refusals.{no_of}
 use Rattle.format.specs.Bytes.{Bytes}
 use Rattle.format.specs.Records.{Record}
 use Rattle.format.specs.Rules.{mandatory, unique}
@@ -141,7 +142,7 @@ module _ (d : Bytes) (b : Book) (h : IsBook d b) (from : ℕ) (l sets : List ℕ
       keyed-is = h.keyed-is;
     }
 
-    pub chunked : (rs : List Record) (c : Chunk) → c.next ≡ e.next → c.number ≡ part_no d t.names.from (e.next - t.names.from) rs → c.count ≡ length rs → Chunked d from b.kinds.count rs c
+    pub chunked : (rs : List Record) (c : Chunk) → c.next ≡ e.next → no_of c.answer ≡ part_no d t.names.from (e.next - t.names.from) rs → c.count ≡ length rs → Chunked d from b.kinds.count rs c
     chunked rs c q m n = record {
       begins = omega (arith, q, g.begins, o.from_is);
       within = omega (arith, q, o.within, next-few.0);

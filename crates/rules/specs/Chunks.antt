@@ -5,6 +5,7 @@ use Rattle.format.specs.Bytes.{Bytes, text}
 use Rattle.format.specs.Records.{Record}
 use Rattle.format.specs.Sets.{values_of}
 use Rattle.format.specs.Numbers.{int_bounds}
+use Rattle.format.specs.Refusals.{no_of}
 use Rattle.format.specs.Rules.{key}
 use Rattle.format.specs.Questions.{occurrences}
 use Rattle.format.proofs.Elements.{Each}
@@ -30,12 +31,12 @@ pub record Chunked (d : Bytes) (from count : ℕ) (rs : List Record) (c : Chunk)
   pub begins : from ≤ c.next
   pub within : c.next ≤ count
   pub some : from < count → from < c.next
-  pub number_is : c.number ≡ part_no d from (c.next - from) rs
+  pub number_is : no_of c.answer ≡ part_no d from (c.next - from) rs
   pub count-is : c.count ≡ length rs
 
 -- and by all
 pub record SetAsked (rules : Record) (rs : List Record) (a : Asked) : Type 0 where
-  pub number_is : a.number ≡ leasts (map (record_no int_bounds rules) rs)
+  pub number_is : no_of a.answer ≡ leasts (map (record_no int_bounds rules) rs)
   pub count-is : a.count ≡ length rs
 
 -- each of some records has every key once that the rules name

@@ -2,6 +2,7 @@
 #![tactic(auto)]
 
 ghost use Rattle.std.specs.Prelude.{◌≡◌, true, not, ◌≤◌, eqb, length};
+ghost use Rattle.format.specs.Refusals.{no_of};
 ghost use Rattle.format.specs.Bytes.{all};
 ghost use Rattle.format.specs.Limits.{file_bytes, value_bytes};
 ghost use Rattle.format.specs.Pieces.{read_of};
@@ -21,11 +22,10 @@ ghost use Rattle.rules.specs.Described.{IsRules, AllFit};
 ghost use Rattle.rules.specs.Chunks.{IsBook, HaveKeys, Chunked, SetAsked};
 
 use columns::{Kinds, Typed};
-use format::Refusal;
+use format::Question;
 use members::{Asked, Rulebook};
-use records::FoundField;
+use records::ValuePlace;
 use tables::Tables;
-use words::Word;
 
 pub mod members;
 pub mod questions;
@@ -45,21 +45,13 @@ fn has_field(d: &[u8], name: &[u8]) -> bool
     requires { is_readable d.now ≡ true }
     ensures { result ≡ not (eqb (length (values_of name.now (record_in d.now))) 0) }
 {
-    let v = records::next_named(d, name);
-    match v {
-        FoundField::At {
-            start: _,
-            value: _,
-            end: _,
-        } => true,
-        FoundField::Missing => false,
-    }
+    records::next_named(d, name).is_some()
 }
 
-// The least number and the count of a set's records by some of the `%type` fields, and the first one that is left.
+// The first question that a set's records fail, and their count, by some of the `%type` fields, and the first one that is left.
 #[derive(Drop)]
 struct Chunk {
-    number: u32,
+    answer: Result<(), Question>,
     count: usize,
     next: usize,
 }
@@ -99,7 +91,7 @@ fn judge_rows(
     };
     let a = members::judge_part(d, &*entries, &sets, r, part, &mut *scratch);
     Chunk {
-        number: a.number,
+        answer: a.answer,
         count: a.count,
         next: symbols.next,
     }
@@ -115,13 +107,13 @@ fn judge_records(d: &[u8], b: Book, part: &[u8], scratch: &mut [u8], entries: &m
     let kinds = b.kinds;
     let count = kinds.count;
     let mut from = 0;
-    let mut worst = 0;
+    let mut worst = Ok(());
     loop {
         let c = judge_rows(d, b, from, part, &mut *scratch, &mut *entries);
-        worst = questions::lesser(worst, c.number);
+        worst = questions::lesser(worst, c.answer);
         if count <= c.next {
             return Asked {
-                number: worst,
+                answer: worst,
                 count: c.count,
             };
         }
@@ -154,52 +146,54 @@ fn keys_apart(d: &[u8], part: &[u8], scratch: &mut [u8], entries: &mut [u32]) ->
     requires value_bytes_in_bounds { (value_bytes ≤ length scratch.old) × (entries_end ≤ length entries.old) }
     ensures { result ≡ distinct (keys_of (ruled (record_in d.now) (records (read_of part.now)))) }
 {
-    let v = records::next_named(d, b"%key");
-    let FoundField::At {
-        start: _,
-        value,
-        end,
-    } = v
-    else {
+    let Some(ValuePlace { value, end, .. }) = records::next_named(d, b"%key") else {
         return true;
     };
     let n = values::copy_value(&d[value..end], &mut *scratch);
-    let w = words::next_word(&scratch[..n]);
-    let Word::At { start, end: e } = w else {
+    let Some(w) = words::next_word(&scratch[..n]) else {
         return true;
     };
-    keys::keys_distinct(&scratch[start..e], part, &mut *entries)
+    keys::keys_distinct(&scratch[w.start..w.end], part, &mut *entries)
 }
 
-// Questions 13, 14 and 30 of a set whose records have its key; so many they are. The number of the first that says no, else 0.
-fn judge_whole(d: &[u8], count: usize, part: &[u8], scratch: &mut [u8], entries: &mut [u32]) -> u32
+// Questions 13, 14 and 30 of a set whose records have its key; so many they are.
+fn judge_whole(
+    d: &[u8],
+    count: usize,
+    part: &[u8],
+    scratch: &mut [u8],
+    entries: &mut [u32],
+) -> Result<(), Question>
     requires rules { IsRules d.now × (length d.now ≤ file_bytes) × (count ≡ length (records (read_of part.now))) }
     requires part_value { (is_readable part.now ≡ true) × (length part.now ≤ file_bytes) × HaveKeys (record_in d.now) (records (read_of part.now)) }
     requires value_bytes_in_bounds { (value_bytes ≤ length scratch.old) × (entries_end ≤ length entries.old) }
-    ensures { result ≡ first_no (whole_rows int_bounds) (ruled (record_in d.now) (records (read_of part.now))) }
+    ensures { no_of result ≡ first_no (whole_rows int_bounds) (ruled (record_in d.now) (records (read_of part.now))) }
 {
     if !keys_apart(d, part, &mut *scratch, &mut *entries) {
-        return Refusal::KEY;
+        return Err(Question::Key);
     }
     if !descriptors::size_met(d, count, &mut *scratch) {
-        return Refusal::SIZE;
+        return Err(Question::Size);
     }
     if !singulars::values_apart(d, part, &mut *entries) {
-        return Refusal::SINGULAR;
+        return Err(Question::Singular);
     }
-    0
+    Ok(())
 }
 
-// The number of the first of questions 8 to 14 and 30 that a set fails, else 0: d is its descriptor, part the bytes of its records.
-pub fn judge_set(d: &[u8], part: &[u8], scratch: &mut [u8], entries: &mut [u32]) -> u32
+// The first of questions 8 to 14 and 30 that a set fails: d is its descriptor, part the bytes of its records.
+pub fn judge_set(
+    d: &[u8],
+    part: &[u8],
+    scratch: &mut [u8],
+    entries: &mut [u32],
+) -> Result<(), Question>
     requires rules { IsRules d.now × (length d.now ≤ file_bytes) }
     requires part_value { (is_readable part.now ≡ true) × (length part.now ≤ file_bytes) × AllFit (records (read_of part.now)) }
     requires value_bytes_in_bounds { (value_bytes ≤ length scratch.old) × (entries_end ≤ length entries.old) }
-    ensures { result ≡ set_no int_bounds (ruled (record_in d.now) (records (read_of part.now))) }
+    ensures { no_of result ≡ set_no int_bounds (ruled (record_in d.now) (records (read_of part.now))) }
 {
     let a = judge_members(d, part, &mut *scratch, &mut *entries);
-    if a.number != 0 {
-        return a.number;
-    }
+    a.answer?;
     judge_whole(d, a.count, part, &mut *scratch, &mut *entries)
 }

@@ -3,6 +3,7 @@
 ghost use Rattle.std.specs.Prelude.{◌≡◌, true, ◌+◌, ◌-◌, ◌≤◌, eqb, length};
 ghost use Rattle.format.specs.Bytes.{pick, all};
 ghost use Rattle.format.specs.Limits.{file_bytes, list_words};
+ghost use Rattle.format.specs.Refusals.{no_of};
 ghost use Rattle.format.specs.Pieces.{read_of};
 ghost use Rattle.format.proofs.Least.{least};
 ghost use Rattle.format.proofs.Records.{records};
@@ -15,7 +16,7 @@ use super::tables::{NextName, SeenName, Tables};
 use super::tallies::Tally;
 use super::{questions, tables, tallies};
 use columns::Typed;
-use format::Refusal;
+use format::Question;
 use lines::Next;
 
 // The rules of a descriptor, from one of its `%type` fields on: the tables of its names, the kinds of its types and the symbols of those; whether only
@@ -28,39 +29,39 @@ pub struct Rulebook {
     pub keyed: bool,
 }
 
-// The least number of some records, and how many they are.
-#[derive(Drop)]
+// The first question that some records fail, and how many they are.
+#[derive(Clone, Copy)]
 pub struct Asked {
-    pub number: u32,
+    pub answer: Result<(), Question>,
     pub count: usize,
 }
 
 // One record more, which has so many fields and this tally; without fields it is none.
 fn closed(a: Asked, fields: usize, t: Tally, limited: bool, keyed: bool, mandatory: usize) -> Asked
     requires { (mandatory ≤ list_words) × (a.count ≤ file_bytes) }
-    ensures { (result.number ≡ pick (eqb fields 0) a.number (least a.number (tally_no t limited keyed mandatory))) × (result.count ≡ pick (eqb fields 0) a.count (a.count + 1)) }
+    ensures { (no_of result.answer ≡ pick (eqb fields 0) (no_of a.answer) (least (no_of a.answer) (tally_no t limited keyed mandatory))) × (result.count ≡ pick (eqb fields 0) a.count (a.count + 1)) }
 {
     if fields == 0 {
         return a;
     }
-    let k = tallies::number(t, limited, keyed, mandatory);
+    let k = tallies::judge(t, limited, keyed, mandatory);
     Asked {
-        number: questions::lesser(a.number, k),
+        answer: questions::lesser(a.answer, k),
         count: a.count + 1,
     }
 }
 
-// The least number with that of question 12.
-fn with_types(worst: u32, typed: bool) -> u32
-    ensures { result ≡ least worst (pick typed 0 12) }
+// The first question with that of the types.
+fn with_types(worst: Result<(), Question>, typed: bool) -> Result<(), Question>
+    ensures { no_of result ≡ least (no_of worst) (pick typed 0 12) }
 {
     if typed {
         return worst;
     }
-    questions::lesser(worst, Refusal::VALUE)
+    questions::lesser(worst, Err(Question::Value))
 }
 
-// The least number of the records of a part and how many they are, from the `%type` field on at which the tables begin. What was seen of a name is kept by the number of its field,
+// The first question that the records of a part fail and how many they are, from the `%type` field on at which the tables begin. What was seen of a name is kept by the number of its field,
 // since records of a set are often alike.
 pub fn judge_part(
     d: &[u8],
@@ -72,7 +73,7 @@ pub fn judge_part(
 ) -> Asked
     requires rulebook { IsRulebook d.now entries.now sets.now r }
     requires s_value { (is_readable s.now ≡ true) × (length s.now ≤ file_bytes) × (all (fits_in (length scratch.old)) (record_in s.now) ≡ true) }
-    ensures { (result.number ≡ part_no d.now r.tables.names.from (r.typed.symbols.next - r.tables.names.from) (records (read_of s.now))) × (result.count ≡ length (records (read_of s.now))) }
+    ensures { (no_of result.answer ≡ part_no d.now r.tables.names.from (r.typed.symbols.next - r.tables.names.from) (records (read_of s.now))) × (result.count ≡ length (records (read_of s.now))) }
 {
     let tables = r.tables;
     let mandatory = tables.mandatory.count;
@@ -87,13 +88,12 @@ pub fn judge_part(
     let mut fields = 0;
     let mut typed = true;
     let mut a = Asked {
-        number: 0,
+        answer: Ok(()),
         count: 0,
     };
     let mut i = 0;
     loop {
-        let p = lines::read_piece(&s[i..]);
-        match p {
+        match lines::read_piece(&s[i..]) {
             Next::Comment { size } => {
                 i += size;
             }
@@ -132,7 +132,7 @@ pub fn judge_part(
             Next::End => {
                 let b = closed(a, fields, t, r.limited, r.keyed, mandatory);
                 return Asked {
-                    number: with_types(b.number, typed),
+                    answer: with_types(b.answer, typed),
                     count: b.count,
                 };
             }

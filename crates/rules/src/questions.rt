@@ -1,16 +1,20 @@
-// Numbers of questions, 0 being none.
+// The first question that says no.
 ghost use Rattle.std.specs.Prelude.{◌≡◌};
 ghost use Rattle.format.proofs.Least.{least};
+ghost use Rattle.format.specs.Refusals.{no_of};
 
-// The lesser of two.
-pub fn lesser(a: u32, b: u32) -> u32
-    ensures { result ≡ least a b }
+use format::Question;
+
+// The one of two answers that has the lesser number, if both say no. By hand: in a derived order
+// an answer that says yes would come first.
+pub fn lesser(a: Result<(), Question>, b: Result<(), Question>) -> Result<(), Question>
+    ensures { no_of result ≡ least (no_of a) (no_of b) }
 {
-    if a == 0 {
+    let Err(p) = a else {
         return b;
-    }
-    if b == 0 {
+    };
+    let Err(q) = b else {
         return a;
-    }
-    if a < b { a } else { b }
+    };
+    if p.number() < q.number() { a } else { b }
 }

@@ -2,12 +2,13 @@
 ghost use Rattle.std.specs.Prelude.{◌≡◌, ◌+◌, ◌≤◌, min};
 ghost use Rattle.format.specs.Bytes.{pick};
 ghost use Rattle.format.specs.Limits.{list_words};
+ghost use Rattle.format.specs.Refusals.{no_of};
 ghost use Rattle.terms.specs.Sets.{in_set};
 ghost use Rattle.dictionary.specs.Tags.{prohibited_tag, allowed_tag, key_tag};
 ghost use Rattle.rules.specs.Tallies.{has_all, empty, counted, tally_no};
 
 use dictionary::{Tag, wordsets};
-use format::Refusal;
+use format::Question;
 
 // Whether a prohibited name and one that is not allowed occur; the mandatory words that occur; the unique words that occur, and those that do
 // so twice, each as the set of their places in the list; and how often the key occurs, up to 2.
@@ -71,29 +72,29 @@ fn has_all(set: u64, n: usize) -> bool
     wordsets::missing(set, n) == 0
 }
 
-// The number of the first of questions 8 to 11 that the record fails, else 0: `limited` tells whether there are `%allowed` fields, `keyed` whether there is a key,
+// The first of questions 8 to 11 that the record fails: `limited` tells whether there are `%allowed` fields, `keyed` whether there is a key,
 // and `mandatory` how many words are mandatory.
-pub fn number(t: Tally, limited: bool, keyed: bool, mandatory: usize) -> u32
+pub fn judge(t: Tally, limited: bool, keyed: bool, mandatory: usize) -> Result<(), Question>
     requires { mandatory ≤ list_words }
-    ensures { result ≡ tally_no t limited keyed mandatory }
+    ensures { no_of result ≡ tally_no t limited keyed mandatory }
 {
     if t.prohibited {
-        return Refusal::PROHIBITED;
+        return Err(Question::Prohibited);
     }
     if limited & t.other {
-        return Refusal::NOT_ALLOWED;
+        return Err(Question::NotAllowed);
     }
     if !has_all(t.present, mandatory) {
-        return Refusal::MISSING;
+        return Err(Question::Missing);
     }
     if keyed & (t.keys == 0) {
-        return Refusal::MISSING;
+        return Err(Question::Missing);
     }
     if t.twice != 0 {
-        return Refusal::REPEATED;
+        return Err(Question::Repeated);
     }
     if keyed & (1 < t.keys) {
-        return Refusal::REPEATED;
+        return Err(Question::Repeated);
     }
-    0
+    Ok(())
 }

@@ -5,18 +5,17 @@ use mathlib.Core.Path.{◌≡◌, refl, sym, ap, ap₂, ◌∙◌, subst}
 use mathlib.Core.Bool.{Bool, true, false, ◌&&◌, ◌||◌, not}
 use mathlib.Core.List.{List, [], ◌∷◌, ◌++◌, append-nil}
 use mathlib.Core.Option.{Option, none, some}
-use lib.Dec.{eqb, ltb}
-use lib.ListN.{length, get_or, length-append, get_or-append}
+use lib.ListN.{length, length-append, get_or-append}
 use lib.Seq.{get_or-append_seam}
 use borrow.Author.Tests.{lt-ltb, le-ltb, ne_eqb, eq-eqb}
 use Rattle.format.specs.Bytes.{Bytes, pick}
 use Rattle.format.specs.Records.{Record}
 use Rattle.terms.specs.Sets.{in_set}
-use Rattle.selection.specs.Expressions.{Operator, Operand, Expression, comparison, negation, Sign, comparing, not_sign, and_sign, or_sign, open_sign, close_sign, Part, field_name, operand, sign, open_at_most}
+use Rattle.selection.specs.Expressions.{Operator, Operand, Expression, comparison, negation, comparing, not_sign, and_sign, or_sign, open_sign, close_sign, Part, field_name, operand, sign, open_at_most}
 use Rattle.selection.specs.Reading.{Level, empty_level, Stage, wanting, naming, holding, done, Reader, reader, negated_by, and_with, or_with, operand_on, one_not, may_take, advance, at_end, beginning}
 use Rattle.selection.specs.Meaning.{holds}
 use Rattle.selection.specs.declared.runs.Machine.{Machine}
-use Rattle.selection.specs.Programs.{Test, no_test, meets, Told, differ, answered_by, inverted, joined, whole_answer, level_start, outer_room, on_test, on_level, on_open, on_close, on_code, runs, started, run_answer, IsProgram, Progress, to_stage, to_groups, past, tests_with, codes_of}
+use Rattle.selection.specs.Programs.{Test, no_test, meets, Told, differ, answered_by, inverted, joined, whole_answer, level_start, outer_room, on_open, on_close, on_code, runs, started, run_answer, IsProgram, Progress, to_stage, to_groups, past, tests_with, codes_of}
 
 -- A level as a number
 

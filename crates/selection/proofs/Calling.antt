@@ -1,9 +1,10 @@
 -- The answer of the call, question by question.
+use Rattle.std.specs.Prelude.{Option as Maybe}
 use Prim.Native.Nat.{ℕ, zero, suc, ◌≤◌, ◌<◌}
 use native.Mathlib.Omega.{arith}
 use mathlib.Core.Path.{◌≡◌, refl, sym, ap, ◌∙◌, subst}
 use mathlib.Core.Bool.{Bool, true, false}
-use mathlib.Core.List.{List, []}
+use mathlib.Core.List.{List}
 use mathlib.Core.Option.{Option, none, some}
 use lib.Dec.{leb}
 use lib.ListN.{length, take}
@@ -25,10 +26,14 @@ use Rattle.selection.specs.Reading.{read_expression}
 use Rattle.selection.specs.Meaning.{holds}
 use Rattle.selection.specs.Found.{numbers_from, found_by, find_no, Listed, listed, find_answer, find_in}
 use Rattle.selection.specs.Programs.{IsProgram}
-use Rattle.selection.specs.Rows.{tests_in, codes_in, ProgramOf}
+use Rattle.selection.specs.Rows.{tests_in, codes_in, ProgramOf, Made}
 use Rattle.selection.specs.declared.programs.Program.{Program}
 use Rattle.selection.proofs.Ints.{no_truth}
 use Rattle.selection.proofs.Walking.{listed as over-front}
+
+-- what was made, once its form is known
+pub made_told : (w : Bytes) (x : Maybe Program) {y : Maybe Program} → Made w x → x ≡ y → Made w y
+made_told w x h e = subst (Made w) e h
 
 module _ (s n w : Bytes) (list : List ℕ) where
   abbrev ss : List RecSet
@@ -59,17 +64,17 @@ module _ (s n w : Bytes) (list : List ℕ) where
     unfolding answer_by
     find-formless e = find-is ∙ (λ i. answer_by (there i) (e i) (leb (length found) (length list)))
 
-    module _ (q : Program) (is : true ≡ is_some (read_expression w)) (program : ProgramOf w (read_expression w) q) where
+    module _ (q : Program) (is : is_some (read_expression w) ≡ true) (program : ProgramOf w (read_expression w) q) where
       -- what a walk counts and lists is what is found
       counted : (k : ℕ) → ((x : Expression) → IsProgram x (tests_in w q) (codes_in q) → k ≡ length (numbers_from (holds x) 0 (records (read_of (span p.begin p.after s))))) → k ≡ length found
-      counted k h = go (read_expression w) is program ∙ ap (λ (rs : List Record). length (found_by (read_expression w) rs)) (sym members-are)
+      counted k h = go (read_expression w) (sym is) program ∙ ap (λ (rs : List Record). length (found_by (read_expression w) rs)) (sym members-are)
         where
           go : (o : Option Expression) → true ≡ is_some o → ProgramOf w o q → k ≡ length (found_by o (records (read_of (span p.begin p.after s))))
           go none i g = absurd (no_truth i)
           go (some x) i g = h x g
 
       walked : (old new : List ℕ) → ((x : Expression) → IsProgram x (tests_in w q) (codes_in q) → new ≡ over-front (numbers_from (holds x) 0 (records (read_of (span p.begin p.after s)))) old) → new ≡ over-front found old
-      walked old new h = go (read_expression w) is program ∙ ap (λ (rs : List Record). over-front (found_by (read_expression w) rs) old) (sym members-are)
+      walked old new h = go (read_expression w) (sym is) program ∙ ap (λ (rs : List Record). over-front (found_by (read_expression w) rs) old) (sym members-are)
         where
           go : (o : Option Expression) → true ≡ is_some o → ProgramOf w o q → new ≡ over-front (found_by o (records (read_of (span p.begin p.after s)))) old
           go none i g = absurd (no_truth i)
@@ -79,7 +84,7 @@ module _ (s n w : Bytes) (list : List ℕ) where
       unfolding answer_by
       find-short k h l =
           let z = lt-leb (length found) (length list) (omega (arith, counted k h)) in
-          find-is ∙ (λ i. answer_by (there i) (sym is i) (z i))
+          find-is ∙ (λ i. answer_by (there i) (is i) (z i))
 
       pub find-found : (k : ℕ) (out : List ℕ) → ((x : Expression) → IsProgram x (tests_in w q) (codes_in q) → k ≡ length (numbers_from (holds x) 0 (records (read_of (span p.begin p.after s))))) →
           ((x : Expression) → IsProgram x (tests_in w q) (codes_in q) → out ≡ over-front (numbers_from (holds x) 0 (records (read_of (span p.begin p.after s)))) list) → k ≤ length list → find_in s n w list ≡ record { result = Answer.value k; list = out }
@@ -88,7 +93,7 @@ module _ (s n w : Bytes) (list : List ℕ) where
           let c = counted k h in
           let z = le-leb (length found) (length list) (omega (arith, c)) in
           let o : over found list ≡ out = ap (λ (ns : List ℕ). over ns list) (sym (take_all (length list) found (omega (arith, c)))) ∙ sym (walked list out g) in
-          find-is ∙ (λ i. answer_by (there i) (sym is i) (z i)) ∙ (λ i. record { result = Answer.value (sym c i); list = o i })
+          find-is ∙ (λ i. answer_by (there i) (is i) (z i)) ∙ (λ i. record { result = Answer.value (sym c i); list = o i })
 
 -- The file's own questions come first
 
@@ -103,9 +108,9 @@ module _ (buffer : Bytes) (used : ℕ) (n w : Bytes) (list : List ℕ) where
   unfolding find_answer
   answer-is = refl
 
-  pub find-refused : (k : ℕ) → k ≡ check_answer buffer used → (k ≡ 0 → ⊥) → find_answer buffer used n w list ≡ record { result = Answer.refusal k; list = list }
+  pub find-refused : (k : ℕ) → k ≡ check_answer buffer used → 0 < k → find_answer buffer used n w list ≡ record { result = Answer.refusal k; list = list }
   unfolding check_answer
-  find-refused zero e h = absurd (h refl)
+  find-refused zero e h = absurd (omega (arith, h))
   find-refused (suc k) e h = answer-is ∙ ap answer_at (sym e)
 
   pub find-text : (k : ℕ) → k ≡ check_answer buffer used → k ≡ 0 → find_in (take used buffer) n w list ≡ find_answer buffer used n w list

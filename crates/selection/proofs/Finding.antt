@@ -1,4 +1,6 @@
 -- Each of the code's tokens is the front of the text.
+use Rattle.numbers.specs.declared.Whole.{Whole}
+use Rattle.std.specs.Prelude.{Option as Maybe}
 use Prim.Native.Nat.{ℕ, zero, suc, ◌+◌, ◌-◌, ◌≤◌, ◌<◌}
 use native.Mathlib.Omega.{arith}
 use mathlib.Core.Path.{◌≡◌, refl, sym, ap, ◌∙◌}
@@ -17,7 +19,6 @@ use Rattle.lines.proofs.Cuts.{rest, at-cons}
 use Rattle.words.specs.Spans.{not_byte}
 use Rattle.words.proofs.Finding.{run-le}
 use Rattle.numbers.specs.Meaning.{int_answer}
-use Rattle.numbers.specs.declared.IntOf.{IntOf}
 use Rattle.selection.specs.Expressions.{string, Sign, field_name, operand, is_in_string}
 use Rattle.selection.specs.Reading.{all_signs, sign_among, Front, one_blank, one_part, sign_front, int_front, is_int_first, front_of, size_behind, with_front, parts_behind}
 use Rattle.selection.proofs.Ints.{pick-either, pick_true, pick-false}
@@ -81,7 +82,7 @@ run-behind p s n e = e ∙ ap (run p) (rest s 1)
 pub run_short : (p : ℕ → Bool) (s : Bytes) (n : ℕ) → 0 < length s → n ≡ run p (take (length s - 1) (drop 1 s)) → n + 1 ≤ length s
 run_short p s n h e = let l = run-le p (drop 1 s) in let k = run-behind p s n e in let d = length-drop 1 s in omega arith
 
-pub int-told-by : (s : Bytes) (n : ℕ) (x y : IntOf) → 0 < length s → is_first (get_or s 0 0) ≡ false → is_int_first (get_or s 0 0) ≡ true → n ≡ run is_later (take (length s - 1) (drop 1 s)) → int_answer x ≡ int_of int_bounds (take (n + 1 - 0) (drop 0 s)) → x ≡ y → int_front (n + 1) (int_answer y) ≡ front_of (get_or s 0 0) (drop 1 s)
+pub int-told-by : (s : Bytes) (n : ℕ) (x y : Maybe Whole) → 0 < length s → is_first (get_or s 0 0) ≡ false → is_int_first (get_or s 0 0) ≡ true → n ≡ run is_later (take (length s - 1) (drop 1 s)) → int_answer x ≡ int_of int_bounds (take (n + 1 - 0) (drop 0 s)) → x ≡ y → int_front (n + 1) (int_answer y) ≡ front_of (get_or s 0 0) (drop 1 s)
 int-told-by s n x y h f b e k q =
     let z : n + 1 - 0 ≡ n + 1 = omega arith in
     int-found s n (int_answer y) h f b (run-behind is_later s n e) (ap int_answer (sym q) ∙ k ∙ ap (λ (j : ℕ). int_of int_bounds (take j s)) z)

@@ -1,22 +1,26 @@
 -- The making of a program, as the code tests its stage.
-use Prim.Native.Nat.{ℕ, ◌+◌, ◌-◌, ◌≤◌, ◌<◌}
+use Prim.Native.Nat.{ℕ, ◌+◌, ◌-◌, ◌<◌}
 use native.Mathlib.Omega.{arith}
 use native.Mathlib.Numerals.{add-one}
 use mathlib.Core.Path.{◌≡◌, refl, sym, ap, ◌∙◌, subst}
-use mathlib.Core.Bool.{Bool, true}
+use mathlib.Core.Bool.{Bool, true, false, not, false≢true}
 use mathlib.Core.List.{List, [], ◌∷◌, ◌++◌, map, append-nil, map-append}
 use mathlib.Core.Option.{Option, none, some}
 use lib.Dec.{eqb}
-use lib.ListN.{length, take, drop, set, length-set}
+use lib.ListN.{take, drop, set, length-set}
 use lib.Seq.{drop-drop, take-suc-set}
-use borrow.Author.Tests.{eq-eqb, ne_eqb}
+use borrow.Author.Tests.{eq-eqb, ne_eqb, eqb-true, eqb-false}
 use Rattle.format.specs.Bytes.{Bytes, pick}
 use Rattle.words.specs.Spans.{span}
 use Rattle.selection.specs.Expressions.{string, Sign, operand, bytes_at_most}
 use Rattle.selection.specs.Reading.{sign_front}
-use Rattle.selection.specs.Programs.{Test, Progress, to_stage, if_at, past_name, past_operand, tests_with}
+use Rattle.selection.specs.Programs.{Test, code_no, Progress, to_stage, if_at, past_name, past_operand, tests_with}
 use Rattle.selection.specs.Tokens.{sign_in, front_in}
-use Rattle.selection.specs.Rows.{tests_at_most, test_in, tests_in, codes_in, Filled, Extends, past_symbol, codes_of_symbol, past_front, tests_front, codes_front}
+use Rattle.selection.specs.Rows.{tests_at_most, test_in, tests_in, codes_in, step_no, Filled, Extends, past_symbol, codes_of_symbol, past_front, tests_front, codes_front}
+use Rattle.selection.specs.contracts.programs.Step.{the_type}
+use denote.Enum.Bare.{sameb}
+use Rattle.selection.specs.declared.programs.Step.{Step}
+use Rattle.selection.specs.declared.runs.Code.{Code}
 use Rattle.selection.specs.declared.parts.Symbol.{Symbol}
 use Rattle.selection.specs.declared.parts.Token.{Token}
 use Rattle.selection.specs.declared.programs.Comparison.{Comparison}
@@ -28,6 +32,55 @@ at_stage k g h q e f = f ∙ sym (pick_true (eqb g.stage k) h (to_stage 4 g) (eq
 
 pub off-stage : (k : ℕ) (g h q : Progress) → (g.stage ≡ k → ⊥) → q ≡ to_stage 4 g → q ≡ if_at k g h
 off-stage k g h q e f = f ∙ sym (pick-false (eqb g.stage k) h (to_stage 4 g) (ne_eqb g.stage k e))
+
+-- the steps that the code compares
+pub step_same : (a b : Step) → sameb the_type a b ≡ eqb (step_no a) (step_no b)
+step_same Step.Wanted Step.Wanted = refl
+step_same Step.Wanted Step.Named = refl
+step_same Step.Wanted Step.Compared = refl
+step_same Step.Wanted Step.Read = refl
+step_same Step.Wanted Step.Fault = refl
+step_same Step.Named Step.Wanted = refl
+step_same Step.Named Step.Named = refl
+step_same Step.Named Step.Compared = refl
+step_same Step.Named Step.Read = refl
+step_same Step.Named Step.Fault = refl
+step_same Step.Compared Step.Wanted = refl
+step_same Step.Compared Step.Named = refl
+step_same Step.Compared Step.Compared = refl
+step_same Step.Compared Step.Read = refl
+step_same Step.Compared Step.Fault = refl
+step_same Step.Read Step.Wanted = refl
+step_same Step.Read Step.Named = refl
+step_same Step.Read Step.Compared = refl
+step_same Step.Read Step.Read = refl
+step_same Step.Read Step.Fault = refl
+step_same Step.Fault Step.Wanted = refl
+step_same Step.Fault Step.Named = refl
+step_same Step.Fault Step.Compared = refl
+step_same Step.Fault Step.Read = refl
+step_same Step.Fault Step.Fault = refl
+
+not_so : (x : Bool) → not x ≡ true → x ≡ false
+not_so true e = absurd (false≢true e)
+not_so false e = refl
+
+is-so : (x : Bool) → not x ≡ false → x ≡ true
+is-so true e = refl
+is-so false e = absurd (false≢true (sym e))
+
+module _ (a b : Step) (x : Bool) where
+  pub step-is : x ≡ sameb the_type a b → x ≡ true → step_no a ≡ step_no b
+  step-is e t = eqb-true (step_no a) (step_no b) (sym (step_same a b) ∙ sym e ∙ t)
+
+  pub step-other : x ≡ sameb the_type a b → x ≡ false → step_no a ≡ step_no b → ⊥
+  step-other e t = eqb-false (step_no a) (step_no b) (sym (step_same a b) ∙ sym e ∙ t)
+
+  pub step-met : x ≡ not (sameb the_type a b) → x ≡ false → step_no a ≡ step_no b
+  step-met e t = eqb-true (step_no a) (step_no b) (sym (step_same a b) ∙ is-so (sameb the_type a b) (sym e ∙ t))
+
+  pub step-left : x ≡ not (sameb the_type a b) → x ≡ true → step_no a ≡ step_no b → ⊥
+  step-left e t = eqb-false (step_no a) (step_no b) (sym (step_same a b) ∙ not_so (sameb the_type a b) (sym e ∙ t))
 
 -- places of the expression
 
@@ -57,11 +110,13 @@ past-sign-token s g q x e = e ∙ go (sign_in x)
 
 -- a code and a comparison more
 
-pub code-added : (p : Program) (c : ℕ) → Filled p → p.size < bytes_at_most → Extends p (record { rows = p.rows; count = p.count; codes = set p.codes p.size c; size = p.size + 1 }) (c ∷ [])
+pub code-added : (p : Program) (c : Code) → Filled p → p.size < bytes_at_most → Extends p (record { rows = p.rows; count = p.count; codes = set p.codes p.size c; size = p.size + 1 }) (code_no c ∷ [])
 code-added p c f h =
     record {
       filled = record { rows_long = f.rows_long; codes-long = length-set p.codes p.size c ∙ f.codes-long; few = f.few; short = omega arith };
-      codes = ap (λ (k : ℕ). take k (set p.codes p.size c)) (add-one p.size) ∙ take-suc-set p.codes p.size c (omega (arith, f.codes-long));
+      codes = ap (λ (k : ℕ). map code_no (take k (set p.codes p.size c))) (add-one p.size)
+          ∙ ap (map code_no) (take-suc-set p.codes p.size c (omega (arith, f.codes-long)))
+          ∙ map-append code_no (take p.size p.codes) (c ∷ []);
       one = omega arith;
     }
 

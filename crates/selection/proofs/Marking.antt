@@ -1,25 +1,24 @@
 -- Which comparisons a field satisfies, as the code marks them one after another.
-use Prim.Native.Nat.{ℕ, zero, suc, ◌+◌, ◌-◌, ◌≤◌, ◌<◌}
+use Rattle.numbers.specs.declared.Whole.{Whole}
+use Rattle.std.specs.Prelude.{Option as Maybe}
+use Prim.Native.Nat.{ℕ, zero, suc, ◌+◌, ◌-◌, ◌<◌}
 use native.Mathlib.Omega.{arith}
 use mathlib.Core.Path.{◌≡◌, refl, sym, ap, ap₂, ◌∙◌, subst}
-use mathlib.Core.Bool.{Bool, true, false, ◌&&◌, ◌||◌, not, or-false}
+use mathlib.Core.Bool.{Bool, true, false, ◌&&◌, ◌||◌, or-false}
 use mathlib.Core.List.{List, [], ◌∷◌}
-use mathlib.Core.Option.{Option}
 use lib.Bits.{bit_or}
 use lib.Dec.{eqb, ltb}
 use lib.ListN.{length, take, drop, get_or, length-drop, drop_of_length-le}
 use lib.Seq.{take_all, take-nil}
-use borrow.Author.Tests.{eqb-true, eqb-false, eq-eqb, ne_eqb, lt-ltb, le-ltb, ltb-true, ltb-false}
+use borrow.Author.Tests.{eqb-true, eqb-false, lt-ltb, le-ltb, ltb-true, ltb-false}
 use Rattle.format.specs.Bytes.{Bytes, same}
-use Rattle.format.specs.Words.{trim}
-use Rattle.format.specs.Numbers.{Int, int_bounds, int_of, is_at_most}
+use Rattle.format.specs.Numbers.{Int}
 use Rattle.words.specs.Spans.{span}
 use Rattle.values.proofs.Tests.{by_bool}
-use Rattle.numbers.specs.Meaning.{int_in, int_answer}
-use Rattle.numbers.specs.declared.IntOf.{IntOf}
+use Rattle.numbers.specs.Meaning.{int_answer}
 use Rattle.terms.specs.Sets.{in_set}
 use Rattle.terms.proofs.Sets.{in-none, in-or}
-use Rattle.selection.specs.Meaning.{ints_compare, int_compares, string_compares, satisfies}
+use Rattle.selection.specs.Meaning.{ints_compare, int_compares, satisfies}
 use Rattle.selection.specs.Tokens.{operator_in}
 use Rattle.selection.specs.Rows.{operand_in, no_comparison, name_at, satisfies_at}
 use Rattle.selection.specs.declared.parts.Operator.{Operator}
@@ -44,8 +43,8 @@ module _ (o y : Operator) (e : o ≡ y) where
   pub ints-by : (r : Bool) (m n : Int) → r ≡ ints_compare (operator_in y) m n → r ≡ ints_compare (operator_in o) m n
   ints-by r m n h = h ∙ ap (λ (x : Operator). ints_compare (operator_in x) m n) (sym e)
 
-pub int-by : (o : Operator) (x y : IntOf) (n : Int) (r : Bool) → x ≡ y → r ≡ int_compares (operator_in o) (int_answer y) n → r ≡ int_compares (operator_in o) (int_answer x) n
-int-by o x y n r e h = h ∙ ap (λ (z : IntOf). int_compares (operator_in o) (int_answer z) n) (sym e)
+pub int-by : (o : Operator) (x y : Maybe Whole) (n : Int) (r : Bool) → x ≡ y → r ≡ int_compares (operator_in o) (int_answer y) n → r ≡ int_compares (operator_in o) (int_answer x) n
+int-by o x y n r e h = h ∙ ap (λ (z : Maybe Whole). int_compares (operator_in o) (int_answer z) n) (sym e)
 
 pub operand-by : (s : Bytes) (o : Operator) (x y : Operand) (v : Bytes) (r : Bool) → x ≡ y → r ≡ satisfies (operator_in o) (operand_in s y) v → r ≡ satisfies (operator_in o) (operand_in s x) v
 operand-by s o x y v r e h = h ∙ ap (λ (z : Operand). satisfies (operator_in o) (operand_in s z) v) (sym e)

@@ -5,7 +5,7 @@ use mathlib.Core.Path.{◌≡◌, refl, sym, ap, ◌∙◌, subst}
 use mathlib.Core.Bool.{Bool, true, false, ◌&&◌}
 use mathlib.Core.List.{List, [], ◌∷◌, ◌++◌, map, append-nil}
 use mathlib.Core.Option.{Option, none, some}
-use lib.Dec.{eqb, leb, ltb}
+use lib.Dec.{eqb, ltb}
 use lib.ListN.{length, take, drop, get_or, length-map, length-drop, length-append, drop_of_length-le}
 use lib.Seq.{length-take-le, drop-drop}
 use borrow.Author.Tests.{le-leb, lt-leb, eqb-true, eq-eqb}
@@ -14,17 +14,17 @@ use Rattle.format.specs.Lists.{onward, front}
 use Rattle.format.specs.Lines.{is_first, is_later}
 use Rattle.format.specs.Numbers.{Int, int_bounds, int_of}
 use Rattle.lines.proofs.Cuts.{rest}
-use Rattle.selection.specs.Expressions.{Operator, equals, differs, less_than, at_most, more_than, at_least, Operand, Expression, Sign, comparing, not_sign, and_sign, or_sign, open_sign, close_sign, Part, field_name, operand, sign, sign_bytes, is_in_string, open_at_most, bytes_at_most}
-use Rattle.selection.specs.Reading.{Front, no_part, one_blank, one_part, sign_front, sign_among, all_signs, int_front, is_int_first, front_of, front_bytes, one_less, size_behind, with_front, parts_behind, parts_of, Level, Stage, wanting, naming, holding, done, Reader, may_take, advance, at_end, grouped_from, beginning, read_expression}
-use Rattle.selection.specs.Programs.{Test, Progress, to_stage, past, tests_with, codes_of}
+use Rattle.selection.specs.Expressions.{equals, differs, less_than, at_most, more_than, at_least, Expression, Sign, comparing, not_sign, and_sign, or_sign, open_sign, close_sign, Part, field_name, operand, sign, sign_bytes, open_at_most, bytes_at_most}
+use Rattle.selection.specs.Reading.{Front, no_part, one_blank, one_part, sign_front, sign_among, all_signs, int_front, is_int_first, front_of, front_bytes, size_behind, with_front, parts_behind, parts_of, Level, Stage, wanting, naming, holding, done, Reader, may_take, advance, at_end, grouped_from, beginning, read_expression}
+use Rattle.selection.specs.Programs.{Test, code_no, Progress, to_stage, past, tests_with, codes_of}
 use Rattle.selection.specs.Tokens.{operator_bytes, symbol_bytes, token_bytes, operator_in, sign_in, front_in}
-use Rattle.selection.specs.Rows.{tests_at_most, test_in, tests_in, codes_in, progress_in, Filled, Extends, past_front, tests_front, codes_front, ProgramOf}
+use Rattle.selection.specs.Rows.{tests_at_most, test_in, tests_in, codes_in, step_no, progress_in, Filled, Extends, past_front, tests_front, codes_front, ProgramOf}
 use Rattle.selection.specs.declared.parts.Operator.{Operator as Written}
 use Rattle.selection.specs.declared.parts.Symbol.{Symbol}
 use Rattle.selection.specs.declared.parts.Token.{Token}
 use Rattle.selection.specs.declared.programs.Program.{Program}
 use Rattle.selection.specs.declared.programs.Reading.{Reading}
-use Rattle.selection.proofs.Ints.{pick-either, pick_true, pick-false}
+use Rattle.selection.proofs.Ints.{pick-either}
 use Rattle.selection.proofs.Complete.{read_from, read_if}
 use Rattle.selection.proofs.Finding.{parts-skip, parts-past}
 use Rattle.selection.proofs.Agreeing.{stage_no, Agrees, AgreesIf, AgreesAtEnd, part-agrees, start-agrees, end-agrees}
@@ -223,7 +223,7 @@ pub record ReadTo (s : Bytes) (i : ℕ) (r : Reading) (p : Program) : Type 0 whe
   pub inside : i ≤ length s
   pub filled : Filled p
   pub codes-few : p.size ≤ i
-  pub tests-few : 5 * p.count + weight r.stage ≤ i + 2
+  pub tests-few : 5 * p.count + weight (step_no r.stage) ≤ i + 2
   pub room : ℕ
   pub outer : List Level
   pub at : Stage
@@ -234,7 +234,7 @@ pub count-tests : (s : Bytes) (p : Program) → Filled p → length (tests_in s 
 count-tests s p f = length-map (take p.count p.rows) (test_in s) ∙ length-take-le p.count p.rows (omega (arith, f.rows_long, f.few))
 
 -- room for one comparison more where one may come
-pub tests-room : (s : Bytes) (i : ℕ) (r : Reading) (p : Program) → ReadTo s i r p → i < bytes_at_most → r.stage ≡ 2 → p.count < tests_at_most
+pub tests-room : (s : Bytes) (i : ℕ) (r : Reading) (p : Program) → ReadTo s i r p → i < bytes_at_most → step_no r.stage ≡ 2 → p.count < tests_at_most
 tests-room s i r p t h e = omega (arith, t.tests-few, ap weight e)
 
 -- no stage is that of a refusal
@@ -272,7 +272,7 @@ module _ (s : Bytes) (i : ℕ) (r : Reading) (p : Program) (t : ReadTo s i r p) 
     behind k = drop-drop k i s
 
     -- a token that leads to no expression
-    pub past-refused : progress_in s v ≡ past_front x (progress_in s r) → v.stage ≡ 4 → read_from s beginning ≡ none
+    pub past-refused : progress_in s v ≡ past_front x (progress_in s r) → step_no v.stage ≡ 4 → read_from s beginning ≡ none
     past-refused g z = t.reads ∙ go x has e f g
       where
         go : (y : Front) → HasBytes y → y ≡ front_of (get_or (drop i s) 0 0) (drop 1 (drop i s)) → n ≡ front_bytes y → progress_in s v ≡ past_front y (progress_in s r) → read_from (drop i s) here ≡ none
@@ -283,11 +283,11 @@ module _ (s : Bytes) (i : ℕ) (r : Reading) (p : Program) (t : ReadTo s i r p) 
             ∙ refused_none (advance t.room t.outer t.at o) (drop m (drop i s)) (past o (progress_in s r)) _ _ (part-agrees t.room t.outer t.at (progress_in s r) (tests_in s p) (codes_in p) o t.agrees) (sym (ap (λ (d : Progress). d.stage) w) ∙ z)
 
     -- a token more
-    read-part : (o : Part) → joint_bytes o ≤ n → (y : Option Reader) → read_from s beginning ≡ read_if (drop (i + n) s) y → Extends p q (codes_of o) → tests_in s q ≡ tests_with (progress_in s r) o (tests_in s p) → progress_in s v ≡ past o (progress_in s r) → (v.stage ≡ 4 → ⊥) →
+    read-part : (o : Part) → joint_bytes o ≤ n → (y : Option Reader) → read_from s beginning ≡ read_if (drop (i + n) s) y → Extends p q (codes_of o) → tests_in s q ≡ tests_with (progress_in s r) o (tests_in s p) → progress_in s v ≡ past o (progress_in s r) → (step_no v.stage ≡ 4 → ⊥) →
         AgreesIf y (past o (progress_in s r)) (tests_with (progress_in s r) o (tests_in s p)) (codes_in p ++ codes_of o) → ReadTo s (i + n) v q
     read-part o b none k x ts g z a = absurd (z (ap (λ (d : Progress). d.stage) g ∙ a))
     read-part o b (some w) k x ts g z a =
-        let st : stage_no t.at ≡ r.stage = t.agrees.at_stage in
+        let st : stage_no t.at ≡ step_no r.stage = t.agrees.at_stage in
         let weighs : 5 * length (tests_with (progress_in s r) o (tests_in s p)) + weight (past o (progress_in s r)).stage ≤ (i + n) + 2 =
         subst (λ (j : ℕ). 5 * length (tests_in s p) + weight j ≤ i + 2 → ((past o (to_stage j (progress_in s r))).stage ≡ 4 → ⊥) → 5 * length (tests_with (to_stage j (progress_in s r)) o (tests_in s p)) + weight (past o (to_stage j (progress_in s r))).stage ≤ (i + n) + 2) st
         (λ h k. part-weighs t.at (progress_in s r) (tests_in s p) o n i b h k)
@@ -306,10 +306,10 @@ module _ (s : Bytes) (i : ℕ) (r : Reading) (p : Program) (t : ReadTo s i r p) 
           reads = k;
         }
 
-    pub past_more : Extends p q (codes_front x) → tests_in s q ≡ tests_front (progress_in s r) x (tests_in s p) → progress_in s v ≡ past_front x (progress_in s r) → (v.stage ≡ 4 → ⊥) → ReadTo s (i + n) v q
+    pub past_more : Extends p q (codes_front x) → tests_in s q ≡ tests_front (progress_in s r) x (tests_in s p) → progress_in s v ≡ past_front x (progress_in s r) → (step_no v.stage ≡ 4 → ⊥) → ReadTo s (i + n) v q
     past_more = go x has e f
       where
-        go : (y : Front) → HasBytes y → y ≡ front_of (get_or (drop i s) 0 0) (drop 1 (drop i s)) → n ≡ front_bytes y → Extends p q (codes_front y) → tests_in s q ≡ tests_front (progress_in s r) y (tests_in s p) → progress_in s v ≡ past_front y (progress_in s r) → (v.stage ≡ 4 → ⊥) → ReadTo s (i + n) v q
+        go : (y : Front) → HasBytes y → y ≡ front_of (get_or (drop i s) 0 0) (drop 1 (drop i s)) → n ≡ front_bytes y → Extends p q (codes_front y) → tests_in s q ≡ tests_front (progress_in s r) y (tests_in s p) → progress_in s v ≡ past_front y (progress_in s r) → (step_no v.stage ≡ 4 → ⊥) → ReadTo s (i + n) v q
         go no_part b k l x ts g z = absurd (z (ap (λ (d : Progress). d.stage) g))
         go one_blank b k l x ts g z =
             record {
@@ -335,7 +335,7 @@ module _ (s : Bytes) (i : ℕ) (r : Reading) (p : Program) (t : ReadTo s i r p) 
 
 -- Before the first token and behind the last
 
-pub read-start : (s : Bytes) (r : Reading) (p : Program) → r.stage ≡ 0 → r.groups ≡ 0 → Filled p → p.count ≡ 0 → p.size ≡ 0 → ReadTo s 0 r p
+pub read-start : (s : Bytes) (r : Reading) (p : Program) → step_no r.stage ≡ 0 → r.groups ≡ 0 → Filled p → p.count ≡ 0 → p.size ≡ 0 → ReadTo s 0 r p
 read-start s r p e f g h k =
     record {
       inside = omega arith;
@@ -345,7 +345,7 @@ read-start s r p e f g h k =
       room = beginning.room;
       outer = beginning.outer;
       at = beginning.stage;
-      agrees = subst (λ (cs : List ℕ). Agrees beginning.room beginning.outer beginning.stage (progress_in s r) (tests_in s p) cs) (sym (ap (λ (n : ℕ). take n p.codes) k))
+      agrees = subst (λ (cs : List ℕ). Agrees beginning.room beginning.outer beginning.stage (progress_in s r) (tests_in s p) cs) (sym (ap (λ (n : ℕ). map code_no (take n p.codes)) k))
           (subst (λ (ts : List Test). Agrees beginning.room beginning.outer beginning.stage (progress_in s r) ts []) (sym (ap (λ (n : ℕ). map (test_in s) (take n p.rows)) h)) (start-agrees (progress_in s r) e f));
       reads = refl;
     }
@@ -380,13 +380,13 @@ and_no g h = go (eqb g.stage 3) (eqb g.groups 0) refl refl
     go true false e f = refl
     go false b e f = refl
 
-pub end-answers : (s : Bytes) (i : ℕ) (r : Reading) (p : Program) (b : Bool) → ReadTo s i r p → length s ≤ i → length s ≤ bytes_at_most → b ≡ (eqb r.stage 3 && eqb r.groups 0) → Answers s b p
+pub end-answers : (s : Bytes) (i : ℕ) (r : Reading) (p : Program) (b : Bool) → ReadTo s i r p → length s ≤ i → length s ≤ bytes_at_most → b ≡ (eqb (step_no r.stage) 3 && eqb r.groups 0) → Answers s b p
 end-answers s i r p b t h l e =
     let reads : read_expression s ≡ at_end t.outer t.at =
     short-reads s l ∙ t.reads ∙ ap (λ (u : Bytes). read_from u (record { room = t.room; outer = t.outer; stage = t.at })) (drop_of_length-le s h) in
     let a = go (at_end t.outer t.at) (end-agrees t.room t.outer t.at (progress_in s r) (tests_in s p) (codes_in p) t.agrees) in
     (e ∙ a.0 ∙ sym (ap is_some reads), t.filled, subst (λ (x : Option Expression). ProgramOf s x p) (sym reads) a.1)
   where
-    go : (x : Option Expression) → AgreesAtEnd x (progress_in s r) (tests_in s p) (codes_in p) → ((eqb r.stage 3 && eqb r.groups 0) ≡ is_some x) × ProgramOf s x p
+    go : (x : Option Expression) → AgreesAtEnd x (progress_in s r) (tests_in s p) (codes_in p) → ((eqb (step_no r.stage) 3 && eqb r.groups 0) ≡ is_some x) × ProgramOf s x p
     go none a = (and_no (progress_in s r) a, tt)
-    go (some e) a = (λ j. eq-eqb r.stage 3 a.0 j && eq-eqb r.groups 0 a.1 j, a.2)
+    go (some e) a = (λ j. eq-eqb (step_no r.stage) 3 a.0 j && eq-eqb r.groups 0 a.1 j, a.2)

@@ -1,5 +1,5 @@
 -- Expressions (document 02, order 11), and the grammar as a relation between them and bytes. How bytes are read is another matter (`Reading`).
-use Rattle.std.specs.Prelude.{ℕ, suc, ◌≤◌, ◌≡◌, Bool, true, false, not, List, [], ◌∷◌, ◌++◌, eqb, length}
+use Rattle.std.specs.Prelude.{ℕ, suc, ◌≤◌, ◌≡◌, Bool, true, false, not, [], ◌∷◌, ◌++◌, eqb, length}
 use Rattle.std.proofs.Math.Option.{some}
 use Rattle.format.specs.Bytes.{Bytes, text, all, is_blank}
 use Rattle.format.specs.Lines.{is_name}

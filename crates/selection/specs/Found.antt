@@ -1,5 +1,5 @@
 -- The records that an expression finds, and the answer of the call (document 02, order 11).
-use Rattle.std.specs.Prelude.{ℕ, suc, Bool, List, [], ◌∷◌, leb, length}
+use Rattle.std.specs.Prelude.{ℕ, suc, Bool, List, [], ◌∷◌, leb, length, Result}
 use Rattle.std.proofs.Math.Option.{Option, none, some}
 use Rattle.format.specs.Bytes.{Bytes, pick, is_some}
 use Rattle.format.specs.Pieces.{read_of}
@@ -8,7 +8,7 @@ use Rattle.format.specs.Sets.{sets_of}
 use Rattle.format.specs.Questions.{first_no}
 use Rattle.format.specs.Plain.{Sought, sought_members, found_rows}
 use Rattle.format.specs.Calls.{Answer, answer, answered, then_no, sets_in, lookup_no, sought_set, leaves, over}
-use Rattle.format.specs.declared.Answer.{Answer as Reply}
+use Rattle.format.specs.declared.refusals.Refusal.{Refusal}
 use Rattle.selection.specs.Expressions.{Expression}
 use Rattle.selection.specs.Reading.{read_expression}
 use Rattle.selection.specs.Meaning.{holds}
@@ -36,7 +36,7 @@ abbrev pub listed : ℕ → List ℕ → List ℕ → Listed
 listed number found list = let a : Answer = answer number (length found) in record { result = a; list = leaves a (over found list) list }
 
 -- what the code answers and what the list holds after it, in these words
-abbrev pub listed_by : Reply → List ℕ → Listed
+abbrev pub listed_by : Result ℕ Refusal → List ℕ → Listed
 listed_by r list = record { result = answered r; list = list }
 
 -- asked in this order: the file's numbers, 21, 33, 34

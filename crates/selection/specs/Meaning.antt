@@ -1,5 +1,5 @@
 -- For which records an expression holds.
-use Rattle.std.specs.Prelude.{Bool, false, ◌&&◌, ◌||◌, not, []}
+use Rattle.std.specs.Prelude.{Bool, false, ◌&&◌, ◌||◌, not}
 use Rattle.std.proofs.Math.Option.{Option, none, some}
 use Rattle.format.specs.Bytes.{Bytes, same, any}
 use Rattle.format.specs.Words.{trim}

@@ -1,5 +1,5 @@
 -- An expression as a program: its comparisons one after another, and codes that are run over their bits, one level of parentheses at a time.
-use Rattle.std.specs.Prelude.{ℕ, zero, suc, ◌+◌, ◌-◌, ◌*◌, ◌/◌, ◌%◌, ◌<◌, ◌≡◌, Bool, true, false, ◌&&◌, not, List, [], ◌∷◌, ◌++◌, eqb, ltb, length, get_or}
+use Rattle.std.specs.Prelude.{ℕ, ◌+◌, ◌-◌, ◌*◌, ◌/◌, ◌%◌, ◌<◌, ◌≡◌, Bool, true, false, ◌&&◌, not, List, [], ◌∷◌, ◌++◌, eqb, ltb, length, get_or}
 use Rattle.format.specs.Bytes.{Bytes, pick, any}
 use Rattle.format.specs.Records.{Record}
 use Rattle.format.specs.Sets.{values_of}
@@ -8,6 +8,7 @@ use Rattle.selection.specs.Expressions.{Operator, equals, Operand, string, Expre
 use Rattle.selection.specs.Reading.{may_take}
 use Rattle.selection.specs.Meaning.{satisfies, holds}
 use Rattle.selection.specs.declared.runs.Machine.{Machine}
+use Rattle.selection.specs.declared.runs.Code.{Code}
 
 -- a comparison
 pub record Test : Type 0 where
@@ -33,6 +34,14 @@ Told r ts bits = (k : ℕ) → k < length ts → in_set k bits ≡ meets r (get_
 abbrev pub differ : Bool → Bool → Bool
 differ true b = not b
 differ false b = b
+
+-- the codes: 0 a comparison, 1 `!`, 2 `||`, 3 `(`, 4 `)`; `&&` needs none
+abbrev pub code_no : Code → ℕ
+code_no Code.Test = 0
+code_no Code.Not = 1
+code_no Code.Or = 2
+code_no Code.Open = 3
+code_no Code.Close = 4
 
 -- with the answer of an operand
 abbrev pub answered_by : ℕ → Bool → ℕ
@@ -68,7 +77,7 @@ on_open m = record { level = level_start; outer = m.outer % outer_room * 8 + m.l
 abbrev pub on_close : Machine → Machine
 on_close m = record { level = answered_by (m.outer % 8) (whole_answer m.level); outer = m.outer / 8; bits = m.bits }
 
--- the codes: 0 a comparison, 1 `!`, 2 `||`, 3 `(`, 4 `)`; `&&` needs none
+-- past one code
 abbrev pub on_code : ℕ → Machine → Machine
 on_code c m =
     pick (eqb c 0) (on_test m)

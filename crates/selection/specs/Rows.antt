@@ -1,18 +1,19 @@
 -- What the code's program and the state of its making stand for, over the bytes of the expression.
-use Rattle.std.specs.Prelude.{ℕ, ◌+◌, ◌≤◌, ◌≡◌, Bool, List, [], ◌++◌, map, length, take, get_or}
+use Rattle.std.specs.Prelude.{ℕ, ◌+◌, ◌≤◌, ◌≡◌, Bool, true, false, List, [], ◌++◌, map, length, take, get_or, Option as Maybe, Some, None}
 use Rattle.std.proofs.Math.Option.{Option, none, some}
-use Rattle.format.specs.Bytes.{Bytes}
+use Rattle.format.specs.Bytes.{Bytes, is_some}
 use Rattle.words.specs.Spans.{span}
 use Rattle.numbers.specs.Meaning.{int_in}
 use Rattle.selection.specs.Expressions.{Operand as Compared, int, string, Expression, Sign, bytes_at_most}
-use Rattle.selection.specs.Reading.{Front, no_part, one_blank, one_part}
+use Rattle.selection.specs.Reading.{Front, no_part, one_blank, one_part, read_expression}
 use Rattle.selection.specs.Meaning.{satisfies}
-use Rattle.selection.specs.Tokens.{operator_in, sign_in}
-use Rattle.selection.specs.Programs.{Test, IsProgram, Progress, to_stage, past_sign, past, tests_with, codes_of, codes_of_sign}
+use Rattle.selection.specs.Tokens.{operator_in}
+use Rattle.selection.specs.Programs.{Test, code_no, IsProgram, Progress, to_stage, past_sign, past, tests_with, codes_of, codes_of_sign}
 use Rattle.selection.specs.declared.parts.Operator.{Operator}
 use Rattle.selection.specs.declared.programs.Operand.{Operand}
 use Rattle.selection.specs.declared.programs.Comparison.{Comparison}
 use Rattle.selection.specs.declared.programs.Program.{Program}
+use Rattle.selection.specs.declared.programs.Step.{Step}
 use Rattle.selection.specs.declared.programs.Reading.{Reading}
 
 -- 256 bytes hold so many comparisons: three bytes each, and two for each joint
@@ -30,10 +31,17 @@ abbrev pub tests_in : Bytes → Program → List Test
 tests_in s p = map (test_in s) (take p.count p.rows)
 
 abbrev pub codes_in : Program → List ℕ
-codes_in p = take p.size p.codes
+codes_in p = map code_no (take p.size p.codes)
+
+abbrev pub step_no : Step → ℕ
+step_no Step.Wanted = 0
+step_no Step.Named = 1
+step_no Step.Compared = 2
+step_no Step.Read = 3
+step_no Step.Fault = 4
 
 abbrev pub progress_in : Bytes → Reading → Progress
-progress_in s r = record { stage = r.stage; groups = r.groups; name = span r.start r.end s; operator = operator_in r.operator }
+progress_in s r = record { stage = step_no r.stage; groups = r.groups; name = span r.start r.end s; operator = operator_in r.operator }
 
 -- its arrays, filled no further than they are long
 pub record Filled (p : Program) : Type 0 where
@@ -76,6 +84,11 @@ codes_front (one_part p n) = codes_of p
 abbrev pub ProgramOf : Bytes → Option Expression → Program → Type 0
 ProgramOf s none p = Unit {0}
 ProgramOf s (some e) p = IsProgram e (tests_in s p) (codes_in p)
+
+-- what is made of bytes: a program where they are an expression, and only there
+abbrev pub Made : Bytes → Maybe Program → Type 0
+Made s (Some p) = (is_some (read_expression s) ≡ true) × Filled p × ProgramOf s (read_expression s) p
+Made s None = is_some (read_expression s) ≡ false
 
 -- the name and the test of comparison k
 abbrev pub no_comparison : Comparison

@@ -13,7 +13,8 @@ ghost use Rattle.selection.specs.Rows.{operand_in, Filled, name_at, satisfies_at
 
 use super::parts::Operator;
 use super::programs::{Comparison, Operand, Program};
-use numbers::{IntOf, Whole};
+use dictionary::wordsets;
+use numbers::Whole;
 
 // The bytes from one place to another, as far as there are any.
 fn span_of(s: &[u8], start: usize, end: usize) -> &[u8]
@@ -48,12 +49,12 @@ fn ints_compare(o: Operator, x: Whole, y: Whole) -> bool
 }
 
 // What a value is as an int, compared with one.
-fn int_compares(o: Operator, x: IntOf, y: Whole) -> bool
+fn int_compares(o: Operator, x: Option<Whole>, y: Whole) -> bool
     ensures { result ≡ int_compares (operator_in o) (int_answer x) (int_in y) }
 {
     match x {
-        IntOf::Value(w) => ints_compare(o, w, y),
-        IntOf::NotInt => false,
+        Some(w) => ints_compare(o, w, y),
+        None => false,
     }
 }
 
@@ -63,15 +64,12 @@ fn string_compares(o: Operator, alike: bool) -> bool
     match o {
         Operator::Equals => alike,
         Operator::Differs => !alike,
-        Operator::LessThan => false,
-        Operator::AtMost => false,
-        Operator::MoreThan => false,
-        Operator::AtLeast => false,
+        Operator::LessThan | Operator::AtMost | Operator::MoreThan | Operator::AtLeast => false,
     }
 }
 
 // Does a value, which is x as an int, satisfy a comparison of the expression e?
-fn is_satisfied(e: &[u8], operator: Operator, operand: Operand, v: &[u8], x: IntOf) -> bool
+fn is_satisfied(e: &[u8], operator: Operator, operand: Operand, v: &[u8], x: Option<Whole>) -> bool
     requires { int_answer x ≡ int_of int_bounds (trim v.now) }
     ensures { result ≡ satisfies (operator_in operator) (operand_in e.now operand) v.now }
 {
@@ -84,64 +82,41 @@ fn is_satisfied(e: &[u8], operator: Operator, operand: Operand, v: &[u8], x: Int
     }
 }
 
-// A set, with number k if that is to be.
-fn with_number(set: u64, k: usize, more: bool) -> u64
-    requires { k < tags }
-    ensures { (j : ℕ) → in_set j result ≡ (in_set j set || (more && eqb j k)) }
-{
-    if more {
-        let one: u64 = 1;
-        return set | (one << (k as u64));
-    }
-    set
-}
-
 // The comparisons whose name is this.
 fn named(e: &[u8], p: Program, name: &[u8]) -> u64
     requires { Filled p }
     ensures { (k : ℕ) → in_set k result ≡ (ltb k p.count && same (name_at e.now p.rows k) name.now) }
 {
-    let rows = p.rows;
     let mut set = 0;
-    let mut k = 0;
-    while k < p.count {
-        let row = rows[k];
+    for k in 0..p.count {
+        let row = p.rows[k];
         let own = span_of(e, row.start, row.end);
         let hit = lines::same_bytes(own, name);
-        set = with_number(set, k, hit);
-        k += 1;
+        set = wordsets::with_place(set, k, hit);
     }
     set
 }
 
 // Is a comparison to be asked, and does a value, which is x as an int, satisfy it?
-fn is_hit(e: &[u8], asked: bool, row: Comparison, v: &[u8], x: IntOf) -> bool
+fn is_hit(e: &[u8], asked: bool, row: Comparison, v: &[u8], x: Option<Whole>) -> bool
     requires { int_answer x ≡ int_of int_bounds (trim v.now) }
     ensures { result ≡ (asked && satisfies (operator_in row.operator) (operand_in e.now row.operand) v.now) }
 {
-    if asked {
-        let operator = row.operator;
-        let operand = row.operand;
-        return is_satisfied(e, operator, operand, v, x);
-    }
-    false
+    asked && is_satisfied(e, row.operator, row.operand, v, x)
 }
 
 // Those of a set of comparisons that a value satisfies, which is x as an int.
-fn satisfying(e: &[u8], p: Program, hits: u64, v: &[u8], x: IntOf) -> u64
+fn satisfying(e: &[u8], p: Program, hits: u64, v: &[u8], x: Option<Whole>) -> u64
     requires filled { Filled p }
     requires x_value { int_answer x ≡ int_of int_bounds (trim v.now) }
     ensures { (k : ℕ) → in_set k result ≡ (ltb k p.count && (in_set k hits && satisfies_at e.now p.rows k v.now)) }
 {
-    let rows = p.rows;
     let mut set = 0;
-    let mut k = 0;
-    while k < p.count {
-        let row = rows[k];
+    for k in 0..p.count {
+        let row = p.rows[k];
         let asked = terms::has(hits, k as u64);
         let hit = is_hit(e, asked, row, v, x);
-        set = with_number(set, k, hit);
-        k += 1;
+        set = wordsets::with_place(set, k, hit);
     }
     set
 }

@@ -1,13 +1,13 @@
 // The parts of an expression, as the reader of the definitions cuts them.
 ghost use Rattle.std.specs.Prelude.{◌≡◌, [], ◌∷◌, ◌<◌, ◌≤◌, length, drop, get_or};
-ghost use Rattle.format.specs.Bytes.{class_table};
 ghost use Rattle.format.specs.Lines.{is_later};
 ghost use Rattle.lines.specs.Line.{run};
 ghost use Rattle.selection.specs.Expressions.{bytes_at_most};
 ghost use Rattle.selection.specs.Reading.{all_signs, sign_among, is_int_first, front_of};
 ghost use Rattle.selection.specs.Tokens.{sign_in, front_in, operator_bytes, symbol_bytes, token_bytes};
 
-use numbers::{IntOf, Whole};
+use format::Classes;
+use numbers::Whole;
 
 #[derive(Clone, Copy)]
 pub(crate) enum Operator {
@@ -89,46 +89,34 @@ fn sign_of(b: u8, next: u8) -> Symbol
 }
 
 // How many bytes at the front a name may go on in.
-fn name_len(table: &[u8; 256], s: &[u8]) -> usize
-    requires { table.now ≡ class_table }
+fn name_len(table: &Classes, s: &[u8]) -> usize
     ensures { result ≡ run is_later s.now }
 {
-    let mut i = 0;
-    while i < s.len() {
-        if format::is_later(table, s[i]) {
-            i += 1;
-        } else {
-            return i;
-        }
-    }
-    i
+    s.iter()
+        .position(|b| !table.is_later(*b))
+        .unwrap_or(s.len())
 }
 
 fn is_int_first(b: u8) -> bool
     ensures { result ≡ is_int_first b }
 {
-    if b == b'-' {
-        return true;
-    }
-    if b'0' <= b { b <= b'9' } else { false }
+    b == b'-' || b'0' <= b && b <= b'9'
 }
 
 // What a text begins with.
-pub(crate) fn token_at(table: &[u8; 256], s: &[u8]) -> Token
-    requires table_value { table.now ≡ class_table }
+pub(crate) fn token_at(table: &Classes, s: &[u8]) -> Token
     requires s_nonzero { (0 < length s.now) × (length s.now ≤ bytes_at_most) }
     ensures { front_in s.now result ≡ front_of (get_or s.now 0 0) (drop 1 s.now) }
 {
     let b = s[0];
-    if format::is_first(table, b) {
+    if table.is_first(b) {
         let n = name_len(table, &s[1..]);
         return Token::Name(n + 1);
     }
     if is_int_first(b) {
         let n = name_len(table, &s[1..]);
         let e = n + 1;
-        let x = numbers::int_of(&s[0..e]);
-        let IntOf::Value(w) = x else {
+        let Some(w) = numbers::int_of(&s[0..e]) else {
             return Token::Nothing;
         };
         return Token::Int(w, e);
@@ -150,12 +138,8 @@ fn operator_bytes(o: Operator) -> usize
     ensures { result ≡ operator_bytes o }
 {
     match o {
-        Operator::Equals => 1,
-        Operator::Differs => 2,
-        Operator::LessThan => 1,
-        Operator::AtMost => 2,
-        Operator::MoreThan => 1,
-        Operator::AtLeast => 2,
+        Operator::Equals | Operator::LessThan | Operator::MoreThan => 1,
+        Operator::Differs | Operator::AtMost | Operator::AtLeast => 2,
     }
 }
 
@@ -164,12 +148,8 @@ fn symbol_bytes(g: Symbol) -> usize
 {
     match g {
         Symbol::Comparing(o) => operator_bytes(o),
-        Symbol::Not => 1,
-        Symbol::And => 2,
-        Symbol::Or => 2,
-        Symbol::Open => 1,
-        Symbol::Close => 1,
-        Symbol::Unknown => 1,
+        Symbol::And | Symbol::Or => 2,
+        Symbol::Not | Symbol::Open | Symbol::Close | Symbol::Unknown => 1,
     }
 }
 
@@ -178,11 +158,8 @@ pub(crate) fn token_bytes(t: Token) -> usize
     ensures { result ≡ token_bytes t }
 {
     match t {
-        Token::Nothing => 1,
-        Token::Gap => 1,
-        Token::Name(n) => n,
-        Token::Int(_, n) => n,
-        Token::Text(n) => n,
+        Token::Nothing | Token::Gap => 1,
+        Token::Name(n) | Token::Int(_, n) | Token::Text(n) => n,
         Token::Sign(g) => symbol_bytes(g),
     }
 }

@@ -1,16 +1,18 @@
 // An expression read into a program: its comparisons, and codes that are run over their bits.
 ghost use Rattle.std.specs.Prelude.{◌≡◌, [], ◌∷◌, ◌++◌, ◌&&◌, eqb, ◌+◌, ◌<◌, ◌≤◌, drop};
-ghost use Rattle.format.specs.Bytes.{Bytes, is_some};
+ghost use Rattle.format.specs.Bytes.{Bytes};
 ghost use Rattle.words.specs.Spans.{span};
 ghost use Rattle.selection.specs.Expressions.{bytes_at_most};
-ghost use Rattle.selection.specs.Reading.{may_take, read_expression};
-ghost use Rattle.selection.specs.Programs.{to_stage, if_at, past_name, past_operand, past_sign, tests_with};
+ghost use Rattle.selection.specs.Reading.{may_take};
+ghost use Rattle.selection.specs.Programs.{code_no, to_stage, if_at, past_name, past_operand, past_sign, tests_with};
 ghost use Rattle.selection.specs.Expressions.{comparing, open_sign, close_sign, takes_strings, operand};
 ghost use Rattle.selection.specs.Tokens.{operator_in, sign_in, front_in, token_bytes};
-ghost use Rattle.selection.specs.Rows.{tests_at_most, operand_in, test_in, tests_in, codes_in, progress_in, Filled, Extends, past_symbol, codes_of_symbol, past_front, tests_front, codes_front, ProgramOf};
+ghost use Rattle.selection.specs.Rows.{tests_at_most, operand_in, test_in, tests_in, codes_in, step_no, progress_in, Filled, Extends, past_symbol, codes_of_symbol, past_front, tests_front, codes_front, Made};
 
 use super::parts;
 use super::parts::{Operator, Symbol, Token};
+use super::runs::Code;
+use format::Classes;
 use numbers::Whole;
 
 // The most bytes of an expression, parentheses that are open at one place of it, and comparisons
@@ -47,15 +49,25 @@ pub(crate) struct Comparison {
 pub(crate) struct Program {
     pub rows: [Comparison; Expression::COMPARISONS],
     pub count: usize,
-    pub codes: [u8; Expression::BYTES],
+    pub codes: [Code; Expression::BYTES],
     pub size: usize,
 }
 
-// How far the reading is: the stage, how many parentheses are open, and the name and the operator
+// An operand is wanted, its name is read, its operator too, or all of it; or this is no expression.
+#[derive(Clone, Copy, PartialEq)]
+enum Step {
+    Wanted,
+    Named,
+    Compared,
+    Read,
+    Fault,
+}
+
+// How far the reading is: the step, how many parentheses are open, and the name and the operator
 // that were read last.
 #[derive(Clone, Copy)]
 struct Reading {
-    stage: u8,
+    stage: Step,
     groups: usize,
     start: usize,
     end: usize,
@@ -63,33 +75,24 @@ struct Reading {
 }
 
 // The same at another stage.
-fn to_stage(r: Reading, stage: u8) -> Reading
-    ensures { (s : Bytes) → progress_in s result ≡ to_stage stage (progress_in s r) }
+fn to_stage(r: Reading, stage: Step) -> Reading
+    ensures { (s : Bytes) → progress_in s result ≡ to_stage (step_no stage) (progress_in s r) }
 {
-    let operator = r.operator;
-    Reading {
-        stage,
-        groups: r.groups,
-        start: r.start,
-        end: r.end,
-        operator,
-    }
+    Reading { stage, ..r }
 }
 
 // Past a name.
 fn past_name(r: Reading, start: usize, end: usize) -> Reading
     ensures { (s : Bytes) → progress_in s result ≡ past_name (span start end s) (progress_in s r) }
 {
-    if r.stage != 0 {
-        return to_stage(r, 4);
+    if r.stage != Step::Wanted {
+        return to_stage(r, Step::Fault);
     }
-    let operator = r.operator;
     Reading {
-        stage: 1,
-        groups: r.groups,
+        stage: Step::Named,
         start,
         end,
-        operator,
+        ..r
     }
 }
 
@@ -97,29 +100,20 @@ fn past_name(r: Reading, start: usize, end: usize) -> Reading
 fn past_operator(r: Reading, operator: Operator) -> Reading
     ensures { (s : Bytes) → progress_in s result ≡ past_sign (comparing (operator_in operator)) (progress_in s r) }
 {
-    if r.stage != 1 {
-        return to_stage(r, 4);
+    if r.stage != Step::Named {
+        return to_stage(r, Step::Fault);
     }
     Reading {
-        stage: 2,
-        groups: r.groups,
-        start: r.start,
-        end: r.end,
+        stage: Step::Compared,
         operator,
+        ..r
     }
 }
 
 fn takes_strings(o: Operator) -> bool
     ensures { result ≡ takes_strings (operator_in o) }
 {
-    match o {
-        Operator::Equals => true,
-        Operator::Differs => true,
-        Operator::LessThan => false,
-        Operator::AtMost => false,
-        Operator::MoreThan => false,
-        Operator::AtLeast => false,
-    }
+    matches!(o, Operator::Equals | Operator::Differs)
 }
 
 // May an operator stand before an operand?
@@ -128,7 +122,7 @@ fn may_take(o: Operator, v: Operand) -> bool
 {
     match v {
         Operand::Int(_) => true,
-        Operand::Text { start: _, end: _ } => takes_strings(o),
+        Operand::Text { .. } => takes_strings(o),
     }
 }
 
@@ -136,78 +130,68 @@ fn may_take(o: Operator, v: Operand) -> bool
 fn past_operand(r: Reading, v: Operand) -> Reading
     ensures { (s : Bytes) → progress_in s result ≡ past_operand (operand_in s v) (progress_in s r) }
 {
-    if r.stage != 2 {
-        return to_stage(r, 4);
+    if r.stage != Step::Compared {
+        return to_stage(r, Step::Fault);
     }
-    let operator = r.operator;
-    if may_take(operator, v) {
-        return to_stage(r, 3);
+    if may_take(r.operator, v) {
+        return to_stage(r, Step::Read);
     }
-    to_stage(r, 4)
+    to_stage(r, Step::Fault)
 }
 
 // Past a `(`.
 fn past_open(r: Reading) -> Reading
     ensures { (s : Bytes) → progress_in s result ≡ past_sign open_sign (progress_in s r) }
 {
-    if r.stage != 0 {
-        return to_stage(r, 4);
+    if r.stage != Step::Wanted {
+        return to_stage(r, Step::Fault);
     }
     if r.groups < Expression::OPEN {
-        let operator = r.operator;
         return Reading {
-            stage: r.stage,
             groups: r.groups + 1,
-            start: r.start,
-            end: r.end,
-            operator,
+            ..r
         };
     }
-    to_stage(r, 4)
+    to_stage(r, Step::Fault)
 }
 
 // Past a `)`.
 fn past_close(r: Reading) -> Reading
     ensures { (s : Bytes) → progress_in s result ≡ past_sign close_sign (progress_in s r) }
 {
-    if r.stage != 3 {
-        return to_stage(r, 4);
+    if r.stage != Step::Read {
+        return to_stage(r, Step::Fault);
     }
     if r.groups == 0 {
-        return to_stage(r, 4);
+        return to_stage(r, Step::Fault);
     }
-    let operator = r.operator;
     Reading {
-        stage: r.stage,
         groups: r.groups - 1,
-        start: r.start,
-        end: r.end,
-        operator,
+        ..r
     }
 }
 
 // The next stage, where the reading is at a given one.
-fn from_stage(r: Reading, at: u8, next: u8) -> Reading
-    ensures { (s : Bytes) → progress_in s result ≡ if_at at (progress_in s r) (to_stage next (progress_in s r)) }
+fn from_stage(r: Reading, at: Step, next: Step) -> Reading
+    ensures { (s : Bytes) → progress_in s result ≡ if_at (step_no at) (progress_in s r) (to_stage (step_no next) (progress_in s r)) }
 {
     if r.stage == at {
         return to_stage(r, next);
     }
-    to_stage(r, 4)
+    to_stage(r, Step::Fault)
 }
 
-// Past a sign.
+// Past a sign. A match and no closure: the sign is read from the expression.
 fn past_sign(r: Reading, g: Symbol) -> Reading
     ensures { (s : Bytes) → progress_in s result ≡ past_symbol (sign_in g) (progress_in s r) }
 {
     match g {
         Symbol::Comparing(o) => past_operator(r, o),
-        Symbol::Not => from_stage(r, 0, 0),
-        Symbol::And => from_stage(r, 3, 0),
-        Symbol::Or => from_stage(r, 3, 0),
+        Symbol::Not => from_stage(r, Step::Wanted, Step::Wanted),
+        Symbol::And | Symbol::Or => from_stage(r, Step::Read, Step::Wanted),
         Symbol::Open => past_open(r),
         Symbol::Close => past_close(r),
-        Symbol::Unknown => to_stage(r, 4),
+        Symbol::Unknown => to_stage(r, Step::Fault),
     }
 }
 
@@ -217,7 +201,7 @@ fn past_token(r: Reading, t: Token, at: usize) -> Reading
     ensures { (s : Bytes) → progress_in s result ≡ past_front (front_in (drop at s) t) (progress_in s r) }
 {
     match t {
-        Token::Nothing => to_stage(r, 4),
+        Token::Nothing => to_stage(r, Step::Fault),
         Token::Gap => r,
         Token::Name(n) => past_name(r, at, at + n),
         Token::Int(w, _) => past_operand(r, Operand::Int(w)),
@@ -235,9 +219,9 @@ fn past_token(r: Reading, t: Token, at: usize) -> Reading
 }
 
 // One code more.
-fn with_code(p: Program, c: u8) -> Program
+fn with_code(p: Program, c: Code) -> Program
     requires { Filled p × (p.size < bytes_at_most) }
-    ensures { Extends p result (c ∷ []) × (result.rows ≡ p.rows) × (result.count ≡ p.count) }
+    ensures { Extends p result (code_no c ∷ []) × (result.rows ≡ p.rows) × (result.count ≡ p.count) }
 {
     let mut q = p;
     let at = p.size;
@@ -246,7 +230,7 @@ fn with_code(p: Program, c: u8) -> Program
     q
 }
 
-// One comparison more.
+// One comparison more. Like `with_code` but for the array: no generic list without a heap.
 fn with_row(p: Program, row: Comparison) -> Program
     requires { Filled p × (p.count < tests_at_most) }
     ensures { Extends p result [] × (result.size ≡ p.size) × ((s : Bytes) → tests_in s result ≡ tests_in s p ++ (test_in s row ∷ [])) }
@@ -260,51 +244,46 @@ fn with_row(p: Program, row: Comparison) -> Program
 
 // A program with the code of an operand, and its comparison where one is awaited.
 fn with_operand(p: Program, r: Reading, v: Operand) -> Program
-    requires { Filled p × (p.size < bytes_at_most) × (r.stage ≡ 2 → p.count < tests_at_most) }
+    requires { Filled p × (p.size < bytes_at_most) × (step_no r.stage ≡ 2 → p.count < tests_at_most) }
     ensures { Extends p result (0 ∷ []) × ((s : Bytes) → tests_in s result ≡ tests_with (progress_in s r) (operand (operand_in s v)) (tests_in s p)) }
 {
-    let q = with_code(p, 0);
-    if r.stage != 2 {
+    let q = with_code(p, Code::Test);
+    if r.stage != Step::Compared {
         return q;
     }
-    let operator = r.operator;
     with_row(
         q,
         Comparison {
             start: r.start,
             end: r.end,
-            operator,
+            operator: r.operator,
             operand: v,
         },
     )
 }
 
-// A program with the code of a sign, if it has one.
+// A program with the code of a sign, if it has one. A match and no closure: the sign is read.
 fn with_sign(p: Program, g: Symbol) -> Program
     requires { Filled p × (p.size < bytes_at_most) }
     ensures { Extends p result (codes_of_symbol (sign_in g)) × ((s : Bytes) → tests_in s result ≡ tests_in s p) }
 {
     match g {
-        Symbol::Comparing(_) => p,
-        Symbol::Not => with_code(p, 1),
-        Symbol::And => p,
-        Symbol::Or => with_code(p, 2),
-        Symbol::Open => with_code(p, 3),
-        Symbol::Close => with_code(p, 4),
-        Symbol::Unknown => p,
+        Symbol::Not => with_code(p, Code::Not),
+        Symbol::Or => with_code(p, Code::Or),
+        Symbol::Open => with_code(p, Code::Open),
+        Symbol::Close => with_code(p, Code::Close),
+        Symbol::Comparing(_) | Symbol::And | Symbol::Unknown => p,
     }
 }
 
 // A program with what a token at a place adds to it.
 fn with_token(p: Program, r: Reading, t: Token, at: usize) -> Program
-    requires filled { Filled p × (p.size < bytes_at_most) × (r.stage ≡ 2 → p.count < tests_at_most) }
+    requires filled { Filled p × (p.size < bytes_at_most) × (step_no r.stage ≡ 2 → p.count < tests_at_most) }
     requires bound { (1 ≤ token_bytes t) × (at + token_bytes t ≤ bytes_at_most) }
     ensures { (s : Bytes) → Extends p result (codes_front (front_in (drop at s) t)) × (tests_in s result ≡ tests_front (progress_in s r) (front_in (drop at s) t) (tests_in s p)) }
 {
     match t {
-        Token::Nothing => p,
-        Token::Gap => p,
-        Token::Name(_) => p,
+        Token::Nothing | Token::Gap | Token::Name(_) => p,
         Token::Int(w, _) => with_operand(p, r, Operand::Int(w)),
         Token::Text(n) => {
             with_operand(
@@ -331,44 +310,31 @@ fn empty() -> Program
         operand: Operand::Text { start: 0, end: 0 },
     };
     Program {
-        rows: [row; 51],
+        rows: [row; Expression::COMPARISONS],
         count: 0,
-        codes: [0; 256],
+        codes: [Code::Test; Expression::BYTES],
         size: 0,
     }
 }
 
 // Was an operand read, and is no parenthesis open?
 fn is_end(r: Reading) -> bool
-    ensures { result ≡ (eqb r.stage 3 && eqb r.groups 0) }
+    ensures { result ≡ (eqb (step_no r.stage) 3 && eqb r.groups 0) }
 {
-    if r.stage == 3 {
-        return r.groups == 0;
-    }
-    false
+    r.stage == Step::Read && r.groups == 0
 }
 
-// Whether bytes are an expression, and then its program.
-#[derive(Drop)]
-pub(crate) struct Compiled {
-    pub ok: bool,
-    pub program: Program,
-}
-
-// An expression read.
-pub(crate) fn read(s: &[u8]) -> Compiled
-    ensures { (result.ok ≡ is_some (read_expression s.now)) × Filled result.program × ProgramOf s.now (read_expression s.now) result.program }
+// The program of an expression; none of other bytes.
+pub(crate) fn read(s: &[u8]) -> Option<Program>
+    ensures { Made s.now result }
 {
-    let table = format::classes();
+    let table = Classes::new();
     let mut p = empty();
     if s.len() > Expression::BYTES {
-        return Compiled {
-            ok: false,
-            program: p,
-        };
+        return None;
     }
     let mut r = Reading {
-        stage: 0,
+        stage: Step::Wanted,
         groups: 0,
         start: 0,
         end: 0,
@@ -379,23 +345,14 @@ pub(crate) fn read(s: &[u8]) -> Compiled
         let t = parts::token_at(&table, &s[i..]);
         let n = parts::token_bytes(t);
         if s.len() - i < n {
-            return Compiled {
-                ok: false,
-                program: p,
-            };
+            return None;
         }
         p = with_token(p, r, t, i);
         r = past_token(r, t, i);
-        if r.stage == 4 {
-            return Compiled {
-                ok: false,
-                program: p,
-            };
+        if r.stage == Step::Fault {
+            return None;
         }
         i += n;
     }
-    Compiled {
-        ok: is_end(r),
-        program: p,
-    }
+    if is_end(r) { Some(p) } else { None }
 }

@@ -1,6 +1,16 @@
 // The codes of a program run over the bits of its comparisons, one level of parentheses at a time.
-ghost use Rattle.std.specs.Prelude.{◌≡◌};
-ghost use Rattle.selection.specs.Programs.{differ, answered_by, joined, whole_answer, on_code, run_answer};
+ghost use Rattle.std.specs.Prelude.{◌≡◌, map};
+ghost use Rattle.selection.specs.Programs.{code_no, differ, answered_by, joined, whole_answer, on_code, run_answer};
+
+// A comparison, or a sign; `&&` needs none.
+#[derive(Clone, Copy)]
+pub(crate) enum Code {
+    Test,
+    Not,
+    Or,
+    Open,
+    Close,
+}
 
 // A level, the levels around it, and the bits that were not used yet.
 #[derive(Drop)]
@@ -43,57 +53,47 @@ fn whole_answer(x: u64) -> bool
 }
 
 // Past one code.
-fn on_code(m: Machine, c: u8) -> Machine
-    ensures { result ≡ on_code c m }
+fn on_code(m: Machine, c: Code) -> Machine
+    ensures { result ≡ on_code (code_no c) m }
 {
-    if c == 0 {
-        return Machine {
+    match c {
+        Code::Test => Machine {
             level: answered_by(m.level, m.bits % 2 == 1),
             outer: m.outer,
             bits: m.bits / 2,
-        };
-    }
-    if c == 1 {
-        return Machine {
+        },
+        Code::Not => Machine {
             level: (m.level % 8 + 4) % 8,
-            outer: m.outer,
-            bits: m.bits,
-        };
-    }
-    if c == 2 {
-        return Machine {
+            ..m
+        },
+        Code::Or => Machine {
             level: joined(m.level),
-            outer: m.outer,
-            bits: m.bits,
-        };
-    }
-    if c == 3 {
-        return Machine {
+            ..m
+        },
+        Code::Open => Machine {
             level: 2,
             outer: m.outer % 1152921504606846976 * 8 + m.level % 8,
             bits: m.bits,
-        };
-    }
-    Machine {
-        level: answered_by(m.outer % 8, whole_answer(m.level)),
-        outer: m.outer / 8,
-        bits: m.bits,
+        },
+        Code::Close => Machine {
+            level: answered_by(m.outer % 8, whole_answer(m.level)),
+            outer: m.outer / 8,
+            bits: m.bits,
+        },
     }
 }
 
 // What the codes answer over some bits.
-pub(crate) fn run(codes: &[u8], bits: u64) -> bool
-    ensures { result ≡ run_answer codes.now bits }
+pub(crate) fn run(codes: &[Code], bits: u64) -> bool
+    ensures { result ≡ run_answer (map code_no codes.now) bits }
 {
     let mut m = Machine {
         level: 2,
         outer: 0,
         bits,
     };
-    let mut i = 0;
-    while i < codes.len() {
-        m = on_code(m, codes[i]);
-        i += 1;
+    for &c in codes {
+        m = on_code(m, c);
     }
     whole_answer(m.level)
 }

@@ -1,5 +1,5 @@
 // The records of a part that a program finds, in one walk over their bytes.
-ghost use Rattle.std.specs.Prelude.{◌≡◌, true, ◌≤◌, ltb, length, take, set};
+ghost use Rattle.std.specs.Prelude.{◌≡◌, true, ◌≤◌, ltb, map, length, take, set};
 ghost use Rattle.format.specs.Bytes.{pick, all};
 ghost use Rattle.format.specs.Limits.{file_bytes};
 ghost use Rattle.format.specs.Pieces.{read_of};
@@ -11,11 +11,12 @@ ghost use Rattle.rules.specs.Members.{fits_in};
 ghost use Rattle.selection.specs.Expressions.{Expression};
 ghost use Rattle.selection.specs.Meaning.{holds};
 ghost use Rattle.selection.specs.Found.{numbers_from};
-ghost use Rattle.selection.specs.Programs.{IsProgram, run_answer};
+ghost use Rattle.selection.specs.Programs.{code_no, IsProgram, run_answer};
 ghost use Rattle.selection.specs.Rows.{tests_in, codes_in, Filled};
 ghost use Rattle.selection.specs.Walks.{closed_number, closed_found, closed_list};
 
 use super::programs::Program;
+use super::runs::Code;
 use super::{fields, runs};
 use lines::Next;
 
@@ -37,9 +38,16 @@ fn put(list: &mut [usize], at: usize, number: usize)
 
 // One record more, which has so many fields and these comparisons hold for it; without fields it
 // is none. Its number goes into the list where that has room.
-fn closed(codes: &[u8], size: usize, fields: usize, set: u64, t: Tally, list: &mut [usize]) -> Tally
+fn closed(
+    codes: &[Code],
+    size: usize,
+    fields: usize,
+    set: u64,
+    t: Tally,
+    list: &mut [usize],
+) -> Tally
     requires { (size ≤ length codes.now) × (t.met ≤ file_bytes) × (t.found ≤ file_bytes) }
-    ensures { (result.met ≡ closed_number fields t.met) × (result.found ≡ closed_found fields (run_answer (take size codes.now) set) t.found) × (list.new ≡ closed_list fields (run_answer (take size codes.now) set) t.met t.found list.old) }
+    ensures { (result.met ≡ closed_number fields t.met) × (result.found ≡ closed_found fields (run_answer (map code_no (take size codes.now)) set) t.found) × (list.new ≡ closed_list fields (run_answer (map code_no (take size codes.now)) set) t.met t.found list.old) }
 {
     if fields == 0 {
         return t;
@@ -78,8 +86,7 @@ pub(crate) fn list_found(
     let mut t = Tally { met: 0, found: 0 };
     let mut i = 0;
     loop {
-        let q = lines::read_piece(&s[i..]);
-        match q {
+        match lines::read_piece(&s[i..]) {
             Next::Comment { size: bytes } => {
                 i += bytes;
             }

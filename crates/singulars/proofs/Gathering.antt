@@ -1,4 +1,5 @@
 -- A walk that enters the fields of listed names: n are entered, those from byte i on are to come.
+use Rattle.std.specs.Prelude.{Some, None}
 use Prim.Native.Nat.{ℕ, ◌+◌, ◌*◌, ◌/◌, ◌%◌, ◌≤◌, ◌<◌}
 use native.Mathlib.Numerals.{add-one}
 use native.Mathlib.Omega.{arith}
@@ -21,7 +22,6 @@ use Rattle.records.specs.Fields.{fields_from, field_between, FieldHere}
 use Rattle.keys.specs.Marks.{mark_at, marks_of, Inside}
 use Rattle.singulars.specs.Marks.{rank_of, mark_of, marks, entry_of}
 use Rattle.singulars.specs.Gathered.{GatheredAs}
-use Rattle.singulars.specs.declared.Gathered.{Gathered}
 
 pub record Enters (ws : List Bytes) (s : Bytes) (entries : List ℕ) (n i : ℕ) : Type 0 where
   pub inside : i ≤ length s
@@ -42,7 +42,7 @@ module _ (ws : List Bytes) (s : Bytes) where
   enters-start l e = record { inside = omega arith; readable = e; room = omega arith; entered = λ i h. absurd (omega arith); all = refl }
 
   module _ (l : List ℕ) (n i : ℕ) (g : Enters ws s l n i) where
-    pub enters-end : fields_from s i ≡ [] → GatheredAs ws s (record_in s) l (Gathered.All n)
+    pub enters-end : fields_from s i ≡ [] → GatheredAs ws s (record_in s) l (Some n)
     enters-end e = (g.room, g.entered, sym (append-nil (marks_of s (take n l))) ∙ ap (λ (r : Record). marks_of s (take n l) ++ marks ws r) (sym e) ∙ g.all)
 
     -- a field from a to e, whose name has place k in the list
@@ -65,7 +65,7 @@ module _ (ws : List Bytes) (s : Bytes) where
           record { inside = f.inside; readable = f.readable; room = g.room; entered = g.entered; all = ap (λ (xs : List Bytes). marks_of s (take n l) ++ xs) (sym (unlisted h)) ∙ g.all }
 
       -- there is no room for it
-      pub enters-full : k < length ws → length l ≤ n → GatheredAs ws s (record_in s) l Gathered.More
+      pub enters-full : k < length ws → length l ≤ n → GatheredAs ws s (record_in s) l None
       enters-full h full =
           let long : length (marks_of s (take n l)) ≡ n = length-map (take n l) (mark_at s) ∙ length-take-le n l g.room in
           omega (arith, long, ap length (listed h), ap length (sym g.all), length-append (marks_of s (take n l)) (marks ws (fields_from s i)))

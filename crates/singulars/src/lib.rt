@@ -16,7 +16,6 @@ ghost use Rattle.singulars.specs.Gathered.{entries_room, GatheredAs};
 
 use dictionary::wordsets;
 use dictionary::wordsets::Listed;
-use records::{FoundField, NextField};
 use sorting::Entry;
 
 // The entry of the value that begins at a place, of the name at place k of the list.
@@ -28,15 +27,8 @@ fn entry(s: &[u8], at: usize, k: usize) -> u32
     sorting::narrow(at) + Entry::PLACES * sorting::narrow(k) + Entry::TAGGED * p
 }
 
-// All fields of singular names are entered, so many; or there are more than entries.
-#[derive(Drop)]
-enum Gathered {
-    All(usize),
-    More,
-}
-
-// The entries of the fields in s whose names are singular.
-fn gather(d: &[u8], l: Listed, s: &[u8], entries: &mut [u32]) -> Gathered
+// The entries of the fields in s whose names are singular: how many there are, none if there are more than the lent array holds.
+fn gather(d: &[u8], l: Listed, s: &[u8], entries: &mut [u32]) -> Option<usize>
     requires listed { IsListed d.now (singular (record_in d.now)) l }
     requires s_value { (is_readable s.now ≡ true) × (length s.now ≤ file_bytes) }
     ensures { GatheredAs (singular (record_in d.now)) s.now (record_in s.now) entries.new result }
@@ -46,28 +38,22 @@ fn gather(d: &[u8], l: Listed, s: &[u8], entries: &mut [u32]) -> Gathered
     let w = l.words;
     let count = w.count;
     let mut i = 0;
+    // An index by hand: the loop goes by what the readers find, and this counts what is written.
     let mut n = 0;
     loop {
-        let f = records::next_field(&s[i..]);
-        let NextField::At {
-            start,
-            named,
-            value,
-            end,
-        } = f
-        else {
-            return Gathered::All(n);
+        let Some(f) = records::next_field(&s[i..]) else {
+            return Some(n);
         };
-        let k = wordsets::place_in(d, &words, &sets, w, &s[i + start..i + named]);
+        let k = wordsets::place_in(d, &words, &sets, w, &s[i + f.start..i + f.named]);
         if k < count {
             if entries.len() <= n {
-                return Gathered::More;
+                return None;
             }
-            entries[n] = entry(s, i + value, k);
+            entries[n] = entry(s, i + f.value, k);
             n += 1;
-            i += end;
+            i += f.end;
         } else {
-            i += end;
+            i += f.end;
         }
     }
 }
@@ -80,18 +66,13 @@ pub fn values_apart(d: &[u8], s: &[u8], entries: &mut [u32]) -> bool
     ensures { result ≡ all (λ n. distinct (values_of n (record_in s.now))) (singular (record_in d.now)) }
 {
     let f = records::next_named(d, b"%singular");
-    let FoundField::At {
-        start: _,
-        value: _,
-        end: _,
-    } = f
-    else {
+    let Some(_) = f else {
         return true;
     };
     let l = wordsets::list(d, b"%singular");
     let g = gather(d, l, s, &mut *entries);
     match g {
-        Gathered::All(n) => keys::distinct_marks(s, &mut *entries, n),
-        Gathered::More => false,
+        Some(n) => keys::distinct_marks(s, &mut *entries, n),
+        None => false,
     }
 }

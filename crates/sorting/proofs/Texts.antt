@@ -1,4 +1,6 @@
 -- Texts, byte by byte.
+use Rattle.std.specs.Prelude.{Option, Some, None}
+use Rattle.values.specs.declared.Decoded.{Decoded}
 use Prim.Native.Nat.{ℕ, ◌<◌, ◌≤◌}
 use mathlib.Core.Path.{◌≡◌, refl, sym, ap, ◌∙◌, subst}
 use mathlib.Core.Bool.{Bool, true, false, not, and-eq-true_iff}
@@ -7,7 +9,6 @@ use lib.ListN.{length, drop}
 use Rattle.format.specs.Lists.{front, behind}
 use Rattle.format.specs.Bytes.{Bytes, pick, all}
 use Rattle.values.specs.Value.{value_from}
-use Rattle.values.specs.declared.Decoded.{Decoded}
 use Rattle.sorting.specs.Texts.{keeps, text_at, TextByte}
 use Rattle.values.proofs.Tests.{by_bool}
 
@@ -66,19 +67,19 @@ not-true true e = sym e
 not-true false e = refl
 
 module _ (words : Bool) (s : Bytes) (i : ℕ) where
-  pub text-ended : value_from (drop i s) ≡ [] → TextByte words s i Decoded.End
+  pub text-ended : value_from (drop i s) ≡ [] → TextByte words s i None
   unfolding text_at
   text-ended e = ap (front (keeps words)) e
 
   module _ (b k : ℕ) (e : value_from (drop i s) ≡ b ∷ value_from (drop k s)) where
-    pub text-stop : not (keeps words b) ≡ true → TextByte words s i Decoded.End
+    pub text-stop : not (keeps words b) ≡ true → TextByte words s i None
     unfolding text_at
     text-stop g = front-stop (keeps words) (value_from (drop i s)) (value_from (drop k s)) b e (not-true (keeps words b) g)
 
-    pub text-on : not (keeps words b) ≡ false → i < k → k ≤ length s → TextByte words s i (Decoded.Byte b k)
+    pub text-on : not (keeps words b) ≡ false → i < k → k ≤ length s → TextByte words s i (Some (record { byte = b; next = k }))
     unfolding text_at
     text-on g h l = (front-on (keeps words) (value_from (drop i s)) (value_from (drop k s)) b e (not-false (keeps words b) g), h, l)
 
 -- what an answer tells, once its form is known
-pub text-told : (words : Bool) (s : Bytes) (i : ℕ) (x : Decoded) {y : Decoded} → TextByte words s i x → x ≡ y → TextByte words s i y
+pub text-told : (words : Bool) (s : Bytes) (i : ℕ) (x : Option Decoded) {y : Option Decoded} → TextByte words s i x → x ≡ y → TextByte words s i y
 text-told words s i x h e = subst (TextByte words s i) e h

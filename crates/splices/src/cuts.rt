@@ -7,7 +7,7 @@ ghost use Rattle.records.proofs.Unfielding.{left_of};
 ghost use Rattle.splices.specs.Space.{spliced};
 
 use super::cut_text;
-use records::NextField;
+use records::FieldPlace;
 
 // What stays of a part, its comments and blank lines, moves to its front: how many bytes that are.
 fn keep_loose(part: &mut [u8]) -> usize
@@ -18,13 +18,7 @@ fn keep_loose(part: &mut [u8]) -> usize
     let mut i = 0;
     loop {
         let f = records::next_field(&part[i..]);
-        let NextField::At {
-            start,
-            named: _,
-            value: _,
-            end,
-        } = f
-        else {
+        let Some(FieldPlace { start, end, .. }) = f else {
             let last = part.len() - i;
             writing::move_down(part, i, n, last);
             return n + last;

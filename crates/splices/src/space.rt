@@ -2,7 +2,7 @@
 ghost use Rattle.std.specs.Prelude.{◌≡◌, ◌+◌, ◌-◌, ◌≤◌, length, replicate};
 ghost use Rattle.splices.specs.Space.{Opened};
 
-// Every byte becomes 0.
+// Every byte becomes 0. By an index, like the moves: what the archive asks for is known.
 fn clear(part: &mut [u8])
     ensures { part.new ≡ replicate (length part.old) 0 }
 {

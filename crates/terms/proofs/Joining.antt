@@ -8,7 +8,7 @@ use lib.Bits.{bit_or}
 use lib.ListN.{length, get_or, set, drop, drop_of_length-le}
 use lib.Seq.{get_or-set_same, get_or-set_other}
 use Rattle.format.specs.Bytes.{Bytes}
-use Rattle.sorting.specs.declared.Compared.{Compared}
+use Rattle.std.specs.declared.cmp.Ordering.{Ordering}
 use Rattle.values.proofs.Tests.{dec-lt}
 use Rattle.terms.specs.Sets.{in_set, Answers}
 use Rattle.terms.specs.Entries.{tag_of, word_at, terms_of}
@@ -60,7 +60,7 @@ module _ (s : Bytes) (l : List ℕ) where
       subst (λ (p : ℕ). TagsFrom s l p (get_or (set sets j x) p 0)) same (subst (TagsFrom s l j) (sym (get_or-set_same sets j x 0 room)) t))
 
   -- the first entry that is not before w has it
-  pub found_first : (w : Bytes) (sets : List ℕ) (i : ℕ) → i < length l → Joined s l sets → Low s l w i → ranked (W i) w ≡ Compared.Equal → Answers w (terms_of s l) (get_or sets i 0)
+  pub found_first : (w : Bytes) (sets : List ℕ) (i : ℕ) → i < length l → Joined s l sets → Low s l w i → ranked (W i) w ≡ Ordering.Equal → Answers w (terms_of s l) (get_or sets i 0)
   found_first w sets i h j low e k =
       j i h k
       ∙ ap (λ (v : Bytes). some v k s (drop i l)) (ranked-same (W i) w e)

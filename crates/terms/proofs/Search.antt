@@ -8,7 +8,7 @@ use lib.Bits.{bit_or}
 use lib.ListN.{length, get_or, take, drop, drop_of_length-le, length-drop}
 use lib.Seq.{get_or-take, get_or-drop, length-take-le}
 use Rattle.format.specs.Bytes.{Bytes}
-use Rattle.sorting.specs.declared.Compared.{Compared}
+use Rattle.std.specs.declared.cmp.Ordering.{Ordering}
 use Rattle.values.proofs.Tests.{dec-lt}
 use Rattle.terms.specs.Sets.{in_set, says, Answers}
 use Rattle.terms.specs.Entries.{tag_of, word_at, term_at, terms_of}
@@ -33,7 +33,7 @@ module _ (s : Bytes) (l : List ℕ) (w : Bytes) where
   left-none x i h f k = sym (or-none (in_set k x)) ∙ ap (λ (z : List ℕ). in_set k x || some w k s z) (sym (drop_of_length-le l h)) ∙ f k
 
   module _ (x i : ℕ) (h : i < length l) (f : Left x i) where
-    pub left-hit : ranked (W i) w ≡ Compared.Equal → (b : ℕ) → b ≡ 2 ^ tag_of (get_or l i 0) → Left (bit_or x b) (i + 1)
+    pub left-hit : ranked (W i) w ≡ Ordering.Equal → (b : ℕ) → b ≡ 2 ^ tag_of (get_or l i 0) → Left (bit_or x b) (i + 1)
     left-hit e b c k =
         let t = term_at s (get_or l i 0) in
         let z : Bool = some w k s (drop (i + 1) l) in
@@ -48,10 +48,10 @@ module _ (s : Bytes) (l : List ℕ) (w : Bytes) where
         ap (λ (y : Bool). in_set k x || y) (sym (some_at w k s l i h ∙ ap (λ (y : Bool). y || z) (says-miss w k (term_at s (get_or l i 0)) n))) ∙ f k
 
   -- a word before w, and one behind it
-  pub not-before : (i : ℕ) → ranked (W i) w ≡ Compared.Before → w ≡ W i → ⊥
+  pub not-before : (i : ℕ) → ranked (W i) w ≡ Ordering.Less → w ≡ W i → ⊥
   not-before i e q = ranked-apart (W i) w e (sym q)
 
-  pub not_behind : (i : ℕ) → ranked (W i) w ≡ Compared.Behind → w ≡ W i → ⊥
+  pub not_behind : (i : ℕ) → ranked (W i) w ≡ Ordering.Greater → w ≡ W i → ⊥
   not_behind i e q = ranked-apart w (W i) (ranked-behind (W i) w e) q
 
   -- words before a place that come before w are none of its own
@@ -75,18 +75,18 @@ module _ (s : Bytes) (l : List ℕ) (w : Bytes) where
         (λ d. let e : suc j ≡ i = omega arith in subst (λ (p : ℕ). NotBehind (W p) (W (suc j))) e (le_same (W (suc j))))
 
     -- where the middle comes before w, so does all before it
-    pub low_up : (mid : ℕ) → mid < length l → ranked (W mid) w ≡ Compared.Before → Low s l w (mid + 1)
+    pub low_up : (mid : ℕ) → mid < length l → ranked (W mid) w ≡ Ordering.Less → Low s l w (mid + 1)
     low_up mid g e q k = le-lt (W q) (W mid) w (rises mid g q (omega arith)) e
 
     -- where one comes behind w, so does all behind it
-    pub none-behind : (k i : ℕ) → ranked w (W i) ≡ Compared.Before → some w k s (drop i l) ≡ false
+    pub none-behind : (k i : ℕ) → ranked w (W i) ≡ Ordering.Less → some w k s (drop i l) ≡ false
     none-behind k i e =
         let n = length-drop i l in
         some-none w k s (drop i l)
         (λ q b z.
         ranked-apart w (W (i + q)) (lt-le w (W i) (W (i + q)) e (rises (i + q) (omega arith) i (omega arith))) (z ∙ ap (word_at s) (get_or-drop i l q 0)))
 
-    pub left-stop : (x i : ℕ) → Left x i → ranked (W i) w ≡ Compared.Behind → Answers w (terms_of s l) x
+    pub left-stop : (x i : ℕ) → Left x i → ranked (W i) w ≡ Ordering.Greater → Answers w (terms_of s l) x
     left-stop x i f e k = sym (or-none (in_set k x)) ∙ ap (λ (y : Bool). in_set k x || y) (sym (none-behind k i (ranked-behind (W i) w e))) ∙ f k
 
 -- of no entries no tag is found

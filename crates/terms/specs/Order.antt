@@ -2,17 +2,17 @@
 use Rattle.std.specs.Prelude.{ℕ, ◌-◌, ◌<◌, ◌≤◌, ◌≡◌, true, List, ◌∷◌, length, get_or, take}
 use Rattle.format.specs.Bytes.{Bytes}
 use Rattle.sorting.specs.Order.{compared_of}
-use Rattle.sorting.specs.declared.Compared.{Compared}
+use Rattle.std.specs.declared.cmp.Ordering.{Ordering}
 use Rattle.terms.specs.Entries.{print_of, word_at, Entries, Kept}
 use Rattle.terms.specs.declared.Table.{Table}
 
 -- words with their fingerprints in front
-abbrev pub ranked : Bytes → Bytes → Compared
+abbrev pub ranked : Bytes → Bytes → Ordering
 ranked a b = compared_of (print_of a ∷ a) (print_of b ∷ b)
 
 -- the second is not before the first
 abbrev pub NotBehind : Bytes → Bytes → Type 0
-NotBehind a b = ranked b a ≡ Compared.Before → ⊥
+NotBehind a b = ranked b a ≡ Ordering.Less → ⊥
 
 -- none of the first n words is behind the next
 abbrev pub Rising : Bytes → ℕ → List ℕ → Type 0
@@ -20,7 +20,7 @@ Rising s n l = (q : ℕ) → q < n → 0 < q → NotBehind (word_at s (get_or l 
 
 -- the words before a place come before w
 abbrev pub Low : Bytes → List ℕ → Bytes → ℕ → Type 0
-Low s l w lo = (q : ℕ) → q < lo → ranked (word_at s (get_or l q 0)) w ≡ Compared.Before
+Low s l w lo = (q : ℕ) → q < lo → ranked (word_at s (get_or l q 0)) w ≡ Ordering.Less
 
 -- the first entries are a table; where it says so, they rise
 pub record IsTable (s : Bytes) (l : List ℕ) (t : Table) : Type 0 where

@@ -13,7 +13,8 @@ ghost use Rattle.terms.specs.Order.{ranked, NotBehind, Rising, Low, IsTable, Hol
 ghost use Rattle.terms.specs.Joined.{TagsFrom, Joined, IsJoined};
 
 use format::Record;
-use sorting::{Compared, Mixing};
+use sorting::Mixing;
+use std::cmp::Ordering;
 use values::Decoded;
 
 fn wide(x: u32) -> u64
@@ -43,10 +44,8 @@ fn mix_word(w: &[u8]) -> usize
     ensures { (result ≡ mixed 2166136261 w.now) × (result < 4294967296) }
 {
     let mut h = Mixing::START;
-    let mut i = 0;
-    while i < w.len() {
-        h = sorting::mix_byte(h, w[i]);
-        i += 1;
+    for b in w {
+        h = sorting::mix_byte(h, *b);
     }
     h
 }
@@ -67,62 +66,53 @@ pub fn entry(s: &[u8], at: usize, tag: u32) -> u32
     sorting::narrow(at) + Table::TAG * tag + Table::PRINT * p
 }
 
-// The word at a place compared with another.
-fn compare_word(s: &[u8], at: usize, w: &[u8]) -> Compared
+// The word at a place compared with another. By hand: it is decoded where it stands.
+fn compare_word(s: &[u8], at: usize, w: &[u8]) -> Ordering
     ensures { result ≡ compared_of (text_at true s.now at) w.now }
 {
     let mut i = at;
+    // An index by hand: the loop goes by the bytes that are decoded, with the text beside them.
     let mut n = 0;
     loop {
-        let x = sorting::text_byte(s, i, true);
-        let Decoded::Byte { byte, next } = x else {
+        let Some(Decoded { byte, next }) = sorting::text_byte(s, i, true) else {
             if n < w.len() {
-                return Compared::Before;
+                return Ordering::Less;
             }
-            return Compared::Equal;
+            return Ordering::Equal;
         };
         if w.len() <= n {
-            return Compared::Behind;
+            return Ordering::Greater;
         }
         let b = w[n];
-        if byte < b {
-            return Compared::Before;
-        }
-        if b < byte {
-            return Compared::Behind;
+        if byte != b {
+            return byte.cmp(&b);
         }
         i = next;
         n += 1;
     }
 }
 
-// The word of an entry compared with another, whose fingerprint is given; by their bytes only where the fingerprints are equal.
-fn compare(s: &[u8], x: u32, w: &[u8], print: u32) -> Compared
+// The word of an entry compared with another, whose fingerprint is given; by their bytes only where the fingerprints are equal. By hand: the word stands in the file.
+fn compare(s: &[u8], x: u32, w: &[u8], print: u32) -> Ordering
     requires { IsEntry s.now x × (print ≡ print_of w.now) }
     ensures { result ≡ ranked (word_at s.now x) w.now }
 {
     let p = x / Table::PRINT;
-    if p < print {
-        return Compared::Before;
-    }
-    if print < p {
-        return Compared::Behind;
+    if p != print {
+        return p.cmp(&print);
     }
     compare_word(s, sorting::place(x), w)
 }
 
-// The words of two entries compared.
-fn compare_entries(s: &[u8], x: u32, y: u32) -> Compared
+// The words of two entries compared. By hand: they stand in the file.
+fn compare_entries(s: &[u8], x: u32, y: u32) -> Ordering
     requires { IsEntry s.now x × IsEntry s.now y }
     ensures { result ≡ ranked (word_at s.now x) (word_at s.now y) }
 {
     let p = x / Table::PRINT;
     let q = y / Table::PRINT;
-    if p < q {
-        return Compared::Before;
-    }
-    if q < p {
-        return Compared::Behind;
+    if p != q {
+        return p.cmp(&q);
     }
     sorting::compare_words(s, sorting::place(x), sorting::place(y))
 }
@@ -139,12 +129,7 @@ fn same_word(s: &[u8], x: u32, y: u32) -> bool
     requires { IsEntry s.now x × IsEntry s.now y }
     ensures { result ≡ same (word_at s.now x) (word_at s.now y) }
 {
-    let c = compare_entries(s, x, y);
-    match c {
-        Compared::Equal => true,
-        Compared::Before => false,
-        Compared::Behind => false,
-    }
+    compare_entries(s, x, y).is_eq()
 }
 
 // Have two entries the same word and the same tag?
@@ -167,6 +152,7 @@ fn merge(s: &[u8], entries: &mut [u32]) -> usize
         return 0;
     }
     let mut last = 0;
+    // An index by hand: the entries that stay are moved within the same slice.
     let mut i = 1;
     while i < entries.len() {
         let y = entries[i];
@@ -186,19 +172,9 @@ fn rising(s: &[u8], entries: &[u32]) -> bool
     requires { Entries s.now (length entries.now) entries.now }
     ensures { result ≡ true → Rising s.now (length entries.now) entries.now }
 {
-    let mut i = 1;
-    while i < entries.len() {
-        let c = compare_entries(s, entries[i - 1], entries[i]);
-        match c {
-            Compared::Equal => {
-                i += 1;
-            }
-            Compared::Before => {
-                i += 1;
-            }
-            Compared::Behind => {
-                return false;
-            }
+    for i in 1..entries.len() {
+        if compare_entries(s, entries[i - 1], entries[i]).is_gt() {
+            return false;
         }
     }
     true
@@ -243,23 +219,17 @@ fn find_from(s: &[u8], entries: &[u32], from: usize, sorted: bool, w: &[u8], pri
     ensures { Answers w.now (terms_of s.now entries.now) result }
 {
     let mut set = 0;
-    let mut i = from;
-    while i < entries.len() {
+    for i in from..entries.len() {
         let x = entries[i];
-        let c = compare(s, x, w, print);
-        match c {
-            Compared::Equal => {
-                set = set | single(tag(x));
-                i += 1;
+        match compare(s, x, w, print) {
+            Ordering::Equal => {
+                set |= single(tag(x));
             }
-            Compared::Before => {
-                i += 1;
-            }
-            Compared::Behind => {
+            Ordering::Less => {}
+            Ordering::Greater => {
                 if sorted {
                     return set;
                 }
-                i += 1;
             }
         }
     }
@@ -281,21 +251,15 @@ fn first_of(s: &[u8], entries: &[u32], w: &[u8], print: u32) -> usize
     requires print_value { (print ≡ print_of w.now) × Rising s.now (length entries.now) entries.now }
     ensures { (result ≤ length entries.now) × Low s.now entries.now w.now result × (result < length entries.now → NotBehind w.now (word_at s.now (get_or entries.now result 0))) }
 {
+    // An index by hand: `partition_point` asks for a test of any number, and this one asks for entries.
     let mut lo = 0;
     let mut hi = entries.len();
     while lo < hi {
         let mid = lo + (hi - lo) / 2;
-        let c = compare(s, entries[mid], w, print);
-        match c {
-            Compared::Equal => {
-                hi = mid;
-            }
-            Compared::Before => {
-                lo = mid + 1;
-            }
-            Compared::Behind => {
-                hi = mid;
-            }
+        if compare(s, entries[mid], w, print).is_lt() {
+            lo = mid + 1;
+        } else {
+            hi = mid;
         }
     }
     lo
@@ -352,9 +316,7 @@ fn join_rising(s: &[u8], entries: &[u32], sets: &mut [u64])
     ensures { Joined s.now entries.now sets.new }
 {
     let mut set = 0;
-    let mut i = entries.len();
-    while 0 < i {
-        i -= 1;
+    for i in (0..entries.len()).rev() {
         set = with_next(s, entries, i, set);
         sets[i] = set;
     }
@@ -382,11 +344,10 @@ fn find_first(s: &[u8], entries: &[u32], sets: &[u64], w: &[u8], print: u32) -> 
     if i == entries.len() {
         return 0;
     }
-    let c = compare(s, entries[i], w, print);
-    match c {
-        Compared::Equal => sets[i],
-        Compared::Before => 0,
-        Compared::Behind => 0,
+    if compare(s, entries[i], w, print).is_eq() {
+        sets[i]
+    } else {
+        0
     }
 }
 

@@ -5,7 +5,7 @@ ghost use Rattle.std.specs.Prelude.{◌≡◌, true};
 ghost use Rattle.records.specs.Places.{is_readable};
 
 use format::Record;
-use records::{NextField, NextRecord};
+use records::FieldPlace;
 
 fn main() {
     let mut file = io::large_buffer();
@@ -26,8 +26,7 @@ fn dump_records(s: &[u8])
 {
     let mut i = 0;
     loop {
-        let r = records::next_record(&s[i..]);
-        let NextRecord::At(p) = r else {
+        let Some(p) = records::next_record(&s[i..]) else {
             return;
         };
         let a = i + p.start;
@@ -42,13 +41,14 @@ fn dump_record(s: &[u8])
 {
     let mut i = 0;
     loop {
-        let f = records::next_field(&s[i..]);
-        let NextField::At {
-            start,
-            named,
-            value,
-            end,
-        } = f
+        let Some(
+            FieldPlace {
+                start,
+                named,
+                value,
+                end,
+            },
+        ) = records::next_field(&s[i..])
         else {
             io::write_all(1, b"\n");
             return;
@@ -73,13 +73,10 @@ fn dump_value(s: &[u8]) {
     if 0 < n {
         io::write_all(1, b" ");
     }
-    let mut i = 0;
-    while i < n {
-        let e = i + 1;
-        io::write_all(1, &value[i..e]);
-        if value[i] == b'\n' {
+    for &b in &value[..n] {
+        io::write_all(1, &[b]);
+        if b == b'\n' {
             io::write_all(1, b"+ ");
         }
-        i = e;
     }
 }

@@ -8,7 +8,7 @@ ghost use Rattle.io.specs.Counts.{IsPrefixLen};
 pub fn least(a: usize, b: usize) -> usize
     ensures { (result ≤ a) × (result ≤ b) }
 {
-    if a < b { a } else { b }
+    a.min(b)
 }
 
 // A number of bytes of a buffer, all where it is larger.
@@ -65,26 +65,19 @@ pub fn read(out: &mut [u8]) -> usize
 
 // A text put into out from a place on, as far as there is room: the place behind it.
 fn put(out: &mut [u8], from: usize, text: &[u8]) -> usize {
-    let mut at = from;
-    let mut i = 0;
-    while i < text.len() {
-        if out.len() <= at {
-            return at;
-        }
-        out[at] = text[i];
-        at += 1;
-        i += 1;
+    if out.len() <= from {
+        return from;
     }
-    at
+    let n = least(text.len(), out.len() - from);
+    out[from..from + n].copy_from_slice(&text[..n]);
+    from + n
 }
 
 // A text put so many times, one behind the other.
 fn repeat(out: &mut [u8], from: usize, text: &[u8], times: usize) -> usize {
     let mut at = from;
-    let mut n = 0;
-    while n < times {
+    for _ in 0..times {
         at = put(out, at, text);
-        n += 1;
     }
     at
 }
@@ -134,11 +127,9 @@ fn reduced(x: usize) -> usize
 pub fn digest(s: &[u8]) -> usize {
     let mut a = 1;
     let mut b = 0;
-    let mut i = 0;
-    while i < s.len() {
-        a = reduced(a + wide(s[i]));
+    for &x in s {
+        a = reduced(a + wide(x));
         b = reduced(b + a);
-        i += 1;
     }
     b * 65536 + a
 }

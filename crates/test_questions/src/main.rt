@@ -2,13 +2,13 @@
 // A frame is 0 or 1 for that, the buffer's length and the used length, four bytes each, and the file's runs.
 #![tactic(auto)]
 
+use format::Question;
+
 fn main() {
-    let mut left: usize = 4096;
-    while 0 < left {
+    for _ in 0..4096 {
         if !next_case() {
             return;
         }
-        left -= 1;
     }
 }
 
@@ -36,13 +36,17 @@ fn judge(frame: &[u8]) {
     }
 }
 
-fn print_number(k: u32) {
-    io::print_decimal(1, k as u64);
+fn print_number(k: Result<(), Question>) {
+    let number = match k {
+        Ok(()) => 0,
+        Err(question) => question.number(),
+    };
+    io::print_decimal(1, number as u64);
     io::write_all(1, b"\n");
 }
 
-fn print_verdict(k: u32) {
-    if k == 0 {
+fn print_verdict(k: Result<(), Question>) {
+    if k.is_ok() {
         io::write_all(1, b"pass\n");
     } else {
         io::write_all(1, b"fail\n");

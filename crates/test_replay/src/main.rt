@@ -12,7 +12,7 @@
 ghost use Rattle.std.specs.Prelude.{◌<◌, nat_abs};
 ghost use Rattle.io.specs.Counts.{IsPrefixLen};
 
-use format::Answer;
+use format::Refusal;
 use totals::Totalled;
 
 // What the buffer holds; more says that there was a frame.
@@ -31,13 +31,11 @@ fn main() {
         used: 0,
         more: true,
     };
-    let mut left: usize = 65536;
-    while 0 < left {
+    for _ in 0..65536 {
         s = turn(buf, s);
         if !s.more {
             return;
         }
-        left -= 1;
     }
 }
 
@@ -45,11 +43,7 @@ fn turn(buf: &mut [u8], s: State) -> State {
     let mut frame = io::large_buffer();
     let n = test_frames::read(&mut frame);
     if n == 0 {
-        return State {
-            room: s.room,
-            used: s.used,
-            more: false,
-        };
+        return State { more: false, ..s };
     }
     answer(buf, s, &frame[..n])
 }
@@ -67,9 +61,9 @@ fn answer(buf: &mut [u8], s: State, frame: &[u8]) -> State {
     let room = test_frames::within(s.room, buf);
     let used = call(&mut buf[..room], s.used, kind, frame);
     State {
-        room: s.room,
         used,
         more: true,
+        ..s
     }
 }
 
@@ -102,16 +96,9 @@ fn edit(buf: &mut [u8], used: usize, frame: &[u8]) -> usize {
     let mut request = [0u8; 65600];
     let n = test_frames::expand(frame, 1, &mut request);
     let e = editor::edit(buf, used, &request[..n]);
-    match e {
-        Answer::Value(length) => {
-            tell(0, length, test_frames::digest(buf));
-            return length;
-        }
-        Answer::Refused(number) => {
-            tell(number, used, test_frames::digest(buf));
-            return used;
-        }
-    }
+    let length = e.unwrap_or(used);
+    tell(format::number_in(e), length, test_frames::digest(buf));
+    length
 }
 
 fn edit_run(buf: &mut [u8], used: usize, frame: &[u8]) -> usize {
@@ -133,17 +120,15 @@ fn within(n: usize, answers: &[u32]) -> usize
 
 fn send(buf: &mut [u8], used: usize, run: &[u8], answers: &mut [u32]) -> usize {
     let e = editor::edit_run(buf, used, run, answers);
-    let length = e.value_or(used);
-    tell(e.number(), length, test_frames::digest(buf));
+    let length = e.unwrap_or(used);
+    tell(format::number_in(e), length, test_frames::digest(buf));
     tell_answers(answers);
     length
 }
 
 fn tell_answers(answers: &[u32]) {
-    let mut i = 0;
-    while i < answers.len() {
-        tell_number(answers[i]);
-        i += 1;
+    for &n in answers {
+        tell_number(n);
     }
     io::write_all(1, b"\n");
 }
@@ -207,34 +192,33 @@ fn listed(n: usize, list: &[usize]) -> usize
 
 fn seek(buf: &[u8], used: usize, set: &[u8], expression: &[u8], list: &mut [usize]) {
     let f = selection::find(buf, used, set, expression, list);
-    tell_number(f.number());
-    io::print_decimal(1, f.value_or(0) as u64);
+    tell_number(format::number_in(f));
+    io::print_decimal(1, f.unwrap_or(0) as u64);
     io::write_all(1, b" ");
     tell_entries(list);
 }
 
 fn tell_entries(list: &[usize]) {
-    let mut i = 0;
-    while i < list.len() {
-        io::print_decimal(1, list[i] as u64);
+    for &n in list {
+        io::print_decimal(1, n as u64);
         io::write_all(1, b" ");
-        i += 1;
     }
     io::write_all(1, b"\n");
 }
 
 fn total(buf: &[u8], used: usize, set: &[u8], name: &[u8]) {
-    let t = totals::total(buf, used, set, name);
-    match t {
-        Totalled::Value {
-            hundredths,
-            millionths,
-            number,
-        } => {
+    match totals::total(buf, used, set, name) {
+        Ok(
+            Totalled {
+                hundredths,
+                millionths,
+                number,
+            },
+        ) => {
             tell_total(0, number, hundredths, millionths);
         }
-        Totalled::Refused(k) => {
-            tell_total(k, 0, 0, 0);
+        Err(refusal) => {
+            tell_total(refusal.number(), 0, 0, 0);
         }
     }
 }
@@ -268,9 +252,14 @@ fn to_fill(buf: &[u8], used: usize, frame: &[u8]) {
 }
 
 fn view(buf: &[u8], used: usize, set: &[u8], row: usize) {
-    let mut number = 0;
-    let part = lookup::view(buf, used, set, row, &mut number);
-    tell(number, part.len(), test_frames::digest(part));
+    match lookup::view(buf, used, set, row) {
+        Ok(part) => {
+            tell(0, part.len(), test_frames::digest(part));
+        }
+        Err(refusal) => {
+            tell(refusal.number(), 0, test_frames::digest(&buf[0..0]));
+        }
+    }
 }
 
 // The calls that fill a second buffer.
@@ -298,15 +287,8 @@ fn fill(buf: &[u8], used: usize, kind: usize, frame: &[u8], out: &mut [u8]) {
     tell_answer(f, test_frames::digest(out));
 }
 
-fn tell_answer(f: Answer, digest: usize) {
-    match f {
-        Answer::Value(n) => {
-            tell(0, n, digest);
-        }
-        Answer::Refused(number) => {
-            tell(number, 0, digest);
-        }
-    }
+fn tell_answer(f: Result<usize, Refusal>, digest: usize) {
+    tell(format::number_in(f), f.unwrap_or(0), digest);
 }
 
 fn write(frame: &[u8], out: &mut [u8]) {

@@ -1,4 +1,5 @@
 -- Digits read one behind the other: what they make of what has been seen before them.
+use Rattle.std.specs.Prelude.{Option as Maybe, Some}
 use Prim.Native.Nat.{ℕ, ◌+◌, ◌-◌, ◌*◌, ◌^◌, ◌≤◌, ◌<◌}
 use native.Mathlib.Omega.{arith}
 use mathlib.Core.Path.{◌≡◌, refl, sym, ap, ◌∙◌, subst}
@@ -16,12 +17,10 @@ use Rattle.format.specs.Words.{is_gap}
 use Rattle.format.specs.Numbers.{digit}
 use Rattle.values.specs.Value.{value_from}
 use Rattle.values.proofs.Decoding.{byte_inside, plain_at}
-use Rattle.totals.specs.Totals.{whole_digits, fraction_digits, signed, millionths_of}
-use Rattle.totals.specs.Figures.{begun, stepped, filled_from, told_by, read_on, counted}
+use Rattle.totals.specs.Totals.{signed, millionths_of}
+use Rattle.totals.specs.Figures.{stepped, filled_from, told_by, read_on, counted}
 use Rattle.totals.specs.Plain.{Run, PlainTold}
 use Rattle.totals.specs.declared.figures.Figure.{Figure}
-use Rattle.totals.specs.declared.figures.Counted.{Counted}
-use Rattle.totals.specs.declared.plain.PlainValue.{PlainValue}
 use Rattle.totals.proofs.Bits.{signed-value}
 use Rattle.totals.proofs.Stepping.{whole-digit, whole-dot, fraction-digit, dot-digit, begun-yes, start-digit, power_below, grown-below}
 use Rattle.totals.proofs.Folding.{gap_is, read-millionths}
@@ -141,7 +140,7 @@ module _ (s : Bytes) (e j q : ℕ) (r : Run s 0 e 0 j q) (f : e ≤ length s) (f
       ∙ r.whole false 0 (omega (arith, r.before, few))
       ∙ ap (λ (x : ℕ). read_on (Figure.Whole false x q) (value_from (drop j s))) z
 
-  pub whole-told : (x : ℕ) → (x ≡ filled_from 0 q) × (x < 100000000000000) → value_from (drop j s) ≡ [] → PlainTold s (PlainValue.Millionths x)
+  pub whole-told : (x : ℕ) → (x ≡ filled_from 0 q) × (x < 100000000000000) → value_from (drop j s) ≡ [] → PlainTold s (Some x)
   unfolding told_by
   whole-told x h v = (h.1, begun-whole ∙ ap (read_on (Figure.Whole false j q)) v ∙ ap {B = Option ℤ} (λ (y : ℕ). some (pos y)) (sym h.0))
 
@@ -155,7 +154,7 @@ module _ (s : Bytes) (e j q : ℕ) (r : Run s 0 e 0 j q) (f : e ≤ length s) (f
     pub fraction-small : t < 10 ^ (8 + (z - (j + 1)))
     fraction-small = p.small 8 whole-small
 
-    pub fraction-told : (z ≡ j + 1 → ⊥) → (x : ℕ) → (x ≡ filled_from (z - (j + 1)) t) × (x < 100000000000000) → value_from (drop z s) ≡ [] → PlainTold s (PlainValue.Millionths x)
+    pub fraction-told : (z ≡ j + 1 → ⊥) → (x : ℕ) → (x ≡ filled_from (z - (j + 1)) t) × (x < 100000000000000) → value_from (drop z s) ≡ [] → PlainTold s (Some x)
     unfolding told_by
     fraction-told some-behind x h v =
         let l : j + 1 < z = omega (arith, some-behind, p.on) in
@@ -169,8 +168,8 @@ module _ (s : Bytes) (e j q : ℕ) (r : Run s 0 e 0 j q) (f : e ≤ length s) (f
         in (h.1, read ∙ ap (read_on (Figure.Fraction false (z - (j + 1)) t)) v ∙ ap {B = Option ℤ} (λ (k : ℕ). some (pos k)) (sym h.0))
 
 -- what an answer tells, once its form is known
-pub plain-told : (s : Bytes) (x : PlainValue) {y : PlainValue} → PlainTold s x → x ≡ y → PlainTold s y
+pub plain-told : (s : Bytes) (x : Maybe ℕ) {y : Maybe ℕ} → PlainTold s x → x ≡ y → PlainTold s y
 plain-told s x h e = subst (PlainTold s) e h
 
-pub plain-counted : (s : Bytes) (m : ℕ) (r : ℤ) → PlainTold s (PlainValue.Millionths m) → r ≡ signed false m → counted (Counted.Value (to_z w64 (of_z w64 r))) ≡ millionths_of (value_from s)
+pub plain-counted : (s : Bytes) (m : ℕ) (r : ℤ) → PlainTold s (Some m) → r ≡ signed false m → counted (Some (to_z w64 (of_z w64 r))) ≡ millionths_of (value_from s)
 plain-counted s m r h e = signed-value false r m m (refl, h.0) e ∙ sym h.1

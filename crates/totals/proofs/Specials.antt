@@ -1,4 +1,6 @@
 -- A part in which no line begins with a percent sign has no descriptor: all its records are of one set.
+use Rattle.std.specs.Prelude.{Option, Some}
+use Rattle.totals.specs.declared.parts.Part.{Part}
 use Prim.Native.Nat.{ℕ, ◌+◌, ◌-◌, ◌<◌, ◌≤◌}
 use native.Mathlib.Omega.{arith}
 use mathlib.Core.Path.{◌≡◌, refl, sym, ap, ◌∙◌, subst}
@@ -24,7 +26,6 @@ use Rattle.lines.proofs.Cuts.{at-cons, rest}
 use Rattle.words.specs.Spans.{span}
 use Rattle.records.specs.Places.{is_readable}
 use Rattle.records.specs.declared.Head.{Head}
-use Rattle.records.specs.declared.FoundHead.{FoundHead}
 use Rattle.records.specs.Sets.{set_behind}
 use Rattle.records.specs.declared.RecordSet.{RecordSet}
 use Rattle.records.proofs.Cuts.{fields-records}
@@ -32,7 +33,6 @@ use Rattle.records.proofs.Readings.{readable-reads}
 use Rattle.records.proofs.Members.{HeadFound}
 use Rattle.records.proofs.SetOf.{SetOf, members-at, head-set}
 use Rattle.totals.specs.Parts.{special_line, PartTold}
-use Rattle.totals.specs.declared.parts.FoundPart.{FoundPart}
 use Rattle.totals.proofs.Totalling.{values-flat}
 
 or-first : (a b : Bool) → (a || b) ≡ false → a ≡ false
@@ -150,12 +150,12 @@ module _ (s n : Bytes) (h : Head) (f : HeadFound s n (sets_of (read_of s)) h) wh
         counted = refl;
       }
 
-  pub part-last : (b : Bool) → b ≡ special_line 10 (span h.begin (length s) s) → b ≡ false → PartTold s n (FoundPart.At h.begin (length s))
+  pub part-last : (b : Bool) → b ≡ special_line 10 (span h.begin (length s) s) → b ≡ false → PartTold s n (Some (record { begin = h.begin; end = length s }))
   part-last b e k = (h.start, h.end, length own, last_set (ap (special_line 10) (sym (rest s h.begin)) ∙ sym e ∙ k))
 
-  pub part-walked : (q : RecordSet) → q ≡ set_behind s h → PartTold s n (FoundPart.At h.begin q.after)
-  part-walked q e = let p : RecordSet = set_behind s h in subst (λ (x : RecordSet). PartTold s n (FoundPart.At h.begin x.after)) (sym e) (p.start, p.end, p.count, head-set s n h f)
+  pub part-walked : (q : RecordSet) → q ≡ set_behind s h → PartTold s n (Some (record { begin = h.begin; end = q.after }))
+  part-walked q e = let p : RecordSet = set_behind s h in subst (λ (x : RecordSet). PartTold s n (Some (record { begin = h.begin; end = x.after }))) (sym e) (p.start, p.end, p.count, head-set s n h f)
 
 -- what an answer tells, once its form is known
-pub part-told : (s n : Bytes) (x : FoundPart) {y : FoundPart} → PartTold s n x → x ≡ y → PartTold s n y
+pub part-told : (s n : Bytes) (x : Option Part) {y : Option Part} → PartTold s n x → x ≡ y → PartTold s n y
 part-told s n x h e = subst (PartTold s n) e h

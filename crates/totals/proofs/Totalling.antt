@@ -1,4 +1,6 @@
 -- The call's answer, by what the check says, what the search for the set finds and what the walk over its records adds.
+use Rattle.std.specs.Prelude.{Option as Maybe, Some, Ok}
+use Rattle.totals.specs.declared.adding.Sum.{Sum as ReadSum}
 use Prim.Native.Nat.{ℕ, zero, suc, ◌-◌, ◌≤◌, ◌<◌}
 use native.Mathlib.Omega.{arith}
 use mathlib.Core.Path.{◌≡◌, refl, sym, ap, ◌∙◌, subst}
@@ -26,9 +28,7 @@ use Rattle.records.specs.declared.RecordSet.{RecordSet}
 use Rattle.records.proofs.Cuts.{fields-records}
 use Rattle.records.proofs.SetOf.{SetOf, members-at}
 use Rattle.totals.specs.Totals.{millionths_of, hundredths_of, Total, Totalled, totalled_by, totalled, total_answer}
-use Rattle.totals.specs.declared.Totalled.{Totalled as Reply}
 use Rattle.totals.specs.Adding.{Sum, summed, added, SumFits, total_in}
-use Rattle.totals.specs.declared.adding.Added.{Added}
 use Rattle.totals.proofs.Bits.{seen-is, hundredths-held}
 use Rattle.totals.proofs.Sums.{total-value}
 use Rattle.totals.proofs.Fitting.{total-fits}
@@ -73,7 +73,7 @@ module _ (s set name : Bytes) where
     part-short h = omega (arith, h, length-take (p.after - p.begin) (drop p.begin s), length-drop p.begin s)
 
     -- by what the walk over its records says, once the form of that is known
-    pub total-found : (x : Added) {y : Added} → added x ≡ summed (every millionths_of (values_of name (record_in (span p.begin p.after s)))) → x ≡ y → answer_by (added y) ≡ total_in s set name
+    pub total-found : (x : Maybe ReadSum) {y : Maybe ReadSum} → added x ≡ summed (every millionths_of (values_of name (record_in (span p.begin p.after s)))) → x ≡ y → answer_by (added y) ≡ total_in s set name
     unfolding total_in
     total-found x e g =
         ap answer_by (sym (ap added g) ∙ e)
@@ -82,10 +82,10 @@ module _ (s set name : Bytes) where
         ∙ sym (ap (λ (b : Bool). answer_at b (values_in name (members_in sets (index_of set sets)))) (ap is_some f.there))
 
 -- a sum that fits, with its hundredths as the machine has them
-pub sum-held : (x : Added) (z : ℤ) (n : ℕ) → SumFits x → x ≡ Added.Sum z n → nat_abs z < 9223372036854775808
+pub sum-held : (x : Maybe ReadSum) (z : ℤ) (n : ℕ) → SumFits x → x ≡ Some (record { millionths = z; number = n }) → nat_abs z < 9223372036854775808
 sum-held x z n h e = subst SumFits e h
 
-pub sum-answer : (z h : ℤ) (n : ℕ) → nat_abs z < 9223372036854775808 → h ≡ hundredths_of (to_z w64 (of_z w64 z)) → totalled_by (Reply.Value (to_z w64 (of_z w64 h)) (to_z w64 (of_z w64 z)) n) ≡ answer_by (added (Added.Sum z n))
+pub sum-answer : (z h : ℤ) (n : ℕ) → nat_abs z < 9223372036854775808 → h ≡ hundredths_of (to_z w64 (of_z w64 z)) → totalled_by (Ok (record { hundredths = to_z w64 (of_z w64 h); millionths = to_z w64 (of_z w64 z); number = n })) ≡ answer_by (added (Some (record { millionths = z; number = n })))
 sum-answer z h n k e =
     let is : h ≡ hundredths_of z = e ∙ ap hundredths_of (seen-is z k) in
     let seen : to_z w64 (of_z w64 h) ≡ hundredths_of z = seen-is h (omega (arith, ap nat_abs is, hundredths-held z k)) ∙ is in
@@ -96,11 +96,11 @@ module _ (buffer : Bytes) (used : ℕ) (set name : Bytes) where
   abbrev asked : ℕ → Totalled
   asked k = let q : Sought = sought_set (sets_in buffer used) set in totalled (then_no k (first_no found_rows q)) (every millionths_of (values_in name (sought_members q)))
 
-  refused-by : (k : ℕ) → (k ≡ 0 → ⊥) → Totalled.refusal k ≡ asked k
-  refused-by zero h = absurd (h refl)
+  refused-by : (k : ℕ) → 0 < k → Totalled.refusal k ≡ asked k
+  refused-by zero h = absurd (omega (arith, h))
   refused-by (suc k) h = refl
 
-  pub total-refused : (k : ℕ) → k ≡ check_answer buffer used → (k ≡ 0 → ⊥) → Totalled.refusal k ≡ total_answer buffer used set name
+  pub total-refused : (k : ℕ) → k ≡ check_answer buffer used → 0 < k → Totalled.refusal k ≡ total_answer buffer used set name
   unfolding check_answer total_answer
   total-refused k e h = refused-by k h ∙ ap asked e
 

@@ -1,4 +1,5 @@
 -- A walk that adds the values of a name: n of them are added, those of the fields from byte i on are to come.
+use Rattle.std.specs.Prelude.{Option as Maybe, Some, None}
 use Prim.Native.Nat.{ℕ, ◌+◌, ◌-◌, ◌*◌, ◌≤◌, ◌<◌}
 use native.Mathlib.Nat.{add-zero, zero-add}
 use native.Mathlib.Omega.{arith}
@@ -20,9 +21,7 @@ use Rattle.records.specs.Places.{is_readable}
 use Rattle.records.specs.Named.{values_from, ValueHere}
 use Rattle.totals.specs.Totals.{millionths_of, sum_of}
 use Rattle.totals.specs.Figures.{counted}
-use Rattle.totals.specs.declared.figures.Counted.{Counted}
 use Rattle.totals.specs.Adding.{Sum, summed, added}
-use Rattle.totals.specs.declared.adding.Added.{Added}
 use Rattle.totals.proofs.Digits.{value-small}
 use Rattle.totals.proofs.Fitting.{abs-add}
 use Rattle.totals.proofs.Bits.{seen-is}
@@ -56,7 +55,7 @@ module _ (name s : Bytes) (z : ℤ) (n i : ℕ) (a : Adds name s z n i) where
   pub adds_fit : length s ≤ file_bytes → nat_abs z < 9223372036854775808
   adds_fit h = omega (arith, h, a.inside, a.few, a.small)
 
-  pub adds-end : values_from s name i ≡ [] → added (Added.Sum z n) ≡ summed (every millionths_of (values_from s name 0))
+  pub adds-end : values_from s name i ≡ [] → added (Some (record { millionths = z; number = n })) ≡ summed (every millionths_of (values_from s name 0))
   adds-end e = sym (a.all ∙ ap (λ (vs : List Bytes). added_to z n (every millionths_of vs)) e ∙ (λ i. some (record { millionths = +ℤ_idr z i; number = add-zero n i })))
 
   module _ (v e : ℕ) (f : ValueHere s name i v e) where
@@ -69,7 +68,7 @@ module _ (name s : Bytes) (z : ℤ) (n i : ℕ) (a : Adds name s z n i) where
         ∙ ap (λ (o : Option ℤ). added_to z n (onward (λ (y : ℤ). map (λ (ys : List ℤ). y ∷ ys) (every millionths_of (values_from s name e))) o)) (ap millionths_of (sym f.ends-itself) ∙ h)
 
     -- it does not count
-    pub adds-not : millionths_of (value_from (drop v s)) ≡ none → added Added.Uncounted ≡ summed (every millionths_of (values_from s name 0))
+    pub adds-not : millionths_of (value_from (drop v s)) ≡ none → added None ≡ summed (every millionths_of (values_from s name 0))
     adds-not h = sym (next-adds none h)
 
     -- it counts; numbers as the machine has them
@@ -102,5 +101,5 @@ module _ (name s : Bytes) (z : ℤ) (n i : ℕ) (a : Adds name s z n i) where
           subst (λ (x : ℤ). Adds name s x (n + 1) e) (sym seen) one-added
 
 -- what is told of a value where it stands
-pub value-counted : (s : Bytes) (v : ℕ) (x : Counted) {y : Counted} → counted x ≡ millionths_of (value_from (take (length s - v) (drop v s))) → x ≡ y → millionths_of (value_from (drop v s)) ≡ counted y
+pub value-counted : (s : Bytes) (v : ℕ) (x : Maybe ℤ) {y : Maybe ℤ} → counted x ≡ millionths_of (value_from (take (length s - v) (drop v s))) → x ≡ y → millionths_of (value_from (drop v s)) ≡ counted y
 value-counted s v x h e = sym (sym (ap counted e) ∙ h ∙ ap (λ (t : Bytes). millionths_of (value_from t)) (rest s v))

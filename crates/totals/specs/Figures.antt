@@ -1,12 +1,11 @@
 -- A value read byte by byte: what has been seen of it, by each byte more, and what it adds to a total at its end.
-use Rattle.std.specs.Prelude.{ℕ, ◌+◌, ◌-◌, ◌*◌, ◌^◌, ◌≤◌, ◌<◌, Bool, true, false, [], ◌∷◌, ltb, eqb, ℤ, replicate}
+use Rattle.std.specs.Prelude.{ℕ, ◌+◌, ◌-◌, ◌*◌, ◌^◌, ◌≤◌, ◌<◌, Bool, true, false, [], ◌∷◌, ltb, eqb, ℤ, replicate, Option as Maybe, Some, None}
 use Rattle.std.proofs.Math.Option.{Option, none, some}
 use Rattle.format.specs.Bytes.{Bytes, pick}
 use Rattle.format.specs.Words.{is_gap}
 use Rattle.format.specs.Numbers.{digit, is_digit_of, numeral}
 use Rattle.totals.specs.Totals.{whole_digits, fraction_digits, signed}
 use Rattle.totals.specs.declared.figures.Figure.{Figure}
-use Rattle.totals.specs.declared.figures.Counted.{Counted}
 
 -- the first digit
 unfoldable pub begun : Bool → ℕ → Figure
@@ -42,9 +41,9 @@ told_by (Figure.Fraction negative k m) = some (signed negative (filled_from k m)
 told_by (Figure.Behind negative k m) = some (signed negative (filled_from k m))
 told_by Figure.Fault = none
 
-abbrev pub counted : Counted → Option ℤ
-counted (Counted.Value z) = some z
-counted Counted.Not = none
+abbrev pub counted : Maybe ℤ → Option ℤ
+counted (Some z) = some z
+counted None = none
 
 -- bytes one after another
 abbrev pub read_on : Figure → Bytes → Option ℤ

@@ -1,5 +1,5 @@
 -- A value that is one plain line of digits, with a dot among them or not.
-use Rattle.std.specs.Prelude.{ℕ, ◌+◌, ◌-◌, ◌^◌, ◌≤◌, ◌<◌, ◌≡◌, Bool, pos, drop, get_or}
+use Rattle.std.specs.Prelude.{ℕ, ◌+◌, ◌-◌, ◌^◌, ◌≤◌, ◌<◌, ◌≡◌, Bool, pos, drop, get_or, Option, Some, None}
 use Rattle.std.proofs.Math.Option.{some}
 use Rattle.format.specs.Bytes.{Bytes}
 use Rattle.format.specs.Numbers.{digit}
@@ -7,7 +7,6 @@ use Rattle.values.specs.Value.{value_from}
 use Rattle.totals.specs.Totals.{whole_digits, fraction_digits, millionths_of}
 use Rattle.totals.specs.Figures.{read_on}
 use Rattle.totals.specs.declared.figures.Figure.{Figure}
-use Rattle.totals.specs.declared.plain.PlainValue.{PlainValue}
 
 -- the bytes from i to j, which is not behind e, are digits; behind those of m they make q
 pub record Run (s : Bytes) (i e m j q : ℕ) : Type 0 where
@@ -19,6 +18,6 @@ pub record Run (s : Bytes) (i e m j q : ℕ) : Type 0 where
   pub fraction : (n : Bool) (k : ℕ) → k + (j - i) ≤ fraction_digits → read_on (Figure.Fraction n k m) (value_from (drop i s)) ≡ read_on (Figure.Fraction n (k + (j - i)) q) (value_from (drop j s))
 
 -- what is told of a plain value
-abbrev pub PlainTold : Bytes → PlainValue → Type 0
-PlainTold s (PlainValue.Millionths m) = (m < 100000000000000) × (millionths_of (value_from s) ≡ some (pos m))
-PlainTold s PlainValue.Other = Unit {0}
+abbrev pub PlainTold : Bytes → Option ℕ → Type 0
+PlainTold s (Some m) = (m < 100000000000000) × (millionths_of (value_from s) ≡ some (pos m))
+PlainTold s None = Unit {0}

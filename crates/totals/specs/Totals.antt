@@ -1,5 +1,5 @@
 -- Totals of a field (document 02, order 9).
-use Rattle.std.specs.Prelude.{ℕ, zero, suc, ◌+◌, ◌-◌, ◌*◌, ◌/◌, Bool, true, false, ◌&&◌, List, [], ◌∷◌, ◌++◌, leb, ℤ, pos, negsuc, neg_ℤ, nat_abs, ◌+ℤ◌, length, replicate}
+use Rattle.std.specs.Prelude.{ℕ, zero, suc, ◌+◌, ◌-◌, ◌*◌, ◌/◌, Bool, true, false, ◌&&◌, List, [], ◌∷◌, ◌++◌, leb, ℤ, pos, negsuc, neg_ℤ, nat_abs, ◌+ℤ◌, length, replicate, Result, Ok, Err}
 use Rattle.std.proofs.Math.Option.{Option, none, some}
 use Rattle.format.specs.Bytes.{Bytes}
 use Rattle.format.specs.Lists.{only_if, onward}
@@ -9,6 +9,8 @@ use Rattle.format.specs.Numbering.{every}
 use Rattle.format.specs.Questions.{values_in}
 use Rattle.format.specs.Plain.{Sought, sought_members}
 use Rattle.format.specs.Calls.{sets_in, lookup_no, sought_set}
+use Rattle.format.specs.declared.refusals.Refusal.{Refusal}
+use Rattle.format.specs.Refusals.{refusal_no}
 use Rattle.totals.specs.declared.Totalled.{Totalled as Reply}
 
 -- "A value counts if it is a real with at most eight digits before the dot and six after."
@@ -68,9 +70,9 @@ pub data Totalled : Type 0 where
   refusal : ℕ → Totalled
 
 -- what the code answers, in these words
-abbrev pub totalled_by : Reply → Totalled
-totalled_by (Reply.Value h m n) = value (record { hundredths = h; millionths = m; number = n })
-totalled_by (Reply.Refused k) = refusal k
+abbrev pub totalled_by : Result Reply Refusal → Totalled
+totalled_by (Ok t) = value (record { hundredths = t.hundredths; millionths = t.millionths; number = t.number })
+totalled_by (Err r) = refusal (refusal_no r)
 
 -- the same in single numbers: the refusal's, 0 if there is none; how many values were added, 0 where it is refused; and each sum, or another number in its place
 abbrev pub refusal_in : Totalled → ℕ

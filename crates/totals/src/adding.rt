@@ -8,20 +8,19 @@ ghost use Rattle.records.specs.Walk.{record_in};
 ghost use Rattle.totals.specs.Totals.{millionths_of};
 ghost use Rattle.totals.specs.Adding.{added, summed, SumFits};
 
-use super::figures::Counted;
 use super::plain::read_value;
 use super::signs;
-use records::FoundField;
+use records::ValuePlace;
 
-// The sum of values and how many they are; or some value does not count.
-#[derive(Drop)]
-pub enum Added {
-    Sum { millionths: i64, number: usize },
-    Uncounted,
+// The sum of values, and how many they are.
+#[derive(Clone, Copy)]
+pub struct Sum {
+    pub millionths: i64,
+    pub number: usize,
 }
 
-// The values in s of the fields of a name, added.
-pub fn add_values(s: &[u8], name: &[u8]) -> Added
+// The values in s of the fields of a name, added; none if some value does not count.
+pub fn add_values(s: &[u8], name: &[u8]) -> Option<Sum>
     requires { (is_readable s.now ≡ true) × (length s.now ≤ file_bytes) }
     ensures { (added result ≡ summed (every millionths_of (values_of name.now (record_in s.now)))) × SumFits result }
 {
@@ -29,22 +28,13 @@ pub fn add_values(s: &[u8], name: &[u8]) -> Added
     let mut sum: i64 = 0;
     let mut n = 0;
     loop {
-        let f = records::next_named(&s[i..], name);
-        let FoundField::At {
-            start: _,
-            value,
-            end,
-        } = f
-        else {
-            return Added::Sum {
+        let Some(ValuePlace { value, end, .. }) = records::next_named(&s[i..], name) else {
+            return Some(Sum {
                 millionths: sum,
                 number: n,
-            };
+            });
         };
-        let v = read_value(&s[i + value..]);
-        let Counted::Value(z) = v else {
-            return Added::Uncounted;
-        };
+        let z = read_value(&s[i + value..])?;
         sum = signs::add(sum, z);
         n += 1;
         i += end;

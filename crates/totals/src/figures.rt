@@ -16,7 +16,7 @@ pub enum Figure {
     Sign,
     Whole {
         negative: bool,
-        digits: u32,
+        digits: usize,
         number: u64,
     },
     Dot {
@@ -25,22 +25,15 @@ pub enum Figure {
     },
     Fraction {
         negative: bool,
-        digits: u32,
+        digits: usize,
         number: u64,
     },
     Behind {
         negative: bool,
-        digits: u32,
+        digits: usize,
         number: u64,
     },
     Fault,
-}
-
-// What a value adds to a total.
-#[derive(Drop)]
-pub enum Counted {
-    Value(i64),
-    Not,
 }
 
 // The first digit.
@@ -60,7 +53,7 @@ fn begin(negative: bool, b: u8) -> Figure
 }
 
 // A byte behind digits before the dot.
-fn in_whole(negative: bool, digits: u32, number: u64, b: u8) -> Figure
+fn in_whole(negative: bool, digits: usize, number: u64, b: u8) -> Figure
     requires { Within (Figure.Whole negative digits number) }
     ensures { result ≡ stepped (Figure.Whole negative digits number) b }
 {
@@ -106,7 +99,7 @@ fn behind_dot(negative: bool, number: u64, b: u8) -> Figure
 }
 
 // A byte behind digits behind the dot.
-fn in_fraction(negative: bool, digits: u32, number: u64, b: u8) -> Figure
+fn in_fraction(negative: bool, digits: usize, number: u64, b: u8) -> Figure
     requires { Within (Figure.Fraction negative digits number) }
     ensures { result ≡ stepped (Figure.Fraction negative digits number) b }
 {
@@ -145,7 +138,7 @@ fn at_start(b: u8) -> Figure
 }
 
 // A byte behind the value.
-fn behind_value(negative: bool, digits: u32, number: u64, b: u8) -> Figure
+fn behind_value(negative: bool, digits: usize, number: u64, b: u8) -> Figure
     ensures { result ≡ stepped (Figure.Behind negative digits number) b }
 {
     if words::is_gap(b) {
@@ -188,73 +181,62 @@ pub fn step(f: Figure, b: u8) -> Figure
 }
 
 // A number of so many digits behind the dot, in millionths.
-fn filled(digits: u32, number: u64) -> u64
+pub(super) fn filled(digits: usize, number: u64) -> u64
     requires { (digits ≤ fraction_digits) × (number < 10 ^ (whole_digits + digits)) }
     ensures { (result ≡ filled_from digits number) × (result < 100000000000000) }
 {
-    let mut k = digits;
     let mut m = number;
-    while k < 6 {
+    for k in digits..6 {
         m = m * 10;
-        k += 1;
     }
     m
 }
 
 // What the value adds, at its end.
-pub fn told(f: Figure) -> Counted
+pub fn told(f: Figure) -> Option<i64>
     requires { Within f }
     ensures { counted result ≡ told_by f }
 {
     match f {
-        Figure::Start => Counted::Not,
-        Figure::Sign => Counted::Not,
         Figure::Whole {
             negative,
-            digits: _,
             number,
-        } => Counted::Value(signed_of(negative, filled(0, number))),
-        Figure::Dot {
-            negative: _,
-            number: _,
-        } => Counted::Not,
+            ..
+        } => Some(signed_of(negative, filled(0, number))),
         Figure::Fraction {
             negative,
             digits,
             number,
-        } => Counted::Value(signed_of(negative, filled(digits, number))),
+        } => Some(signed_of(negative, filled(digits, number))),
         Figure::Behind {
             negative,
             digits,
             number,
-        } => Counted::Value(signed_of(negative, filled(digits, number))),
-        Figure::Fault => Counted::Not,
+        } => Some(signed_of(negative, filled(digits, number))),
+        Figure::Start | Figure::Sign | Figure::Dot { .. } | Figure::Fault => None,
     }
 }
 
 // What a text adds to a total.
-pub fn millionths_of(v: &[u8]) -> Counted
+pub fn millionths_of(v: &[u8]) -> Option<i64>
     ensures { counted result ≡ millionths_of v.now }
 {
     let mut f = Figure::Start;
-    let mut i = 0;
-    while i < v.len() {
-        f = step(f, v[i]);
-        i += 1;
+    for &b in v {
+        f = step(f, b);
     }
     told(f)
 }
 
 // What the value that begins where s does adds to a total: read where it stands, over joined
 // lines and plus lines.
-pub fn value_millionths(s: &[u8]) -> Counted
+pub fn value_millionths(s: &[u8]) -> Option<i64>
     ensures { counted result ≡ millionths_of (value_from s.now) }
 {
     let mut f = Figure::Start;
     let mut i = 0;
     loop {
-        let d = values::value_byte(s, i);
-        let Decoded::Byte { byte, next } = d else {
+        let Some(Decoded { byte, next }) = values::value_byte(s, i) else {
             return told(f);
         };
         f = step(f, byte);

@@ -7,9 +7,9 @@ ghost use Rattle.records.specs.Places.{is_readable};
 ghost use Rattle.totals.specs.Totals.{rounded, hundredths_of, totalled_by, total_answer};
 ghost use Rattle.totals.specs.Adding.{total_in};
 
-use adding::{Added, add_values};
+use adding::{Sum, add_values};
 use format::Refusal;
-use parts::{FoundPart, find_part};
+use parts::{Part, find_part};
 
 mod adding;
 mod figures;
@@ -17,7 +17,7 @@ mod parts;
 mod plain;
 mod signs;
 
-pub use figures::{Counted, millionths_of};
+pub use figures::millionths_of;
 pub use signs::magnitude;
 
 // So many millionths in hundredths, a half up.
@@ -39,46 +39,37 @@ fn hundredths(sum: i64) -> i64
     signs::signed_of(below, r)
 }
 
-// A sum in hundredths, the exact millionths and the number of values; or a refusal's number.
-#[derive(Drop)]
-pub enum Totalled {
-    Value {
-        hundredths: i64,
-        millionths: i64,
-        number: usize,
-    },
-    Refused(u32),
+// A sum in hundredths, the exact millionths and the number of values.
+#[derive(Clone, Copy)]
+pub struct Totalled {
+    pub hundredths: i64,
+    pub millionths: i64,
+    pub number: usize,
 }
 
 // The total of a name in a set of a readable text.
-fn total_in(s: &[u8], set: &[u8], name: &[u8]) -> Totalled
+fn total_in(s: &[u8], set: &[u8], name: &[u8]) -> Result<Totalled, Refusal>
     requires { (is_readable s.now ≡ true) × (length s.now ≤ file_bytes) }
     ensures { totalled_by result ≡ total_in s.now set.now name.now }
 {
-    let found = find_part(s, set);
-    let FoundPart::At { begin, end } = found else {
-        return Totalled::Refused(Refusal::SET);
+    let Some(Part { begin, end }) = find_part(s, set) else {
+        return Err(Refusal::Set);
     };
-    let r = add_values(&s[begin..end], name);
-    let Added::Sum { millionths, number } = r else {
-        return Totalled::Refused(Refusal::UNCOUNTED);
+    let Some(Sum { millionths, number }) = add_values(&s[begin..end], name) else {
+        return Err(Refusal::Uncounted);
     };
-    let rounded = hundredths(millionths);
-    Totalled::Value {
-        hundredths: rounded,
+    Ok(Totalled {
+        hundredths: hundredths(millionths),
         millionths,
         number,
-    }
+    })
 }
 
 // The total of a name in a set of the file at the front of a buffer: every occurrence in every
 // record of the set.
-pub fn total(buf: &[u8], used: usize, set: &[u8], name: &[u8]) -> Totalled
+pub fn total(buf: &[u8], used: usize, set: &[u8], name: &[u8]) -> Result<Totalled, Refusal>
     ensures { totalled_by result ≡ total_answer buf.now used set.now name.now }
 {
-    let n = integrity::check(buf, used);
-    if n != 0 {
-        return Totalled::Refused(n);
-    }
+    integrity::check(buf, used)?;
     total_in(&buf[0..used], set, name)
 }

@@ -3,13 +3,11 @@ ghost use Rattle.std.specs.Prelude.{◌≡◌, true};
 ghost use Rattle.records.specs.Places.{is_readable};
 ghost use Rattle.totals.specs.Parts.{special_line, PartTold};
 
-use records::FoundHead;
-
 // Where the records of a set stand.
-#[derive(Drop)]
-pub enum FoundPart {
-    At { begin: usize, end: usize },
-    Missing,
+#[derive(Clone, Copy)]
+pub struct Part {
+    pub begin: usize,
+    pub end: usize,
 }
 
 // Does a line begin with a percent sign? All pairs of bytes are looked at, so that many can be
@@ -18,34 +16,29 @@ fn has_special_line(s: &[u8]) -> bool
     ensures { result ≡ special_line 10 s.now }
 {
     let mut found = lines::byte(s, 0) == b'%';
-    let mut i = 1;
-    while i < s.len() {
+    for i in 1..s.len() {
         found = found | ((s[i - 1] == b'\n') & (s[i] == b'%'));
-        i += 1;
     }
     found
 }
 
 // The part of the set of a name. The records of a set behind which no line begins with a percent
 // sign go to the end of the text; of any other they are walked over.
-pub fn find_part(s: &[u8], set: &[u8]) -> FoundPart
+pub fn find_part(s: &[u8], set: &[u8]) -> Option<Part>
     requires { is_readable s.now ≡ true }
     ensures { PartTold s.now set.now result }
 {
-    let h = records::find_head(s, set);
-    let FoundHead::At(p) = h else {
-        return FoundPart::Missing;
-    };
+    let p = records::find_head(s, set)?;
     let begin = p.begin;
     if has_special_line(&s[begin..]) {
         let q = records::set_behind(s, p);
-        return FoundPart::At {
+        return Some(Part {
             begin,
             end: q.after,
-        };
+        });
     }
-    FoundPart::At {
+    Some(Part {
         begin,
         end: s.len(),
-    }
+    })
 }

@@ -6,7 +6,7 @@ ghost use Rattle.totals.specs.Totals.{millionths_of};
 ghost use Rattle.totals.specs.Figures.{filled_from, counted};
 ghost use Rattle.totals.specs.Plain.{Run, PlainTold};
 
-use super::figures::{Counted, value_millionths};
+use super::figures::{filled, value_millionths};
 use super::signs::signed_of;
 
 // Where digits end, and the number that they make behind another one.
@@ -16,29 +16,20 @@ struct Digits {
     number: u64,
 }
 
-// A plain value in millionths; of any other nothing is told.
-#[derive(Drop)]
-pub enum PlainValue {
-    Millionths(u64),
-    Other,
-}
-
 // The digits from i on, up to a place.
 fn read_digits(s: &[u8], i: usize, end: usize, number: u64) -> Digits
     requires { (i ≤ end) × (end ≤ length s.now) × (end ≤ i + 8) × (number < 100000000) }
     ensures { Run s.now i end number result.at result.number }
 {
-    let mut at = i;
     let mut m = number;
-    while at < end {
+    for at in i..end {
         let d = numbers::digit_of(s[at]);
         if 9 < d {
             return Digits { at, number: m };
         }
         m = m * 10 + d;
-        at += 1;
     }
-    Digits { at, number: m }
+    Digits { at: end, number: m }
 }
 
 // So many bytes from i on, or as many as there are.
@@ -71,51 +62,44 @@ fn scaled(digits: usize, number: u64) -> u64
     if digits == 2 {
         return number * 10000;
     }
-    let mut k = digits;
-    let mut m = number;
-    while k < 6 {
-        m = m * 10;
-        k += 1;
-    }
-    m
+    filled(digits, number)
 }
 
 // The value that begins where s does, if it is plain.
-fn plain_value(s: &[u8]) -> PlainValue
+fn plain_value(s: &[u8]) -> Option<u64>
     ensures { PlainTold s.now result }
 {
     let before = reach(s, 0, 8);
     let w = read_digits(s, 0, before, 0);
     let e = w.at;
     if e == 0 {
-        return PlainValue::Other;
+        return None;
     }
     if ends_at(s, e) {
-        return PlainValue::Millionths(scaled(0, w.number));
+        return Some(scaled(0, w.number));
     }
     if lines::byte(s, e) != b'.' {
-        return PlainValue::Other;
+        return None;
     }
     let a = e + 1;
     let behind = reach(s, a, 6);
     let f = read_digits(s, a, behind, w.number);
     let z = f.at;
     if z == a {
-        return PlainValue::Other;
+        return None;
     }
     if ends_at(s, z) {
-        return PlainValue::Millionths(scaled(z - a, f.number));
+        return Some(scaled(z - a, f.number));
     }
-    PlainValue::Other
+    None
 }
 
 // What the value that begins where s does adds to a total.
-pub fn read_value(s: &[u8]) -> Counted
+pub fn read_value(s: &[u8]) -> Option<i64>
     ensures { counted result ≡ millionths_of (value_from s.now) }
 {
-    let p = plain_value(s);
-    let PlainValue::Millionths(m) = p else {
+    let Some(m) = plain_value(s) else {
         return value_millionths(s);
     };
-    Counted::Value(signed_of(false, m))
+    Some(signed_of(false, m))
 }

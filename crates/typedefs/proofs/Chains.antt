@@ -1,4 +1,6 @@
 -- Typedefs by their numbers: the first of a name, the target of a type's text, and a chain of targets step by step.
+use Rattle.std.specs.Prelude.{Option, Some, None}
+use Rattle.words.specs.declared.Span.{Span}
 use Prim.Native.Nat.{ℕ, zero, suc, ◌-◌, ◌≤◌, ◌<◌}
 use native.Mathlib.Omega.{arith}
 use mathlib.Core.Path.{◌≡◌, refl, sym, ap, ◌∙◌, subst}
@@ -14,7 +16,6 @@ use Rattle.typing.specs.declared.Shape.{Shape}
 use Rattle.typing.specs.contracts.Shape.{the_type}
 use Rattle.lines.proofs.Cuts.{rest}
 use Rattle.words.specs.Spans.{next_word}
-use Rattle.words.specs.declared.Word.{Word}
 use Rattle.words.proofs.Finding.{after_by, Within, after-at, word-within}
 use Rattle.typedefs.specs.Targets.{target_by, Bounded, targets_in, onward, follow_of}
 use Rattle.typedefs.specs.declared.Target.{Target}
@@ -23,14 +24,14 @@ use Rattle.typedefs.specs.declared.Targets.{Targets}
 use Rattle.typedefs.specs.declared.Followed.{Followed}
 
 -- the text behind a first word
-module _ (s : Bytes) (w : Word) (q : w ≡ next_word s) where
-  pub word-behind : (a e : ℕ) → w ≡ Word.At a e → (e ≤ length s) × (drop e s ≡ after_word s)
+module _ (s : Bytes) (w : Option Span) (q : w ≡ next_word s) where
+  pub word-behind : (a e : ℕ) → w ≡ Some (record { start = a; end = e }) → (e ≤ length s) × (drop e s ≡ after_word s)
   word-behind a e p =
-      let g : next_word s ≡ Word.At a e = sym q ∙ p in
-      let l : Within s (Word.At a e) = subst (Within s) g (word-within s) in
+      let g : next_word s ≡ Some (record { start = a; end = e }) = sym q ∙ p in
+      let l : Within s (Some (record { start = a; end = e })) = subst (Within s) g (word-within s) in
       (l.1, sym (after-at s ∙ ap (after_by s) g ∙ rest s e))
 
-  pub no_word : w ≡ Word.Nothing → after_word s ≡ []
+  pub no_word : w ≡ None → after_word s ≡ []
   no_word p = after-at s ∙ ap (after_by s) (sym q ∙ p)
 
 pub target-kind : (ns : List Bytes) (s : Bytes) (k : Shape) → OneOf (0 ∷ 1 ∷ 2 ∷ 3 ∷ 4 ∷ 5 ∷ 6 ∷ 7 ∷ 8 ∷ []) (tag_of the_type k) → target_by ns (some (typed_in s k)) ≡ Target.Kind

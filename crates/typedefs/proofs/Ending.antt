@@ -2,6 +2,7 @@
 use Prim.Native.Nat.{ℕ, zero, suc, ◌<◌}
 use native.Mathlib.Omega.{arith}
 use mathlib.Core.Path.{◌≡◌, refl, sym, ap, ◌∙◌, subst}
+use mathlib.Core.Bool.{false}
 use mathlib.Core.List.{List, [], ◌∷◌}
 use denote.Enum.Declared.{tag_of}
 use lib.ListN.{length, get_or}
@@ -81,3 +82,11 @@ module _ (r : Typedefs) (t : Typedef) where
 pub leads-alias : (t : Targets) → Bounded t → (x : Target) (j : ℕ) (f g : Followed) → x ≡ Target.Alias j → f ≡ follow_of t.count (targets_in t) j → f ≡ g → is_end g ≡ leads (targets_in t) x
 leads-alias t b x j f g e q p =
     ap is_end (sym p ∙ q) ∙ ap (λ (m : ℕ). is_end (follow_of m (targets_in t) j)) (sym (targets-length t b)) ∙ ap (leads (targets_in t)) (sym e)
+
+pub leads-not : (t : Targets) → Bounded t → (x : Target) (j : ℕ) (f : Followed) → x ≡ Target.Alias j → f ≡ follow_of t.count (targets_in t) j → ((k : ℕ) → f ≡ Followed.End k → ⊥) → false ≡ leads (targets_in t) x
+leads-not t b x j f e q n = no-end f n ∙ leads-alias t b x j f f e q refl
+  where
+    no-end : (g : Followed) → ((k : ℕ) → g ≡ Followed.End k → ⊥) → false ≡ is_end g
+    no-end (Followed.End k) m = absurd (m k refl)
+    no-end Followed.Missing m = refl
+    no-end Followed.Loop m = refl

@@ -1,4 +1,6 @@
 -- The names of typedefs: each is one for a typedef and stands once. And the targets of all typedefs, one after another.
+use Rattle.std.specs.Prelude.{Option, Some, None}
+use Rattle.words.specs.declared.Span.{Span}
 use Prim.Native.Nat.{ℕ, suc, ◌+◌, ◌≤◌, ◌<◌}
 use native.Mathlib.Numerals.{add-one}
 use mathlib.Core.Path.{◌≡◌, refl, sym, ap, ◌∙◌}
@@ -13,7 +15,6 @@ use Rattle.format.specs.Words.{first_word}
 use Rattle.format.specs.Rules.{is_typedef_name, distinct}
 use Rattle.values.specs.Value.{value_from}
 use Rattle.words.specs.Spans.{span, next_word}
-use Rattle.words.specs.declared.Word.{Word}
 use Rattle.words.proofs.Finding.{first_by, first-at}
 use Rattle.records.specs.Named.{ValueHere}
 use Rattle.typedefs.specs.Walks.{names_from}
@@ -46,10 +47,10 @@ not-missing (Target.Alias j) h = refl
 not-missing Target.Missing h = absurd (miss (0 ∷ 1 ∷ []) 2 tt h)
 
 -- the first word that was found
-pub first_found : (s : Bytes) (w : Word) (a e : ℕ) → w ≡ next_word s → w ≡ Word.At a e → first_word s ≡ span a e s
+pub first_found : (s : Bytes) (w : Option Span) (a e : ℕ) → w ≡ next_word s → w ≡ Some (record { start = a; end = e }) → first_word s ≡ span a e s
 first_found s w a e p q = first-at s ∙ ap (first_by s) (sym p ∙ q)
 
-pub first-none : (s : Bytes) (w : Word) → w ≡ next_word s → w ≡ Word.Nothing → first_word s ≡ []
+pub first-none : (s : Bytes) (w : Option Span) → w ≡ next_word s → w ≡ None → first_word s ≡ []
 first-none s w p q = first-at s ∙ ap (first_by s) (sym p ∙ q)
 
 -- the names from byte i on, and from name k on

@@ -21,21 +21,19 @@ ghost use Rattle.typedefs.specs.Targets.{index_from, target_by, Bounded, targets
 ghost use Rattle.typedefs.specs.Typedefs.{IsTypedef, AreTypedefs, end_row};
 
 use format::Descriptor;
-use records::FoundField;
+use records::ValuePlace;
 use terms::Table;
-use typing::{Shape, TypeOf};
-use values::Stretch;
-use words::Word;
+use typing::Shape;
+use words::Span;
 
 // The place behind the first word of a text.
 pub fn behind_word(s: &[u8]) -> usize
     ensures { (result ≤ length s.now) × (drop result s.now ≡ after_word s.now) }
 {
-    let w = words::next_word(s);
-    let Word::At { start: _, end } = w else {
-        return s.len();
-    };
-    end
+    match words::next_word(s) {
+        Some(w) => w.end,
+        None => s.len(),
+    }
 }
 
 // Where the values of a descriptor's typedefs stand.
@@ -53,19 +51,14 @@ fn add_names(d: &[u8], entries: &mut [u32]) -> Places
 {
     let mut rows = [0usize; Descriptor::TYPEDEFS];
     let mut i = 0;
+    // An index by hand: the loop goes by what the readers find, and this counts what is written.
     let mut count = 0;
     loop {
-        let v = records::next_named(&d[i..], b"%typedef");
-        let FoundField::At {
-            start: _,
-            value,
-            end,
-        } = v
-        else {
+        let Some(ValuePlace { value, end, .. }) = records::next_named(&d[i..], b"%typedef") else {
             return Places { rows, count };
         };
         let a = i + value;
-        let at = values::pass(d, a, Stretch::Gaps);
+        let at = values::pass(d, a, words::is_gap);
         rows[count] = a;
         entries[count] = terms::entry(d, at, count as u32);
         count += 1;
@@ -91,11 +84,11 @@ pub fn read_names(d: &[u8]) -> Names
     let p = add_names(d, &mut entries);
     let places = p.rows;
     let count = p.count;
-    let t = terms::build(d, &mut entries[..count]);
+    let table = terms::build(d, &mut entries[..count]);
     Names {
         places,
         entries,
-        table: t,
+        table,
         count,
     }
 }
@@ -113,12 +106,10 @@ fn first_tag(set: u64, from: usize, count: usize) -> Target
     requires { (from ≤ count) × (count ≤ typedefs) }
     ensures { result ≡ tag_from set from (count - from) }
 {
-    let mut k = from;
-    while k < count {
+    for k in from..count {
         if terms::has(set, k as u64) {
             return Target::Alias(k as u8);
         }
-        k += 1;
     }
     Target::Missing
 }
@@ -128,19 +119,16 @@ fn index_from(d: &[u8], names: Names, from: usize, name: &[u8]) -> Target
     requires { AreNames d.now names × (from ≤ names.count) }
     ensures { result ≡ index_from from name.now (drop from (names_from d.now 0)) }
 {
-    let entries = names.entries;
-    let t = names.table;
-    let count = names.count;
-    let set = terms::find(d, &entries, t, name);
-    first_tag(set, from, count)
+    let set = terms::find(d, &names.entries, names.table, name);
+    first_tag(set, from, names.count)
 }
 
 // The target of a type that was read from a text.
-fn target_in(d: &[u8], names: Names, s: &[u8], t: TypeOf) -> Target
+fn target_in(d: &[u8], names: Names, s: &[u8], t: Option<Shape>) -> Target
     requires { AreNames d.now names × SoundType s.now t }
     ensures { result ≡ target_by (names_from d.now 0) (type_answer s.now t) }
 {
-    let TypeOf::Is(k) = t else {
+    let Some(k) = t else {
         return Target::Missing;
     };
     match k {
@@ -153,7 +141,7 @@ fn target_in(d: &[u8], names: Names, s: &[u8], t: TypeOf) -> Target
 #[derive(Clone, Copy)]
 pub struct Typedef {
     pub value: usize,
-    pub kind: TypeOf,
+    pub kind: Option<Shape>,
     pub target: Target,
 }
 
@@ -202,20 +190,17 @@ pub fn read_typedefs(d: &[u8], names: Names, scratch: &mut [u8]) -> Typedefs
     let count = names.count;
     let none = Typedef {
         value: 0,
-        kind: TypeOf::Fault,
+        kind: None,
         target: Target::Missing,
     };
     let mut rows = [none; Descriptor::TYPEDEFS];
     let mut links = [Link {
         to: Target::Missing,
     }; Descriptor::TYPEDEFS];
-    let mut k = 0;
-    while k < count {
+    for k in 0..count {
         let t = read_typedef(d, names, places[k], &mut *scratch);
-        let to = t.target;
         rows[k] = t;
-        links[k] = Link { to };
-        k += 1;
+        links[k] = Link { to: t.target };
     }
     let targets = Targets { rows: links, count };
     Typedefs { rows, targets }
@@ -240,9 +225,7 @@ pub fn follow(targets: Targets, i: usize, left: usize) -> Followed
     if targets.count <= i {
         return Followed::Missing;
     }
-    let row = targets.rows[i];
-    let to = row.to;
-    match to {
+    match targets.rows[i].to {
         Target::Kind => Followed::End(i),
         Target::Alias(j) => follow(targets, j as usize, left - 1),
         Target::Missing => Followed::Missing,
@@ -254,13 +237,11 @@ pub fn end_of(defs: Typedefs, t: Typedef) -> Typedef
     requires { Bounded defs.targets × (length defs.rows ≡ typedefs) }
     ensures { result ≡ end_row defs t }
 {
-    let to = t.target;
-    let Target::Alias(j) = to else {
+    let Target::Alias(j) = t.target else {
         return t;
     };
     let targets = defs.targets;
-    let f = follow(targets, j as usize, targets.count);
-    let Followed::End(number) = f else {
+    let Followed::End(number) = follow(targets, j as usize, targets.count) else {
         return t;
     };
     defs.rows[number]
@@ -274,12 +255,7 @@ fn target_ends(targets: Targets, t: Target) -> bool
     match t {
         Target::Kind => true,
         Target::Alias(j) => {
-            let f = follow(targets, j as usize, targets.count);
-            match f {
-                Followed::End(_) => true,
-                Followed::Missing => false,
-                Followed::Loop => false,
-            }
+            matches!(follow(targets, j as usize, targets.count), Followed::End(_))
         }
         Target::Missing => false,
     }
@@ -290,15 +266,10 @@ fn all_end(targets: Targets) -> bool
     requires { Bounded targets }
     ensures { result ≡ all (leads (targets_in targets)) (targets_in targets) }
 {
-    let count = targets.count;
-    let mut i = 0;
-    while i < count {
-        let row = targets.rows[i];
-        let to = row.to;
-        if !target_ends(targets, to) {
+    for row in &targets.rows[..targets.count] {
+        if !target_ends(targets, row.to) {
             return false;
         }
-        i += 1;
     }
     true
 }
@@ -318,14 +289,10 @@ fn is_reserved(s: &[u8]) -> bool
 fn name_good(s: &[u8]) -> bool
     ensures { result ≡ is_typedef_name (first_word s.now) }
 {
-    let w = words::next_word(s);
-    let Word::At { start, end } = w else {
+    let Some(Span { start, end }) = words::next_word(s) else {
         return false;
     };
-    if !words::is_type_name(&s[start..end]) {
-        return false;
-    }
-    !is_reserved(&s[start..end])
+    words::is_type_name(&s[start..end]) && !is_reserved(&s[start..end])
 }
 
 // Has every typedef a name that it may have?
@@ -336,13 +303,7 @@ fn names_good(d: &[u8], scratch: &mut [u8]) -> bool
 {
     let mut i = 0;
     loop {
-        let v = records::next_named(&d[i..], b"%typedef");
-        let FoundField::At {
-            start: _,
-            value,
-            end,
-        } = v
-        else {
+        let Some(ValuePlace { value, end, .. }) = records::next_named(&d[i..], b"%typedef") else {
             return true;
         };
         let n = values::copy_value(&d[i + value..i + end], &mut *scratch);
@@ -372,11 +333,7 @@ fn name_alone(d: &[u8], names: Names, k: usize, scratch: &mut [u8]) -> bool
     let places = names.places;
     let value = places[k];
     let n = values::copy_value(&d[value..], &mut *scratch);
-    let t = first_index(d, names, k + 1, &scratch[..n]);
-    match t {
-        Target::Missing => true,
-        _ => false,
-    }
+    matches!(first_index(d, names, k + 1, &scratch[..n]), Target::Missing)
 }
 
 // Are the names of all typedefs distinct?
@@ -385,13 +342,10 @@ fn names_apart(d: &[u8], names: Names, scratch: &mut [u8]) -> bool
     requires text_value { fit_from (length scratch.old) d.now (text "%typedef") 0 ≡ true }
     ensures { result ≡ distinct (names_from d.now 0) }
 {
-    let count = names.count;
-    let mut k = 0;
-    while k < count {
+    for k in 0..names.count {
         if !name_alone(d, names, k, &mut *scratch) {
             return false;
         }
-        k += 1;
     }
     true
 }
@@ -417,8 +371,7 @@ fn parts_named(s: &[u8]) -> bool
 fn names_well(s: &[u8]) -> bool
     ensures { result ≡ all is_name (typed_names s.now) }
 {
-    let w = words::next_word(s);
-    let Word::At { start, end } = w else {
+    let Some(Span { start, end }) = words::next_word(s) else {
         return false;
     };
     parts_named(&s[start..end])
@@ -435,8 +388,7 @@ fn type_well(d: &[u8], names: Names, targets: Targets, value: usize, scratch: &m
         return false;
     }
     let t = read_typedef(d, names, value, &mut *scratch);
-    let to = t.target;
-    target_ends(targets, to)
+    target_ends(targets, t.target)
 }
 
 // Are all of them?
@@ -447,13 +399,7 @@ fn all_well(d: &[u8], names: Names, targets: Targets, scratch: &mut [u8]) -> boo
 {
     let mut i = 0;
     loop {
-        let v = records::next_named(&d[i..], b"%type");
-        let FoundField::At {
-            start: _,
-            value,
-            end,
-        } = v
-        else {
+        let Some(ValuePlace { value, end, .. }) = records::next_named(&d[i..], b"%type") else {
             return true;
         };
         if !type_well(d, names, targets, i + value, &mut *scratch) {

@@ -335,6 +335,17 @@ module _ (s : Bytes) (a e : ℕ) (t : NextSymbol s (Symbol.At a e)) where
   pub among-here : (v : Bytes) → same v (span a e s) ≡ true → are_read (symbols_of s) ≡ true → among_in v (symbols_of s) ≡ true
   among-here v h r = ap (among_in v) t.2 ∙ among-found v (span a e s) later h (ap are_read (sym t.2) ∙ r)
 
+-- where no word is found there is none, or a parenthesis is wrong
+pub no-enum : (s : Bytes) (r : Symbol) → NextSymbol s r → ((a e : ℕ) → r ≡ Symbol.At a e → ⊥) → is_enum (symbols_of s) ≡ false
+no-enum s (Symbol.At a e) h n = absurd (n a e refl)
+no-enum s Symbol.End h n = ap is_enum h
+no-enum s Symbol.Fault h n = ap is_enum h
+
+pub among-none : (v s : Bytes) (r : Symbol) → NextSymbol s r → ((a e : ℕ) → r ≡ Symbol.At a e → ⊥) → among_in v (symbols_of s) ≡ false
+among-none v s (Symbol.At a e) h n = absurd (n a e refl)
+among-none v s Symbol.End h n = ap (among_in v) h
+among-none v s Symbol.Fault h n = ap (among_in v) h
+
 -- an enum's symbols
 pub enum-by : (o : Option Bytes) → onward enum_in o ≡ only_if (is_enum (words_in o)) (Typed.kind (Kind.enum (symbols_in o)))
 enum-by none = refl

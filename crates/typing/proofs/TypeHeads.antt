@@ -1,4 +1,6 @@
 -- A type by its first word, and what a reader tells by each case.
+use Rattle.numbers.specs.declared.Whole.{Whole}
+use Rattle.std.specs.Prelude.{Option as Maybe, Some, None}
 use Prim.Native.Nat.{ℕ, ◌+◌, ◌≤◌}
 use mathlib.Core.Path.{◌≡◌, refl, sym, ap, ◌∙◌, subst}
 use mathlib.Core.Bool.{Bool, true, false}
@@ -18,11 +20,9 @@ use Rattle.lines.specs.Line.{run}
 use Rattle.words.specs.Spans.{span}
 use Rattle.words.proofs.Finding.{run-le, front-run, behind-run}
 use Rattle.numbers.specs.Meaning.{int_answer}
-use Rattle.numbers.specs.declared.IntOf.{IntOf}
 use Rattle.typing.specs.Meaning.{typed_in, type_answer, Sound, SoundType, Told, head_of, range_in}
 use Rattle.typing.specs.Symbols.{symbols_of, is_enum}
 use Rattle.typing.specs.declared.Shape.{Shape}
-use Rattle.typing.specs.declared.TypeOf.{TypeOf}
 use Rattle.typing.specs.declared.kinds.Head.{Head}
 use Rattle.typing.proofs.Comments.{enum-by, enum-read}
 
@@ -85,46 +85,46 @@ head-sound s w =
 
 -- what is told by each case
 
-pub told-fault : (s : Bytes) {o : Option Typed} → o ≡ none → Told s o TypeOf.Fault
+pub told-fault : (s : Bytes) {o : Option Typed} → o ≡ none → Told s o None
 told-fault s e = record { answers = sym e; sound = tt }
 
-pub told_same : (s : Bytes) {o p : Option Typed} {r : TypeOf} → p ≡ o → Told s o r → Told s p r
+pub told_same : (s : Bytes) {o p : Option Typed} {r : Maybe Shape} → p ≡ o → Told s o r → Told s p r
 told_same s e t = record { answers = t.answers ∙ sym e; sound = t.sound }
 
-range-answers : (s : Bytes) (x y : IntOf) → type_answer s (range_in x y) ≡ ranged (int_answer x) (int_answer y)
-range-answers s (IntOf.Value a) (IntOf.Value b) = refl
-range-answers s (IntOf.Value a) IntOf.NotInt = refl
-range-answers s IntOf.NotInt y = refl
+range-answers : (s : Bytes) (x y : Maybe Whole) → type_answer s (range_in x y) ≡ ranged (int_answer x) (int_answer y)
+range-answers s (Some a) (Some b) = refl
+range-answers s (Some a) None = refl
+range-answers s None y = refl
 
-range-sound : (s : Bytes) (x y : IntOf) → SoundType s (range_in x y)
-range-sound s (IntOf.Value a) (IntOf.Value b) = tt
-range-sound s (IntOf.Value a) IntOf.NotInt = tt
-range-sound s IntOf.NotInt y = tt
+range-sound : (s : Bytes) (x y : Maybe Whole) → SoundType s (range_in x y)
+range-sound s (Some a) (Some b) = tt
+range-sound s (Some a) None = tt
+range-sound s None y = tt
 
-pub told-range : (s : Bytes) (x y : IntOf) {o : Option Typed} {r : TypeOf} → r ≡ range_in x y → o ≡ ranged (int_answer x) (int_answer y) → Told s o r
+pub told-range : (s : Bytes) (x y : Maybe Whole) {o : Option Typed} {r : Maybe Shape} → r ≡ range_in x y → o ≡ ranged (int_answer x) (int_answer y) → Told s o r
 told-range s x y e q = rw e (record { answers = range-answers s x y ∙ sym q; sound = range-sound s x y })
 
 -- an enum, whose text stands behind `at`
 module _ (s : Bytes) (at : ℕ) (h : at ≤ length s) where
-  pub told-enum : is_enum (symbols_of (span at (length s) s)) ≡ true → Told s (onward enum_in (uncomment false (drop at s))) (TypeOf.Is (Shape.Enum at (length s)))
+  pub told-enum : is_enum (symbols_of (span at (length s) s)) ≡ true → Told s (onward enum_in (uncomment false (drop at s))) (Some (Shape.Enum at (length s)))
   told-enum e =
       let u = uncomment false (span at (length s) s) in
       told_same s (ap (λ (t : Bytes). onward enum_in (uncomment false t)) (sym (rest s at)))
       (record { answers = sym (enum-by u ∙ rw e); sound = (h, omega arith, enum-read u e) })
 
-  pub told-no-enum : is_enum (symbols_of (span at (length s) s)) ≡ false → Told s (onward enum_in (uncomment false (drop at s))) TypeOf.Fault
+  pub told-no-enum : is_enum (symbols_of (span at (length s) s)) ≡ false → Told s (onward enum_in (uncomment false (drop at s))) None
   told-no-enum e = told-fault s (ap (λ (t : Bytes). onward enum_in (uncomment false t)) (sym (rest s at)) ∙ (enum-by (uncomment false (span at (length s) s)) ∙ rw e))
 
 -- a shape that stands alone
-pub told-bare : (s w : Bytes) (ws : List Bytes) {k : Shape} → head_of w ≡ Head.Bare k → ws ≡ [] → Told s (plain_kind int_bounds (w ∷ ws)) (TypeOf.Is k)
+pub told-bare : (s w : Bytes) (ws : List Bytes) {k : Shape} → head_of w ≡ Head.Bare k → ws ≡ [] → Told s (plain_kind int_bounds (w ∷ ws)) (Some k)
 told-bare s w ws {k = k} h e =
     let a : plain_kind int_bounds (w ∷ ws) ≡ some (typed_in s k) = plain-by-head s w ws ∙ (ap (by_head s w ws) h ∙ ap (alone (typed_in s k)) e) in
     record { answers = sym a; sound = subst (SoundHead s) h (head-sound s w) }
 
-pub told-not-bare : (s w v : Bytes) (ws vs : List Bytes) {k : Shape} → head_of w ≡ Head.Bare k → ws ≡ v ∷ vs → Told s (plain_kind int_bounds (w ∷ ws)) TypeOf.Fault
+pub told-not-bare : (s w v : Bytes) (ws vs : List Bytes) {k : Shape} → head_of w ≡ Head.Bare k → ws ≡ v ∷ vs → Told s (plain_kind int_bounds (w ∷ ws)) None
 told-not-bare s w v ws vs {k = k} h e = told-fault s (plain-by-head s w ws ∙ (ap (by_head s w ws) h ∙ ap (alone (typed_in s k)) e))
 
-pub told-by-head : (s w : Bytes) (ws : List Bytes) {h : Head} {r : TypeOf} → head_of w ≡ h → Told s (by_head s w ws h) r → Told s (plain_kind int_bounds (w ∷ ws)) r
+pub told-by-head : (s w : Bytes) (ws : List Bytes) {h : Head} {r : Maybe Shape} → head_of w ≡ h → Told s (by_head s w ws h) r → Told s (plain_kind int_bounds (w ∷ ws)) r
 told-by-head s w ws e t = told_same s (plain-by-head s w ws ∙ ap (by_head s w ws) e) t
 
 -- the head of a type, n bytes from a on: the word `enum`, or the first word of another type
@@ -140,8 +140,8 @@ module _ (s : Bytes) (a n : ℕ) (p : a ≡ run is_gap s) (q : n ≡ run before_
       let w : behind before_comment (drop a s) ≡ drop (a + n) s = behind-run before_comment (drop a s) ∙ rw (← l, drop-drop) in
       rw (u, v, w)
 
-  pub told-enum-type : {r : TypeOf} → same (span a (a + n) s) (text "enum") ≡ true → Told s (onward enum_in (uncomment false (drop (a + n) s))) r → Told s (type_of int_bounds s) r
+  pub told-enum-type : {r : Maybe Shape} → same (span a (a + n) s) (text "enum") ≡ true → Told s (onward enum_in (uncomment false (drop (a + n) s))) r → Told s (type_of int_bounds s) r
   told-enum-type h t = told_same s (type-by ∙ rw h) t
 
-  pub told-plain-type : {r : TypeOf} → same (span a (a + n) s) (text "enum") ≡ false → Told s (plain_kind int_bounds (words s)) r → Told s (type_of int_bounds s) r
+  pub told-plain-type : {r : Maybe Shape} → same (span a (a + n) s) (text "enum") ≡ false → Told s (plain_kind int_bounds (words s)) r → Told s (type_of int_bounds s) r
   told-plain-type h t = told_same s (type-by ∙ rw h) t

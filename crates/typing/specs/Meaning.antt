@@ -1,5 +1,6 @@
 -- The definitions' type or answer for each case of an enum.
-use Rattle.std.specs.Prelude.{◌≤◌, ◌≡◌, Bool, true, false, List, [], length}
+use Rattle.numbers.specs.declared.Whole.{Whole}
+use Rattle.std.specs.Prelude.{◌≤◌, ◌≡◌, Bool, true, false, List, [], length, Option as Maybe, Some, None}
 use Rattle.std.proofs.Math.Option.{Option, none, some}
 use Rattle.format.specs.Bytes.{Bytes, text, pick, same}
 use Rattle.format.specs.Words.{words}
@@ -7,9 +8,7 @@ use Rattle.format.specs.Numbers.{int_bounds}
 use Rattle.format.specs.Types.{Kind, Typed, uncomment, meets}
 use Rattle.words.specs.Spans.{span}
 use Rattle.numbers.specs.Meaning.{int_in}
-use Rattle.numbers.specs.declared.IntOf.{IntOf}
 use Rattle.typing.specs.declared.Shape.{Shape}
-use Rattle.typing.specs.declared.TypeOf.{TypeOf}
 use Rattle.typing.specs.declared.kinds.Head.{Head}
 
 -- are the comments of a text closed
@@ -35,9 +34,9 @@ typed_in s Shape.Field = Typed.kind Kind.field
 typed_in s Shape.Uuid = Typed.kind Kind.uuid
 typed_in s (Shape.Alias a e) = Typed.alias (span a e s)
 
-abbrev pub type_answer : Bytes → TypeOf → Option Typed
-type_answer s (TypeOf.Is k) = some (typed_in s k)
-type_answer s TypeOf.Fault = none
+abbrev pub type_answer : Bytes → Maybe Shape → Option Typed
+type_answer s (Some k) = some (typed_in s k)
+type_answer s None = none
 
 -- the places of a shape lie in the text that it was read from, and an enum's comments are closed
 abbrev pub Sound : Bytes → Shape → Type 0
@@ -52,17 +51,17 @@ Sound s Shape.Field = Unit {0}
 Sound s Shape.Uuid = Unit {0}
 Sound s (Shape.Alias a e) = (a ≤ e) × (e ≤ length s)
 
-abbrev pub SoundType : Bytes → TypeOf → Type 0
-SoundType s (TypeOf.Is k) = Sound s k
-SoundType s TypeOf.Fault = Unit {0}
+abbrev pub SoundType : Bytes → Maybe Shape → Type 0
+SoundType s (Some k) = Sound s k
+SoundType s None = Unit {0}
 
 -- what a reader of types tells of the text s
-pub record Told (s : Bytes) (answer : Option Typed) (r : TypeOf) : Type 0 where
+pub record Told (s : Bytes) (answer : Option Typed) (r : Maybe Shape) : Type 0 where
   pub answers : type_answer s r ≡ answer
   pub sound : SoundType s r
 
 -- the same of a type that holds no place: whatever the text is
-abbrev pub Placeless : Option Typed → TypeOf → Type 0
+abbrev pub Placeless : Option Typed → Maybe Shape → Type 0
 Placeless answer r = (s : Bytes) → Told s answer r
 
 -- what the first word says, if it is not `enum`
@@ -78,10 +77,10 @@ head_of w =
     (pick (same w (text "uuid")) (Head.Bare Shape.Uuid)
     Head.Name)))))))
 
-abbrev pub range_in : IntOf → IntOf → TypeOf
-range_in (IntOf.Value a) (IntOf.Value b) = TypeOf.Is (Shape.Range a b)
-range_in (IntOf.Value a) IntOf.NotInt = TypeOf.Fault
-range_in IntOf.NotInt y = TypeOf.Fault
+abbrev pub range_in : Maybe Whole → Maybe Whole → Maybe Shape
+range_in (Some a) (Some b) = Some (Shape.Range a b)
+range_in (Some a) None = None
+range_in None y = None
 
 -- does a value meet a type; an alias is met by none
 abbrev pub meets_typed : Typed → Bytes → Bool

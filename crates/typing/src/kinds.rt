@@ -9,10 +9,10 @@ ghost use Rattle.words.specs.Spans.{span};
 ghost use Rattle.numbers.specs.Meaning.{int_answer};
 ghost use Rattle.typing.specs.Meaning.{head_of, range_in, Told, Placeless};
 
+use super::Shape;
 use super::symbols::is_enum;
-use super::{Shape, TypeOf};
-use numbers::{Ends, IntOf, Natural, Whole};
-use words::Word;
+use numbers::{Ends, Whole};
+use words::Span;
 
 // What the first word of a type says, if it is not `enum`.
 #[derive(Drop)]
@@ -26,8 +26,7 @@ enum Head {
 fn head_of(w: &[u8]) -> Head
     ensures { result ≡ head_of w.now }
 {
-    let k = words::word_place(w, b"int range real line size bool field uuid");
-    match k {
+    match words::word_place(w, b"int range real line size bool field uuid") {
         0 => Head::Bare(Shape::Int),
         1 => Head::Range,
         2 => Head::Bare(Shape::Real),
@@ -44,142 +43,110 @@ fn head_of(w: &[u8]) -> Head
 fn head_end(s: &[u8]) -> usize
     ensures { result ≡ run before_comment s.now }
 {
-    let mut e = 0;
-    while e < s.len() {
-        if words::is_gap(s[e]) {
-            return e;
-        }
-        if s[e] == b'(' {
-            return e;
-        }
-        e += 1;
-    }
-    e
+    s.iter()
+        .position(|&b| words::is_gap(b) || b == b'(')
+        .unwrap_or(s.len())
 }
 
 // An enum, whose text stands behind `at`.
-fn enum_type(s: &[u8], at: usize) -> TypeOf
+fn enum_type(s: &[u8], at: usize) -> Option<Shape>
     requires { at ≤ length s.now }
     ensures { Told s.now (onward enum_in (uncomment false (drop at s.now))) result }
 {
     if is_enum(&s[at..]) {
-        TypeOf::Is(Shape::Enum {
+        Some(Shape::Enum {
             start: at,
             end: s.len(),
         })
     } else {
-        TypeOf::Fault
+        None
     }
 }
 
 // One end of a range.
-fn end_of(w: &[u8]) -> IntOf
+fn end_of(w: &[u8]) -> Option<Whole>
     ensures { int_answer result ≡ end_of int_bounds w.now }
 {
     if lines::same_bytes(w, b"MIN") {
-        return IntOf::Value(Whole::Minus(Ends::LEAST));
+        return Some(Whole::Minus(Ends::LEAST));
     }
     if lines::same_bytes(w, b"MAX") {
-        return IntOf::Value(Whole::Plus(Ends::GREATEST));
+        return Some(Whole::Plus(Ends::GREATEST));
     }
     numbers::int_of(w)
 }
 
 // A range between two ends.
-fn ranged(low: IntOf, high: IntOf) -> TypeOf
+fn ranged(low: Option<Whole>, high: Option<Whole>) -> Option<Shape>
     ensures { result ≡ range_in low high }
 {
-    let IntOf::Value(a) = low else {
-        return TypeOf::Fault;
-    };
-    let IntOf::Value(b) = high else {
-        return TypeOf::Fault;
-    };
-    TypeOf::Is(Shape::Range(a, b))
+    Some(Shape::Range(low?, high?))
 }
 
 // A range: one or two words.
-fn range_of(s: &[u8]) -> TypeOf
+fn range_of(s: &[u8]) -> Option<Shape>
     ensures { Placeless (range_of int_bounds (words s.now)) result }
 {
-    let w = words::next_word(s);
-    let Word::At { start: a, end: b } = w else {
-        return TypeOf::Fault;
+    let first = words::next_word(s)?;
+    let x = end_of(&s[first.start..first.end]);
+    let t = &s[first.end..];
+    let Some(Span { start, end }) = words::next_word(t) else {
+        return ranged(Some(Whole::Plus(0)), x);
     };
-    let x = end_of(&s[a..b]);
-    let t = &s[b..];
-    let v = words::next_word(t);
-    let Word::At { start: c, end: d } = v else {
-        return ranged(IntOf::Value(Whole::Plus(0)), x);
+    let None = words::next_word(&t[end..]) else {
+        return None;
     };
-    let u = words::next_word(&t[d..]);
-    let Word::Nothing = u else {
-        return TypeOf::Fault;
-    };
-    let y = end_of(&t[c..d]);
+    let y = end_of(&t[start..end]);
     ranged(x, y)
 }
 
 // A size: one word.
-fn size_of(s: &[u8]) -> TypeOf
+fn size_of(s: &[u8]) -> Option<Shape>
     ensures { Placeless (size_of int_bounds (words s.now)) result }
 {
-    let w = words::next_word(s);
-    let Word::At { start, end } = w else {
-        return TypeOf::Fault;
+    let w = words::next_word(s)?;
+    let None = words::next_word(&s[w.end..]) else {
+        return None;
     };
-    let v = words::next_word(&s[end..]);
-    let Word::Nothing = v else {
-        return TypeOf::Fault;
-    };
-    let x = numbers::number_of(&s[start..end]);
-    match x {
-        Natural::Of(n) => TypeOf::Is(Shape::Size(n)),
-        Natural::Not => TypeOf::Fault,
-    }
+    let n = numbers::number_of(&s[w.start..w.end])?;
+    Some(Shape::Size(n))
 }
 
 // A typedef's name from start to end, with nothing after it.
-fn alias_of(s: &[u8], start: usize, end: usize) -> TypeOf
+fn alias_of(s: &[u8], start: usize, end: usize) -> Option<Shape>
     requires { (start ≤ end) × (end ≤ length s.now) }
     ensures { Told s.now (alias_of (span start end s.now) (words (span end (length s.now) s.now))) result }
 {
-    let v = words::next_word(&s[end..]);
-    let Word::Nothing = v else {
-        return TypeOf::Fault;
+    let None = words::next_word(&s[end..]) else {
+        return None;
     };
     if words::is_type_name(&s[start..end]) {
-        TypeOf::Is(Shape::Alias { start, end })
+        Some(Shape::Alias { start, end })
     } else {
-        TypeOf::Fault
+        None
     }
 }
 
 // A type that is no enum.
-fn plain_type(s: &[u8]) -> TypeOf
+fn plain_type(s: &[u8]) -> Option<Shape>
     ensures { Told s.now (plain_kind int_bounds (words s.now)) result }
 {
-    let w = words::next_word(s);
-    let Word::At { start, end } = w else {
-        return TypeOf::Fault;
-    };
-    let h = head_of(&s[start..end]);
-    match h {
+    let w = words::next_word(s)?;
+    match head_of(&s[w.start..w.end]) {
         Head::Bare(k) => {
-            let v = words::next_word(&s[end..]);
-            let Word::Nothing = v else {
-                return TypeOf::Fault;
+            let None = words::next_word(&s[w.end..]) else {
+                return None;
             };
-            TypeOf::Is(k)
+            Some(k)
         }
-        Head::Range => range_of(&s[end..]),
-        Head::Size => size_of(&s[end..]),
-        Head::Name => alias_of(s, start, end),
+        Head::Range => range_of(&s[w.end..]),
+        Head::Size => size_of(&s[w.end..]),
+        Head::Name => alias_of(s, w.start, w.end),
     }
 }
 
 // The type that a text stands for.
-pub fn type_of(s: &[u8]) -> TypeOf
+pub fn type_of(s: &[u8]) -> Option<Shape>
     ensures { Told s.now (type_of int_bounds s.now) result }
 {
     let start = words::gap_end(s);

@@ -24,9 +24,3 @@ pub enum Shape {
     Uuid,
     Alias { start: usize, end: usize },
 }
-
-#[derive(Clone, Copy)]
-pub enum TypeOf {
-    Is(Shape),
-    Fault,
-}

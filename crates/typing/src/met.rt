@@ -9,7 +9,7 @@ ghost use Rattle.typing.specs.Meaning.{Sound, meets_in};
 
 use super::Shape;
 use super::symbols::has_symbol;
-use numbers::{IntOf, Whole};
+use numbers::Whole;
 
 // Is this text a truth value?
 fn is_truth(s: &[u8]) -> bool
@@ -23,11 +23,7 @@ fn dashed(s: &[u8], start: usize, end: usize) -> bool
     requires { (start ≤ end) × (end < length s.now) }
     ensures { result ≡ (are_digits 16 (span start end s.now) && eqb (get_or s.now end 0) 45) }
 {
-    if numbers::are_digits(&s[start..end], 16) {
-        s[end] == b'-'
-    } else {
-        false
-    }
+    numbers::are_digits(&s[start..end], 16) && s[end] == b'-'
 }
 
 // Is this text a uuid?
@@ -53,27 +49,20 @@ fn is_uuid(s: &[u8]) -> bool
 }
 
 // Is what was read an int?
-pub fn is_int(x: IntOf) -> bool
+pub fn is_int(x: Option<Whole>) -> bool
     ensures { result ≡ is_some (int_answer x) }
 {
-    match x {
-        IntOf::Value(_) => true,
-        IntOf::NotInt => false,
-    }
+    x.is_some()
 }
 
 // Is what was read an int from a to b?
-pub fn is_between(a: Whole, b: Whole, x: IntOf) -> bool
+pub fn is_between(a: Whole, b: Whole, x: Option<Whole>) -> bool
     ensures { result ≡ is_in_range (int_in a) (int_in b) (int_answer x) }
 {
-    let IntOf::Value(n) = x else {
+    let Some(n) = x else {
         return false;
     };
-    if numbers::at_most(a, n) {
-        numbers::at_most(n, b)
-    } else {
-        false
-    }
+    numbers::at_most(a, n) && numbers::at_most(n, b)
 }
 
 // Is this byte one from hex 80 to BF, which a size leaves out?
@@ -87,35 +76,27 @@ fn is_continuation(c: u8) -> bool
 fn size_count(v: &[u8]) -> usize
     ensures { result ≡ size_count v.now }
 {
-    let mut i = 0;
-    let mut n = 0;
-    while i < v.len() {
-        if !is_continuation(v[i]) {
-            n += 1;
-        }
-        i += 1;
-    }
-    n
+    v.iter().filter(|&&c| !is_continuation(c)).count()
 }
 
 // Does a value meet the type that was read from text? An alias has to be followed first.
+// A match and no closure: the type is read from the file.
 pub fn meets(k: Shape, text: &[u8], v: &[u8]) -> bool
     requires { Sound text.now k }
     ensures { result ≡ meets_in text.now k v.now }
 {
     let t = words::trimmed(v);
-    let a = t.start;
-    let e = t.end;
+    let w = &v[t.start..t.end];
     match k {
-        Shape::Int => is_int(numbers::int_of(&v[a..e])),
-        Shape::Range(low, high) => is_between(low, high, numbers::int_of(&v[a..e])),
-        Shape::Real => numbers::is_real(&v[a..e]),
+        Shape::Int => is_int(numbers::int_of(w)),
+        Shape::Range(low, high) => is_between(low, high, numbers::int_of(w)),
+        Shape::Real => numbers::is_real(w),
         Shape::Line => lines::line_len(v) == v.len(),
         Shape::Size(n) => size_count(v) as u64 <= n,
-        Shape::Enum { start, end } => has_symbol(&text[start..end], &v[a..e]),
-        Shape::Bool => is_truth(&v[a..e]),
-        Shape::Field => words::is_name(&v[a..e]),
-        Shape::Uuid => is_uuid(&v[a..e]),
-        Shape::Alias { start: _, end: _ } => false,
+        Shape::Enum { start, end } => has_symbol(&text[start..end], w),
+        Shape::Bool => is_truth(w),
+        Shape::Field => words::is_name(w),
+        Shape::Uuid => is_uuid(w),
+        Shape::Alias { .. } => false,
     }
 }

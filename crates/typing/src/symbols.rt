@@ -1,102 +1,64 @@
 // The text behind the word `enum`: its words, comments passed over, each a symbol.
 ghost use Rattle.std.specs.Prelude.{◌≡◌, true, false, ◌≤◌, length, drop};
-ghost use Rattle.format.specs.Bytes.{class_table, all, among};
+ghost use Rattle.format.specs.Bytes.{all, among};
 ghost use Rattle.format.specs.Types.{uncomment, is_symbol_byte, is_symbol};
 ghost use Rattle.lines.specs.Line.{run};
 ghost use Rattle.typing.specs.Meaning.{is_read, symbols_in};
 ghost use Rattle.values.specs.Stretches.{not_paren};
 ghost use Rattle.typing.specs.Symbols.{is_plain, symbols_of, NextSymbol, are_symbols, is_enum};
 
-use format::Class;
+use format::{Class, Classes};
 
 // May a symbol go on with this byte?
-fn symbol_byte(table: &[u8; 256], b: u8) -> bool
-    requires { table.now ≡ class_table }
+fn symbol_byte(table: &Classes, b: u8) -> bool
     ensures { result ≡ is_symbol_byte b }
 {
-    if format::is_later(table, b) {
-        true
-    } else {
-        b == b'-'
-    }
+    table.is_later(b) || b == b'-'
 }
 
 // Do all bytes from `from` on go on a symbol?
-fn symbol_bytes(table: &[u8; 256], s: &[u8], from: usize) -> bool
-    requires table_value { table.now ≡ class_table }
+fn symbol_bytes(table: &Classes, s: &[u8], from: usize) -> bool
     requires from_in_bounds { from ≤ length s.now }
     ensures { result ≡ all is_symbol_byte (drop from s.now) }
 {
-    let mut i = from;
-    while i < s.len() {
-        if symbol_byte(table, s[i]) {
-            i += 1;
-        } else {
-            return false;
-        }
-    }
-    true
+    s[from..].iter().all(|&b| symbol_byte(table, b))
 }
 
 // Is this text a symbol?
-fn is_symbol(table: &[u8; 256], s: &[u8]) -> bool
-    requires { table.now ≡ class_table }
+fn is_symbol(table: &Classes, s: &[u8]) -> bool
     ensures { result ≡ is_symbol s.now }
 {
     if s.len() == 0 {
         return false;
     }
-    let k = format::class_of(table, s[0]);
-    if k == Class::LETTER {
-        return symbol_bytes(table, s, 1);
+    let k = table.class(s[0]);
+    if k != Class::LETTER && k != Class::DIGIT {
+        return false;
     }
-    if k == Class::DIGIT {
-        symbol_bytes(table, s, 1)
-    } else {
-        false
-    }
+    symbol_bytes(table, s, 1)
 }
 
 // Is this byte neither a gap nor a parenthesis?
 fn is_plain(b: u8) -> bool
     ensures { result ≡ is_plain b }
 {
-    if words::is_gap(b) {
-        return false;
-    }
-    if b == b'(' { false } else { b != b')' }
+    !words::is_gap(b) && b != b'(' && b != b')'
 }
 
 // The end of the bytes that a text begins with and that are neither gaps nor parentheses.
 fn plain_end(s: &[u8]) -> usize
     ensures { result ≡ run is_plain s.now }
 {
-    let mut e = 0;
-    while e < s.len() {
-        if is_plain(s[e]) {
-            e += 1;
-        } else {
-            return e;
-        }
-    }
-    e
+    s.iter().position(|&b| !is_plain(b)).unwrap_or(s.len())
 }
 
 // The first parenthesis of a text.
 fn paren_at(s: &[u8]) -> usize
     ensures { result ≡ run not_paren s.now }
 {
-    let mut e = 0;
-    while e < s.len() {
-        if s[e] == b'(' {
-            return e;
-        }
-        if s[e] == b')' {
-            return e;
-        }
-        e += 1;
-    }
-    e
+    s.iter()
+        .position(|&b| b == b'(' || b == b')')
+        .unwrap_or(s.len())
 }
 
 // What the text behind the word `enum` goes on with, comments passed over.
@@ -131,27 +93,20 @@ fn next_symbol(s: &[u8]) -> Symbol
 }
 
 // Are all words of the text symbols?
-fn all_symbols(table: &[u8; 256], s: &[u8]) -> bool
-    requires { table.now ≡ class_table }
+fn all_symbols(table: &Classes, s: &[u8]) -> bool
     ensures { result ≡ are_symbols (symbols_of s.now) }
 {
     let mut rest = s;
     loop {
-        let w = next_symbol(rest);
-        match w {
+        match next_symbol(rest) {
             Symbol::At { start, end } => {
-                if is_symbol(table, &rest[start..end]) {
-                    rest = &rest[end..];
-                } else {
+                if !is_symbol(table, &rest[start..end]) {
                     return false;
                 }
+                rest = &rest[end..];
             }
-            Symbol::End => {
-                return true;
-            }
-            Symbol::Fault => {
-                return false;
-            }
+            Symbol::End => return true,
+            Symbol::Fault => return false,
         }
     }
 }
@@ -160,13 +115,11 @@ fn all_symbols(table: &[u8; 256], s: &[u8]) -> bool
 pub(crate) fn is_enum(s: &[u8]) -> bool
     ensures { result ≡ is_enum (symbols_of s.now) }
 {
-    let table = format::classes();
-    let w = next_symbol(s);
-    match w {
-        Symbol::At { start: _, end: _ } => all_symbols(&table, s),
-        Symbol::End => false,
-        Symbol::Fault => false,
-    }
+    let table = Classes::new();
+    let Symbol::At { .. } = next_symbol(s) else {
+        return false;
+    };
+    all_symbols(&table, s)
 }
 
 // Is v one of the symbols in the text s behind the word `enum`?
@@ -176,20 +129,12 @@ pub(crate) fn has_symbol(s: &[u8], v: &[u8]) -> bool
 {
     let mut rest = s;
     loop {
-        let w = next_symbol(rest);
-        match w {
-            Symbol::At { start, end } => {
-                if lines::same_bytes(v, &rest[start..end]) {
-                    return true;
-                }
-                rest = &rest[end..];
-            }
-            Symbol::End => {
-                return false;
-            }
-            Symbol::Fault => {
-                return false;
-            }
+        let Symbol::At { start, end } = next_symbol(rest) else {
+            return false;
+        };
+        if lines::same_bytes(v, &rest[start..end]) {
+            return true;
         }
+        rest = &rest[end..];
     }
 }

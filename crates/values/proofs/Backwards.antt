@@ -1,4 +1,6 @@
 -- Decoding followed backwards: the bytes before a place that it comes to tell the step that led there.
+use Rattle.std.specs.Prelude.{Option, Some, None}
+use Rattle.values.specs.declared.Decoded.{Decoded}
 use Prim.Native.Nat.{ℕ, zero, suc, ◌+◌, ◌-◌, ◌≤◌, ◌<◌}
 use native.Mathlib.Omega.{arith}
 use mathlib.Core.Path.{◌≡◌, refl, sym, ap, ◌∙◌, subst}
@@ -10,7 +12,6 @@ use lib.ListN.{length, get_or, drop}
 use borrow.Author.Tests.{eqb-true, eqb-false, eq-eqb, ne_eqb}
 use Rattle.format.specs.Bytes.{Bytes}
 use Rattle.values.specs.Value.{value_from, Step, joint, space, plus, plain, Reaches, here, further, Precedes, is_plus, is_plus_space}
-use Rattle.values.specs.declared.Decoded.{Decoded}
 use Rattle.values.proofs.Decoding.{byte_inside, joined_at, plain_at, space-at, plus-at}
 
 -- what is not true
@@ -115,7 +116,7 @@ module _ (s : Bytes) where
   is-space i a b = rw (eq-eqb (get_or s i 0) 32 a) b
 
   -- the byte before a place, by these tests
-  pub plus-before : (k : ℕ) → Reaches s 0 k → 0 < k → is_plus s (k - 1) ≡ true → Precedes s k (Decoded.Byte 10 (k - 1 - 1))
+  pub plus-before : (k : ℕ) → Reaches s 0 k → 0 < k → is_plus s (k - 1) ≡ true → Precedes s k (Some (record { byte = 10; next = k - 1 - 1 }))
   plus-before k here h e = absurd (omega arith)
   plus-before k (further {j} r (joint q a b)) h e = let p = (plus-told (k - 1) e).0 in absurd (omega (arith, byte_at (k - 1) (j + 1) (omega arith)))
   plus-before k (further {j} r (space q a b c)) h e = let p = (plus-told (k - 1) e).0 in absurd (omega (arith, byte_at (k - 1) (j + 2) (omega arith)))
@@ -132,7 +133,7 @@ module _ (s : Bytes) where
   space-unread k (further {j} r (plus q a b c)) e = c (byte_at (j + 2) k (sym q) ∙ (space-told k e).0)
   space-unread k (further {j} r (plain q l a b)) e = plus-unread j r (ap (is_plus s) (let p : j ≡ k - 1 = omega arith in p) ∙ (space-told k e).1)
 
-  pub space-before : (k : ℕ) → Reaches s 0 k → 0 < k → is_plus_space s (k - 1) ≡ true → Precedes s k (Decoded.Byte 10 (k - 1 - 2))
+  pub space-before : (k : ℕ) → Reaches s 0 k → 0 < k → is_plus_space s (k - 1) ≡ true → Precedes s k (Some (record { byte = 10; next = k - 1 - 2 }))
   space-before k here h e = absurd (omega arith)
   space-before k (further {j} r (joint q a b)) h e = let p = (space-told (k - 1) e).0 in absurd (omega (arith, byte_at (k - 1) (j + 1) (omega arith)))
   space-before k (further {j} r (plus q a b c)) h e = let p = (space-told (k - 1) e).0 in absurd (omega (arith, byte_at (k - 1) (j + 1) (omega arith)))
@@ -146,7 +147,7 @@ module _ (s : Bytes) where
   plus-tested j r a b =
       is-plus (j + 1) b (byte_at (j + 1 - 1) j (omega arith) ∙ a) (λ q. newline-free j r a (byte_at (j - 1) (j + 1 - 2) (omega arith) ∙ q))
 
-  pub plain-before : (k : ℕ) → Reaches s 0 k → 0 < k → (get_or s (k - 1) 0 ≡ 10 → ⊥) → is_plus s (k - 1) ≡ false → is_plus_space s (k - 1) ≡ false → Precedes s k (Decoded.Byte (get_or s (k - 1) 0) (k - 1))
+  pub plain-before : (k : ℕ) → Reaches s 0 k → 0 < k → (get_or s (k - 1) 0 ≡ 10 → ⊥) → is_plus s (k - 1) ≡ false → is_plus_space s (k - 1) ≡ false → Precedes s k (Some (record { byte = get_or s (k - 1) 0; next = k - 1 }))
   plain-before k here h n e f = absurd (omega arith)
   plain-before k (further {j} r (joint q a b)) h n e f = absurd (n (byte_at (k - 1) (j + 1) (omega arith) ∙ b))
   plain-before k (further {j} r (plus q a b c)) h n e f =
@@ -161,22 +162,22 @@ module _ (s : Bytes) where
       (subst (λ (i : ℕ). value_from (drop i s) ≡ get_or s i 0 ∷ value_from (drop k s)) p v, omega arith, subst (Reaches s 0) p r)
 
   -- a byte above a plus is none of those
-  pub high-before : (k : ℕ) → Reaches s 0 k → 0 < k → 43 < get_or s (k - 1) 0 → Precedes s k (Decoded.Byte (get_or s (k - 1) 0) (k - 1))
+  pub high-before : (k : ℕ) → Reaches s 0 k → 0 < k → 43 < get_or s (k - 1) 0 → Precedes s k (Some (record { byte = get_or s (k - 1) 0; next = k - 1 }))
   high-before k r h b =
       plain-before k r h (λ q. omega arith) (untrue (is_plus s (k - 1)) (λ e. let p = (plus-told (k - 1) e).0 in omega arith))
       (untrue (is_plus_space s (k - 1)) (λ e. let p = (space-told (k - 1) e).0 in omega arith))
 
   -- joints may stand between that byte and the place
-  pub precedes-from : (k i : ℕ) (d : Decoded) → i ≤ k → value_from (drop i s) ≡ value_from (drop k s) → Precedes s i d → Precedes s k d
-  precedes-from k i Decoded.End h e u = u ∙ e
-  precedes-from k i (Decoded.Byte b j) h e u = (u.0 ∙ ap {B = Bytes} (λ v. b ∷ v) e, omega arith, u.2)
+  pub precedes-from : (k i : ℕ) (d : Option Decoded) → i ≤ k → value_from (drop i s) ≡ value_from (drop k s) → Precedes s i d → Precedes s k d
+  precedes-from k i None h e u = u ∙ e
+  precedes-from k i (Some d) h e u = (u.0 ∙ ap {B = Bytes} (λ v. d.byte ∷ v) e, omega arith, u.2)
 
-  pub precedes-none : (k i : ℕ) → i ≡ 0 → value_from (drop i s) ≡ value_from (drop k s) → Precedes s k Decoded.End
+  pub precedes-none : (k i : ℕ) → i ≡ 0 → value_from (drop i s) ≡ value_from (drop k s) → Precedes s k None
   precedes-none k i z e = value-at 0 i (sym z) ∙ e
 
   -- what an answer says, once its form is known
-  pub none_before : (k : ℕ) (d : Decoded) → Precedes s k d → d ≡ Decoded.End → value_from s ≡ value_from (drop k s)
+  pub none_before : (k : ℕ) (d : Option Decoded) → Precedes s k d → d ≡ None → value_from s ≡ value_from (drop k s)
   none_before k d u e = subst (Precedes s k) e u
 
-  pub comes-before : (k : ℕ) (d : Decoded) {b i : ℕ} → Precedes s k d → d ≡ Decoded.Byte b i → Precedes s k (Decoded.Byte b i)
+  pub comes-before : (k : ℕ) (d : Option Decoded) {b i : ℕ} → Precedes s k d → d ≡ Some (record { byte = b; next = i }) → Precedes s k (Some (record { byte = b; next = i }))
   comes-before k d u e = subst (Precedes s k) e u

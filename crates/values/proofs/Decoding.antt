@@ -1,17 +1,20 @@
 -- Decoding: what the first bytes of a text add to its value, on the text itself and from an index on; and a value is no longer than its text.
+use Rattle.std.specs.Prelude.{Option, Some, None}
+use Rattle.values.specs.declared.Decoded.{Decoded}
 use Prim.Native.Nat.{ℕ, zero, suc, ◌+◌, ◌≤◌, ◌<◌}
 use native.Mathlib.Nat.{add-zero, add_assoc}
 use native.Mathlib.Omega.{arith}
 use mathlib.Core.Path.{◌≡◌, refl, sym, ap, ◌∙◌, subst}
-use mathlib.Core.Bool.{Bool, true, false}
+use mathlib.Core.Bool.{Bool, true, false, not, ◌||◌, false≢true}
 use mathlib.Core.List.{[], ◌∷◌}
 use lib.Dec.{eqb}
-use lib.ListN.{length, get_or, drop, drop_of_length-le}
+use lib.ListN.{length, get_or, drop, drop_of_length-le, length-drop}
 use lib.Seq.{get_or-drop}
-use borrow.Author.Tests.{eqb-true, ne_eqb}
+use borrow.Author.Tests.{eqb-true, eq-eqb, ne_eqb}
+use Rattle.std.specs.List.{position_or_len}
+use Rattle.std.proofs.lemmas.List.Sums.{prefix_len-le-length, fails_before_first}
 use Rattle.format.specs.Bytes.{Bytes, pick}
 use Rattle.values.specs.Value.{decode, value_from, Plain, Reaches, here, further, plain, Unfolds}
-use Rattle.values.specs.declared.Decoded.{Decoded}
 use Rattle.lines.proofs.Cuts.{at-cons}
 
 -- A backslash before a newline vanishes with it.
@@ -95,16 +98,43 @@ plain_more s i k p h a b =
     let e = plain_at s k h a (λ q r. b q) in
     record { on = omega arith; reached = further p.reached (plain refl h a (λ q r. b q)); counted = omega (arith, ap length e) }
 
+no-newline : (b : ℕ) → (eqb b 10 || eqb b 92) ≡ false → b ≡ 10 → ⊥
+no-newline b f q = false≢true (sym f ∙ rw (eq-eqb _ _ q))
+
+no-backslash : (b : ℕ) → (eqb b 10 || eqb b 92) ≡ false → b ≡ 92 → ⊥
+no-backslash b f q = false≢true (sym f ∙ rw (q))
+
+-- a byte that a stretch of plain ones ends before
+abbrev pub ends_run : ℕ → Bool
+ends_run b = eqb b 10 || eqb b 92
+
+-- the bytes before the first such one
+pub plain_run : (s : Bytes) (i n : ℕ) → n ≡ position_or_len ends_run (drop i s) → Plain s i (i + n)
+plain_run s i n e = go n (omega (arith, e))
+  where
+    inside : (k : ℕ) → suc k ≤ position_or_len ends_run (drop i s) → i + k < length s
+    inside k h = omega (arith, prefix_len-le-length (λ b. not (ends_run b)) (drop i s), length-drop i s)
+
+    other : (k : ℕ) → suc k ≤ position_or_len ends_run (drop i s) → ends_run (get_or s (i + k) 0) ≡ false
+    other k h = ap ends_run (sym (get_or-drop i s k 0)) ∙ fails_before_first ends_run (drop i s) k 0 (omega (arith, h))
+
+    go : (k : ℕ) → k ≤ position_or_len ends_run (drop i s) → Plain s i (i + k)
+    go zero h = subst (Plain s i) (sym (add-zero i)) (plain_here s i)
+    go (suc k) h =
+        let f = other k h in
+        subst (Plain s i) (let z : i + k + 1 ≡ i + suc k = omega arith in z)
+        (plain_more s i (i + k) (go k (omega arith)) (inside k h) (λ q. no-newline (get_or s (i + k) 0) f q) (λ q. no-backslash (get_or s (i + k) 0) f q))
+
 -- The next byte of the value may be looked for further on.
-pub unfolds-from : (s : Bytes) (i j : ℕ) (d : Decoded) → i ≤ j → Reaches s i j → value_from (drop i s) ≡ value_from (drop j s) → Unfolds s j d → Unfolds s i d
-unfolds-from s i j Decoded.End h r e u = e ∙ u
-unfolds-from s i j (Decoded.Byte b k) h r e u = (e ∙ u.0, omega arith, u.2, reaches-on r u.3)
+pub unfolds-from : (s : Bytes) (i j : ℕ) (d : Option Decoded) → i ≤ j → Reaches s i j → value_from (drop i s) ≡ value_from (drop j s) → Unfolds s j d → Unfolds s i d
+unfolds-from s i j None h r e u = e ∙ u
+unfolds-from s i j (Some d) h r e u = (e ∙ u.0, omega arith, u.2, reaches-on r u.3)
 
 -- What an answer says of the value, once its form is known.
-pub ended : (s : Bytes) (i : ℕ) (d : Decoded) → Unfolds s i d → d ≡ Decoded.End → value_from (drop i s) ≡ []
+pub ended : (s : Bytes) (i : ℕ) (d : Option Decoded) → Unfolds s i d → d ≡ None → value_from (drop i s) ≡ []
 ended s i d u e = subst (Unfolds s i) e u
 
-pub goes_on : (s : Bytes) (i : ℕ) (d : Decoded) {b k : ℕ} → Unfolds s i d → d ≡ Decoded.Byte b k → Unfolds s i (Decoded.Byte b k)
+pub goes_on : (s : Bytes) (i : ℕ) (d : Option Decoded) {b k : ℕ} → Unfolds s i d → d ≡ Some (record { byte = b; next = k }) → Unfolds s i (Some (record { byte = b; next = k }))
 goes_on s i d u e = subst (Unfolds s i) e u
 
 -- what holds of both holds of the one that is picked

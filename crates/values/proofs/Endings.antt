@@ -1,4 +1,5 @@
 -- Two values of one length that are alike from two places on: what the bytes before these places say of the values.
+use Rattle.std.specs.Prelude.{Some}
 use Prim.Native.Nat.{ℕ, ◌+◌, ◌-◌, ◌≤◌}
 use native.Mathlib.Omega.{arith}
 use mathlib.Core.Path.{◌≡◌, sym, ap, ap₂, ◌∙◌}
@@ -7,7 +8,6 @@ use lib.Dec.{ltb}
 use lib.ListN.{length, drop, length-append}
 use Rattle.format.specs.Bytes.{Bytes}
 use Rattle.values.specs.Value.{value_from, Reaches, Precedes}
-use Rattle.values.specs.declared.Decoded.{Decoded}
 use Rattle.values.proofs.Backwards.{reaches-value}
 use Rattle.values.specs.Likeness.{last_of, likeness_of}
 use Rattle.values.specs.declared.ends.Likeness.{Likeness}
@@ -22,7 +22,7 @@ whole-value : (s : Bytes) (k : ℕ) → Reaches s 0 k → length (value_from s) 
 whole-value s k r h = let f = reaches-value s 0 k r in whole_back f.0 (value_from (drop k s)) (value_from s) f.1 h
 
 -- the place of the byte before
-pub place-before : (s : Bytes) (k place c i : ℕ) → place + length (value_from (drop k s)) ≡ length (value_from s) → Precedes s k (Decoded.Byte c i) → 1 ≤ place
+pub place-before : (s : Bytes) (k place c i : ℕ) → place + length (value_from (drop k s)) ≡ length (value_from s) → Precedes s k (Some (record { byte = c; next = i })) → 1 ≤ place
 place-before s k place c i h u =
     let f = reaches-value s 0 i u.2 in
     omega (arith, ap length f.1, length-append f.0 (value_from (drop i s)), ap length u.0)
@@ -34,7 +34,7 @@ module _ (a b : Bytes) (p q : ℕ) (alike : length (value_from a) ≡ length (va
   pub second_ended : Reaches a 0 p → value_from b ≡ value_from (drop q b) → Likeness.Equal ≡ likeness_of (value_from a) (value_from b)
   second_ended t e = sym (same-likeness (value_from a) (value_from b) (whole-value a p t (omega (arith, ap length e, ap length rest)) ∙ rest ∙ sym e))
 
-  module _ (c d i j : ℕ) (x : Precedes a p (Decoded.Byte c i)) (y : Precedes b q (Decoded.Byte d j)) where
+  module _ (c d i j : ℕ) (x : Precedes a p (Some (record { byte = c; next = i }))) (y : Precedes b q (Some (record { byte = d; next = j }))) where
     pub differs : (place : ℕ) → place + length (value_from (drop p a)) ≡ length (value_from a) → (c ≡ d → ⊥) → Likeness.Differ (place - 1) (ltb c d) ≡ likeness_of (value_from a) (value_from b)
     differs place h n =
         let r = value_from (drop p a) in

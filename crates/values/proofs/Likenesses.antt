@@ -96,13 +96,6 @@ unlike-lengths a b {f} e = (subst (Means a b) e (likeness-means a b)).0
 pub last-difference : (a b : Bytes) {k : ℕ} {f : Bool} → likeness_of a b ≡ Likeness.Differ k f → Means a b (Likeness.Differ k f)
 last-difference a b {k} {f} e = subst (Means a b) e (likeness-means a b)
 
--- In both cases the texts are not the same.
-pub unlike-apart : (a b : Bytes) {f : Bool} → likeness_of a b ≡ Likeness.Unlike f → a ≡ b → ⊥
-unlike-apart a b e q = unlike-lengths a b e (ap length q)
-
-pub differ-apart : (a b : Bytes) {k : ℕ} {f : Bool} → likeness_of a b ≡ Likeness.Differ k f → a ≡ b → ⊥
-differ-apart a b {k} e q = (last-difference a b e).2 (ap (λ (v : Bytes). get_or v k 0) q)
-
 -- Two texts that end alike, behind fronts of one length and two bytes that differ.
 pub last-same : (a : Bytes) → last_of a a ≡ Likeness.Equal
 unfolding last_of

@@ -1,4 +1,5 @@
 -- The parts of a word between commas, byte by byte.
+use Rattle.std.specs.Prelude.{Option}
 use Prim.Native.Nat.{ℕ}
 use mathlib.Core.Path.{◌≡◌, ap, ◌∙◌, subst}
 use mathlib.Core.Bool.{Bool, true, false, not}
@@ -9,7 +10,6 @@ use Rattle.format.specs.Lists.{behind}
 use Rattle.format.specs.Words.{split}
 use Rattle.format.proofs.Parts.{parts_behind}
 use Rattle.values.specs.Words.{is_comma, name_of, others_of, Behind}
-use Rattle.values.specs.declared.lists.Part.{Part}
 
 -- a word that has ended, one that begins with a comma, and one that begins with another byte
 module _ (w : Bytes) where
@@ -30,5 +30,5 @@ module _ (w : Bytes) where
     parts-on q = (name_by false q, others_by_lem false q)
 
 -- what an answer tells, once its form is known
-pub behind-told : (s : Bytes) (i : ℕ) (p : Part) {q : Part} → Behind s i p → p ≡ q → Behind s i q
+pub behind-told : (s : Bytes) (i : ℕ) (p : Option ℕ) {q : Option ℕ} → Behind s i p → p ≡ q → Behind s i q
 behind-told s i p h e = subst (Behind s i) e h

@@ -1,4 +1,5 @@
 -- The pieces of a text are the one that next_piece finds and the pieces behind it.
+use Rattle.std.specs.Prelude.{Option as Maybe, Some, None, ℕ}
 use Prim.Native.Nat.{suc, ◌+◌, ◌<◌}
 use native.Mathlib.Omega.{arith}
 use mathlib.Core.Path.{◌≡◌, refl, sym, ap, ◌∙◌, subst}
@@ -18,7 +19,6 @@ use Rattle.lines.specs.Line.{line_len, first_line}
 use Rattle.lines.specs.Piece.{line_size, extent_of, value_at, field_next, next_by, next_of, size_of}
 use Rattle.values.specs.Value.{value_from}
 use Rattle.values.specs.Pieces.{piece_of, on_piece}
-use Rattle.lines.specs.declared.Extent.{Extent}
 use Rattle.lines.specs.declared.Next.{Next}
 use Rattle.values.proofs.Values.{field-value}
 use Rattle.lines.proofs.Cuts.{lines_cut}
@@ -62,10 +62,10 @@ module _ (s : Bytes) (l : Line) (ls : List Line) (clean : Each Clean (l ∷ ls))
   field-sound : (w : Bytes) (own : List Line) → Each Clean (l ∷ own) → read_from (pick (joins l) Mode.joined Mode.opened) own ≡ opening w own (read_from Mode.closed []) → Sound (Piece.field n (cut v ++ w) (l ∷ own))
   field-sound w own c e = (c, ap (λ (F : Form). onward (take_line (unopened F) l) (read_from (after (unopened F)) own)) is ∙ ap (λ (m : Mode). onward (take_line (Form.field n v) l) (read_from m own)) mode ∙ ap (onward (take_line (Form.field n v) l)) e)
 
-  field_cut : ValueLaw → (e : Extent) → Owns (joins l) (0 + line_size l) ls e
+  field_cut : ValueLaw → (e : Maybe ℕ) → Owns (joins l) (0 + line_size l) ls e
       → pieces_in (onward (take_line (Form.field n v) l) (read_from (pick (joins v) Mode.joined Mode.opened) ls)) ≡ on_piece (piece_of (field_next (length n) (value_at (length n) l) e) s) (pieces (drop (size_of (field_next (length n) (value_at (length n) l) e)) s))
-  field_cut law Extent.Open h = ap (λ (m : Mode). pieces_in (onward (take_line (Form.field n v) l) (read_from m ls))) mode ∙ ap (λ (x : Option Reading). pieces_in (onward (take_line (Form.field n v) l) x)) h
-  field_cut law (Extent.Size k) h =
+  field_cut law None h = ap (λ (m : Mode). pieces_in (onward (take_line (Form.field n v) l) (read_from m ls))) mode ∙ ap (λ (x : Option Reading). pieces_in (onward (take_line (Form.field n v) l) x)) h
+  field_cut law (Some k) h =
       let a : List Line = l ∷ h.own in
       let w = h.value in
       let c : Each Clean (a ++ h.rest) = subst (λ (x : List Line). Each Clean (l ∷ x)) h.parts clean in

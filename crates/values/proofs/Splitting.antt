@@ -1,4 +1,6 @@
 -- The next word of a value, behind its gaps.
+use Rattle.std.specs.Prelude.{Option}
+use Rattle.values.specs.declared.lists.NextWord.{NextWord}
 use Prim.Native.Nat.{ℕ}
 use native.Mathlib.Omega.{arith}
 use mathlib.Core.Path.{◌≡◌, refl, sym, ap, ◌∙◌, subst}
@@ -10,7 +12,6 @@ use Rattle.format.specs.Words.{is_gap, not_gap, words}
 use Rattle.format.proofs.Parts.{words-skip, words-cut}
 use Rattle.values.proofs.Words.{word_on}
 use Rattle.values.specs.Words.{Cuts}
-use Rattle.values.specs.declared.lists.NextWord.{NextWord}
 
 -- behind them stands no gap
 behind-head : (v w : Bytes) (b : ℕ) → behind is_gap v ≡ b ∷ w → is_gap b ≡ false
@@ -32,5 +33,5 @@ module _ (v a : Bytes) (g : a ≡ behind is_gap v) where
       words-skip v ∙ ap words (sym g ∙ e) ∙ words-cut b w h ∙ (λ i. sym (word_on a w b e h) i ∷ words (sym f i))
 
 -- what an answer tells, once its form is known
-pub cuts-told : (s : Bytes) (i : ℕ) (x : NextWord) {y : NextWord} → Cuts s i x → x ≡ y → Cuts s i y
+pub cuts-told : (s : Bytes) (i : ℕ) (x : Option NextWord) {y : Option NextWord} → Cuts s i x → x ≡ y → Cuts s i y
 cuts-told s i x h e = subst (Cuts s i) e h

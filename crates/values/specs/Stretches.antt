@@ -1,8 +1,5 @@
 -- The bytes that a stretch of a value has.
-use Rattle.std.specs.Prelude.{ℕ, Bool, ◌||◌, not, ltb, eqb}
-use Rattle.format.specs.Words.{is_gap, not_gap}
-use Rattle.format.specs.Types.{before_comment}
-use Rattle.values.specs.declared.stretches.Stretch.{Stretch}
+use Rattle.std.specs.Prelude.{ℕ, ◌≡◌, Bool, ◌||◌, not, ltb, eqb}
 
 -- every byte of a name and of a symbol is a percent sign or above the comma; gaps, commas and parentheses are not
 abbrev pub is_word_byte : ℕ → Bool
@@ -12,9 +9,6 @@ is_word_byte c = ltb 44 c || eqb c 37
 abbrev pub not_paren : ℕ → Bool
 not_paren c = not (eqb c 40 || eqb c 41)
 
-abbrev pub passes : Stretch → ℕ → Bool
-passes Stretch.Gaps c = is_gap c
-passes Stretch.Word c = not_gap c
-passes Stretch.Symbol c = is_word_byte c
-passes Stretch.Head c = before_comment c
-passes Stretch.Comment c = not_paren c
+-- a test that the code makes of a byte answers as p does
+abbrev pub Tests : (ℕ → Bool → Type 0) → (ℕ → Bool) → Type 0
+Tests post p = (b : ℕ) (r : Bool) → post b r → r ≡ p b

@@ -1,7 +1,7 @@
 -- The value of a field, from the byte it begins at.
-use Rattle.std.specs.Prelude.{ℕ, zero, suc, ◌+◌, ◌-◌, ◌<◌, ◌≤◌, ◌≡◌, Bool, ◌&&◌, not, [], ◌∷◌, eqb, length, get_or, drop}
-use Rattle.format.specs.Bytes.{Bytes, pick}
 use Rattle.values.specs.declared.Decoded.{Decoded}
+use Rattle.std.specs.Prelude.{ℕ, zero, suc, ◌+◌, ◌-◌, ◌<◌, ◌≤◌, ◌≡◌, Bool, ◌&&◌, not, [], ◌∷◌, eqb, length, get_or, drop, Option, Some, None}
+use Rattle.format.specs.Bytes.{Bytes, pick}
 
 -- The value, with a number of bytes to be passed over first. A backslash and a newline vanish; a newline, a plus and one space stand for a newline;
 -- any other newline ends the value.
@@ -37,14 +37,14 @@ pub record Plain (s : Bytes) (i k : ℕ) : Type 0 where
   pub counted : length (value_from (drop i s)) ≡ k - i + length (value_from (drop k s))
 
 -- what reading one byte of the value at i says of the rest
-abbrev pub Unfolds : Bytes → ℕ → Decoded → Type 0
-Unfolds s i Decoded.End = value_from (drop i s) ≡ []
-Unfolds s i (Decoded.Byte b k) = (value_from (drop i s) ≡ b ∷ value_from (drop k s)) × (i < k) × (k ≤ length s) × Reaches s i k
+abbrev pub Unfolds : Bytes → ℕ → Option Decoded → Type 0
+Unfolds s i None = value_from (drop i s) ≡ []
+Unfolds s i (Some d) = (value_from (drop i s) ≡ d.byte ∷ value_from (drop d.next s)) × (i < d.next) × (d.next ≤ length s) × Reaches s i d.next
 
 -- and what reading the byte before k says, in the value that begins where s does
-abbrev pub Precedes : Bytes → ℕ → Decoded → Type 0
-Precedes s k Decoded.End = value_from s ≡ value_from (drop k s)
-Precedes s k (Decoded.Byte b i) = (value_from (drop i s) ≡ b ∷ value_from (drop k s)) × (i < k) × Reaches s 0 i
+abbrev pub Precedes : Bytes → ℕ → Option Decoded → Type 0
+Precedes s k None = value_from s ≡ value_from (drop k s)
+Precedes s k (Some d) = (value_from (drop d.next s) ≡ d.byte ∷ value_from (drop k s)) × (d.next < k) × Reaches s 0 d.next
 
 -- a plus that vanishes, since the newline before it is the value's: no backslash joins it; and a space that vanishes with such a plus
 abbrev pub is_plus : Bytes → ℕ → Bool

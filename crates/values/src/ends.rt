@@ -33,8 +33,7 @@ fn measure(v: &[u8]) -> Span
     loop {
         let end = plain_end(v, i);
         n += end - i;
-        let d = value_byte(v, end);
-        let Decoded::Byte { byte: _, next } = d else {
+        let Some(Decoded { next, .. }) = value_byte(v, end) else {
             return Span { n, end };
         };
         i = next;
@@ -53,10 +52,10 @@ fn last_difference(a: &[u8], b: &[u8], n: usize, i: usize, j: usize) -> Likeness
     loop {
         let x = byte_before(a, p);
         let y = byte_before(b, q);
-        let Decoded::Byte { byte: c, next: k } = x else {
+        let Some(Decoded { byte: c, next: k }) = x else {
             return Likeness::Equal;
         };
-        let Decoded::Byte { byte: d, next: l } = y else {
+        let Some(Decoded { byte: d, next: l }) = y else {
             return Likeness::Equal;
         };
         place -= 1;
@@ -68,7 +67,7 @@ fn last_difference(a: &[u8], b: &[u8], n: usize, i: usize, j: usize) -> Likeness
     }
 }
 
-// The values that begin where a and b do.
+// The values that begin where a and b do. By hand: they are decoded where they stand.
 pub fn compare(a: &[u8], b: &[u8]) -> Likeness
     ensures { result ≡ likeness_of (value_from a.now) (value_from b.now) }
 {
@@ -88,10 +87,5 @@ pub fn compare(a: &[u8], b: &[u8]) -> Likeness
 pub fn are_equal(a: &[u8], b: &[u8]) -> bool
     ensures { result ≡ same (value_from a.now) (value_from b.now) }
 {
-    let l = compare(a, b);
-    match l {
-        Likeness::Equal => true,
-        Likeness::Unlike { shorter: _ } => false,
-        Likeness::Differ { place: _, less: _ } => false,
-    }
+    matches!(compare(a, b), Likeness::Equal)
 }

@@ -17,50 +17,51 @@ mod stretches;
 
 pub use ends::{Likeness, are_equal, compare};
 pub use ints::int_in;
-pub use lists::{NextWord, Part, count_words, next_word, part_next};
+pub use lists::{NextWord, count_words, next_word, part_next};
 pub use starts::{copy_word, word_is, word_len, word_start};
-pub use stretches::{Stretch, is_word_byte, pass};
+pub use stretches::{is_comment_byte, is_head_byte, is_word_byte, pass};
 
 // One byte of a value, and where the next one is looked for; or the value's end.
-#[derive(Drop)]
-pub enum Decoded {
-    End,
-    Byte { byte: u8, next: usize },
+#[derive(Clone, Copy)]
+pub struct Decoded {
+    pub byte: u8,
+    pub next: usize,
 }
 
 // The byte of the value at i, which begins no joined line.
-fn plain_byte(s: &[u8], i: usize) -> Decoded
+fn plain_byte(s: &[u8], i: usize) -> Option<Decoded>
     requires i_in_bounds { i < length s.now }
     requires fact { get_or s.now i 0 ≡ 92 → get_or s.now (i + 1) 0 ≡ 10 → ⊥ }
     ensures { Unfolds s.now i result }
 {
     let b = s[i];
     if b != b'\n' {
-        return Decoded::Byte {
+        return Some(Decoded {
             byte: b,
             next: i + 1,
-        };
+        });
     }
     if lines::byte(s, i + 1) != b'+' {
-        return Decoded::End;
+        return None;
     }
     if lines::byte(s, i + 2) == b' ' {
-        return Decoded::Byte {
+        return Some(Decoded {
             byte: b'\n',
             next: i + 3,
-        };
+        });
     }
-    Decoded::Byte {
+    Some(Decoded {
         byte: b'\n',
         next: i + 2,
-    }
+    })
 }
 
 // The byte of the value that is looked for at i: a backslash before a newline and that newline
 // are passed over.
-pub fn value_byte(s: &[u8], i: usize) -> Decoded
+pub fn value_byte(s: &[u8], i: usize) -> Option<Decoded>
     ensures { Unfolds s.now i result }
 {
+    // An index by hand: it moves by two.
     let mut at = i;
     while at < s.len() {
         if s[at] != b'\\' {
@@ -71,7 +72,7 @@ pub fn value_byte(s: &[u8], i: usize) -> Decoded
         }
         at += 2;
     }
-    Decoded::End
+    None
 }
 
 // The first place from i on where a byte may not stand for itself: a backslash, a newline or the
@@ -79,18 +80,13 @@ pub fn value_byte(s: &[u8], i: usize) -> Decoded
 pub fn plain_end(s: &[u8], i: usize) -> usize
     ensures { Plain s.now i result }
 {
-    let mut at = i;
-    while at < s.len() {
-        let b = s[at];
-        if b == b'\n' {
-            return at;
-        }
-        if b == b'\\' {
-            return at;
-        }
-        at += 1;
-    }
-    at
+    let Some(rest) = s.get(i..) else {
+        return i;
+    };
+    i + rest
+        .iter()
+        .position(|b| *b == b'\n' || *b == b'\\')
+        .unwrap_or(rest.len())
 }
 
 // The length of the value that begins where s does.
@@ -100,8 +96,7 @@ pub fn value_len(s: &[u8]) -> usize
     let mut i = 0;
     let mut n = 0;
     loop {
-        let d = value_byte(s, i);
-        let Decoded::Byte { byte: _, next } = d else {
+        let Some(Decoded { next, .. }) = value_byte(s, i) else {
             return n;
         };
         i = next;
@@ -115,10 +110,10 @@ pub fn copy_value(s: &[u8], out: &mut [u8]) -> usize
     ensures { (result ≡ length (value_from s.now)) × (out.new ≡ over (value_from s.now) out.old) }
 {
     let mut i = 0;
+    // An index by hand: the loop goes by what the readers find, and this counts what is written.
     let mut n = 0;
     loop {
-        let d = value_byte(s, i);
-        let Decoded::Byte { byte, next } = d else {
+        let Some(Decoded { byte, next }) = value_byte(s, i) else {
             return n;
         };
         out[n] = byte;
@@ -132,10 +127,10 @@ pub fn is_text(s: &[u8], text: &[u8]) -> bool
     ensures { result ≡ same text.now (value_from s.now) }
 {
     let mut at = 0;
+    // An index by hand: the loop goes by the bytes that are decoded, with the text beside them.
     let mut n = 0;
     loop {
-        let d = value_byte(s, at);
-        let Decoded::Byte { byte, next } = d else {
+        let Some(Decoded { byte, next }) = value_byte(s, at) else {
             return n == text.len();
         };
         if n == text.len() {
@@ -182,34 +177,34 @@ fn is_plus_space(s: &[u8], i: usize) -> bool
 }
 
 // The byte of the value before k, which ends no joint.
-fn last_byte(s: &[u8], k: usize) -> Decoded
+fn last_byte(s: &[u8], k: usize) -> Option<Decoded>
     requires reaches { Reaches s.now 0 k }
     requires k_nonzero { (0 < k) × (get_or s.now (k - 1) 0 ≡ 10 → ⊥) }
     ensures { Precedes s.now k result }
 {
     let i = k - 1;
     if is_plus(s, i) {
-        return Decoded::Byte {
+        return Some(Decoded {
             byte: b'\n',
             next: i - 1,
-        };
+        });
     }
     if is_plus_space(s, i) {
-        return Decoded::Byte {
+        return Some(Decoded {
             byte: b'\n',
             next: i - 2,
-        };
+        });
     }
-    Decoded::Byte {
+    Some(Decoded {
         byte: s[i],
         next: i,
-    }
+    })
 }
 
 // The byte of the value before k, and the place that it is decoded at: the other way than
 // `value_byte`, from a place that decoding comes to. Nothing above a plus is part of a joint or
 // of a plus line.
-pub fn byte_before(s: &[u8], k: usize) -> Decoded
+pub fn byte_before(s: &[u8], k: usize) -> Option<Decoded>
     requires { Reaches s.now 0 k }
     ensures { Precedes s.now k result }
 {
@@ -217,15 +212,15 @@ pub fn byte_before(s: &[u8], k: usize) -> Decoded
     while 0 < at {
         let b = s[at - 1];
         if b'+' < b {
-            return Decoded::Byte {
+            return Some(Decoded {
                 byte: b,
                 next: at - 1,
-            };
+            });
         }
         if b != b'\n' {
             return last_byte(s, at);
         }
         at -= 2;
     }
-    Decoded::End
+    None
 }

@@ -4,50 +4,42 @@ ghost use Rattle.format.specs.Words.{words};
 ghost use Rattle.values.specs.Value.{value_from};
 ghost use Rattle.values.specs.Words.{Cuts, Behind};
 
-use super::stretches::{Stretch, pass};
+use super::stretches::pass;
 use super::{Decoded, value_byte};
 
 // The next word of a value: where its first byte is looked for, and where what follows it is.
-#[derive(Drop)]
-pub enum NextWord {
-    Nothing,
-    At { start: usize, rest: usize },
+#[derive(Clone, Copy)]
+pub struct NextWord {
+    pub start: usize,
+    pub rest: usize,
 }
 
-pub fn next_word(s: &[u8], i: usize) -> NextWord
+pub fn next_word(s: &[u8], i: usize) -> Option<NextWord>
     requires { i ≤ length s.now }
     ensures { Cuts s.now i result }
 {
-    let start = pass(s, i, Stretch::Gaps);
-    let d = value_byte(s, start);
-    let Decoded::Byte { byte: _, next } = d else {
-        return NextWord::Nothing;
+    let start = pass(s, i, words::is_gap);
+    let Some(Decoded { next, .. }) = value_byte(s, start) else {
+        return None;
     };
-    let rest = pass(s, next, Stretch::Word);
-    NextWord::At { start, rest }
+    let rest = pass(s, next, |b| !words::is_gap(b));
+    Some(NextWord { start, rest })
 }
 
 // Where the part behind the next comma of the word begins.
-#[derive(Drop)]
-pub enum Part {
-    At(usize),
-    Nothing,
-}
-
-pub fn part_next(s: &[u8], i: usize) -> Part
+pub fn part_next(s: &[u8], i: usize) -> Option<usize>
     ensures { Behind s.now i result }
 {
     let mut at = i;
     loop {
-        let d = value_byte(s, at);
-        let Decoded::Byte { byte, next } = d else {
-            return Part::Nothing;
+        let Some(Decoded { byte, next }) = value_byte(s, at) else {
+            return None;
         };
         if words::is_gap(byte) {
-            return Part::Nothing;
+            return None;
         }
         if byte == b',' {
-            return Part::At(next);
+            return Some(next);
         }
         at = next;
     }
@@ -62,8 +54,7 @@ pub fn count_words(s: &[u8]) -> usize
     let mut n = 0;
     let mut gap = true;
     loop {
-        let d = value_byte(s, i);
-        let Decoded::Byte { byte, next } = d else {
+        let Some(Decoded { byte, next }) = value_byte(s, i) else {
             return n;
         };
         let here = words::is_gap(byte);

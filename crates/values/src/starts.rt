@@ -7,7 +7,7 @@ ghost use Rattle.format.specs.Words.{is_gap, not_gap, first_word};
 ghost use Rattle.format.specs.Calls.{over};
 ghost use Rattle.values.specs.Value.{value_from};
 
-use super::stretches::{Stretch, pass};
+use super::stretches::pass;
 use super::{Decoded, value_byte};
 
 // Is the word that the value from i on begins with this one?
@@ -15,10 +15,10 @@ pub fn word_here(s: &[u8], i: usize, word: &[u8]) -> bool
     ensures { result ≡ same word.now (front not_gap (value_from (drop i s.now))) }
 {
     let mut at = i;
+    // An index by hand: the loop goes by the bytes that are decoded, with the text beside them.
     let mut n = 0;
     loop {
-        let d = value_byte(s, at);
-        let Decoded::Byte { byte, next } = d else {
+        let Some(Decoded { byte, next }) = value_byte(s, at) else {
             return n == word.len();
         };
         if words::is_gap(byte) {
@@ -40,14 +40,14 @@ pub fn word_here(s: &[u8], i: usize, word: &[u8]) -> bool
 pub fn word_start(s: &[u8]) -> usize
     ensures { value_from (drop result s.now) ≡ behind is_gap (value_from s.now) }
 {
-    pass(s, 0, Stretch::Gaps)
+    pass(s, 0, words::is_gap)
 }
 
 // Is the first word of the value that begins where s does this one?
 pub fn word_is(s: &[u8], word: &[u8]) -> bool
     ensures { result ≡ same word.now (first_word (value_from s.now)) }
 {
-    let i = pass(s, 0, Stretch::Gaps);
+    let i = pass(s, 0, words::is_gap);
     word_here(s, i, word)
 }
 
@@ -58,8 +58,7 @@ pub fn word_len(s: &[u8], i: usize) -> usize
     let mut at = i;
     let mut n = 0;
     loop {
-        let d = value_byte(s, at);
-        let Decoded::Byte { byte, next } = d else {
+        let Some(Decoded { byte, next }) = value_byte(s, at) else {
             return n;
         };
         if words::is_gap(byte) {
@@ -76,10 +75,10 @@ pub fn copy_word(s: &[u8], i: usize, out: &mut [u8])
     ensures { out.new ≡ over (front not_gap (value_from (drop i s.now))) out.old }
 {
     let mut at = i;
+    // An index by hand: the loop goes by what the readers find, and this counts what is written.
     let mut n = 0;
     loop {
-        let d = value_byte(s, at);
-        let Decoded::Byte { byte, next } = d else {
+        let Some(Decoded { byte, next }) = value_byte(s, at) else {
             return;
         };
         if words::is_gap(byte) {

@@ -1,4 +1,6 @@
 -- The words of a text, told by the first of them: where it stands and what stands behind it.
+use Rattle.std.specs.Prelude.{Option, Some, None}
+use Rattle.words.specs.declared.Span.{Span}
 use Prim.Native.Nat.{ℕ, zero, suc, ◌+◌, ◌≤◌, ◌<◌}
 use native.Mathlib.Nat.{add-sub_cancel_left}
 use native.Mathlib.Omega.{arith}
@@ -17,7 +19,6 @@ use Rattle.lines.specs.Line.{run}
 use Rattle.lines.proofs.Cuts.{at-cons, rest}
 use Rattle.lines.proofs.Heads.{run_more}
 use Rattle.words.specs.Spans.{span, next_word}
-use Rattle.words.specs.declared.Word.{Word}
 
 -- a run is within its text
 pub run-le : (p : ℕ → Bool) (s : Bytes) → run p s ≤ length s
@@ -80,21 +81,21 @@ unfolding run
 words-run c s e = words-cut c s e ∙ rw (e, front-run, behind-run)
 
 -- what the word that is found tells: the words, the first word, the text behind it, and where it stands
-abbrev pub words_by : Bytes → Word → List Bytes
-words_by s (Word.At a e) = span a e s ∷ words (span e (length s) s)
-words_by s Word.Nothing = []
+abbrev pub words_by : Bytes → Option Span → List Bytes
+words_by s (Some p) = span p.start p.end s ∷ words (span p.end (length s) s)
+words_by s None = []
 
-abbrev pub first_by : Bytes → Word → Bytes
-first_by s (Word.At a e) = span a e s
-first_by s Word.Nothing = []
+abbrev pub first_by : Bytes → Option Span → Bytes
+first_by s (Some p) = span p.start p.end s
+first_by s None = []
 
-abbrev pub after_by : Bytes → Word → Bytes
-after_by s (Word.At a e) = span e (length s) s
-after_by s Word.Nothing = []
+abbrev pub after_by : Bytes → Option Span → Bytes
+after_by s (Some p) = span p.end (length s) s
+after_by s None = []
 
-abbrev pub Within : Bytes → Word → Type 0
-Within s (Word.At a e) = (a < e) × (e ≤ length s)
-Within s Word.Nothing = Unit {0}
+abbrev pub Within : Bytes → Option Span → Type 0
+Within s (Some p) = (p.start < p.end) × (p.end ≤ length s)
+Within s None = Unit {0}
 
 -- All four by one lemma: a property of every word that begins at a byte that is no gap, or of the end.
 module _ (s : Bytes) where
@@ -104,11 +105,11 @@ module _ (s : Bytes) where
   abbrev past : ℕ
   past = first + run not_gap (drop first s)
 
-  by_word : (P : Word → Type 0) → (first < length s → is_gap (get_or s first 0) ≡ false → P (Word.At first past)) → (length s ≤ first → P Word.Nothing) → P (next_word s)
+  by_word : (P : Option Span → Type 0) → (first < length s → is_gap (get_or s first 0) ≡ false → P (Some (record { start = first; end = past }))) → (length s ≤ first → P None) → P (next_word s)
   unfolding next_word
   by_word P f g = go (ltb first (length s)) refl
     where
-      go : (t : Bool) → ltb first (length s) ≡ t → P (pick t (Word.At first past) Word.Nothing)
+      go : (t : Bool) → ltb first (length s) ≡ t → P (pick t (Some (record { start = first; end = past })) None)
       go true e =
           let h : first < length s = ltb-true first (length s) e in
           f h (run_ends is_gap s h)
@@ -126,19 +127,19 @@ module _ (s : Bytes) where
 
   pub words-at : words s ≡ words_by s (next_word s)
   words-at =
-      by_word (λ (w : Word). words s ≡ words_by s w)
+      by_word (λ (w : Option Span). words s ≡ words_by s w)
       (λ h q. words-from-run s ∙ cut_at h q)
       (λ h. words-from-run s ∙ rw (drop_of_length-le s h))
 
   pub first-at : first_word s ≡ first_by s (next_word s)
   first-at =
-      by_word (λ (w : Word). first_word s ≡ first_by s w)
+      by_word (λ (w : Option Span). first_word s ≡ first_by s w)
       (λ h q. ap (front not_gap) (behind-run is_gap s) ∙ front-run not_gap (drop first s) ∙ word-here)
       (λ h. rw (behind-run, drop_of_length-le s h))
 
   pub after-at : after_word s ≡ after_by s (next_word s)
   after-at =
-      by_word (λ (w : Word). after_word s ≡ after_by s w)
+      by_word (λ (w : Option Span). after_word s ≡ after_by s w)
       (λ h q. ap (behind not_gap) (behind-run is_gap s) ∙ behind-run not_gap (drop first s) ∙ text-behind)
       (λ h. ap (behind not_gap) (behind-run is_gap s ∙ drop_of_length-le s h))
 
@@ -149,13 +150,13 @@ module _ (s : Bytes) where
       (λ h. tt)
 
 -- the same of a word r that the code found
-pub found : (s : Bytes) {r : Word} {a e : ℕ} → r ≡ next_word s → r ≡ Word.At a e → (a < e) × (e ≤ length s) × (words s ≡ span a e s ∷ words (span e (length s) s))
+pub found : (s : Bytes) {r : Option Span} {a e : ℕ} → r ≡ next_word s → r ≡ Some (record { start = a; end = e }) → (a < e) × (e ≤ length s) × (words s ≡ span a e s ∷ words (span e (length s) s))
 found s {a = a} {e = e} p q =
-    let w : next_word s ≡ Word.At a e = sym p ∙ q in
-    let l : Within s (Word.At a e) = subst (Within s) w (word-within s) in
+    let w : next_word s ≡ Some (record { start = a; end = e }) = sym p ∙ q in
+    let l : Within s (Some (record { start = a; end = e })) = subst (Within s) w (word-within s) in
     (l.0, l.1, words-at s ∙ ap (words_by s) w)
 
-pub not_found : (s : Bytes) {r : Word} → r ≡ next_word s → r ≡ Word.Nothing → words s ≡ []
+pub not_found : (s : Bytes) {r : Option Span} → r ≡ next_word s → r ≡ None → words s ≡ []
 not_found s p q = words-at s ∙ ap (words_by s) (sym p ∙ q)
 
 -- a byte that is not 0 stands in its text

@@ -1,27 +1,15 @@
--- Names and type names, by the first byte and the later ones.
-use Prim.Native.Nat.{◌<◌}
-use native.Mathlib.Nat.{not-suc-le-zero}
-use native.Mathlib.Omega.{arith}
-use mathlib.Core.Path.{◌≡◌, refl}
-use mathlib.Core.Bool.{false, ◌&&◌}
-use mathlib.Core.List.{[], ◌∷◌}
-use lib.ListN.{length, drop, get_or}
-use Rattle.format.specs.Bytes.{Bytes, is_letter, all}
-use Rattle.format.specs.Lines.{is_first, is_later, is_name}
+-- Type names, by the first byte and the later ones.
+use Prim.Native.Nat.{ℕ, ◌<◌}
+use mathlib.Core.Path.{◌≡◌, ap, ◌∙◌, subst}
+use mathlib.Core.Bool.{Bool, ◌&&◌}
+use mathlib.Core.List.{◌∷◌}
+use lib.Dec.{eqb}
+use lib.ListN.{get_or}
+use Rattle.format.specs.Bytes.{Bytes, class_of, all}
+use Rattle.format.specs.Lines.{is_later}
 use Rattle.format.specs.Words.{is_type_name}
+use Rattle.format.proofs.Table.{letter-class}
 
-pub name_by : (s : Bytes) → 0 < length s → is_name s ≡ is_first (get_or s 0 0) && all is_later (drop 1 s)
-name_by [] h = absurd (not-suc-le-zero h)
-name_by (c ∷ s) h = refl
-
-pub name-not-empty : (s : Bytes) → length s ≡ 0 → is_name s ≡ false
-name-not-empty [] h = refl
-name-not-empty (c ∷ s) h = absurd (omega arith)
-
-pub type-name-by : (s : Bytes) → 0 < length s → is_type_name s ≡ is_letter (get_or s 0 0) && all is_later (drop 1 s)
-type-name-by [] h = absurd (not-suc-le-zero h)
-type-name-by (c ∷ s) h = refl
-
-pub type-name-not-empty : (s : Bytes) → length s ≡ 0 → is_type_name s ≡ false
-type-name-not-empty [] h = refl
-type-name-not-empty (c ∷ s) h = absurd (omega arith)
+pub type-name-told : (s r : Bytes) (b : ℕ) → s ≡ b ∷ r → get_or s 0 0 < 256 → is_type_name s ≡ eqb (class_of b) 1 && all is_later r
+type-name-told s r b e h =
+    ap is_type_name e ∙ ap (λ (t : Bool). t && all is_later r) (letter-class b (subst (λ (z : Bytes). get_or z 0 0 < 256) e h))

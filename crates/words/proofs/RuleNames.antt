@@ -9,7 +9,8 @@ use lib.Dec.{ltb}
 use lib.ListN.{length, get_or}
 use Rattle.format.specs.Bytes.{Bytes, pick, same, among}
 use Rattle.format.proofs.Listing.{same_true}
-use Rattle.words.specs.RuleNames.{place_in}
+use Rattle.words.specs.RuleNames.{place_in, rule_names, rule_no}
+use Rattle.words.specs.declared.fieldnames.Rule.{Rule}
 
 module _ (w : Bytes) (ws : List Bytes) (v : Bytes) (vs : List Bytes) (e : ws ≡ v ∷ vs) where
   place-by : (t : Bool) → same w v ≡ t → place_in w ws ≡ pick t 0 (suc (place_in w vs))
@@ -56,3 +57,7 @@ is-placed w v ws n k e f h s q =
     let p : place_in w ws ≡ k = sym e ∙ q in
     let g : w ≡ v = placed-is w ws (omega (arith, p)) ∙ ap (λ (j : ℕ). get_or ws j []) p ∙ f in
     ap (same v) g ∙ s
+
+-- a name with one of these names' numbers has its place
+pub placed : (w : Bytes) (r : Rule) (k : Rule) → rule_no r ≡ place_in w rule_names → r ≡ k → rule_no k ≡ place_in w rule_names
+placed w r k e q = sym (ap rule_no q) ∙ e

@@ -1,49 +1,50 @@
-// The names of a descriptor's fields, numbered.
+// The names of a descriptor's fields.
 ghost use Rattle.std.specs.Prelude.{◌≡◌};
-ghost use Rattle.words.specs.RuleNames.{place_in, rule_names};
+ghost use Rattle.words.specs.RuleNames.{place_in, rule_names, rule_no};
 
 use super::fixed::word_place;
 
-// The numbers of these names.
-#[derive(Drop)]
-pub struct Rule {}
-
-impl Rule {
-    pub const REC: usize = 0;
-
-    pub const DOC: usize = 1;
-
+// Which of these names a field has, in the order of the definitions' shapes.
+#[derive(Clone, Copy)]
+pub enum Rule {
+    Rec,
+    Doc,
     // Lists of names; two more stand behind the others.
-    pub const MANDATORY: usize = 2;
-
-    pub const PROHIBIT: usize = 3;
-
-    pub const ALLOWED: usize = 4;
-
-    pub const UNIQUE: usize = 5;
-
-    pub const KEY: usize = 6;
-
-    pub const SIZE: usize = 7;
-
-    pub const TYPEDEF: usize = 8;
-
-    pub const TYPE: usize = 9;
-
-    pub const SINGULAR: usize = 10;
-
-    pub const AUTO: usize = 11;
-
-    // How many there are: the number of every other name.
-    pub const COUNT: usize = 12;
+    Mandatory,
+    Prohibit,
+    Allowed,
+    Unique,
+    Key,
+    Size,
+    Typedef,
+    Type,
+    Singular,
+    Auto,
+    // Every other name.
+    Other,
 }
 
-// The number of a name.
-pub fn rule_of(name: &[u8]) -> usize
-    ensures { result ≡ place_in name.now rule_names }
+// Which name this is.
+pub fn rule_of(name: &[u8]) -> Rule
+    ensures { rule_no result ≡ place_in name.now rule_names }
 {
-    word_place(
+    let k = word_place(
         name,
         b"%rec %doc %mandatory %prohibit %allowed %unique %key %size %typedef %type %singular %auto",
-    )
+    );
+    match k {
+        0 => Rule::Rec,
+        1 => Rule::Doc,
+        2 => Rule::Mandatory,
+        3 => Rule::Prohibit,
+        4 => Rule::Allowed,
+        5 => Rule::Unique,
+        6 => Rule::Key,
+        7 => Rule::Size,
+        8 => Rule::Typedef,
+        9 => Rule::Type,
+        10 => Rule::Singular,
+        11 => Rule::Auto,
+        12.. => Rule::Other,
+    }
 }

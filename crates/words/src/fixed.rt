@@ -4,7 +4,7 @@ ghost use Rattle.format.specs.Bytes.{among};
 ghost use Rattle.format.specs.Words.{words};
 ghost use Rattle.words.specs.RuleNames.{place_in};
 
-use super::{Word, next_word};
+use super::{Span, next_word};
 
 // The place of a word among the words of a text, from 0 on; how many there are where it is none of them.
 pub fn word_place(w: &[u8], list: &[u8]) -> usize
@@ -13,8 +13,7 @@ pub fn word_place(w: &[u8], list: &[u8]) -> usize
     let mut rest = list;
     let mut n = 0;
     loop {
-        let x = next_word(rest);
-        let Word::At { start, end } = x else {
+        let Some(Span { start, end }) = next_word(rest) else {
             return n;
         };
         if lines::same_bytes(w, &rest[start..end]) {

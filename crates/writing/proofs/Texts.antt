@@ -10,6 +10,8 @@ use lib.ListN.{length, take, drop, get_or, set, length-append, length-drop, leng
 use lib.Seq.{sets, sets-eq, length-sets, take_all, drop-drop}
 use borrow.Author.Tests.{eq-eqb, ne_eqb}
 use borrow.Rule.Slice.PartMut.{put_mid, mid_of, post_of}
+use Rattle.std.proofs.lemmas.List.Sums.{sum_by-cons}
+use Rattle.std.specs.Prelude.{count_by, cond, ◌==◌}
 use Rattle.format.specs.Bytes.{Bytes, is_newline, pick}
 use Rattle.format.specs.Written.{indent, written}
 use Rattle.format.specs.Calls.{over}
@@ -38,6 +40,16 @@ indent-length (c ∷ v) = go (is_newline c) (indent-length v)
     go : (t : Bool) → length (indent v) ≤ 3 * length v → length (c ∷ pick t (43 ∷ 32 ∷ indent v) (indent v)) ≤ 3 * suc (length v)
     go true h = omega arith
     go false h = omega arith
+
+-- its length is the value's, and two for each newline
+pub indent-count : (v : Bytes) → length v + 2 * count_by (λ b. b == 10) v ≡ length (indent v)
+indent-count [] = omega arith
+indent-count (c ∷ v) = go (is_newline c) (indent-count v) (sum_by-cons (λ (b : ℕ). cond (b == 10) 1 0) c v)
+  where
+    go : (t : Bool) → length v + 2 * count_by (λ b. b == 10) v ≡ length (indent v) → count_by (λ b. b == 10) (c ∷ v) ≡ cond t 1 0 + count_by (λ b. b == 10) v
+        → length (c ∷ v) + 2 * count_by (λ b. b == 10) (c ∷ v) ≡ length (c ∷ pick t (43 ∷ 32 ∷ indent v) (indent v))
+    go true h e = omega (arith, h, e)
+    go false h e = omega (arith, h, e)
 
 -- the length of a field's text
 pub written-length : (n v : Bytes) → length (written n v) ≡ length n + length (indent v) + 3

@@ -3,13 +3,12 @@
 
 ghost use Rattle.std.specs.Prelude.{◌≡◌, false, ◌+◌, ◌≤◌, length};
 ghost use Rattle.std.proofs.lemmas.List.Edits.{sets};
-ghost use Rattle.format.specs.Bytes.{class_table};
 ghost use Rattle.format.specs.Limits.{file_bytes};
 ghost use Rattle.format.specs.Written.{indent, written, is_legal_name, is_legal_value};
 ghost use Rattle.format.specs.Calls.{over};
 ghost use Rattle.writing.specs.Value.{is_plain_from};
 
-use format::{Class, Record};
+use format::{Class, Classes, Record};
 
 mod moves;
 
@@ -19,7 +18,7 @@ pub use moves::{move_down, move_up};
 pub fn is_legal_name(s: &[u8]) -> bool
     ensures { result ≡ is_legal_name s.now }
 {
-    let table = format::classes();
+    let table = Classes::new();
     if s.len() > Record::NAME {
         return false;
     }
@@ -34,25 +33,19 @@ pub fn is_legal_name(s: &[u8]) -> bool
 }
 
 // Are all bytes allowed, with no backslash before a newline or at the end?
-fn is_plain(table: &[u8; 256], s: &[u8]) -> bool
-    requires { table.now ≡ class_table }
+fn is_plain(table: &Classes, s: &[u8]) -> bool
     ensures { result ≡ is_plain_from false s.now }
 {
-    let mut i = 0;
     let mut slash = false;
-    while i < s.len() {
-        let b = s[i];
-        let k = format::class_of(table, b);
+    for &b in s {
+        let k = table.class(b);
         if k == Class::NONE {
             return false;
         }
-        if k == Class::NEWLINE {
-            if slash {
-                return false;
-            }
+        if k == Class::NEWLINE && slash {
+            return false;
         }
         slash = b == b'\\';
-        i += 1;
     }
     !slash
 }
@@ -61,7 +54,7 @@ fn is_plain(table: &[u8; 256], s: &[u8]) -> bool
 pub fn is_legal_value(s: &[u8]) -> bool
     ensures { result ≡ is_legal_value s.now }
 {
-    let table = format::classes();
+    let table = Classes::new();
     if s.len() > Record::VALUE {
         return false;
     }
@@ -73,17 +66,7 @@ fn value_text_len(value: &[u8]) -> usize
     requires { length value.now ≤ file_bytes }
     ensures { result ≡ length (indent value.now) }
 {
-    let mut i = 0;
-    let mut n: usize = 0;
-    while i < value.len() {
-        if value[i] == b'\n' {
-            n += 3;
-        } else {
-            n += 1;
-        }
-        i += 1;
-    }
-    n
+    value.len() + 2 * value.iter().filter(|b| **b == b'\n').count()
 }
 
 // The length of a field's text.
@@ -99,11 +82,7 @@ pub fn put_bytes(out: &mut [u8], s: &[u8])
     requires { length s.now ≤ length out.old }
     ensures { out.new ≡ over s.now out.old }
 {
-    let mut i = 0;
-    while i < s.len() {
-        out[i] = s[i];
-        i += 1;
-    }
+    out[..s.len()].copy_from_slice(s);
 }
 
 // A value's text from a place of out on, with a plus and a space after each newline; where it ends.
@@ -111,10 +90,8 @@ fn put_value(out: &mut [u8], at: usize, value: &[u8]) -> usize
     requires { at + length (indent value.now) ≤ length out.old }
     ensures { (result ≡ at + length (indent value.now)) × (out.new ≡ sets out.old at (indent value.now)) }
 {
-    let mut i = 0;
     let mut n = at;
-    while i < value.len() {
-        let b = value[i];
+    for &b in value {
         out[n] = b;
         n += 1;
         if b == b'\n' {
@@ -122,7 +99,6 @@ fn put_value(out: &mut [u8], at: usize, value: &[u8]) -> usize
             out[n + 1] = b' ';
             n += 2;
         }
-        i += 1;
     }
     n
 }

@@ -1,4 +1,5 @@
-// Bytes moved within a lent buffer.
+// Bytes moved within a lent buffer. By an index: the library's `copy_within` needs memmove, and the
+// archive asks for none (include/recfile.h).
 ghost use Rattle.std.specs.Prelude.{◌≡◌, ◌+◌, ◌≤◌, length, drop};
 ghost use Rattle.std.proofs.Math.Seq.{paste};
 

@@ -14,8 +14,8 @@ pub loop-value-init : goal.loop-value-init
 loop-value-init c =
     (passed_start c.args.d.now (text "%type") c.requires.described.0.reads, omega arith, refl, refl, refl, λ k l. absurd (omega arith))
 
-pub next_named-v-requires : goal.next_named-v-requires
-next_named-v-requires c =
+pub next_named-requires : goal.next_named-requires
+next_named-requires c =
     part-readable c.args.d.now c.loop-value.i c.loop-value.invariant.0.readable
 
 pub shape_of-scratch-in_default : goal.shape_of-scratch-in_default
@@ -25,20 +25,20 @@ shape_of-scratch-in_default c =
 pub returns-in_default : goal.returns-in_default
 returns-in_default c =
     let d = c.args.d.now in
-    let e = value-told d (text "%type") c.loop-value.i c.next_named-v.result c.next_named-v.ensures c.in_default.is in
+    let e = value-told d (text "%type") c.loop-value.i c.next_named.result c.next_named.ensures c.in_default.is in
     let n = row-none d c.loop-value.count c.loop-value.i c.loop-value.invariant.0 e in
     let few = rows_few d c.requires.described.0 in
     record { few = omega (arith, c.loop-value.invariant.1); count = omega (arith, c.loop-value.invariant.1); rows_long = c.loop-value.invariant.3; texts-long = c.loop-value.invariant.4; row = c.loop-value.invariant.5 }
 
 pub overflow_add-i : goal.overflow_add-i
 overflow_add-i c =
-    let h = value-told c.args.d.now (text "%type") c.loop-value.i c.next_named-v.result c.next_named-v.ensures c.in-At.is in
+    let h = value-told c.args.d.now (text "%type") c.loop-value.i c.next_named.result c.next_named.ensures c.in-Some.is in
     omega (arith, h.value_there)
 
 pub read_typedef-own-requires : goal.read_typedef-own-requires
 read_typedef-own-requires c =
     let d = c.args.d.now in
-    let h = value-told d (text "%type") c.loop-value.i c.next_named-v.result c.next_named-v.ensures c.in-At.is in
+    let h = value-told d (text "%type") c.loop-value.i c.next_named.result c.next_named.ensures c.in-Some.is in
     let l = type-fits d c.requires.described.0 c.loop-value.count c.loop-value.i _ _ c.loop-value.invariant.0 h in
     record { are_names = c.requires.described.1; value_in_bounds = (omega (arith, h.value_there), omega (arith, l, c.loop-value.invariant.2, c.requires.value_bytes_in_bounds)) }
 
@@ -49,53 +49,53 @@ end_of-t-requires c =
 pub shape_of-kind-requires-in-loop-value : goal.shape_of-kind-requires-in-loop-value
 shape_of-kind-requires-in-loop-value c =
     let d = c.args.d.now in
-    let h = value-told d (text "%type") c.loop-value.i c.next_named-v.result c.next_named-v.ensures c.in-At.is in
+    let h = value-told d (text "%type") c.loop-value.i c.next_named.result c.next_named.ensures c.in-Some.is in
     end-typed d c.requires.described.0 c.loop-value.count c.loop-value.i _ _ c.loop-value.invariant.0 h c.args.names c.requires.described.1 c.args.defs c.requires.described.2 c.read_typedef-own.result c.read_typedef-own.ensures c.end_of-t.result c.end_of-t.ensures
 
 pub offset_bounds-rows-count : goal.offset_bounds-rows-count
 offset_bounds-rows-count c =
     let d = c.args.d.now in
-    let h = value-told d (text "%type") c.loop-value.i c.next_named-v.result c.next_named-v.ensures c.in-At.is in
+    let h = value-told d (text "%type") c.loop-value.i c.next_named.result c.next_named.ensures c.in-Some.is in
     omega (arith, passed-inside d (text "%type") c.loop-value.count c.loop-value.i c.loop-value.invariant.0 _ _ h, rows_few d c.requires.described.0)
 
 pub bounds-rows-count : goal.bounds-rows-count
 bounds-rows-count c =
     let d = c.args.d.now in
-    let h = value-told d (text "%type") c.loop-value.i c.next_named-v.result c.next_named-v.ensures c.in-At.is in
+    let h = value-told d (text "%type") c.loop-value.i c.next_named.result c.next_named.ensures c.in-Some.is in
     omega (arith, passed-inside d (text "%type") c.loop-value.count c.loop-value.i c.loop-value.invariant.0 _ _ h, rows_few d c.requires.described.0)
 
 pub offset_bounds-texts-count : goal.offset_bounds-texts-count
 offset_bounds-texts-count c =
     let d = c.args.d.now in
-    let h = value-told d (text "%type") c.loop-value.i c.next_named-v.result c.next_named-v.ensures c.in-At.is in
+    let h = value-told d (text "%type") c.loop-value.i c.next_named.result c.next_named.ensures c.in-Some.is in
     omega (arith, passed-inside d (text "%type") c.loop-value.count c.loop-value.i c.loop-value.invariant.0 _ _ h, rows_few d c.requires.described.0)
 
 pub bounds-texts-count : goal.bounds-texts-count
 bounds-texts-count c =
     let d = c.args.d.now in
-    let h = value-told d (text "%type") c.loop-value.i c.next_named-v.result c.next_named-v.ensures c.in-At.is in
+    let h = value-told d (text "%type") c.loop-value.i c.next_named.result c.next_named.ensures c.in-Some.is in
     omega (arith, passed-inside d (text "%type") c.loop-value.count c.loop-value.i c.loop-value.invariant.0 _ _ h, rows_few d c.requires.described.0)
 
 pub overflow_add-count : goal.overflow_add-count
 overflow_add-count c =
     let d = c.args.d.now in
-    let h = value-told d (text "%type") c.loop-value.i c.next_named-v.result c.next_named-v.ensures c.in-At.is in
+    let h = value-told d (text "%type") c.loop-value.i c.next_named.result c.next_named.ensures c.in-Some.is in
     omega (arith, passed-inside d (text "%type") c.loop-value.count c.loop-value.i c.loop-value.invariant.0 _ _ h, rows_few d c.requires.described.0)
 
 pub overflow_add-i-in-loop-value : goal.overflow_add-i-in-loop-value
 overflow_add-i-in-loop-value c =
-    let h = value-told c.args.d.now (text "%type") c.loop-value.i c.next_named-v.result c.next_named-v.ensures c.in-At.is in
+    let h = value-told c.args.d.now (text "%type") c.loop-value.i c.next_named.result c.next_named.ensures c.in-Some.is in
     omega (arith, h.inside, c.well_formed.0.0)
 
 pub loop-value-smaller : goal.loop-value-smaller
 loop-value-smaller c =
-    let h = value-told c.args.d.now (text "%type") c.loop-value.i c.next_named-v.result c.next_named-v.ensures c.in-At.is in
+    let h = value-told c.args.d.now (text "%type") c.loop-value.i c.next_named.result c.next_named.ensures c.in-Some.is in
     omega (arith, h.moves, h.inside)
 
 pub loop-value-preserved : goal.loop-value-preserved
 loop-value-preserved c =
     let d = c.args.d.now in
-    let h = value-told d (text "%type") c.loop-value.i c.next_named-v.result c.next_named-v.ensures c.in-At.is in
+    let h = value-told d (text "%type") c.loop-value.i c.next_named.result c.next_named.ensures c.in-Some.is in
     let b = c.loop-value.invariant.0 in
     let l = passed-inside d (text "%type") c.loop-value.count c.loop-value.i b _ _ h in
     let few = rows_few d c.requires.described.0 in

@@ -10,13 +10,13 @@ use Rattle.enums.proofs.Rows.{finds}
 use Rattle.enums.specs.Rows.{Found}
 use Rattle.columns.proofs.texts_with.Goals as goal
 
-pub returns-then-table-eq0 : goal.returns-then-table-eq0
-returns-then-table-eq0 c =
+pub returns-then-symbols-eq0 : goal.returns-then-symbols-eq0
+returns-then-symbols-eq0 c =
     let d = c.args.d.now in
     let w : Bytes = trim c.args.v.now in
     let entries = c.args.entries.now in
     let n = c.args.symbols.table.count in
-    finds d c.args.texts.now c.args.symbols.from w c.args.symbols.next (terms_of d (take n entries)) c.requires.short (c.requires.terms w) 0 (none_found d w entries n c.if-table-eq0.true)
+    finds d c.args.texts.now c.args.symbols.from w c.args.symbols.next (terms_of d (take n entries)) c.requires.short (c.requires.terms w) 0 (none_found d w entries n c.if-symbols-eq0.true)
 
 pub slice_bounds-look_up-count : goal.slice_bounds-look_up-count
 slice_bounds-look_up-count c =

@@ -1,16 +1,18 @@
+use Rattle.std.proofs.Common.{rules, tests}
+use Rattle.format.specs.Words.{is_gap}
 use borrow.Author.Rules.{rules}
 use native.Mathlib.Omega.{arith}
 use Rattle.values.proofs.Parts.{behind-told}
 use Rattle.dictionary.proofs.Reading.{names-start, names-there, names-room, names-end, names_more}
 use Rattle.dictionary.proofs.add_names.Goals as goal
 
-pub pass-at-requires : goal.pass-at-requires
-pass-at-requires c =
+pub pass-at-requires-clause-i_in_bounds : goal.pass-at-requires-clause-i_in_bounds
+pass-at-requires-clause-i_in_bounds c =
     c.requires.i_in_bounds.0
 
 pub loop-next-init : goal.loop-next-init
 loop-next-init c =
-    names-start c.args.d.now c.args.entries.now c.args.n c.args.tag c.args.i c.pass-at.result c.pass-at.ensures.2 c.pass-at.ensures.0 c.requires.d_in_bounds c.requires.d_value
+    names-start c.args.d.now c.args.entries.now c.args.n c.args.tag c.args.i c.pass-at.result c.pass-at.ensures.inside.1 (c.pass-at.ensures.passed is_gap (λ b r k. search (rules, tests))) c.requires.d_in_bounds c.requires.d_value
 
 pub entry-requires : goal.entry-requires
 entry-requires c =
@@ -33,20 +35,20 @@ overflow_add-k c =
 
 pub shape_of-entries-in_default : goal.shape_of-entries-in_default
 shape_of-entries-in_default c =
-    let b = behind-told c.args.d.now c.loop-next.at c.part_next-p.result c.part_next-p.ensures c.in_default.is in
+    let b = behind-told c.args.d.now c.loop-next.at c.part_next.result c.part_next.ensures c.in_default.is in
     (names-end c.args.d.now c.args.entries.now c.args.n c.args.tag c.args.i c.loop-next.entries c.loop-next.k c.loop-next.at c.loop-next.invariant c.entry.result (c.entry.ensures.1, c.entry.ensures.2) b).long
 
 pub returns-in_default : goal.returns-in_default
 returns-in_default c =
-    let b = behind-told c.args.d.now c.loop-next.at c.part_next-p.result c.part_next-p.ensures c.in_default.is in
+    let b = behind-told c.args.d.now c.loop-next.at c.part_next.result c.part_next.ensures c.in_default.is in
     names-end c.args.d.now c.args.entries.now c.args.n c.args.tag c.args.i c.loop-next.entries c.loop-next.k c.loop-next.at c.loop-next.invariant c.entry.result (c.entry.ensures.1, c.entry.ensures.2) b
 
 pub loop-next-smaller : goal.loop-next-smaller
 loop-next-smaller c =
-    let b = behind-told c.args.d.now c.loop-next.at c.part_next-p.result c.part_next-p.ensures c.in-At.is in
+    let b = behind-told c.args.d.now c.loop-next.at c.part_next.result c.part_next.ensures c.in-Some.is in
     omega (arith, b.0, b.1)
 
 pub loop-next-preserved : goal.loop-next-preserved
 loop-next-preserved c =
-    let b = behind-told c.args.d.now c.loop-next.at c.part_next-p.result c.part_next-p.ensures c.in-At.is in
+    let b = behind-told c.args.d.now c.loop-next.at c.part_next.result c.part_next.ensures c.in-Some.is in
     names_more c.args.d.now c.args.entries.now c.args.n c.args.tag c.args.i c.loop-next.entries c.loop-next.k c.loop-next.at c.loop-next.invariant c.entry.result (c.entry.ensures.1, c.entry.ensures.2) _ b

@@ -28,8 +28,8 @@ pub slice_bounds-build-end-2 : goal.slice_bounds-build-end-2
 slice_bounds-build-end-2 c =
     sym (length-take-le c.add_types-a.result.count c.add_types-a.new.entries c.add_types-a.ensures.room)
 
-pub build-t-requires : goal.build-t-requires
-build-t-requires c =
+pub build-table-requires : goal.build-table-requires
+build-table-requires c =
     all-entries c.args.d.now c.args.from c.args.entries.now c.add_lists-n.new.entries c.add_lists-n.result c.add_lists-n.ensures c.add_types-a.new.entries c.add_types-a.result c.add_types-a.ensures
 
 pub shape_of-entries : goal.shape_of-entries
@@ -37,9 +37,9 @@ shape_of-entries c =
     let a = c.add_lists-n.ensures.long in
     let b = c.add_types-a.ensures.adding.long in
     let r = c.add_types-a.ensures.room in
-    let k = c.build-t.auto in
-    omega (arith, length-append c.build-t.new.entries (drop c.add_types-a.result.count c.add_types-a.new.entries), length-drop c.add_types-a.result.count c.add_types-a.new.entries, length-take-le c.add_types-a.result.count c.add_types-a.new.entries c.add_types-a.ensures.room, k.entries)
+    let k = c.build-table.auto in
+    omega (arith, length-append c.build-table.new.entries (drop c.add_types-a.result.count c.add_types-a.new.entries), length-drop c.add_types-a.result.count c.add_types-a.new.entries, length-take-le c.add_types-a.result.count c.add_types-a.new.entries c.add_types-a.ensures.room, k.entries)
 
 pub returns : goal.returns
 returns c =
-    (made c.args.d.now c.args.from c.args.entries.now c.add_lists-n.new.entries c.add_lists-n.result c.add_lists-n.ensures c.add_types-a.new.entries c.add_types-a.result c.add_types-a.ensures c.build-t.new.entries c.build-t.result c.build-t.ensures (omega (arith, c.add_lists-n.ensures.count, c.add_lists-n.ensures.long, lists-few c.args.d.now c.requires.described, c.requires.from_in_bounds.1)), refl)
+    (made c.args.d.now c.args.from c.args.entries.now c.add_lists-n.new.entries c.add_lists-n.result c.add_lists-n.ensures c.add_types-a.new.entries c.add_types-a.result c.add_types-a.ensures c.build-table.new.entries c.build-table.result c.build-table.ensures (omega (arith, c.add_lists-n.ensures.count, c.add_lists-n.ensures.long, lists-few c.args.d.now c.requires.described, c.requires.from_in_bounds.1)), refl)

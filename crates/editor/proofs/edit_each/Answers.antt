@@ -7,9 +7,9 @@ use mathlib.Core.Option.{Option}
 use lib.ListN.{length, take, drop, length-set}
 use Rattle.format.specs.Bytes.{Bytes}
 use Rattle.format.specs.Requests.{requests_in}
-use Rattle.format.specs.Calls.{Filled}
+use Rattle.format.specs.Refusals.{no_of}
 use Rattle.editor.specs.Runs.{is_run}
-use Rattle.editor.proofs.Running.{first_found, first-fault, run-goes, run_room, no_run, sub-none, Edited, edited_of, edit_of, number-stays, Reached, reached-start, reached-more, reached-end}
+use Rattle.editor.proofs.Running.{first_found, first-fault, run-goes, run_room, no_run, sub-none, Edited, edit_of, number-stays, edited-by, Reached, reached-start, reached-more, reached-end}
 use Rattle.editor.proofs.edit_each.Goals as goal
 
 pub loop-rest-init : goal.loop-rest-init
@@ -30,19 +30,19 @@ shape_of-copy-in_default c =
 
 pub returns-in_default : goal.returns-in_default
 returns-in_default c =
-    absurd (no_run (length c.args.answers.now - c.loop-rest.i) (requests_in c.loop-rest.rest.now) (first-fault c.loop-rest.rest.now c.first_request-f.ensures c.in_default.is) c.loop-rest.invariant.4)
+    absurd (no_run (length c.args.answers.now - c.loop-rest.i) (requests_in c.loop-rest.rest.now) (first-fault c.loop-rest.rest.now c.first_request.ensures c.in_default.is) c.loop-rest.invariant.4)
 
 pub slice_bounds-edit_judged-count : goal.slice_bounds-edit_judged-count
 slice_bounds-edit_judged-count c =
-    let f = first_found c.loop-rest.rest.now c.first_request-f.ensures c.in-Ends.is in omega (arith, f.0)
+    let f = first_found c.loop-rest.rest.now c.first_request.ensures c.in-Some.is in omega (arith, f.0)
 
 pub slice_bounds-edit_judged-start : goal.slice_bounds-edit_judged-start
 slice_bounds-edit_judged-start c =
-    let f = first_found c.loop-rest.rest.now c.first_request-f.ensures c.in-Ends.is in omega (arith, f.0)
+    let f = first_found c.loop-rest.rest.now c.first_request.ensures c.in-Some.is in omega (arith, f.0)
 
 pub slice_bounds-edit_judged-end : goal.slice_bounds-edit_judged-end
 slice_bounds-edit_judged-end c =
-    let f = first_found c.loop-rest.rest.now c.first_request-f.ensures c.in-Ends.is in f.1
+    let f = first_found c.loop-rest.rest.now c.first_request.ensures c.in-Some.is in f.1
 
 pub edit_judged-e-requires : goal.edit_judged-e-requires
 edit_judged-e-requires c =
@@ -50,41 +50,41 @@ edit_judged-e-requires c =
 
 pub offset_bounds-answers-i : goal.offset_bounds-answers-i
 offset_bounds-answers-i c =
-    let f = first_found c.loop-rest.rest.now c.first_request-f.ensures c.in-Ends.is in omega (arith, run_room (length c.args.answers.now - c.loop-rest.i) (requests_in c.loop-rest.rest.now) (take (c.in-Ends.end - 2) (drop 2 c.loop-rest.rest.now)) (requests_in (take (length c.loop-rest.rest.now - c.in-Ends.end) (drop c.in-Ends.end c.loop-rest.rest.now))) f.2 c.loop-rest.invariant.4, c.well_formed.1.1.1.0.0)
+    let f = first_found c.loop-rest.rest.now c.first_request.ensures c.in-Some.is in omega (arith, run_room (length c.args.answers.now - c.loop-rest.i) (requests_in c.loop-rest.rest.now) (take (c.in-Some.end - 2) (drop 2 c.loop-rest.rest.now)) (requests_in (take (length c.loop-rest.rest.now - c.in-Some.end) (drop c.in-Some.end c.loop-rest.rest.now))) f.2 c.loop-rest.invariant.4, c.well_formed.1.1.1.0.0)
 
 pub bounds-answers-i : goal.bounds-answers-i
 bounds-answers-i c =
-    let f = first_found c.loop-rest.rest.now c.first_request-f.ensures c.in-Ends.is in omega (arith, run_room (length c.args.answers.now - c.loop-rest.i) (requests_in c.loop-rest.rest.now) (take (c.in-Ends.end - 2) (drop 2 c.loop-rest.rest.now)) (requests_in (take (length c.loop-rest.rest.now - c.in-Ends.end) (drop c.in-Ends.end c.loop-rest.rest.now))) f.2 c.loop-rest.invariant.4, c.loop-rest.invariant.3)
+    let f = first_found c.loop-rest.rest.now c.first_request.ensures c.in-Some.is in omega (arith, run_room (length c.args.answers.now - c.loop-rest.i) (requests_in c.loop-rest.rest.now) (take (c.in-Some.end - 2) (drop 2 c.loop-rest.rest.now)) (requests_in (take (length c.loop-rest.rest.now - c.in-Some.end) (drop c.in-Some.end c.loop-rest.rest.now))) f.2 c.loop-rest.invariant.4, c.loop-rest.invariant.3)
 
 pub slice_bounds-rest-count : goal.slice_bounds-rest-count
 slice_bounds-rest-count c =
-    let f = first_found c.loop-rest.rest.now c.first_request-f.ensures c.in-Ends.is in f.1
+    let f = first_found c.loop-rest.rest.now c.first_request.ensures c.in-Some.is in f.1
 
 pub slice_bounds-rest-start : goal.slice_bounds-rest-start
 slice_bounds-rest-start c =
-    let f = first_found c.loop-rest.rest.now c.first_request-f.ensures c.in-Ends.is in f.1
+    let f = first_found c.loop-rest.rest.now c.first_request.ensures c.in-Some.is in f.1
 
 pub overflow_add-i : goal.overflow_add-i
 overflow_add-i c =
-    let f = first_found c.loop-rest.rest.now c.first_request-f.ensures c.in-Ends.is in omega (arith, run_room (length c.args.answers.now - c.loop-rest.i) (requests_in c.loop-rest.rest.now) (take (c.in-Ends.end - 2) (drop 2 c.loop-rest.rest.now)) (requests_in (take (length c.loop-rest.rest.now - c.in-Ends.end) (drop c.in-Ends.end c.loop-rest.rest.now))) f.2 c.loop-rest.invariant.4, c.well_formed.1.1.1.0.0)
+    let f = first_found c.loop-rest.rest.now c.first_request.ensures c.in-Some.is in omega (arith, run_room (length c.args.answers.now - c.loop-rest.i) (requests_in c.loop-rest.rest.now) (take (c.in-Some.end - 2) (drop 2 c.loop-rest.rest.now)) (requests_in (take (length c.loop-rest.rest.now - c.in-Some.end) (drop c.in-Some.end c.loop-rest.rest.now))) f.2 c.loop-rest.invariant.4, c.well_formed.1.1.1.0.0)
 
 pub loop-rest-smaller : goal.loop-rest-smaller
 loop-rest-smaller c =
-    let f = first_found c.loop-rest.rest.now c.first_request-f.ensures c.in-Ends.is in omega (arith, f.0, f.1)
+    let f = first_found c.loop-rest.rest.now c.first_request.ensures c.in-Some.is in omega (arith, f.0, f.1)
 
 pub loop-rest-preserved : goal.loop-rest-preserved
 loop-rest-preserved c =
     let s : Bytes = c.loop-rest.rest.now in
-    let end : ℕ = c.in-Ends.end in
+    let end : ℕ = c.in-Some.end in
     let q : Bytes = take (end - 2) (drop 2 s) in
     let x : Option (List Bytes) = requests_in (take (length s - end) (drop end s)) in
-    let f = first_found s c.first_request-f.ensures c.in-Ends.is in
+    let f = first_found s c.first_request.ensures c.in-Some.is in
     let m : ℕ = length c.args.answers.now - c.loop-rest.i in
     let more = run_room m (requests_in s) q x f.2 c.loop-rest.invariant.4 in
-    let e : Edited = record { number = c.number.result; length = c.value_or-n.result; buffer = c.edit_judged-e.new.buf } in
-    let a : e ≡ edit_of c.loop-rest.buf c.loop-rest.n q = (λ j. record { number = c.number.ensures j; length = c.value_or-n.ensures j; buffer = c.edit_judged-e.new.buf }) ∙ ap (λ (y : Filled). edited_of c.loop-rest.n y) c.edit_judged-e.ensures in
+    let e : Edited = record { number = c.number_in.result; length = c.unwrap_or-n.result; buffer = c.edit_judged-e.new.buf } in
+    let a : e ≡ edit_of c.loop-rest.buf c.loop-rest.n q = edited-by c.loop-rest.buf c.loop-rest.n q c.edit_judged-e.result c.edit_judged-e.new.buf c.edit_judged-e.ensures c.number_in.result c.unwrap_or-n.result c.number_in.ensures c.unwrap_or-n.ensures in
     let less : m - 1 ≡ length c.args.answers.now - (c.loop-rest.i + 1) = omega arith in
-    (omega (arith, c.loop-rest.invariant.0), number-stays c.loop-rest.buf c.loop-rest.n q c.args.k c.loop-rest.invariant.1 e a, omega (arith, c.loop-rest.invariant.2), simp length-set (omega (arith, c.loop-rest.invariant.3)), subst (λ (k : ℕ). is_run k x ≡ true) less (sym (run-goes m more (requests_in s) q x f.2) ∙ c.loop-rest.invariant.4), reached-more c.args.buf.now c.args.used (requests_in c.args.run.now) c.args.answers.now q x m c.loop-rest.i c.loop-rest.n c.loop-rest.buf c.loop-rest.answers (subst (λ (y : Option (List Bytes)). Reached c.args.buf.now c.args.used (requests_in c.args.run.now) c.args.answers.now y c.loop-rest.i c.loop-rest.n c.loop-rest.buf c.loop-rest.answers) f.2 c.loop-rest.invariant.5) (ap (is_run m) (sym f.2) ∙ c.loop-rest.invariant.4) (omega arith) e a)
+    (omega (arith, c.loop-rest.invariant.0), number-stays c.loop-rest.buf c.loop-rest.n q (no_of c.args.k) c.loop-rest.invariant.1 e a, omega (arith, c.loop-rest.invariant.2), simp length-set (omega (arith, c.loop-rest.invariant.3)), subst (λ (k : ℕ). is_run k x ≡ true) less (sym (run-goes m more (requests_in s) q x f.2) ∙ c.loop-rest.invariant.4), reached-more c.args.buf.now c.args.used (requests_in c.args.run.now) c.args.answers.now q x m c.loop-rest.i c.loop-rest.n c.loop-rest.buf c.loop-rest.answers (subst (λ (y : Option (List Bytes)). Reached c.args.buf.now c.args.used (requests_in c.args.run.now) c.args.answers.now y c.loop-rest.i c.loop-rest.n c.loop-rest.buf c.loop-rest.answers) f.2 c.loop-rest.invariant.5) (ap (is_run m) (sym f.2) ∙ c.loop-rest.invariant.4) (omega arith) e a)
 
 pub shape_of-buf : goal.shape_of-buf
 shape_of-buf c =

@@ -1,14 +1,12 @@
 -- `editor::edit_no` meets its contract: the questions are asked in the order in which `edit_no` asks them.
-use native.Mathlib.Omega.{arith}
 use mathlib.Core.Path.{sym, ap, ◌∙◌}
-use mathlib.Core.Bool.{Bool}
+use mathlib.Core.Bool.{Bool, not}
 use borrow.Author.Tests.{not-true, not-false}
 use Rattle.format.specs.Bytes.{Bytes, pick}
 use Rattle.format.proofs.Judging.{text_no}
-use Rattle.format.proofs.Results.{raised_no, text-below}
+use Rattle.format.proofs.Results.{raised_no}
 use Rattle.edits.specs.Splices.{made_by}
 use Rattle.editor.proofs.Making.{number-asked, number-raised, within-file}
-use mathlib.Core.Bool.{not}
 use Rattle.editor.proofs.edit_no.Goals as goal
 
 pub fits-requires : goal.fits-requires
@@ -20,21 +18,13 @@ returns-then-not-fits c =
     let t : Bytes = made_by c.args.s.now c.args.req.now c.args.added.now c.args.x in
     sym (number-asked c.args.room t c.fits.result c.fits.ensures ∙ ap (λ (b : Bool). pick b (raised_no (text_no t)) 26) (not-true c.fits.result (ap not c.if-not-fits.true)))
 
-pub result_no-n-requires : goal.result_no-n-requires
-result_no-n-requires c =
+pub result_no-requires : goal.result_no-requires
+result_no-requires c =
     let t : Bytes = made_by c.args.s.now c.args.req.now c.args.added.now c.args.x in
     record { file_bytes_in_bounds = c.requires.file_bytes_in_bounds; sound = c.requires.sound; s_len_bound = (c.requires.s_len_bound.1, within-file c.args.room t c.fits.result c.fits.ensures (not-false c.fits.result (ap not c.if-not-fits.false))) }
-
-pub returns-then-n-eq0 : goal.returns-then-n-eq0
-returns-then-n-eq0 c =
-    let t : Bytes = made_by c.args.s.now c.args.req.now c.args.added.now c.args.x in
-    sym (number-asked c.args.room t c.fits.result c.fits.ensures ∙ ap (λ (b : Bool). pick b (raised_no (text_no t)) 26) (not-false c.fits.result (ap not c.if-not-fits.false)) ∙ ap raised_no (sym c.result_no-n.ensures ∙ c.if-n-eq0.true))
-
-pub overflow_add-result : goal.overflow_add-result
-overflow_add-result c =
-    omega (arith, c.result_no-n.ensures, text-below (made_by c.args.s.now c.args.req.now c.args.added.now c.args.x))
 
 pub returns : goal.returns
 returns c =
     let t : Bytes = made_by c.args.s.now c.args.req.now c.args.added.now c.args.x in
-    number-raised c.result_no-n.result c.if-n-eq0.false ∙ ap raised_no c.result_no-n.ensures ∙ sym (number-asked c.args.room t c.fits.result c.fits.ensures ∙ ap (λ (b : Bool). pick b (raised_no (text_no t)) 26) (not-false c.fits.result (ap not c.if-not-fits.false)))
+    number-raised c.result_no.result c.map_err.result _ (λ q r l. l) c.map_err.ensures.cases ∙ ap raised_no c.result_no.ensures
+    ∙ sym (number-asked c.args.room t c.fits.result c.fits.ensures ∙ ap (λ (b : Bool). pick b (raised_no (text_no t)) 26) (not-false c.fits.result (ap not c.if-not-fits.false)))

@@ -1,5 +1,4 @@
 -- `edits::carry_out` meets its contract: each kind of splice is one change of the text in the buffer.
-use Prim.Native.Nat.{◌-◌}
 use native.Mathlib.Omega.{arith}
 use mathlib.Core.Path.{◌≡◌, sym}
 use lib.ListN.{length, take}

@@ -1,5 +1,5 @@
--- `enums::add_rows` meets its contract. The invariant: what is left are the symbols of the rows from a row on. The measure is what is left of the rows.
-use Prim.Native.Nat.{◌-◌, ◌≤◌}
+-- `enums::add_rows` meets its contract. The invariant: what is left are the symbols of the rows from a row on.
+use Prim.Native.Nat.{◌≤◌}
 use mathlib.Core.Path.{◌≡◌}
 use lib.ListN.{length}
 use Rattle.terms.specs.Adding.{Adding}
@@ -7,7 +7,4 @@ use Rattle.enums.specs.Rows.{rows_left}
 use Rattle.enums.proofs.add_rows.Given as goal
 
 abbrev pub invariant-loop-row : goal.invariant-loop-row
-invariant-loop-row l = (l.from ≤ l.row) × (l.row ≤ l.to) × (l.n ≤ length l.entries) × (length l.entries ≡ length l.initial.entries) × (l.row ≡ l.from → l.n ≡ 0) × Adding l.d l.initial.entries 0 (rows_left l.d l.texts l.from l.to l.from) (rows_left l.d l.texts l.from l.to l.row) l.entries l.n
-
-abbrev pub decreases-loop-row : goal.decreases-loop-row
-decreases-loop-row l = l.to - l.row
+invariant-loop-row l = (l.n ≤ length l.entries) × (length l.entries ≡ length l.initial.entries) × (l.row ≡ l.from → l.n ≡ 0) × Adding l.d l.initial.entries 0 (rows_left l.d l.texts l.from l.to l.from) (rows_left l.d l.texts l.from l.to l.row) l.entries l.n

@@ -18,17 +18,17 @@ pub slice_bounds-build-end-2 : goal.slice_bounds-build-end-2
 slice_bounds-build-end-2 c =
     sym (length-take-le c.add_rows-a.result.count c.add_rows-a.new.entries c.add_rows-a.ensures.room)
 
-pub build-t-requires : goal.build-t-requires
-build-t-requires c =
+pub build-table-requires : goal.build-table-requires
+build-table-requires c =
     all-entries c.args.d.now c.args.texts.now c.args.from c.args.to c.args.entries.now c.add_rows-a.new.entries c.add_rows-a.result c.add_rows-a.ensures
 
 pub shape_of-entries : goal.shape_of-entries
 shape_of-entries c =
     let b = c.add_rows-a.ensures.adding.long in
     let r = c.add_rows-a.ensures.room in
-    let k = c.build-t.auto in
-    omega (arith, length-append c.build-t.new.entries (drop c.add_rows-a.result.count c.add_rows-a.new.entries), length-drop c.add_rows-a.result.count c.add_rows-a.new.entries, length-take-le c.add_rows-a.result.count c.add_rows-a.new.entries c.add_rows-a.ensures.room, k.entries)
+    let k = c.build-table.auto in
+    omega (arith, length-append c.build-table.new.entries (drop c.add_rows-a.result.count c.add_rows-a.new.entries), length-drop c.add_rows-a.result.count c.add_rows-a.new.entries, length-take-le c.add_rows-a.result.count c.add_rows-a.new.entries c.add_rows-a.ensures.room, k.entries)
 
 pub returns : goal.returns
 returns c =
-    (made c.args.d.now c.args.texts.now c.args.from c.args.to c.args.entries.now c.add_rows-a.new.entries c.add_rows-a.result c.add_rows-a.ensures c.build-t.new.entries c.build-t.result c.build-t.ensures c.requires.d_len_bound.3, reaches c.args.d.now c.args.texts.now c.args.from c.args.to c.args.entries.now c.add_rows-a.new.entries c.add_rows-a.result c.add_rows-a.ensures c.build-t.new.entries c.build-t.result c.build-t.ensures c.requires.texts.1)
+    (made c.args.d.now c.args.texts.now c.args.from c.args.to c.args.entries.now c.add_rows-a.new.entries c.add_rows-a.result c.add_rows-a.ensures c.build-table.new.entries c.build-table.result c.build-table.ensures c.requires.d_len_bound.3, reaches c.args.d.now c.args.texts.now c.args.from c.args.to c.args.entries.now c.add_rows-a.new.entries c.add_rows-a.result c.add_rows-a.ensures c.build-table.new.entries c.build-table.result c.build-table.ensures c.requires.texts.1)

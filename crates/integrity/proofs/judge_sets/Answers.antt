@@ -3,6 +3,7 @@ use Prim.Native.Nat.{◌-◌}
 use native.Mathlib.Omega.{arith}
 use mathlib.Core.Path.{refl}
 use lib.ListN.{get_or}
+use Rattle.format.specs.Refusals.{no_of}
 use Rattle.words.proofs.Spans.{span-length}
 use Rattle.integrity.proofs.Granting.{sets-start, sets_end, sets-row, sets-rules, sets-members, members-fit, sets-on}
 use Rattle.integrity.proofs.judge_sets.Goals as goal
@@ -27,28 +28,28 @@ pub members_end-next-requires : goal.members_end-next-requires
 members_end-next-requires c =
     c.loop-k.invariant.0.rows.begun
 
+pub slice_bounds-d-count : goal.slice_bounds-d-count
+slice_bounds-d-count c =
+    let r = sets-row c.loop-k.invariant.0 c.loop-k-test.true in omega (arith, r.filled)
+
+pub slice_bounds-d-start : goal.slice_bounds-d-start
+slice_bounds-d-start c =
+    let r = sets-row c.loop-k.invariant.0 c.loop-k-test.true in omega (arith, r.filled)
+
+pub slice_bounds-d-end : goal.slice_bounds-d-end
+slice_bounds-d-end c =
+    let r = sets-row c.loop-k.invariant.0 c.loop-k-test.true in omega (arith, r.within, r.inside)
+
 pub slice_bounds-judge_set-count : goal.slice_bounds-judge_set-count
 slice_bounds-judge_set-count c =
-    let r = sets-row c.loop-k.invariant.0 c.loop-k-test.true in omega (arith, r.filled)
+    let m = sets-members c.loop-k.invariant.0 c.loop-k-test.true c.members_end-next.result c.members_end-next.ensures in m.ordered
 
 pub slice_bounds-judge_set-start : goal.slice_bounds-judge_set-start
 slice_bounds-judge_set-start c =
-    let r = sets-row c.loop-k.invariant.0 c.loop-k-test.true in omega (arith, r.filled)
+    let m = sets-members c.loop-k.invariant.0 c.loop-k-test.true c.members_end-next.result c.members_end-next.ensures in m.ordered
 
 pub slice_bounds-judge_set-end : goal.slice_bounds-judge_set-end
 slice_bounds-judge_set-end c =
-    let r = sets-row c.loop-k.invariant.0 c.loop-k-test.true in omega (arith, r.within, r.inside)
-
-pub slice_bounds-judge_set-count-in-loop-k : goal.slice_bounds-judge_set-count-in-loop-k
-slice_bounds-judge_set-count-in-loop-k c =
-    let m = sets-members c.loop-k.invariant.0 c.loop-k-test.true c.members_end-next.result c.members_end-next.ensures in m.ordered
-
-pub slice_bounds-judge_set-start-in-loop-k : goal.slice_bounds-judge_set-start-in-loop-k
-slice_bounds-judge_set-start-in-loop-k c =
-    let m = sets-members c.loop-k.invariant.0 c.loop-k-test.true c.members_end-next.result c.members_end-next.ensures in m.ordered
-
-pub slice_bounds-judge_set-end-in-loop-k : goal.slice_bounds-judge_set-end-in-loop-k
-slice_bounds-judge_set-end-in-loop-k c =
     let m = sets-members c.loop-k.invariant.0 c.loop-k-test.true c.members_end-next.result c.members_end-next.ensures in m.inside
 
 pub judge_set-n-requires : goal.judge_set-n-requires
@@ -58,7 +59,7 @@ judge_set-n-requires c =
 
 pub loop-k-preserved : goal.loop-k-preserved
 loop-k-preserved c =
-    (sets-on c.loop-k.invariant.0 c.loop-k-test.true c.members_end-next.result c.members_end-next.ensures c.judge_set-n.result c.lesser-worst.result c.judge_set-n.ensures c.lesser-worst.ensures, omega (arith, c.judge_set-n.auto.scratch, c.loop-k.invariant.1), omega (arith, c.judge_set-n.auto.entries, c.loop-k.invariant.2))
+    (sets-on c.loop-k.invariant.0 c.loop-k-test.true c.members_end-next.result c.members_end-next.ensures (no_of c.judge_set-n.result) (no_of c.lesser-worst.result) c.judge_set-n.ensures c.lesser-worst.ensures, omega (arith, c.judge_set-n.auto.scratch, c.loop-k.invariant.1), omega (arith, c.judge_set-n.auto.entries, c.loop-k.invariant.2))
 
 pub shape_of-scratch : goal.shape_of-scratch
 shape_of-scratch c =

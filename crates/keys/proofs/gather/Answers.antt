@@ -11,8 +11,8 @@ pub loop-value-init : goal.loop-value-init
 loop-value-init c =
     (refl, omega arith, enters-start c.args.name.now c.args.s.now c.args.entries.now c.requires.s_value.0 c.requires.s_in_bounds)
 
-pub next_named-f-requires : goal.next_named-f-requires
-next_named-f-requires c =
+pub next_named-requires : goal.next_named-requires
+next_named-requires c =
     (part-readable c.args.s.now c.loop-value.i c.loop-value.invariant.2.readable)
 
 pub shape_of-entries-in_default : goal.shape_of-entries-in_default
@@ -21,16 +21,16 @@ shape_of-entries-in_default c =
 
 pub returns-in_default : goal.returns-in_default
 returns-in_default c =
-    enters-end c.args.name.now c.args.s.now c.loop-value.entries c.loop-value.n c.loop-value.i c.loop-value.invariant.2 (value-told c.args.s.now c.args.name.now c.loop-value.i c.next_named-f.result c.next_named-f.ensures c.in_default.is)
+    enters-end c.args.name.now c.args.s.now c.loop-value.entries c.loop-value.n c.loop-value.i c.loop-value.invariant.2 (value-told c.args.s.now c.args.name.now c.loop-value.i c.next_named.result c.next_named.ensures c.in_default.is)
 
 pub overflow_add-i : goal.overflow_add-i
 overflow_add-i c =
-    let h = value-told c.args.s.now c.args.name.now c.loop-value.i c.next_named-f.result c.next_named-f.ensures c.in-At.is in
+    let h = value-told c.args.s.now c.args.name.now c.loop-value.i c.next_named.result c.next_named.ensures c.in-Some.is in
     omega (arith, h.value_there, c.requires.s_value.1)
 
 pub entry-requires : goal.entry-requires
 entry-requires c =
-    let h = value-told c.args.s.now c.args.name.now c.loop-value.i c.next_named-f.result c.next_named-f.ensures c.in-At.is in
+    let h = value-told c.args.s.now c.args.name.now c.loop-value.i c.next_named.result c.next_named.ensures c.in-Some.is in
     (omega (arith, h.value_there, c.requires.s_value.1), omega (arith, h.value_there))
 
 pub offset_bounds-entries-n : goal.offset_bounds-entries-n
@@ -39,7 +39,7 @@ offset_bounds-entries-n c =
 
 pub bounds-entries-n : goal.bounds-entries-n
 bounds-entries-n c =
-    let h = value-told c.args.s.now c.args.name.now c.loop-value.i c.next_named-f.result c.next_named-f.ensures c.in-At.is in
+    let h = value-told c.args.s.now c.args.name.now c.loop-value.i c.next_named.result c.next_named.ensures c.in-Some.is in
     omega (arith, enters-room c.args.name.now c.args.s.now c.loop-value.entries c.loop-value.n c.loop-value.i c.loop-value.invariant.2 _ _ h)
 
 pub overflow_add-n : goal.overflow_add-n
@@ -48,15 +48,15 @@ overflow_add-n c =
 
 pub overflow_add-i-in-loop-value : goal.overflow_add-i-in-loop-value
 overflow_add-i-in-loop-value c =
-    let h = value-told c.args.s.now c.args.name.now c.loop-value.i c.next_named-f.result c.next_named-f.ensures c.in-At.is in
+    let h = value-told c.args.s.now c.args.name.now c.loop-value.i c.next_named.result c.next_named.ensures c.in-Some.is in
     omega (arith, h.inside)
 
 pub loop-value-smaller : goal.loop-value-smaller
 loop-value-smaller c =
-    let h = value-told c.args.s.now c.args.name.now c.loop-value.i c.next_named-f.result c.next_named-f.ensures c.in-At.is in
+    let h = value-told c.args.s.now c.args.name.now c.loop-value.i c.next_named.result c.next_named.ensures c.in-Some.is in
     omega (arith, h.moves, h.inside)
 
 pub loop-value-preserved : goal.loop-value-preserved
 loop-value-preserved c =
-    let h = value-told c.args.s.now c.args.name.now c.loop-value.i c.next_named-f.result c.next_named-f.ensures c.in-At.is in
+    let h = value-told c.args.s.now c.args.name.now c.loop-value.i c.next_named.result c.next_named.ensures c.in-Some.is in
     (length-set c.loop-value.entries c.loop-value.n c.entry.result ∙ c.loop-value.invariant.0, omega (arith, c.loop-value.invariant.1, h.moves), enters-more c.args.name.now c.args.s.now c.loop-value.entries c.loop-value.n c.loop-value.i c.loop-value.invariant.2 _ _ h c.entry.result c.requires.s_value.1 c.entry.ensures)

@@ -1,9 +1,13 @@
 -- `limits::counted` meets its contract: the number of the name tells which number grows, and none of them where it is no list's, no `%typedef` and no `%type`.
 use native.Mathlib.Omega.{arith}
-use mathlib.Core.Path.{refl, sym, ◌∙◌}
-use Rattle.format.specs.Bytes.{text}
+use Prim.Native.Nat.{◌<◌}
+use mathlib.Core.Logic.{◌⊎◌, inl, inr}
+use mathlib.Core.Path.{◌≡◌, refl, sym, ap, ◌∙◌}
+use Rattle.format.specs.Bytes.{Bytes, text}
+use Rattle.format.specs.declared.Descriptor.{Descriptor}
 use Rattle.values.specs.Value.{value_from}
-use Rattle.words.specs.RuleNames.{rule_names}
+use Rattle.words.specs.RuleNames.{place_in, rule_names, rule_no}
+use Rattle.words.specs.declared.fieldnames.Rule.{Rule}
 use Rattle.words.proofs.RuleNames.{is-placed, not-placed}
 use Rattle.limits.specs.Counts.{count_on}
 use Rattle.limits.proofs.Tallies.{counts-path, count-named, count-other}
@@ -13,91 +17,103 @@ pub overflow_add-c : goal.overflow_add-c
 overflow_add-c c =
     omega (arith, c.requires.d_bound)
 
-pub returns-in-8 : goal.returns-in-8
+pub returns-in-Typedef : goal.returns-in-Typedef
 unfolding count_on
-returns-in-8 c =
+returns-in-Typedef c =
     let v = value_from c.args.value.now in
-    let named = is-placed c.args.name.now (text "%typedef") rule_names c.rule_of-k.result 8 c.rule_of-k.ensures refl (omega arith) refl c.in-8.is in
+    let named = is-placed c.args.name.now (text "%typedef") rule_names (rule_no c.rule_of.result) 8 c.rule_of.ensures refl (omega arith) refl (ap rule_no c.in-Typedef.is) in
     (counts-path _ (count_on c.args.d (text "%typedef") v) (omega (arith)) (omega (arith)) (omega (arith)) (omega (arith)) (omega (arith)) (omega (arith)) (omega (arith)) (omega (arith)) ∙ sym (count-named c.args.d c.args.name.now v (text "%typedef") named), omega (arith))
 
-pub overflow_add-c-in-9 : goal.overflow_add-c-in-9
-overflow_add-c-in-9 c =
+pub overflow_add-c-in-Type : goal.overflow_add-c-in-Type
+overflow_add-c-in-Type c =
     omega (arith, c.requires.d_bound)
 
-pub returns-in-9 : goal.returns-in-9
+pub returns-in-Type : goal.returns-in-Type
 unfolding count_on
-returns-in-9 c =
+returns-in-Type c =
     let v = value_from c.args.value.now in
-    let named = is-placed c.args.name.now (text "%type") rule_names c.rule_of-k.result 9 c.rule_of-k.ensures refl (omega arith) refl c.in-9.is in
+    let named = is-placed c.args.name.now (text "%type") rule_names (rule_no c.rule_of.result) 9 c.rule_of.ensures refl (omega arith) refl (ap rule_no c.in-Type.is) in
     (counts-path _ (count_on c.args.d (text "%type") v) (omega (arith)) (omega (arith)) (omega (arith)) (omega (arith)) (omega (arith)) (omega (arith)) (omega (arith)) (omega (arith)) ∙ sym (count-named c.args.d c.args.name.now v (text "%type") named), omega (arith))
 
-pub overflow_add-c-in-2 : goal.overflow_add-c-in-2
-overflow_add-c-in-2 c =
+pub overflow_add-c-in-Mandatory : goal.overflow_add-c-in-Mandatory
+overflow_add-c-in-Mandatory c =
     omega (arith, c.requires.d_bound, c.requires.value_len_bound, c.count_words.ensures.1)
 
-pub returns-in-2 : goal.returns-in-2
+pub returns-in-Mandatory : goal.returns-in-Mandatory
 unfolding count_on
-returns-in-2 c =
+returns-in-Mandatory c =
     let v = value_from c.args.value.now in
-    let named = is-placed c.args.name.now (text "%mandatory") rule_names c.rule_of-k.result 2 c.rule_of-k.ensures refl (omega arith) refl c.in-2.is in
+    let named = is-placed c.args.name.now (text "%mandatory") rule_names (rule_no c.rule_of.result) 2 c.rule_of.ensures refl (omega arith) refl (ap rule_no c.in-Mandatory.is) in
     (counts-path _ (count_on c.args.d (text "%mandatory") v) (omega (arith)) (omega (arith)) (omega (arith, c.count_words.ensures.0, c.count_words.ensures.1)) (omega (arith)) (omega (arith)) (omega (arith)) (omega (arith)) (omega (arith)) ∙ sym (count-named c.args.d c.args.name.now v (text "%mandatory") named), omega (arith, c.count_words.ensures.0, c.count_words.ensures.1))
 
-pub overflow_add-c-in-3 : goal.overflow_add-c-in-3
-overflow_add-c-in-3 c =
-    omega (arith, c.requires.d_bound, c.requires.value_len_bound, c.count_words-in-3.ensures.1)
+pub overflow_add-c-in-Prohibit : goal.overflow_add-c-in-Prohibit
+overflow_add-c-in-Prohibit c =
+    omega (arith, c.requires.d_bound, c.requires.value_len_bound, c.count_words-in-Prohibit.ensures.1)
 
-pub returns-in-3 : goal.returns-in-3
+pub returns-in-Prohibit : goal.returns-in-Prohibit
 unfolding count_on
-returns-in-3 c =
+returns-in-Prohibit c =
     let v = value_from c.args.value.now in
-    let named = is-placed c.args.name.now (text "%prohibit") rule_names c.rule_of-k.result 3 c.rule_of-k.ensures refl (omega arith) refl c.in-3.is in
-    (counts-path _ (count_on c.args.d (text "%prohibit") v) (omega (arith)) (omega (arith)) (omega (arith)) (omega (arith, c.count_words-in-3.ensures.0, c.count_words-in-3.ensures.1)) (omega (arith)) (omega (arith)) (omega (arith)) (omega (arith)) ∙ sym (count-named c.args.d c.args.name.now v (text "%prohibit") named), omega (arith, c.count_words-in-3.ensures.0, c.count_words-in-3.ensures.1))
+    let named = is-placed c.args.name.now (text "%prohibit") rule_names (rule_no c.rule_of.result) 3 c.rule_of.ensures refl (omega arith) refl (ap rule_no c.in-Prohibit.is) in
+    (counts-path _ (count_on c.args.d (text "%prohibit") v) (omega (arith)) (omega (arith)) (omega (arith)) (omega (arith, c.count_words-in-Prohibit.ensures.0, c.count_words-in-Prohibit.ensures.1)) (omega (arith)) (omega (arith)) (omega (arith)) (omega (arith)) ∙ sym (count-named c.args.d c.args.name.now v (text "%prohibit") named), omega (arith, c.count_words-in-Prohibit.ensures.0, c.count_words-in-Prohibit.ensures.1))
 
-pub overflow_add-c-in-4 : goal.overflow_add-c-in-4
-overflow_add-c-in-4 c =
-    omega (arith, c.requires.d_bound, c.requires.value_len_bound, c.count_words-in-4.ensures.1)
+pub overflow_add-c-in-Allowed : goal.overflow_add-c-in-Allowed
+overflow_add-c-in-Allowed c =
+    omega (arith, c.requires.d_bound, c.requires.value_len_bound, c.count_words-in-Allowed.ensures.1)
 
-pub returns-in-4 : goal.returns-in-4
+pub returns-in-Allowed : goal.returns-in-Allowed
 unfolding count_on
-returns-in-4 c =
+returns-in-Allowed c =
     let v = value_from c.args.value.now in
-    let named = is-placed c.args.name.now (text "%allowed") rule_names c.rule_of-k.result 4 c.rule_of-k.ensures refl (omega arith) refl c.in-4.is in
-    (counts-path _ (count_on c.args.d (text "%allowed") v) (omega (arith)) (omega (arith)) (omega (arith)) (omega (arith)) (omega (arith, c.count_words-in-4.ensures.0, c.count_words-in-4.ensures.1)) (omega (arith)) (omega (arith)) (omega (arith)) ∙ sym (count-named c.args.d c.args.name.now v (text "%allowed") named), omega (arith, c.count_words-in-4.ensures.0, c.count_words-in-4.ensures.1))
+    let named = is-placed c.args.name.now (text "%allowed") rule_names (rule_no c.rule_of.result) 4 c.rule_of.ensures refl (omega arith) refl (ap rule_no c.in-Allowed.is) in
+    (counts-path _ (count_on c.args.d (text "%allowed") v) (omega (arith)) (omega (arith)) (omega (arith)) (omega (arith)) (omega (arith, c.count_words-in-Allowed.ensures.0, c.count_words-in-Allowed.ensures.1)) (omega (arith)) (omega (arith)) (omega (arith)) ∙ sym (count-named c.args.d c.args.name.now v (text "%allowed") named), omega (arith, c.count_words-in-Allowed.ensures.0, c.count_words-in-Allowed.ensures.1))
 
-pub overflow_add-c-in-5 : goal.overflow_add-c-in-5
-overflow_add-c-in-5 c =
-    omega (arith, c.requires.d_bound, c.requires.value_len_bound, c.count_words-in-5.ensures.1)
+pub overflow_add-c-in-Unique : goal.overflow_add-c-in-Unique
+overflow_add-c-in-Unique c =
+    omega (arith, c.requires.d_bound, c.requires.value_len_bound, c.count_words-in-Unique.ensures.1)
 
-pub returns-in-5 : goal.returns-in-5
+pub returns-in-Unique : goal.returns-in-Unique
 unfolding count_on
-returns-in-5 c =
+returns-in-Unique c =
     let v = value_from c.args.value.now in
-    let named = is-placed c.args.name.now (text "%unique") rule_names c.rule_of-k.result 5 c.rule_of-k.ensures refl (omega arith) refl c.in-5.is in
-    (counts-path _ (count_on c.args.d (text "%unique") v) (omega (arith)) (omega (arith)) (omega (arith)) (omega (arith)) (omega (arith)) (omega (arith, c.count_words-in-5.ensures.0, c.count_words-in-5.ensures.1)) (omega (arith)) (omega (arith)) ∙ sym (count-named c.args.d c.args.name.now v (text "%unique") named), omega (arith, c.count_words-in-5.ensures.0, c.count_words-in-5.ensures.1))
+    let named = is-placed c.args.name.now (text "%unique") rule_names (rule_no c.rule_of.result) 5 c.rule_of.ensures refl (omega arith) refl (ap rule_no c.in-Unique.is) in
+    (counts-path _ (count_on c.args.d (text "%unique") v) (omega (arith)) (omega (arith)) (omega (arith)) (omega (arith)) (omega (arith)) (omega (arith, c.count_words-in-Unique.ensures.0, c.count_words-in-Unique.ensures.1)) (omega (arith)) (omega (arith)) ∙ sym (count-named c.args.d c.args.name.now v (text "%unique") named), omega (arith, c.count_words-in-Unique.ensures.0, c.count_words-in-Unique.ensures.1))
 
-pub overflow_add-c-in-10 : goal.overflow_add-c-in-10
-overflow_add-c-in-10 c =
-    omega (arith, c.requires.d_bound, c.requires.value_len_bound, c.count_words-in-10.ensures.1)
+pub overflow_add-c-in-Singular : goal.overflow_add-c-in-Singular
+overflow_add-c-in-Singular c =
+    omega (arith, c.requires.d_bound, c.requires.value_len_bound, c.count_words-in-Singular.ensures.1)
 
-pub returns-in-10 : goal.returns-in-10
+pub returns-in-Singular : goal.returns-in-Singular
 unfolding count_on
-returns-in-10 c =
+returns-in-Singular c =
     let v = value_from c.args.value.now in
-    let named = is-placed c.args.name.now (text "%singular") rule_names c.rule_of-k.result 10 c.rule_of-k.ensures refl (omega arith) refl c.in-10.is in
-    (counts-path _ (count_on c.args.d (text "%singular") v) (omega (arith)) (omega (arith)) (omega (arith)) (omega (arith)) (omega (arith)) (omega (arith)) (omega (arith, c.count_words-in-10.ensures.0, c.count_words-in-10.ensures.1)) (omega (arith)) ∙ sym (count-named c.args.d c.args.name.now v (text "%singular") named), omega (arith, c.count_words-in-10.ensures.0, c.count_words-in-10.ensures.1))
+    let named = is-placed c.args.name.now (text "%singular") rule_names (rule_no c.rule_of.result) 10 c.rule_of.ensures refl (omega arith) refl (ap rule_no c.in-Singular.is) in
+    (counts-path _ (count_on c.args.d (text "%singular") v) (omega (arith)) (omega (arith)) (omega (arith)) (omega (arith)) (omega (arith)) (omega (arith)) (omega (arith, c.count_words-in-Singular.ensures.0, c.count_words-in-Singular.ensures.1)) (omega (arith)) ∙ sym (count-named c.args.d c.args.name.now v (text "%singular") named), omega (arith, c.count_words-in-Singular.ensures.0, c.count_words-in-Singular.ensures.1))
 
-pub overflow_add-c-in-11 : goal.overflow_add-c-in-11
-overflow_add-c-in-11 c =
-    omega (arith, c.requires.d_bound, c.requires.value_len_bound, c.count_words-in-11.ensures.1)
+pub overflow_add-c-in-Auto : goal.overflow_add-c-in-Auto
+overflow_add-c-in-Auto c =
+    omega (arith, c.requires.d_bound, c.requires.value_len_bound, c.count_words-in-Auto.ensures.1)
 
-pub returns-in-11 : goal.returns-in-11
+pub returns-in-Auto : goal.returns-in-Auto
 unfolding count_on
-returns-in-11 c =
+returns-in-Auto c =
     let v = value_from c.args.value.now in
-    let named = is-placed c.args.name.now (text "%auto") rule_names c.rule_of-k.result 11 c.rule_of-k.ensures refl (omega arith) refl c.in-11.is in
-    (counts-path _ (count_on c.args.d (text "%auto") v) (omega (arith)) (omega (arith)) (omega (arith)) (omega (arith)) (omega (arith)) (omega (arith)) (omega (arith)) (omega (arith, c.count_words-in-11.ensures.0, c.count_words-in-11.ensures.1)) ∙ sym (count-named c.args.d c.args.name.now v (text "%auto") named), omega (arith, c.count_words-in-11.ensures.0, c.count_words-in-11.ensures.1))
+    let named = is-placed c.args.name.now (text "%auto") rule_names (rule_no c.rule_of.result) 11 c.rule_of.ensures refl (omega arith) refl (ap rule_no c.in-Auto.is) in
+    (counts-path _ (count_on c.args.d (text "%auto") v) (omega (arith)) (omega (arith)) (omega (arith)) (omega (arith)) (omega (arith)) (omega (arith)) (omega (arith)) (omega (arith, c.count_words-in-Auto.ensures.0, c.count_words-in-Auto.ensures.1)) ∙ sym (count-named c.args.d c.args.name.now v (text "%auto") named), omega (arith, c.count_words-in-Auto.ensures.0, c.count_words-in-Auto.ensures.1))
 
-pub returns-in_default : goal.returns-in_default
+-- a name of another number counts nowhere
+uncounted : (d : Descriptor) (n v : Bytes) (r k : Rule) → rule_no r ≡ place_in n rule_names → (rule_no k < 2) ⊎ (((5 < rule_no k) × (rule_no k < 8)) ⊎ (11 < rule_no k)) → r ≡ k → d ≡ count_on d n v
 unfolding count_on
-returns-in_default c =
-    (sym (count-other c.args.d c.args.name.now (value_from c.args.value.now) (not-placed c.args.name.now (text "%typedef") rule_names c.rule_of-k.result 8 c.rule_of-k.ensures refl c.in_default.in_default-own.rest.0.0.0.0.0.0.0.1) (not-placed c.args.name.now (text "%type") rule_names c.rule_of-k.result 9 c.rule_of-k.ensures refl c.in_default.in_default-own.rest.0.0.0.0.0.0.1) (not-placed c.args.name.now (text "%mandatory") rule_names c.rule_of-k.result 2 c.rule_of-k.ensures refl c.in_default.in_default-own.rest.0.0.0.0.0.1) (not-placed c.args.name.now (text "%prohibit") rule_names c.rule_of-k.result 3 c.rule_of-k.ensures refl c.in_default.in_default-own.rest.0.0.0.0.1) (not-placed c.args.name.now (text "%allowed") rule_names c.rule_of-k.result 4 c.rule_of-k.ensures refl c.in_default.in_default-own.rest.0.0.0.1) (not-placed c.args.name.now (text "%unique") rule_names c.rule_of-k.result 5 c.rule_of-k.ensures refl c.in_default.in_default-own.rest.0.0.1) (not-placed c.args.name.now (text "%singular") rule_names c.rule_of-k.result 10 c.rule_of-k.ensures refl c.in_default.in_default-own.rest.0.1) (not-placed c.args.name.now (text "%auto") rule_names c.rule_of-k.result 11 c.rule_of-k.ensures refl c.in_default.in_default-own.rest.1)), omega arith)
+uncounted d n v r k e (inl h) q = sym (count-other d n v (not-placed n (text "%typedef") rule_names (rule_no r) 8 e refl (λ x. omega (arith, ap rule_no q, x))) (not-placed n (text "%type") rule_names (rule_no r) 9 e refl (λ x. omega (arith, ap rule_no q, x))) (not-placed n (text "%mandatory") rule_names (rule_no r) 2 e refl (λ x. omega (arith, ap rule_no q, x))) (not-placed n (text "%prohibit") rule_names (rule_no r) 3 e refl (λ x. omega (arith, ap rule_no q, x))) (not-placed n (text "%allowed") rule_names (rule_no r) 4 e refl (λ x. omega (arith, ap rule_no q, x))) (not-placed n (text "%unique") rule_names (rule_no r) 5 e refl (λ x. omega (arith, ap rule_no q, x))) (not-placed n (text "%singular") rule_names (rule_no r) 10 e refl (λ x. omega (arith, ap rule_no q, x))) (not-placed n (text "%auto") rule_names (rule_no r) 11 e refl (λ x. omega (arith, ap rule_no q, x))))
+uncounted d n v r k e (inr (inl h)) q = sym (count-other d n v (not-placed n (text "%typedef") rule_names (rule_no r) 8 e refl (λ x. omega (arith, ap rule_no q, x))) (not-placed n (text "%type") rule_names (rule_no r) 9 e refl (λ x. omega (arith, ap rule_no q, x))) (not-placed n (text "%mandatory") rule_names (rule_no r) 2 e refl (λ x. omega (arith, ap rule_no q, x))) (not-placed n (text "%prohibit") rule_names (rule_no r) 3 e refl (λ x. omega (arith, ap rule_no q, x))) (not-placed n (text "%allowed") rule_names (rule_no r) 4 e refl (λ x. omega (arith, ap rule_no q, x))) (not-placed n (text "%unique") rule_names (rule_no r) 5 e refl (λ x. omega (arith, ap rule_no q, x))) (not-placed n (text "%singular") rule_names (rule_no r) 10 e refl (λ x. omega (arith, ap rule_no q, x))) (not-placed n (text "%auto") rule_names (rule_no r) 11 e refl (λ x. omega (arith, ap rule_no q, x))))
+uncounted d n v r k e (inr (inr h)) q = sym (count-other d n v (not-placed n (text "%typedef") rule_names (rule_no r) 8 e refl (λ x. omega (arith, ap rule_no q, x))) (not-placed n (text "%type") rule_names (rule_no r) 9 e refl (λ x. omega (arith, ap rule_no q, x))) (not-placed n (text "%mandatory") rule_names (rule_no r) 2 e refl (λ x. omega (arith, ap rule_no q, x))) (not-placed n (text "%prohibit") rule_names (rule_no r) 3 e refl (λ x. omega (arith, ap rule_no q, x))) (not-placed n (text "%allowed") rule_names (rule_no r) 4 e refl (λ x. omega (arith, ap rule_no q, x))) (not-placed n (text "%unique") rule_names (rule_no r) 5 e refl (λ x. omega (arith, ap rule_no q, x))) (not-placed n (text "%singular") rule_names (rule_no r) 10 e refl (λ x. omega (arith, ap rule_no q, x))) (not-placed n (text "%auto") rule_names (rule_no r) 11 e refl (λ x. omega (arith, ap rule_no q, x))))
+
+others : (d : Descriptor) (n v : Bytes) (r : Rule) → rule_no r ≡ place_in n rule_names → (r ≡ Rule.Rec) ⊎ ((r ≡ Rule.Doc) ⊎ ((r ≡ Rule.Key) ⊎ ((r ≡ Rule.Size) ⊎ ((r ≡ Rule.Other))))) → d ≡ count_on d n v
+others d n v r e (inl q) = uncounted d n v r Rule.Rec e (inl (omega arith)) q
+others d n v r e (inr (inl q)) = uncounted d n v r Rule.Doc e (inl (omega arith)) q
+others d n v r e (inr (inr (inl q))) = uncounted d n v r Rule.Key e (inr (inl (omega arith, omega arith))) q
+others d n v r e (inr (inr (inr (inl q)))) = uncounted d n v r Rule.Size e (inr (inl (omega arith, omega arith))) q
+others d n v r e (inr (inr (inr (inr q)))) = uncounted d n v r Rule.Other e (inr (inr (omega arith))) q
+
+pub returns-in-Rec : goal.returns-in-Rec
+returns-in-Rec c = (others c.args.d c.args.name.now (value_from c.args.value.now) c.rule_of.result c.rule_of.ensures c.in-Rec.is, omega arith)

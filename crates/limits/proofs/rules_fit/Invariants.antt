@@ -12,8 +12,8 @@ use Rattle.limits.specs.Counts.{total}
 use Rattle.limits.proofs.Tallies.{count_from, no_counts}
 use Rattle.limits.proofs.rules_fit.Given as goal
 
-abbrev pub invariant-loop-start : goal.invariant-loop-start
-invariant-loop-start l = (l.i ≤ length l.d) × (is_readable (drop l.i l.d) ≡ true) × (total l.c ≤ 2 * l.i) × (count_from no_counts (fields_of (read_of l.d)) ≡ count_from l.c (fields_from l.d l.i))
+abbrev pub invariant-loop-f : goal.invariant-loop-f
+invariant-loop-f l = (l.i ≤ length l.d) × (is_readable (drop l.i l.d) ≡ true) × (total l.c ≤ 2 * l.i) × (count_from no_counts (fields_of (read_of l.d)) ≡ count_from l.c (fields_from l.d l.i))
 
-abbrev pub decreases-loop-start : goal.decreases-loop-start
-decreases-loop-start l = length l.d - l.i
+abbrev pub decreases-loop-f : goal.decreases-loop-f
+decreases-loop-f l = length l.d - l.i

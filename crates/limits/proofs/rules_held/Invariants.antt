@@ -1,5 +1,5 @@
--- `limits::rules_held` meets its contract. The invariant: the limits of all descriptors are held where those from row k on are. The measure is the number of rows left.
-use Prim.Native.Nat.{◌-◌, ◌≤◌}
+-- `limits::rules_held` meets its contract. The invariant: the limits of all descriptors are held where those from row k on are.
+use Prim.Native.Nat.{◌≤◌}
 use mathlib.Core.Path.{◌≡◌}
 use Rattle.format.specs.Bytes.{all}
 use Rattle.format.specs.Pieces.{read_of}
@@ -12,6 +12,3 @@ use Rattle.limits.proofs.rules_held.Given as goal
 
 abbrev pub invariant-loop-k : goal.invariant-loop-k
 invariant-loop-k l = (h : HeadParts l.s l.starts l.ends l.count) × (l.k ≤ l.count) × (all fits_rules (heads (records (read_of l.s))) ≡ all fits_rules (heads (records_from l.s (row_from h.0 l.k))))
-
-abbrev pub decreases-loop-k : goal.decreases-loop-k
-decreases-loop-k l = l.count - l.k

@@ -1,36 +1,28 @@
-use mathlib.Core.Path.{refl}
-use Prim.Native.Nat.{◌<◌}
+-- `lines::blank_line` meets its contract: the bytes of the line are asked for their class.
+use Prim.Native.Nat.{ℕ}
 use native.Mathlib.Omega.{arith}
-use borrow.Author.Tests.{eq-eqb, ne_eqb}
-use lib.ListN.{get_or, drop_of_length-le}
-use Rattle.format.proofs.Table.{newline-class, blank-class}
-use Rattle.lines.specs.Line.{line_len}
-use Rattle.lines.proofs.Cuts.{at-cons}
+use mathlib.Core.Path.{sym, ap, ◌∙◌}
+use mathlib.Core.Bool.{Bool}
+use lib.Dec.{eqb}
+use lib.ListN.{take}
+use lib.Seq.{length-take-le}
+use Rattle.std.proofs.Common.{rules, tests}
+use Rattle.std.proofs.lemmas.Iterator.{YieldsList-from_slice}
+use Rattle.std.proofs.lemmas.Iterator.Search.{all_from_yields_List}
+use Rattle.format.specs.Bytes.{class_of, is_blank, all}
+use Rattle.lines.proofs.Cuts.{line-le}
+use Rattle.lines.proofs.Scans.{all_pass, classes-blank}
 use Rattle.lines.proofs.blank_line.Goals as goal
 
-pub loop-i-init : goal.loop-i-init
-loop-i-init c = (omega arith, refl)
-
-pub returns-then-k-eq-NEWLINE : goal.returns-then-k-eq-NEWLINE
-unfolding line_len
-returns-then-k-eq-NEWLINE c =
-    let s = c.args.s.now in
-    let small : get_or s c.loop-i.i 0 < 256 = omega (arith, c.type_inv.s c.loop-i.i) in rw (c.loop-i.invariant.1, at-cons s c.loop-i.i c.loop-i-test.true, newline-class (get_or s c.loop-i.i 0) small, ← c.class_of-k.ensures, eq-eqb _ _ c.if-k-eq-NEWLINE.true)
-
-pub returns-then-k-ne-BLANK : goal.returns-then-k-ne-BLANK
-unfolding line_len
-returns-then-k-ne-BLANK c =
-    let s = c.args.s.now in
-    let small : get_or s c.loop-i.i 0 < 256 = omega (arith, c.type_inv.s c.loop-i.i) in rw (c.loop-i.invariant.1, at-cons s c.loop-i.i c.loop-i-test.true, newline-class (get_or s c.loop-i.i 0) small, ← c.class_of-k.ensures, ne_eqb _ _ c.if-k-eq-NEWLINE.false, blank-class (get_or s c.loop-i.i 0) small, ← c.class_of-k.ensures, ne_eqb _ _ c.if-k-ne-BLANK.true)
-
-pub loop-i-preserved : goal.loop-i-preserved
-unfolding line_len
-loop-i-preserved c =
-    let s = c.args.s.now in
-    let small : get_or s c.loop-i.i 0 < 256 = omega (arith, c.type_inv.s c.loop-i.i) in (omega arith, rw (c.loop-i.invariant.1, at-cons s c.loop-i.i c.loop-i-test.true, newline-class (get_or s c.loop-i.i 0) small, ← c.class_of-k.ensures, ne_eqb _ _ c.if-k-eq-NEWLINE.false, blank-class (get_or s c.loop-i.i 0) small, ← c.class_of-k.ensures, eq-eqb _ _ c.if-k-ne-BLANK.false))
+pub slice_bounds-iter-end : goal.slice_bounds-iter-end
+slice_bounds-iter-end c =
+    sym (length-take-le c.line_len.result c.args.s.now (omega (arith, c.line_len.ensures, line-le c.args.s.now)))
 
 pub returns : goal.returns
-unfolding line_len
 returns c =
     let s = c.args.s.now in
-    rw (c.loop-i.invariant.1, drop_of_length-le s c.loop-i-test.false)
+    let by_class : ℕ → Bool = λ b. eqb (class_of b) 3 in
+    all_from_yields_List by_class _ _ _ c.all.ensures.ran (YieldsList-from_slice (take c.line_len.result s) cc) (λ x b q k. search (rules, tests))
+    ∙ all_pass by_class (take c.line_len.result s)
+    ∙ classes-blank c.line_len.result s (λ i. omega (arith, c.type_inv.s i))
+    ∙ ap (λ (n : ℕ). all is_blank (take n s)) c.line_len.ensures

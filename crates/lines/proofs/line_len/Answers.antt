@@ -1,18 +1,12 @@
-use native.Mathlib.Omega.{arith}
-use Rattle.lines.proofs.Cuts.{line-more, line-stop, line-end}
+-- `lines::line_len` meets its contract.
+use mathlib.Core.Path.{◌∙◌}
+use Rattle.std.proofs.Common.{rules, tests}
+use Rattle.std.proofs.lemmas.Iterator.{YieldsList-from_slice}
+use Rattle.std.proofs.lemmas.Iterator.Search.{position_from_yields_List}
+use Rattle.format.specs.Bytes.{is_newline}
+use Rattle.lines.proofs.Scans.{line_found}
 use Rattle.lines.proofs.line_len.Goals as goal
-
-pub returns-then-s-i-eq10 : goal.returns-then-s-i-eq10
-returns-then-s-i-eq10 c =
-    let s = c.args.s.now in
-    omega (arith, line-stop s c.loop-i.i c.loop-i-test.true c.if-s-i-eq10.true)
-
-pub loop-i-preserved : goal.loop-i-preserved
-loop-i-preserved c =
-    let s = c.args.s.now in
-    omega (arith, line-more s c.loop-i.i c.loop-i-test.true c.if-s-i-eq10.false)
 
 pub returns : goal.returns
 returns c =
-    let s = c.args.s.now in
-    omega (arith, line-end s c.loop-i.i c.loop-i-test.false)
+    c.unwrap_or.ensures ∙ line_found c.args.s.now c.position.result (position_from_yields_List is_newline _ _ _ c.position.ensures.ran (YieldsList-from_slice c.args.s.now c.iter.ensures.rest) (λ x b q k. search (rules, tests)))

@@ -35,19 +35,19 @@ overflow_add-value-then-k-eq-NEWLINE c =
 pub returns-then-k-ne-BLANK : goal.returns-then-k-ne-BLANK
 returns-then-k-ne-BLANK c =
     let small : get_or c.args.s.now (c.name_end-name.result + 1) 0 < 256 = omega (arith, c.type_inv.s (c.name_end-name.result + 1)) in
-    rw (next-class c.args.s.now c.name_end-name.result c.class_of-k.result c.requires.s_value c.requires.s_nonzero c.name_end-name.ensures small c.class_of-k.ensures, eq-eqb _ _ c.if-s-name-ne58.false, ne_eqb _ _ c.if-k-eq-NEWLINE.false, ne_eqb _ _ c.if-k-ne-BLANK.true)
+    rw (next-class c.args.s.now c.name_end-name.result c.class-k.result c.requires.s_value c.requires.s_nonzero c.name_end-name.ensures small c.class-k.ensures, eq-eqb _ _ c.if-s-name-ne58.false, ne_eqb _ _ c.if-k-eq-NEWLINE.false, ne_eqb _ _ c.if-k-ne-BLANK.true)
 
-pub field_extent-e-requires : goal.field_extent-e-requires
-field_extent-e-requires c =
+pub field_extent-requires : goal.field_extent-requires
+field_extent-requires c =
     let small : get_or c.args.s.now (c.name_end-name.result + 1) 0 < 256 = omega (arith, c.type_inv.s (c.name_end-name.result + 1)) in
-    record { s_value = c.requires.s_value; goes_on = elim c.if-k-eq-NEWLINE.branch [ then-k-eq-NEWLINE w ↦ rw w.value-is (goes-newline c.args.s.now c.name_end-name.result c.requires.s_value c.requires.s_nonzero c.name_end-name.ensures c.if-s-name-ne58.false c.class_of-k.result small c.class_of-k.ensures w.if-k-eq-NEWLINE.true) | else-k-eq-NEWLINE+else-k-ne-BLANK w ↦ rw w.value-is (goes_blank c.args.s.now c.name_end-name.result c.requires.s_value c.requires.s_nonzero c.name_end-name.ensures c.if-s-name-ne58.false c.class_of-k.result small c.class_of-k.ensures w.if-k-ne-BLANK.false) ] }
+    record { s_value = c.requires.s_value; goes_on = elim c.if-k-eq-NEWLINE.branch [ then-k-eq-NEWLINE w ↦ rw w.value-is (goes-newline c.args.s.now c.name_end-name.result c.requires.s_value c.requires.s_nonzero c.name_end-name.ensures c.if-s-name-ne58.false c.class-k.result small c.class-k.ensures w.if-k-eq-NEWLINE.true) | else-k-eq-NEWLINE+else-k-ne-BLANK w ↦ rw w.value-is (goes_blank c.args.s.now c.name_end-name.result c.requires.s_value c.requires.s_nonzero c.name_end-name.ensures c.if-s-name-ne58.false c.class-k.result small c.class-k.ensures w.if-k-ne-BLANK.false) ] }
 
-pub returns-in-Size : goal.returns-in-Size
-returns-in-Size c =
+pub returns-in-Some : goal.returns-in-Some
+returns-in-Some c =
     let small : get_or c.args.s.now (c.name_end-name.result + 1) 0 < 256 = omega (arith, c.type_inv.s (c.name_end-name.result + 1)) in
-    rw (next-class c.args.s.now c.name_end-name.result c.class_of-k.result c.requires.s_value c.requires.s_nonzero c.name_end-name.ensures small c.class_of-k.ensures, eq-eqb _ _ c.if-s-name-ne58.false, ← c.field_extent-e.ensures, c.in-Size.is) (elim c.if-k-eq-NEWLINE.branch [ then-k-eq-NEWLINE w ↦ rw (w.value-is, eq-eqb _ _ w.if-k-eq-NEWLINE.true) | else-k-eq-NEWLINE+else-k-ne-BLANK w ↦ rw (w.value-is, ne_eqb _ _ w.if-k-eq-NEWLINE.false, eq-eqb _ _ w.if-k-ne-BLANK.false) ])
+    rw (next-class c.args.s.now c.name_end-name.result c.class-k.result c.requires.s_value c.requires.s_nonzero c.name_end-name.ensures small c.class-k.ensures, eq-eqb _ _ c.if-s-name-ne58.false, ← c.field_extent.ensures, c.in-Some.is) (elim c.if-k-eq-NEWLINE.branch [ then-k-eq-NEWLINE w ↦ rw (w.value-is, eq-eqb _ _ w.if-k-eq-NEWLINE.true) | else-k-eq-NEWLINE+else-k-ne-BLANK w ↦ rw (w.value-is, ne_eqb _ _ w.if-k-eq-NEWLINE.false, eq-eqb _ _ w.if-k-ne-BLANK.false) ])
 
-pub returns-in-Open : goal.returns-in-Open
-returns-in-Open c =
+pub returns-in-None : goal.returns-in-None
+returns-in-None c =
     let small : get_or c.args.s.now (c.name_end-name.result + 1) 0 < 256 = omega (arith, c.type_inv.s (c.name_end-name.result + 1)) in
-    rw (next-class c.args.s.now c.name_end-name.result c.class_of-k.result c.requires.s_value c.requires.s_nonzero c.name_end-name.ensures small c.class_of-k.ensures, eq-eqb _ _ c.if-s-name-ne58.false, ← c.field_extent-e.ensures, c.in-Open.is) (elim c.if-k-eq-NEWLINE.branch [ then-k-eq-NEWLINE w ↦ rw (eq-eqb _ _ w.if-k-eq-NEWLINE.true) | else-k-eq-NEWLINE+else-k-ne-BLANK w ↦ rw (ne_eqb _ _ w.if-k-eq-NEWLINE.false, eq-eqb _ _ w.if-k-ne-BLANK.false) ])
+    rw (next-class c.args.s.now c.name_end-name.result c.class-k.result c.requires.s_value c.requires.s_nonzero c.name_end-name.ensures small c.class-k.ensures, eq-eqb _ _ c.if-s-name-ne58.false, ← c.field_extent.ensures, c.in-None.is) (elim c.if-k-eq-NEWLINE.branch [ then-k-eq-NEWLINE w ↦ rw (eq-eqb _ _ w.if-k-eq-NEWLINE.true) | else-k-eq-NEWLINE+else-k-ne-BLANK w ↦ rw (ne_eqb _ _ w.if-k-eq-NEWLINE.false, eq-eqb _ _ w.if-k-ne-BLANK.false) ])

@@ -17,7 +17,7 @@ returns-then-b-eq10 c =
 
 pub next_field-requires : goal.next_field-requires
 next_field-requires c =
-    record { table_value = c.requires.table_value; s_value = c.requires.s_value; s_nonzero = omega (arith, name-first c.args.s.now (omega arith) (sym c.is_first.ensures ∙ c.if-is_first.true)) }
+    record { s_value = c.requires.s_value; s_nonzero = omega (arith, name-first c.args.s.now (omega arith) (sym c.is_first.ensures ∙ c.if-is_first.true)) }
 
 pub overflow_add-result : goal.overflow_add-result
 overflow_add-result c =

@@ -26,15 +26,15 @@ pub overflow_add-value-then-s-value-ne10 : goal.overflow_add-value-then-s-value-
 overflow_add-value-then-s-value-ne10 c =
     omega (arith, room-behind c.args.s.now c.requires.s_value c.requires.s_nonzero c.requires.s_value_2 c.name_to_colon-name.result c.name_to_colon-name.ensures)
 
-pub field_extent-e-requires : goal.field_extent-e-requires
-field_extent-e-requires c =
+pub field_extent-requires : goal.field_extent-requires
+field_extent-requires c =
     let g = goes-behind c.args.s.now c.requires.s_value c.requires.s_nonzero c.requires.s_value_2 c.name_to_colon-name.result c.name_to_colon-name.ensures in
     record { s_value = c.requires.s_value; goes_on = elim c.if-s-value-ne10.branch [ then-s-value-ne10 w ↦ rw (behind-blank _ _ w.value-is) (rw (ne_eqb _ _ w.if-s-value-ne10.true) at g) | else-s-value-ne10 w ↦ rw w.value-is (rw (eq-eqb _ _ w.if-s-value-ne10.false) at g) ] }
 
-pub returns-in-Size : goal.returns-in-Size
-returns-in-Size c =
-    rw (next-formed c.args.s.now c.requires.s_value c.requires.s_nonzero c.requires.s_value_2 c.name_to_colon-name.result c.name_to_colon-name.ensures, ← c.field_extent-e.ensures, c.in-Size.is) (elim c.if-s-value-ne10.branch [ then-s-value-ne10 w ↦ rw (behind-blank _ _ w.value-is, ne_eqb _ _ w.if-s-value-ne10.true) | else-s-value-ne10 w ↦ rw (w.value-is, eq-eqb _ _ w.if-s-value-ne10.false) ])
+pub returns-in-Some : goal.returns-in-Some
+returns-in-Some c =
+    rw (next-formed c.args.s.now c.requires.s_value c.requires.s_nonzero c.requires.s_value_2 c.name_to_colon-name.result c.name_to_colon-name.ensures, ← c.field_extent.ensures, c.in-Some.is) (elim c.if-s-value-ne10.branch [ then-s-value-ne10 w ↦ rw (behind-blank _ _ w.value-is, ne_eqb _ _ w.if-s-value-ne10.true) | else-s-value-ne10 w ↦ rw (w.value-is, eq-eqb _ _ w.if-s-value-ne10.false) ])
 
-pub returns-in-Open : goal.returns-in-Open
-returns-in-Open c =
-    rw (next-formed c.args.s.now c.requires.s_value c.requires.s_nonzero c.requires.s_value_2 c.name_to_colon-name.result c.name_to_colon-name.ensures, ← c.field_extent-e.ensures, c.in-Open.is)
+pub returns-in-None : goal.returns-in-None
+returns-in-None c =
+    rw (next-formed c.args.s.now c.requires.s_value c.requires.s_nonzero c.requires.s_value_2 c.name_to_colon-name.result c.name_to_colon-name.ensures, ← c.field_extent.ensures, c.in-None.is)

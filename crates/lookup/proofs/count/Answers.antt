@@ -1,28 +1,18 @@
 -- `lookup::count` meets its contract.
-use Prim.Native.Nat.{ℕ, ◌-◌}
-use native.Mathlib.Omega.{arith}
-use mathlib.Core.Path.{◌≡◌, sym, ap, ◌∙◌, subst}
-use mathlib.Core.Bool.{true}
-use lib.ListN.{take}
+use mathlib.Core.Path.{ap, ◌∙◌}
 use Rattle.format.specs.Bytes.{Bytes}
-use Rattle.records.specs.Places.{is_readable}
-use Rattle.records.proofs.Checked.{answer-checked}
 use Rattle.lookup.specs.Answers.{count_in}
-use Rattle.lookup.proofs.Buffers.{count-refused, count-text}
+use Rattle.lookup.proofs.Buffers.{count-refused, count-text, text-readable}
 use Rattle.lookup.proofs.count.Goals as goal
-
-pub returns-then-n-ne0 : goal.returns-then-n-ne0
-returns-then-n-ne0 c =
-    count-refused c.args.buf.now c.args.used c.check-n.result c.check-n.ensures c.if-n-ne0.true c.args.set.now
-
-pub slice_bounds-count_in-end : goal.slice_bounds-count_in-end
-slice_bounds-count_in-end c =
-    omega (arith, (answer-checked c.args.buf.now c.args.used c.check-n.result c.check-n.ensures c.if-n-ne0.false).fits)
 
 pub count_in-requires : goal.count_in-requires
 count_in-requires c =
-    let t : take (c.args.used - 0) c.args.buf.now ≡ take c.args.used c.args.buf.now = ap (λ (n : ℕ). take n c.args.buf.now) (let e : c.args.used - 0 ≡ c.args.used = omega arith in e) in (subst (λ (x : Bytes). is_readable x ≡ true) (sym t) (answer-checked c.args.buf.now c.args.used c.check-n.result c.check-n.ensures c.if-n-ne0.false).readable)
+    text-readable c.args.buf.now c.args.used c.in_ok-checked.ensures.number c.in_ok-checked.ensures.text
 
 pub returns : goal.returns
 returns c =
-    let t : take (c.args.used - 0) c.args.buf.now ≡ take c.args.used c.args.buf.now = ap (λ (n : ℕ). take n c.args.buf.now) (let e : c.args.used - 0 ≡ c.args.used = omega arith in e) in c.count_in.ensures ∙ ap (λ (x : Bytes). count_in x c.args.set.now) t ∙ count-text c.args.buf.now c.args.used (sym c.if-n-ne0.false ∙ c.check-n.ensures) c.args.set.now
+    c.count_in.ensures ∙ ap (λ (x : Bytes). count_in x c.args.set.now) c.in_ok-checked.ensures.text ∙ count-text c.args.buf.now c.args.used c.in_ok-checked.ensures.number c.args.set.now
+
+pub returns-in_err-checked : goal.returns-in_err-checked
+returns-in_err-checked c =
+    count-refused c.args.buf.now c.args.used c.in_err-checked.field-0.0 c.in_err-checked.ensures.number c.from_residual.result c.from_residual.ensures c.args.set.now

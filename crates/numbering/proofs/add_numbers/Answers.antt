@@ -11,13 +11,13 @@ use Rattle.dictionary.proofs.Granted.{auto-lists}
 use Rattle.numbering.proofs.Completing.{none-added}
 use Rattle.numbering.proofs.add_numbers.Goals as goal
 
-pub next_named-f-requires : goal.next_named-f-requires
-next_named-f-requires c =
+pub next_named-requires : goal.next_named-requires
+next_named-requires c =
     c.requires.described.0.reads
 
 pub returns-in_default : goal.returns-in_default
 returns-in_default c =
-    ([], (none-added c.args.d.now (records (read_of c.args.part.now)) (pairs_at c.args.req.now c.args.from) (subst (NamedNext c.args.d.now (text "%auto") 0) c.in_default.is c.next_named-f.ensures).value, record { len_is = refl; inside = omega arith; text = refl; short = refl }))
+    ([], (none-added c.args.d.now (records (read_of c.args.part.now)) (pairs_at c.args.req.now c.args.from) (subst (NamedNext c.args.d.now (text "%auto") 0) c.in_default.is c.next_named.ensures).value, record { len_is = refl; inside = omega arith; text = refl; short = refl }))
 
 pub list-l-requires : goal.list-l-requires
 list-l-requires c =

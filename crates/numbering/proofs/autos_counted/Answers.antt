@@ -6,13 +6,13 @@ use Rattle.dictionary.proofs.Granted.{auto-lists}
 use Rattle.numbering.proofs.Counted.{autos-counted, none-counted-all}
 use Rattle.numbering.proofs.autos_counted.Goals as goal
 
-pub next_named-f-requires : goal.next_named-f-requires
-next_named-f-requires c =
+pub next_named-requires : goal.next_named-requires
+next_named-requires c =
     c.requires.0.reads
 
 pub returns-in_default : goal.returns-in_default
 returns-in_default c =
-    none-counted-all c.args.d.now (subst (NamedNext c.args.d.now (text "%auto") 0) c.in_default.is c.next_named-f.ensures).value
+    none-counted-all c.args.d.now (subst (NamedNext c.args.d.now (text "%auto") 0) c.in_default.is c.next_named.ensures).value
 
 pub list-l-requires : goal.list-l-requires
 list-l-requires c =

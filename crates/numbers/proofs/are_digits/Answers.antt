@@ -1,27 +1,20 @@
-use mathlib.Core.Path.{sym}
-use native.Mathlib.Omega.{arith}
-use borrow.Author.Tests.{lt-ltb, le-ltb}
-use lib.ListN.{drop_of_length-le}
-use Rattle.lines.proofs.Cuts.{at-cons}
+-- `numbers::are_digits` meets its contract.
+use mathlib.Core.Path.{sym, ◌∙◌}
+use borrow.Author.Tests.{eqb-true, eqb-false}
+use Rattle.std.proofs.Common.{rules, tests}
+use Rattle.std.proofs.lemmas.Iterator.{YieldsList-from_slice}
+use Rattle.std.proofs.lemmas.Iterator.Search.{all_from_yields_List}
+use Rattle.format.specs.Numbers.{is_digit_of}
+use Rattle.lines.proofs.Scans.{all_pass}
 use Rattle.numbers.proofs.Reading.{digits-some, digits-none}
 use Rattle.numbers.proofs.are_digits.Goals as goal
 
-pub returns-then-s-eq0 : goal.returns-then-s-eq0
-returns-then-s-eq0 c =
-    sym (digits-none c.args.base c.args.s.now c.if-s-eq0.true)
-
-pub loop-i-init : goal.loop-i-init
-loop-i-init c =
-    (omega arith, digits-some c.args.base c.args.s.now c.if-s-eq0.false)
-
-pub returns-then-base-digit_of : goal.returns-then-base-digit_of
-returns-then-base-digit_of c =
-    rw (c.loop-i.invariant.1, at-cons c.args.s.now c.loop-i.i c.loop-i-test.true, ← c.digit_of.ensures, le-ltb _ _ c.if-base-digit_of.true)
-
-pub loop-i-preserved : goal.loop-i-preserved
-loop-i-preserved c =
-    (omega arith, rw (c.loop-i.invariant.1, at-cons c.args.s.now c.loop-i.i c.loop-i-test.true, ← c.digit_of.ensures, lt-ltb _ _ c.if-base-digit_of.false))
+pub returns-then-is_empty : goal.returns-then-is_empty
+returns-then-is_empty c =
+    sym (digits-none c.args.base c.args.s.now (eqb-true _ _ (sym c.is_empty.ensures ∙ c.if-is_empty.true)))
 
 pub returns : goal.returns
 returns c =
-    rw (c.loop-i.invariant.1, drop_of_length-le c.args.s.now c.loop-i-test.false)
+    all_from_yields_List (is_digit_of c.args.base) _ _ _ c.all.ensures.ran (YieldsList-from_slice c.args.s.now c.iter.ensures.rest) (λ x b q k. search (rules, tests))
+    ∙ all_pass (is_digit_of c.args.base) c.args.s.now
+    ∙ sym (digits-some c.args.base c.args.s.now (eqb-false _ _ (sym c.is_empty.ensures ∙ c.if-is_empty.false)))

@@ -27,59 +27,59 @@ pub loop-size-init : goal.loop-size-init
 loop-size-init c =
     (omega arith, last-ended c.args.s.now (length c.args.s.now - 1) (omega (arith, c.if-len-eq0.false)) ∙ eq-eqb _ _ c.if-s-len-ne10.false, refl)
 
-pub next_piece-n-requires : goal.next_piece-n-requires
-next_piece-n-requires c =
-    record { table_value = c.classes-table.ensures; s_value = rw (rest c.args.s.now c.loop-size.i) (ended-drop c.args.s.now c.loop-size.i c.loop-size.invariant.1) }
+pub next_piece-requires : goal.next_piece-requires
+next_piece-requires c =
+    record { s_value = rw (rest c.args.s.now c.loop-size.i) (ended-drop c.args.s.now c.loop-size.i c.loop-size.invariant.1) }
 
 pub overflow_add-i : goal.overflow_add-i
 overflow_add-i c =
-    let p = looks c.args.s.now c.loop-size.i c.next_piece-n.result c.loop-size.invariant.1 c.next_piece-n.ensures c.in-Blank.is in
+    let p = looks c.args.s.now c.loop-size.i c.next_piece.result c.loop-size.invariant.1 c.next_piece.ensures c.in-Blank.is in
     omega (arith, p.2)
 
 pub loop-size-smaller-in-Blank : goal.loop-size-smaller-in-Blank
 loop-size-smaller-in-Blank c =
-    let p = looks c.args.s.now c.loop-size.i c.next_piece-n.result c.loop-size.invariant.1 c.next_piece-n.ensures c.in-Blank.is in
+    let p = looks c.args.s.now c.loop-size.i c.next_piece.result c.loop-size.invariant.1 c.next_piece.ensures c.in-Blank.is in
     omega (arith, p.1, p.2)
 
 pub loop-size-preserved-in-Blank : goal.loop-size-preserved-in-Blank
 loop-size-preserved-in-Blank c =
-    let p = looks c.args.s.now c.loop-size.i c.next_piece-n.result c.loop-size.invariant.1 c.next_piece-n.ensures c.in-Blank.is in
+    let p = looks c.args.s.now c.loop-size.i c.next_piece.result c.loop-size.invariant.1 c.next_piece.ensures c.in-Blank.is in
     (p.2, c.loop-size.invariant.1, c.loop-size.invariant.2 ∙ p.0)
 
 pub overflow_add-i-in-Comment : goal.overflow_add-i-in-Comment
 overflow_add-i-in-Comment c =
-    let p = looks c.args.s.now c.loop-size.i c.next_piece-n.result c.loop-size.invariant.1 c.next_piece-n.ensures c.in-Comment.is in
+    let p = looks c.args.s.now c.loop-size.i c.next_piece.result c.loop-size.invariant.1 c.next_piece.ensures c.in-Comment.is in
     omega (arith, p.2)
 
 pub loop-size-smaller-in-Comment : goal.loop-size-smaller-in-Comment
 loop-size-smaller-in-Comment c =
-    let p = looks c.args.s.now c.loop-size.i c.next_piece-n.result c.loop-size.invariant.1 c.next_piece-n.ensures c.in-Comment.is in
+    let p = looks c.args.s.now c.loop-size.i c.next_piece.result c.loop-size.invariant.1 c.next_piece.ensures c.in-Comment.is in
     omega (arith, p.1, p.2)
 
 pub loop-size-preserved-in-Comment : goal.loop-size-preserved-in-Comment
 loop-size-preserved-in-Comment c =
-    let p = looks c.args.s.now c.loop-size.i c.next_piece-n.result c.loop-size.invariant.1 c.next_piece-n.ensures c.in-Comment.is in
+    let p = looks c.args.s.now c.loop-size.i c.next_piece.result c.loop-size.invariant.1 c.next_piece.ensures c.in-Comment.is in
     (p.2, c.loop-size.invariant.1, c.loop-size.invariant.2 ∙ p.0)
 
 pub overflow_add-i-in-Field : goal.overflow_add-i-in-Field
 overflow_add-i-in-Field c =
-    let p = looks c.args.s.now c.loop-size.i c.next_piece-n.result c.loop-size.invariant.1 c.next_piece-n.ensures c.in-Field.is in
+    let p = looks c.args.s.now c.loop-size.i c.next_piece.result c.loop-size.invariant.1 c.next_piece.ensures c.in-Field.is in
     omega (arith, p.2)
 
 pub loop-size-smaller : goal.loop-size-smaller
 loop-size-smaller c =
-    let p = looks c.args.s.now c.loop-size.i c.next_piece-n.result c.loop-size.invariant.1 c.next_piece-n.ensures c.in-Field.is in
+    let p = looks c.args.s.now c.loop-size.i c.next_piece.result c.loop-size.invariant.1 c.next_piece.ensures c.in-Field.is in
     omega (arith, p.1, p.2)
 
 pub loop-size-preserved : goal.loop-size-preserved
 loop-size-preserved c =
-    let p = looks c.args.s.now c.loop-size.i c.next_piece-n.result c.loop-size.invariant.1 c.next_piece-n.ensures c.in-Field.is in
+    let p = looks c.args.s.now c.loop-size.i c.next_piece.result c.loop-size.invariant.1 c.next_piece.ensures c.in-Field.is in
     (p.2, c.loop-size.invariant.1, c.loop-size.invariant.2 ∙ p.0)
 
 pub returns-in-End : goal.returns-in-End
 returns-in-End c =
-    sym (c.loop-size.invariant.2 ∙ looks c.args.s.now c.loop-size.i c.next_piece-n.result c.loop-size.invariant.1 c.next_piece-n.ensures c.in-End.is)
+    sym (c.loop-size.invariant.2 ∙ looks c.args.s.now c.loop-size.i c.next_piece.result c.loop-size.invariant.1 c.next_piece.ensures c.in-End.is)
 
 pub returns-in-Fault : goal.returns-in-Fault
 returns-in-Fault c =
-    sym (c.loop-size.invariant.2 ∙ looks c.args.s.now c.loop-size.i c.next_piece-n.result c.loop-size.invariant.1 c.next_piece-n.ensures c.in-Fault.is)
+    sym (c.loop-size.invariant.2 ∙ looks c.args.s.now c.loop-size.i c.next_piece.result c.loop-size.invariant.1 c.next_piece.ensures c.in-Fault.is)

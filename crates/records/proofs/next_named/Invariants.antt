@@ -8,8 +8,8 @@ use Rattle.records.specs.Places.{is_readable}
 use Rattle.records.proofs.Named.{Unnamed}
 use Rattle.records.proofs.next_named.Given as goal
 
-abbrev pub invariant-loop-start : goal.invariant-loop-start
-invariant-loop-start l = (l.i ≤ length l.s) × (is_readable (drop l.i l.s) ≡ true) × Unnamed l.s l.name l.i
+abbrev pub invariant-loop-f : goal.invariant-loop-f
+invariant-loop-f l = (l.i ≤ length l.s) × (is_readable (drop l.i l.s) ≡ true) × Unnamed l.s l.name l.i
 
-abbrev pub decreases-loop-start : goal.decreases-loop-start
-decreases-loop-start l = length l.s - l.i
+abbrev pub decreases-loop-f : goal.decreases-loop-f
+decreases-loop-f l = length l.s - l.i

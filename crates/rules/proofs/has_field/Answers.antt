@@ -1,25 +1,25 @@
 -- `rules::has_field` meets its contract.
 use native.Mathlib.Omega.{arith}
-use mathlib.Core.Path.{sym, ap, subst}
+use mathlib.Core.Path.{◌≡◌, sym, ap, ◌∙◌}
 use mathlib.Core.Bool.{not}
 use mathlib.Core.List.{List}
 use lib.Dec.{eqb}
 use lib.ListN.{length}
 use borrow.Author.Tests.{ne_eqb}
+use Rattle.std.specs.Prelude.{Option, Some, None, is_some}
 use Rattle.format.specs.Bytes.{Bytes}
+use Rattle.records.specs.declared.ValuePlace.{ValuePlace}
 use Rattle.records.specs.Named.{values_from, NamedNext}
 use Rattle.rules.proofs.has_field.Goals as goal
 
-pub next_named-v-requires : goal.next_named-v-requires
-next_named-v-requires c =
+named : (d n : Bytes) (x : Option ValuePlace) → NamedNext d n 0 x → is_some x ≡ not (eqb (length (values_from d n 0)) 0)
+named d n None h = sym (ap (λ (vs : List Bytes). not (eqb (length vs) 0)) h.value)
+named d n (Some f) h = sym (ap not (ne_eqb (length (values_from d n 0)) 0 (λ z. omega (arith, ap length h.value.values))))
+
+pub next_named-requires : goal.next_named-requires
+next_named-requires c =
     c.requires
 
-pub returns-in-At : goal.returns-in-At
-returns-in-At c =
-    let h = (subst (NamedNext c.args.d.now c.args.name.now 0) c.in-At.is c.next_named-v.ensures).value in
-    sym (ap not (ne_eqb (length (values_from c.args.d.now c.args.name.now 0)) 0 (λ z. omega (arith, ap length h.values))))
-
-pub returns-in-Missing : goal.returns-in-Missing
-returns-in-Missing c =
-    let h = (subst (NamedNext c.args.d.now c.args.name.now 0) c.in-Missing.is c.next_named-v.ensures).value in
-    sym (ap (λ (vs : List Bytes). not (eqb (length vs) 0)) h)
+pub returns : goal.returns
+returns c =
+    c.is_some.ensures ∙ named c.args.d.now c.args.name.now c.next_named.result c.next_named.ensures

@@ -1,3 +1,4 @@
+use Rattle.format.specs.Refusals.{no_of}
 use Prim.Native.Nat.{ℕ, ◌-◌}
 use native.Mathlib.Omega.{arith}
 use mathlib.Core.Path.{◌≡◌, refl, sym, ap, ◌∙◌, subst}
@@ -31,7 +32,7 @@ returns-then-count-c c =
     let d = c.args.d.now in
     let rs = records (read_of c.args.part.now) in
     record {
-      number_is = chunk-last d rs c.args.b.kinds.count c.loop-b.worst c.loop-b.from c.loop-b.invariant.3 c.judge_rows-c.result c.judge_rows-c.ensures c.lesser-worst.result c.lesser-worst.ensures c.if-count-c.true ∙ part-all d rs c.args.b.kinds.count c.requires.book.kinds-are.count;
+      number_is = chunk-last d rs c.args.b.kinds.count (no_of c.loop-b.worst) c.loop-b.from c.loop-b.invariant.3 c.judge_rows-c.result c.judge_rows-c.ensures (no_of c.lesser-worst.result) c.lesser-worst.ensures c.if-count-c.true ∙ part-all d rs c.args.b.kinds.count c.requires.book.kinds-are.count;
       count-is = c.judge_rows-c.ensures.count-is;
     }
 
@@ -43,4 +44,4 @@ pub loop-b-preserved : goal.loop-b-preserved
 loop-b-preserved c =
     let d = c.args.d.now in
     let rs = records (read_of c.args.part.now) in
-    (c.judge_rows-c.auto.scratch ∙ c.loop-b.invariant.0, c.judge_rows-c.auto.entries ∙ c.loop-b.invariant.1, c.judge_rows-c.ensures.within, chunk-more d rs c.args.b.kinds.count c.loop-b.worst c.loop-b.from c.loop-b.invariant.3 c.judge_rows-c.result c.judge_rows-c.ensures c.lesser-worst.result c.lesser-worst.ensures)
+    (c.judge_rows-c.auto.scratch ∙ c.loop-b.invariant.0, c.judge_rows-c.auto.entries ∙ c.loop-b.invariant.1, c.judge_rows-c.ensures.within, chunk-more d rs c.args.b.kinds.count (no_of c.loop-b.worst) c.loop-b.from c.loop-b.invariant.3 c.judge_rows-c.result c.judge_rows-c.ensures (no_of c.lesser-worst.result) c.lesser-worst.ensures)

@@ -7,8 +7,8 @@ use Rattle.records.specs.Walk.{record_in}
 use Rattle.singulars.proofs.Gathering.{Enters}
 use Rattle.singulars.proofs.gather.Given as goal
 
-abbrev pub invariant-loop-start : goal.invariant-loop-start
-invariant-loop-start l = (length l.entries ≡ length l.initial.entries) × (l.n ≤ l.i) × Enters (singular (record_in l.d)) l.s l.entries l.n l.i
+abbrev pub invariant-loop-f : goal.invariant-loop-f
+invariant-loop-f l = (length l.entries ≡ length l.initial.entries) × (l.n ≤ l.i) × Enters (singular (record_in l.d)) l.s l.entries l.n l.i
 
-abbrev pub decreases-loop-start : goal.decreases-loop-start
-decreases-loop-start l = length l.s - l.i
+abbrev pub decreases-loop-f : goal.decreases-loop-f
+decreases-loop-f l = length l.s - l.i

@@ -1,4 +1,5 @@
 -- `singulars::values_apart` meets its contract: the marks of what was gathered are distinct where the values of each name are; more than there is room for are not.
+use Rattle.std.specs.Prelude.{Option, ℕ}
 use native.Mathlib.Omega.{arith}
 use mathlib.Core.Path.{sym, ap, ◌∙◌, subst}
 use Rattle.format.specs.Bytes.{text}
@@ -6,7 +7,6 @@ use Rattle.format.specs.Rules.{singular, distinct}
 use Rattle.records.specs.Walk.{record_in}
 use Rattle.records.specs.Named.{NamedNext}
 use Rattle.singulars.specs.Gathered.{GatheredAs}
-use Rattle.singulars.specs.declared.Gathered.{Gathered}
 use Rattle.dictionary.proofs.Granted.{singular-lists}
 use Rattle.singulars.proofs.Lists.{none-singular}
 use Rattle.singulars.proofs.Marks.{marks-distinct}
@@ -27,15 +27,15 @@ list-l-requires c =
 
 pub distinct_marks-requires : goal.distinct_marks-requires
 distinct_marks-requires c =
-    let g = subst (λ (x : Gathered). GatheredAs (singular (record_in c.args.d.now)) c.args.s.now (record_in c.args.s.now) c.gather-g.new.entries x) c.in-All.is c.gather-g.ensures in
+    let g = subst (λ (x : Option ℕ). GatheredAs (singular (record_in c.args.d.now)) c.args.s.now (record_in c.args.s.now) c.gather-g.new.entries x) c.in-Some-g.is c.gather-g.ensures in
     record { n_in_bounds = g.0; inside = g.1 }
 
-pub returns-in-All : goal.returns-in-All
-returns-in-All c =
-    let g = subst (λ (x : Gathered). GatheredAs (singular (record_in c.args.d.now)) c.args.s.now (record_in c.args.s.now) c.gather-g.new.entries x) c.in-All.is c.gather-g.ensures in
+pub returns-in-Some-g : goal.returns-in-Some-g
+returns-in-Some-g c =
+    let g = subst (λ (x : Option ℕ). GatheredAs (singular (record_in c.args.d.now)) c.args.s.now (record_in c.args.s.now) c.gather-g.new.entries x) c.in-Some-g.is c.gather-g.ensures in
     c.distinct_marks.ensures ∙ ap distinct g.2 ∙ marks-distinct (singular (record_in c.args.d.now)) (record_in c.args.s.now)
 
-pub returns-in-More : goal.returns-in-More
-returns-in-More c =
-    let g = subst (λ (x : Gathered). GatheredAs (singular (record_in c.args.d.now)) c.args.s.now (record_in c.args.s.now) c.gather-g.new.entries x) c.in-More.is c.gather-g.ensures in
+pub returns-in-None : goal.returns-in-None
+returns-in-None c =
+    let g = subst (λ (x : Option ℕ). GatheredAs (singular (record_in c.args.d.now)) c.args.s.now (record_in c.args.s.now) c.gather-g.new.entries x) c.in-None.is c.gather-g.ensures in
     sym (many-alike (singular (record_in c.args.d.now)) c.args.s.now c.requires.s_value.0 c.requires.s_value.1 (singular-lists c.args.d.now c.requires.described).few (omega (arith, g, c.gather-g.auto.entries, c.requires.entries_room_in_bounds)))

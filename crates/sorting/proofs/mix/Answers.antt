@@ -15,12 +15,12 @@ returns-in_default c =
 
 pub loop-byte-smaller : goal.loop-byte-smaller
 loop-byte-smaller c =
-    let e = text-told c.args.words c.args.s.now c.loop-byte.at c.text_byte-d.result c.text_byte-d.ensures c.in-Byte.is in
+    let e = text-told c.args.words c.args.s.now c.loop-byte.at c.text_byte-d.result c.text_byte-d.ensures c.in-Some.is in
     omega (arith, e.1, e.2)
 
 pub loop-byte-preserved : goal.loop-byte-preserved
 unfolding mixed
 loop-byte-preserved c =
-    let e = text-told c.args.words c.args.s.now c.loop-byte.at c.text_byte-d.result c.text_byte-d.ensures c.in-Byte.is in
+    let e = text-told c.args.words c.args.s.now c.loop-byte.at c.text_byte-d.result c.text_byte-d.ensures c.in-Some.is in
     let w = c.mix_byte-h.ensures.0 in
     (rw w (sym (ap (mixed c.loop-byte.h) e.0) ∙ c.loop-byte.invariant.0), c.mix_byte-h.ensures.1)

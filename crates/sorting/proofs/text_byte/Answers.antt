@@ -10,10 +10,10 @@ returns-in_default c =
 
 pub returns-then-ends_at : goal.returns-then-ends_at
 returns-then-ends_at c =
-    let e = goes_on c.args.s.now c.args.i c.value_byte-d.result c.value_byte-d.ensures c.in-Byte.is in
-    text-stop c.args.words c.args.s.now c.args.i c.in-Byte.byte c.in-Byte.next e.0 (sym c.ends_at.ensures ∙ c.if-ends_at.true)
+    let e = goes_on c.args.s.now c.args.i c.value_byte-d.result c.value_byte-d.ensures c.in-Some.is in
+    text-stop c.args.words c.args.s.now c.args.i c.in-Some.field-0.byte c.in-Some.field-0.next e.0 (sym c.ends_at.ensures ∙ c.if-ends_at.true)
 
 pub returns : goal.returns
 returns c =
-    let e = goes_on c.args.s.now c.args.i c.value_byte-d.result c.value_byte-d.ensures c.in-Byte.is in
-    text-on c.args.words c.args.s.now c.args.i c.in-Byte.byte c.in-Byte.next e.0 (sym c.ends_at.ensures ∙ c.if-ends_at.false) e.1 e.2
+    let e = goes_on c.args.s.now c.args.i c.value_byte-d.result c.value_byte-d.ensures c.in-Some.is in
+    text-on c.args.words c.args.s.now c.args.i c.in-Some.field-0.byte c.in-Some.field-0.next e.0 (sym c.ends_at.ensures ∙ c.if-ends_at.false) e.1 e.2

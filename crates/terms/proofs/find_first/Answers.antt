@@ -3,6 +3,7 @@ use native.Mathlib.Omega.{arith}
 use mathlib.Core.Path.{sym, ◌∙◌}
 use Rattle.terms.proofs.Search.{left-low, left-none, left-stop}
 use Rattle.terms.proofs.Joining.{found_first}
+use Rattle.terms.proofs.Order.{equal-only, greater-left}
 use Rattle.terms.proofs.find_first.Goals as goal
 
 pub first_of-i-requires : goal.first_of-i-requires
@@ -20,8 +21,8 @@ bounds-entries-i c =
     let e = c.if-i-entries.false in
     omega arith
 
-pub compare-c-requires : goal.compare-c-requires
-compare-c-requires c =
+pub compare-requires : goal.compare-requires
+compare-requires c =
     let h = c.first_of-i.ensures.0 in
     let e = c.if-i-entries.false in
     (c.requires.entries c.first_of-i.result (omega arith), c.requires.print_value.0)
@@ -33,18 +34,15 @@ bounds-sets-i c =
     let r = c.requires.entries_in_bounds.0 in
     omega arith
 
-pub returns-in-Equal : goal.returns-in-Equal
-returns-in-Equal c =
+pub returns-then-is_eq : goal.returns-then-is_eq
+returns-then-is_eq c =
     let h = c.first_of-i.ensures.0 in
     let e = c.if-i-entries.false in
-    found_first c.args.s.now c.args.entries.now c.args.w.now c.args.sets.now c.first_of-i.result (omega arith) c.requires.entries_in_bounds.1 c.first_of-i.ensures.1 (sym c.compare-c.ensures ∙ c.in-Equal.is)
+    found_first c.args.s.now c.args.entries.now c.args.w.now c.args.sets.now c.first_of-i.result (omega arith) c.requires.entries_in_bounds.1 c.first_of-i.ensures.1 (sym c.compare.ensures ∙ equal-only c.compare.result (sym c.is_eq.ensures ∙ c.if-is_eq.true))
 
-pub returns-in-Before : goal.returns-in-Before
-returns-in-Before c =
+pub returns-else-is_eq : goal.returns-else-is_eq
+returns-else-is_eq c =
     let h = c.first_of-i.ensures.0 in
     let e = c.if-i-entries.false in
-    absurd (c.first_of-i.ensures.2 (omega arith) (sym c.compare-c.ensures ∙ c.in-Before.is))
-
-pub returns-in-Behind : goal.returns-in-Behind
-returns-in-Behind c =
-    left-stop c.args.s.now c.args.entries.now c.args.w.now c.requires.print_value.1 0 c.first_of-i.result (left-low c.args.s.now c.args.entries.now c.args.w.now c.first_of-i.result c.first_of-i.ensures.0 c.first_of-i.ensures.1) (sym c.compare-c.ensures ∙ c.in-Behind.is)
+    let n = c.first_of-i.ensures.2 (omega arith) in
+    left-stop c.args.s.now c.args.entries.now c.args.w.now c.requires.print_value.1 0 c.first_of-i.result (left-low c.args.s.now c.args.entries.now c.args.w.now c.first_of-i.result c.first_of-i.ensures.0 c.first_of-i.ensures.1) (sym c.compare.ensures ∙ greater-left c.compare.result (sym c.is_eq.ensures ∙ c.if-is_eq.false) (λ q. n (sym c.compare.ensures ∙ q)))

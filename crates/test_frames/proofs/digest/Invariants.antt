@@ -1,10 +1,6 @@
--- `test_frames::digest` is safe and ends. The invariant: both sums are reduced. The measure is what is left of the text.
-use Prim.Native.Nat.{◌-◌, ◌≤◌, ◌<◌}
-use lib.ListN.{length}
+-- `test_frames::digest` is safe and ends. The invariant: both sums are reduced.
+use Prim.Native.Nat.{◌<◌}
 use Rattle.test_frames.proofs.digest.Given as goal
 
-abbrev pub invariant-loop-i : goal.invariant-loop-i
-invariant-loop-i l = (l.i ≤ length l.s) × (l.a < 65521) × (l.b < 65521)
-
-abbrev pub decreases-loop-i : goal.decreases-loop-i
-decreases-loop-i l = length l.s - l.i
+abbrev pub invariant-loop-x : goal.invariant-loop-x
+invariant-loop-x l = (l.a < 65521) × (l.b < 65521)

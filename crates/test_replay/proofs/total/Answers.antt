@@ -7,6 +7,6 @@ use Rattle.test_replay.proofs.total.Goals as goal
 
 pub tell_total-requires : goal.tell_total-requires
 tell_total-requires c =
-    let t : Total = record { hundredths = c.in-Value.hundredths; millionths = c.in-Value.millionths; number = c.in-Value.number } in
-    let held = total-held c.args.buf.now c.args.used c.args.set.now c.args.name.now t (sym c.total-t.ensures ∙ ap totalled_by c.in-Value.is) in
+    let t : Total = record { hundredths = c.in-Ok.field-0.hundredths; millionths = c.in-Ok.field-0.millionths; number = c.in-Ok.field-0.number } in
+    let held = total-held c.args.buf.now c.args.used c.args.set.now c.args.name.now t (sym c.total.ensures ∙ ap totalled_by c.in-Ok.is) in
     (seen-held t.hundredths held.0, seen-held t.millionths held.1)

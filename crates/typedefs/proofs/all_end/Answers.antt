@@ -1,52 +1,35 @@
-use Prim.Native.Nat.{◌+◌}
+use Prim.Native.Nat.{◌<◌}
 use native.Mathlib.Omega.{arith}
 use mathlib.Core.Path.{refl, sym, ap, ◌∙◌}
-use mathlib.Core.Bool.{Bool, ◌&&◌}
-use borrow.Author.Tests.{not-true, not-false}
-use lib.ListN.{drop}
-use Rattle.format.specs.Bytes.{all}
+use mathlib.Core.Bool.{true, false}
+use lib.ListN.{length-take}
+use lib.Seq.{get_or-take}
 use Rattle.typedefs.specs.Targets.{targets_in, leads}
+use Rattle.typedefs.specs.declared.Link.{Link}
 use Rattle.typedefs.proofs.Chains.{targets-length, target_at}
 use Rattle.typedefs.proofs.Good.{ends-done, ends-cut}
-use mathlib.Core.Bool.{not}
 use Rattle.typedefs.proofs.all_end.Goals as goal
 
-pub loop-i-init : goal.loop-i-init
-loop-i-init c = (omega arith, refl)
-
-pub offset_bounds-targets-i : goal.offset_bounds-targets-i
-offset_bounds-targets-i c =
-    omega (arith, c.requires.0)
-
-pub bounds-targets-i : goal.bounds-targets-i
-bounds-targets-i c =
-    omega (arith, c.requires.0, c.requires.1)
-
-pub target_ends-requires : goal.target_ends-requires
-target_ends-requires c =
-    c.requires
+pub loop-row-init : goal.loop-row-init
+loop-row-init c = refl
 
 pub returns-then-not-target_ends : goal.returns-then-not-target_ends
 returns-then-not-target_ends c =
-    let ts = targets_in c.args.targets in
-    let e = c.target_ends.ensures ∙ ap (leads ts) (sym (target_at c.args.targets c.requires c.loop-i.i _ c.loop-i-test.true)) in
-    sym (c.loop-i.invariant.1 ∙ ends-cut ts c.loop-i.i c.target_ends.result (omega (arith, c.loop-i-test.true, targets-length c.args.targets c.requires)) e
-    ∙ ap (λ (b : Bool). b && all (leads ts) (drop (c.loop-i.i + 1) ts)) (not-true c.target_ends.result (ap not c.if-not-target_ends.true)))
+    let t = c.args.targets in
+    let k = c.loop-row.row-index in
+    let h : k < t.count = omega (arith, length-take t.count t.rows, c.loop-row-test.true) in
+    let e = c.if-not-target_ends.ensures ∙ ap (leads (targets_in t)) (ap (λ (x : Link). x.to) (get_or-take t.count t.rows k _ h) ∙ sym (target_at t c.requires k _ h)) in
+    sym (c.loop-row.invariant ∙ ends-cut (targets_in t) k false (omega (arith, h, targets-length t c.requires)) e)
 
-pub overflow_add-i : goal.overflow_add-i
-overflow_add-i c =
-    omega (arith, c.requires.0)
-
-pub loop-i-preserved : goal.loop-i-preserved
-loop-i-preserved c =
-    let ts = targets_in c.args.targets in
-    let e = c.target_ends.ensures ∙ ap (leads ts) (sym (target_at c.args.targets c.requires c.loop-i.i _ c.loop-i-test.true)) in (
-      omega arith,
-      c.loop-i.invariant.1 ∙ ends-cut ts c.loop-i.i c.target_ends.result (omega (arith, c.loop-i-test.true, targets-length c.args.targets c.requires)) e
-          ∙ ap (λ (b : Bool). b && all (leads ts) (drop (c.loop-i.i + 1) ts)) (not-false c.target_ends.result (ap not c.if-not-target_ends.false)),
-    )
+pub loop-row-preserved : goal.loop-row-preserved
+loop-row-preserved c =
+    let t = c.args.targets in
+    let k = c.loop-row.row-index in
+    let h : k < t.count = omega (arith, length-take t.count t.rows, c.loop-row-test.true) in
+    let e = c.if-not-target_ends.ensures ∙ ap (leads (targets_in t)) (ap (λ (x : Link). x.to) (get_or-take t.count t.rows k _ h) ∙ sym (target_at t c.requires k _ h)) in
+    c.loop-row.invariant ∙ ends-cut (targets_in t) k true (omega (arith, h, targets-length t c.requires)) e
 
 pub returns : goal.returns
 returns c =
     let ts = targets_in c.args.targets in
-    sym (c.loop-i.invariant.1 ∙ ends-done ts c.loop-i.i (omega (arith, c.loop-i-test.false, targets-length c.args.targets c.requires)))
+    sym (c.loop-row.invariant ∙ ends-done ts c.loop-row.row-index (omega (arith, c.loop-row-test.false, length-take c.args.targets.count c.args.targets.rows, c.requires.0, c.requires.1, targets-length c.args.targets c.requires)))

@@ -51,8 +51,8 @@ slice_bounds-first_index-end-2 c =
     let p = get_or c.args.names.places c.args.k 0 in
     decoded-length (value_from (span p (length c.args.d.now) c.args.d.now)) c.args.scratch.now _ c.copy_value-n.result c.copy_value-n.ensures.0 c.copy_value-n.ensures.1
 
-pub first_index-t-requires : goal.first_index-t-requires
-first_index-t-requires c =
+pub first_index-requires : goal.first_index-requires
+first_index-requires c =
     (c.requires.are_names.0, omega (arith, c.requires.are_names.1))
 
 pub returns-in-Missing : goal.returns-in-Missing
@@ -61,7 +61,7 @@ returns-in-Missing c =
     let p = get_or c.args.names.places c.args.k 0 in
     let ns = names_from d 0 in
     let q = ap first_word (decoded-all (value_from (span p (length d) d)) c.args.scratch.now c.copy_value-n.new.out c.copy_value-n.result c.copy_value-n.ensures.0 c.copy_value-n.ensures.1 ∙ ap value_from (rest d p)) ∙ place-name d c.args.names c.requires.are_names.0 c.args.k c.requires.are_names.1 in
-    ap is_missing (sym c.in-Missing.is ∙ c.first_index-t.ensures ∙ ap (λ (u : Bytes). index_from (c.args.k + 1) u (drop (c.args.k + 1) ns)) q) ∙ among-index (c.args.k + 1) (get_or ns c.args.k []) (drop (c.args.k + 1) ns)
+    ap is_missing (sym c.in-Missing.is ∙ c.first_index.ensures ∙ ap (λ (u : Bytes). index_from (c.args.k + 1) u (drop (c.args.k + 1) ns)) q) ∙ among-index (c.args.k + 1) (get_or ns c.args.k []) (drop (c.args.k + 1) ns)
 
 pub returns-in_default : goal.returns-in_default
 returns-in_default c =
@@ -69,4 +69,4 @@ returns-in_default c =
     let p = get_or c.args.names.places c.args.k 0 in
     let ns = names_from d 0 in
     let q = ap first_word (decoded-all (value_from (span p (length d) d)) c.args.scratch.now c.copy_value-n.new.out c.copy_value-n.result c.copy_value-n.ensures.0 c.copy_value-n.ensures.1 ∙ ap value_from (rest d p)) ∙ place-name d c.args.names c.requires.are_names.0 c.args.k c.requires.are_names.1 in
-    not-missing c.first_index-t.result (opened c.in_default.in_default-own.keys2) ∙ ap is_missing (c.first_index-t.ensures ∙ ap (λ (u : Bytes). index_from (c.args.k + 1) u (drop (c.args.k + 1) ns)) q) ∙ among-index (c.args.k + 1) (get_or ns c.args.k []) (drop (c.args.k + 1) ns)
+    not-missing c.first_index.result (opened c.in_default.in_default-own.keys2) ∙ ap is_missing (c.first_index.ensures ∙ ap (λ (u : Bytes). index_from (c.args.k + 1) u (drop (c.args.k + 1) ns)) q) ∙ among-index (c.args.k + 1) (get_or ns c.args.k []) (drop (c.args.k + 1) ns)

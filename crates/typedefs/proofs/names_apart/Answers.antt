@@ -28,10 +28,6 @@ returns-then-not-name_alone c =
     let ns = names_from c.args.d.now 0 in
     sym (c.loop-k.invariant.2 ∙ apart-cut ns c.loop-k.k c.name_alone.result (omega (arith, words-length (values_from c.args.d.now (text "%typedef") 0), c.requires.are_names.values.count, c.loop-k-test.true)) c.name_alone.ensures ∙ ap (λ (t : Bool). t && distinct (drop (c.loop-k.k + 1) ns)) (not-true c.name_alone.result (ap not c.if-not-name_alone.true)))
 
-pub overflow_add-k : goal.overflow_add-k
-overflow_add-k c =
-    omega (arith, c.requires.are_names.values.few, c.loop-k-test.true)
-
 pub loop-k-preserved : goal.loop-k-preserved
 loop-k-preserved c =
     let ns = names_from c.args.d.now 0 in

@@ -17,10 +17,10 @@ pub slice_bounds-build-end : goal.slice_bounds-build-end
 slice_bounds-build-end c =
     sym (length-take-le c.add_names-p.result.count c.add_names-p.new.entries (names-room c.args.d.now _ c.add_names-p.new.entries c.add_names-p.result.rows c.add_names-p.result.count c.add_names-p.ensures.0 c.add_names-p.ensures.1 (omega arith)))
 
-pub build-t-requires : goal.build-t-requires
-build-t-requires c =
+pub build-table-requires : goal.build-table-requires
+build-table-requires c =
     names-entries c.args.d.now _ c.add_names-p.new.entries c.add_names-p.result.rows c.add_names-p.result.count c.add_names-p.ensures.0 c.add_names-p.ensures.1 (omega arith)
 
 pub returns : goal.returns
 returns c =
-    names-made c.args.d.now _ c.add_names-p.new.entries c.add_names-p.result.rows c.add_names-p.result.count c.add_names-p.ensures.0 c.add_names-p.ensures.1 (omega arith) c.build-t.new.entries c.build-t.result c.build-t.ensures
+    names-made c.args.d.now _ c.add_names-p.new.entries c.add_names-p.result.rows c.add_names-p.result.count c.add_names-p.ensures.0 c.add_names-p.ensures.1 (omega arith) c.build-table.new.entries c.build-table.result c.build-table.ensures

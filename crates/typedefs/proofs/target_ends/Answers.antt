@@ -1,7 +1,7 @@
 -- `typedefs::target_ends` meets its contract.
 use mathlib.Core.Path.{sym, ap}
 use Rattle.typedefs.specs.Targets.{targets_in, leads}
-use Rattle.typedefs.proofs.Ending.{leads-alias}
+use Rattle.typedefs.proofs.Ending.{leads-alias, leads-not}
 use Rattle.typedefs.proofs.target_ends.Goals as goal
 
 pub returns-in-Kind : goal.returns-in-Kind
@@ -10,15 +10,11 @@ returns-in-Kind c =
 
 pub returns-in-End : goal.returns-in-End
 returns-in-End c =
-    leads-alias c.args.targets c.requires c.args.t c.in-Alias.j c.follow-f.result _ c.in-Alias.is c.follow-f.ensures c.in-End.is
+    leads-alias c.args.targets c.requires c.args.t c.in-Alias.j c.follow.result _ c.in-Alias.is c.follow.ensures c.in-End.is
 
-pub returns-in-Missing-f : goal.returns-in-Missing-f
-returns-in-Missing-f c =
-    leads-alias c.args.targets c.requires c.args.t c.in-Alias.j c.follow-f.result _ c.in-Alias.is c.follow-f.ensures c.in-Missing-f.is
-
-pub returns-in-Loop : goal.returns-in-Loop
-returns-in-Loop c =
-    leads-alias c.args.targets c.requires c.args.t c.in-Alias.j c.follow-f.result _ c.in-Alias.is c.follow-f.ensures c.in-Loop.is
+pub returns-in_default : goal.returns-in_default
+returns-in_default c =
+    leads-not c.args.targets c.requires c.args.t c.in-Alias.j c.follow.result c.in-Alias.is c.follow.ensures c.in_default.not-End
 
 pub returns-in-Missing : goal.returns-in-Missing
 returns-in-Missing c =

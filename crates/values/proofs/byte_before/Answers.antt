@@ -1,8 +1,8 @@
+use Rattle.std.specs.Prelude.{Some}
 use native.Mathlib.Omega.{arith}
 use Prim.Native.Nat.{◌-◌}
 use mathlib.Core.Path.{refl, ◌∙◌}
 use lib.ListN.{get_or}
-use Rattle.values.specs.declared.Decoded.{Decoded}
 use Rattle.values.proofs.Backwards.{reaches-inside, joint-before, high-before, precedes-from, precedes-none}
 use Rattle.values.proofs.byte_before.Goals as goal
 
@@ -16,7 +16,7 @@ bounds-s-at c =
 
 pub returns-then-b-gt43 : goal.returns-then-b-gt43
 returns-then-b-gt43 c =
-    precedes-from c.args.s.now c.args.k c.loop-at.at (Decoded.Byte (get_or c.args.s.now (c.loop-at.at - 1) 0) (c.loop-at.at - 1)) c.loop-at.invariant.0 c.loop-at.invariant.2 (high-before c.args.s.now c.loop-at.at c.loop-at.invariant.1 c.loop-at-test.true c.if-b-gt43.true)
+    precedes-from c.args.s.now c.args.k c.loop-at.at (Some (record { byte = get_or c.args.s.now (c.loop-at.at - 1) 0; next = c.loop-at.at - 1 })) c.loop-at.invariant.0 c.loop-at.invariant.2 (high-before c.args.s.now c.loop-at.at c.loop-at.invariant.1 c.loop-at-test.true c.if-b-gt43.true)
 
 pub last_byte-requires : goal.last_byte-requires
 last_byte-requires c =

@@ -12,20 +12,20 @@ loop-next-init c =
 
 pub returns-in_default : goal.returns-in_default
 returns-in_default c =
-    let e = ended c.args.s.now c.loop-next.i c.value_byte-d.result c.value_byte-d.ensures c.in_default.is in
+    let e = ended c.args.s.now c.loop-next.i c.value_byte.result c.value_byte.ensures c.in_default.is in
     omega (arith, ap length e)
 
 pub overflow_add-n : goal.overflow_add-n
 overflow_add-n c =
-    let u = goes_on c.args.s.now c.loop-next.i c.value_byte-d.result c.value_byte-d.ensures c.in-Byte.is in
+    let u = goes_on c.args.s.now c.loop-next.i c.value_byte.result c.value_byte.ensures c.in-Some.is in
     omega (arith, ap length u.0, value-length c.args.s.now)
 
 pub loop-next-smaller : goal.loop-next-smaller
 loop-next-smaller c =
-    let u = goes_on c.args.s.now c.loop-next.i c.value_byte-d.result c.value_byte-d.ensures c.in-Byte.is in
+    let u = goes_on c.args.s.now c.loop-next.i c.value_byte.result c.value_byte.ensures c.in-Some.is in
     omega (arith, u.1, u.2)
 
 pub loop-next-preserved : goal.loop-next-preserved
 loop-next-preserved c =
-    let u = goes_on c.args.s.now c.loop-next.i c.value_byte-d.result c.value_byte-d.ensures c.in-Byte.is in
+    let u = goes_on c.args.s.now c.loop-next.i c.value_byte.result c.value_byte.ensures c.in-Some.is in
     omega (arith, ap length u.0)

@@ -1,20 +1,13 @@
-use mathlib.Core.Path.{sym, ◌∙◌}
-use native.Mathlib.Omega.{arith}
-use Rattle.format.specs.Words.{is_gap}
-use Rattle.lines.proofs.Heads.{run_more, run-stop, run_end}
+-- `words::gap_end` meets its contract.
+use mathlib.Core.Path.{◌∙◌}
+use Rattle.std.proofs.Common.{rules, tests}
+use Rattle.std.proofs.lemmas.Iterator.{YieldsList-from_slice}
+use Rattle.std.proofs.lemmas.Iterator.Search.{position_from_yields_List}
+use Rattle.format.specs.Words.{is_gap, not_gap}
+use Rattle.lines.proofs.Scans.{run_found, not-not}
 use Rattle.words.proofs.gap_end.Goals as goal
-
-pub loop-e-init : goal.loop-e-init
-loop-e-init c = (omega arith, omega arith)
-
-pub loop-e-preserved : goal.loop-e-preserved
-loop-e-preserved c =
-    omega (arith, run_more is_gap c.args.s.now c.loop-e.e c.loop-e-test.true (sym c.is_gap.ensures ∙ c.if-is_gap.true))
-
-pub returns-else-is_gap : goal.returns-else-is_gap
-returns-else-is_gap c =
-    omega (arith, run-stop is_gap c.args.s.now c.loop-e.e c.loop-e-test.true (sym c.is_gap.ensures ∙ c.if-is_gap.false))
 
 pub returns : goal.returns
 returns c =
-    omega (arith, run_end is_gap c.args.s.now c.loop-e.e c.loop-e-test.false)
+    c.unwrap_or.ensures ∙ run_found is_gap not_gap (λ b. not-not (is_gap b)) c.args.s.now c.position.result
+    (position_from_yields_List not_gap _ _ _ c.position.ensures.ran (YieldsList-from_slice c.args.s.now c.iter.ensures.rest) (λ x b q k. search (rules, tests)))

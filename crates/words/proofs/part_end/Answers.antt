@@ -1,22 +1,15 @@
-use mathlib.Core.Path.{ap}
-use mathlib.Core.Bool.{not}
-use borrow.Author.Tests.{eq-eqb, ne_eqb}
-use native.Mathlib.Omega.{arith}
-use Rattle.lines.proofs.Heads.{run_more, run-stop, run_end}
+-- `words::part_end` meets its contract.
+use mathlib.Core.Path.{refl, ◌∙◌}
+use Rattle.std.proofs.Common.{rules, tests}
+use Rattle.std.proofs.lemmas.Iterator.{YieldsList-from_slice}
+use Rattle.std.proofs.lemmas.Iterator.Search.{position_from_yields_List}
+use Prim.Native.Nat.{ℕ}
+use lib.Dec.{eqb}
 use Rattle.words.specs.Spans.{not_byte}
+use Rattle.lines.proofs.Scans.{run_found}
 use Rattle.words.proofs.part_end.Goals as goal
-
-pub loop-e-init : goal.loop-e-init
-loop-e-init c = (omega arith, omega arith)
-
-pub returns-then-s-e : goal.returns-then-s-e
-returns-then-s-e c =
-    omega (arith, run-stop (not_byte c.args.d) c.args.s.now c.loop-e.e c.loop-e-test.true (ap not (eq-eqb _ _ c.if-s-e.true)))
-
-pub loop-e-preserved : goal.loop-e-preserved
-loop-e-preserved c =
-    omega (arith, run_more (not_byte c.args.d) c.args.s.now c.loop-e.e c.loop-e-test.true (ap not (ne_eqb _ _ c.if-s-e.false)))
 
 pub returns : goal.returns
 returns c =
-    omega (arith, run_end (not_byte c.args.d) c.args.s.now c.loop-e.e c.loop-e-test.false)
+    c.unwrap_or.ensures ∙ run_found (not_byte c.args.d) (λ (b : ℕ). eqb b c.args.d) (λ b. refl) c.args.s.now c.position.result
+    (position_from_yields_List (λ (b : ℕ). eqb b c.args.d) _ _ _ c.position.ensures.ran (YieldsList-from_slice c.args.s.now c.iter.ensures.rest) (λ x b q k. search (rules, tests)))

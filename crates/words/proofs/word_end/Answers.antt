@@ -1,21 +1,13 @@
-use mathlib.Core.Path.{sym, ap, ◌∙◌}
-use mathlib.Core.Bool.{not}
-use native.Mathlib.Omega.{arith}
-use Rattle.format.specs.Words.{not_gap}
-use Rattle.lines.proofs.Heads.{run_more, run-stop, run_end}
+-- `words::word_end` meets its contract.
+use mathlib.Core.Path.{refl, ◌∙◌}
+use Rattle.std.proofs.Common.{rules, tests}
+use Rattle.std.proofs.lemmas.Iterator.{YieldsList-from_slice}
+use Rattle.std.proofs.lemmas.Iterator.Search.{position_from_yields_List}
+use Rattle.format.specs.Words.{is_gap, not_gap}
+use Rattle.lines.proofs.Scans.{run_found}
 use Rattle.words.proofs.word_end.Goals as goal
-
-pub loop-e-init : goal.loop-e-init
-loop-e-init c = (omega arith, omega arith)
-
-pub returns-then-is_gap : goal.returns-then-is_gap
-returns-then-is_gap c =
-    omega (arith, run-stop not_gap c.args.s.now c.loop-e.e c.loop-e-test.true (ap not (sym c.is_gap.ensures ∙ c.if-is_gap.true)))
-
-pub loop-e-preserved : goal.loop-e-preserved
-loop-e-preserved c =
-    omega (arith, run_more not_gap c.args.s.now c.loop-e.e c.loop-e-test.true (ap not (sym c.is_gap.ensures ∙ c.if-is_gap.false)))
 
 pub returns : goal.returns
 returns c =
-    omega (arith, run_end not_gap c.args.s.now c.loop-e.e c.loop-e-test.false)
+    c.unwrap_or.ensures ∙ run_found not_gap is_gap (λ b. refl) c.args.s.now c.position.result
+    (position_from_yields_List is_gap _ _ _ c.position.ensures.ran (YieldsList-from_slice c.args.s.now c.iter.ensures.rest) (λ x b q k. search (rules, tests)))

@@ -11,10 +11,10 @@ use Rattle.descriptors.proofs.shapes.all_names.Goals as goal
 
 pub returns-in_default : goal.returns-in_default
 returns-in_default c =
-    sym (ap (several (listable c.args.special)) (not_found c.args.s.now c.next_word-w.ensures c.in_default.is))
+    sym (ap (several (listable c.args.special)) (not_found c.args.s.now c.next_word.ensures c.in_default.is))
 
 pub returns : goal.returns
 returns c =
     let s = c.args.s.now in
-    let f = found s c.next_word-w.ensures c.in-At.is in
-    c.each_name.ensures ∙ sym (several-some (words s) (span c.in-At.start c.in-At.end s) (words (span c.in-At.end (length s) s)) f.2 (listable c.args.special))
+    let f = found s c.next_word.ensures c.in-Some.is in
+    c.each_name.ensures ∙ sym (several-some (words s) (span c.in-Some.field-0.start c.in-Some.field-0.end s) (words (span c.in-Some.field-0.end (length s) s)) f.2 (listable c.args.special))

@@ -32,17 +32,17 @@ pub slice_bounds-head_of-end-in-loop-n : goal.slice_bounds-head_of-end-in-loop-n
 slice_bounds-head_of-end-in-loop-n c =
     sym (length-take-le c.loop-n.n c.loop-n.to (omega (arith, c.loop-n-test.true, c.loop-n.invariant.0.few, c.loop-n.invariant.0.room-beside)))
 
-pub head_of-h-requires : goal.head_of-h-requires
-head_of-h-requires c =
+pub head_of-requires : goal.head_of-requires
+head_of-requires c =
     let r = row c.args.s.now c.args.starts.now c.args.ends.now c.args.count c.loop-n.n c.loop-n.from c.loop-n.to c.loop-n.invariant.0 c.loop-n-test.true in record { a_le_e = (omega (arith, r.filled), omega (arith, r.within, r.inside)); s_value = r.own; s_value_2 = part-fits c.args.s.now c.args.starts.now c.args.ends.now c.args.count c.loop-n.n c.loop-n.from c.loop-n.to c.loop-n.invariant.0 c.loop-n-test.true; inside = c.loop-n.invariant.0.places; value_bytes_in_bounds = omega (arith, c.requires.value_bytes_in_bounds, c.loop-n.invariant.1) }
 
 pub shape_of-scratch-in_default : goal.shape_of-scratch-in_default
 shape_of-scratch-in_default c =
-    c.head_of-h.ensures.1 ∙ c.loop-n.invariant.1
+    c.head_of.ensures.1 ∙ c.loop-n.invariant.1
 
 pub returns-in_default : goal.returns-in_default
 returns-in_default c =
-    (sym (walk-stops c.args.s.now c.args.starts.now c.args.ends.now c.args.count c.loop-n.n c.loop-n.from c.loop-n.to c.loop-n.invariant.0 c.loop-n-test.true c.head_of-h.result c.head_of-h.ensures.0 c.in_default.is), c.head_of-h.ensures.1 ∙ c.loop-n.invariant.1)
+    (sym (walk-stops c.args.s.now c.args.starts.now c.args.ends.now c.args.count c.loop-n.n c.loop-n.from c.loop-n.to c.loop-n.invariant.0 c.loop-n-test.true c.head_of.result c.head_of.ensures.0 c.in_default.is), c.head_of.ensures.1 ∙ c.loop-n.invariant.1)
 
 pub bounds-from-n : goal.bounds-from-n
 bounds-from-n c =
@@ -52,17 +52,9 @@ pub bounds-to-n : goal.bounds-to-n
 bounds-to-n c =
     omega (arith, c.loop-n-test.true, c.loop-n.invariant.0.few, c.loop-n.invariant.0.room-beside)
 
-pub overflow_add-n : goal.overflow_add-n
-overflow_add-n c =
-    omega (arith, c.loop-n-test.true, c.loop-n.invariant.0.few)
-
-pub loop-n-smaller : goal.loop-n-smaller
-loop-n-smaller c =
-    omega (arith, c.loop-n-test.true)
-
 pub loop-n-preserved : goal.loop-n-preserved
 loop-n-preserved c =
-    (walk-head c.args.s.now c.args.starts.now c.args.ends.now c.args.count c.loop-n.n c.loop-n.from c.loop-n.to c.loop-n.invariant.0 c.loop-n-test.true c.head_of-h.result c.head_of-h.ensures.0 c.in-Named.start c.in-Named.end c.in-Named.is, c.head_of-h.ensures.1 ∙ c.loop-n.invariant.1)
+    (walk-head c.args.s.now c.args.starts.now c.args.ends.now c.args.count c.loop-n.n c.loop-n.from c.loop-n.to c.loop-n.invariant.0 c.loop-n-test.true c.head_of.result c.head_of.ensures.0 c.in-Some.field-0.start c.in-Some.field-0.end c.in-Some.is, c.head_of.ensures.1 ∙ c.loop-n.invariant.1)
 
 pub shape_of-scratch : goal.shape_of-scratch
 shape_of-scratch c =

@@ -1,6 +1,5 @@
 -- `descriptors::shapes::described_well` meets its contract. The invariant is the walk's: the n names met so far stand where the arrays say, and the descriptors from row n on are asked
--- behind them. The measure is the number of rows left.
-use Prim.Native.Nat.{◌-◌}
+-- behind them.
 use mathlib.Core.Path.{◌≡◌}
 use lib.ListN.{length}
 use Rattle.descriptors.proofs.Walks.{WalkAt}
@@ -8,6 +7,3 @@ use Rattle.descriptors.proofs.shapes.described_well.Given as goal
 
 abbrev pub invariant-loop-n : goal.invariant-loop-n
 invariant-loop-n l = WalkAt l.s l.starts l.ends l.count l.n l.from l.to × (length l.scratch ≡ length l.initial.scratch)
-
-abbrev pub decreases-loop-n : goal.decreases-loop-n
-decreases-loop-n l = l.count - l.n

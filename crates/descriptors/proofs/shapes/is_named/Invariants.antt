@@ -1,6 +1,5 @@
 -- `descriptors::shapes::is_named` meets its contract. The invariant: the places from k on stand in s, and the word is among all names if it is among those from k on, and only then.
--- The measure is what is left of the places.
-use Prim.Native.Nat.{◌≤◌, ◌-◌}
+use Prim.Native.Nat.{◌≤◌}
 use mathlib.Core.Path.{◌≡◌}
 use lib.ListN.{length, drop}
 use Rattle.format.specs.Bytes.{among}
@@ -9,6 +8,3 @@ use Rattle.descriptors.proofs.shapes.is_named.Given as goal
 
 abbrev pub invariant-loop-k : goal.invariant-loop-k
 invariant-loop-k l = (l.k ≤ length l.starts) × Inside l.s (drop l.k l.starts) (drop l.k l.ends) × (among l.word (names_at l.s l.starts l.ends) ≡ among l.word (names_at l.s (drop l.k l.starts) (drop l.k l.ends)))
-
-abbrev pub decreases-loop-k : goal.decreases-loop-k
-decreases-loop-k l = length l.starts - l.k

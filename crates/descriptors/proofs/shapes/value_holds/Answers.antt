@@ -3,12 +3,7 @@ use mathlib.Core.Path.{refl, sym, ap, ◌∙◌}
 use Rattle.values.specs.Value.{value_from}
 use Rattle.descriptors.specs.Contents.{holds}
 use Rattle.words.proofs.Decoded.{decoded-all, scratch-length}
-use Rattle.descriptors.proofs.Contents.{free-holds}
 use Rattle.descriptors.proofs.shapes.value_holds.Goals as goal
-
-pub returns-then-is_free : goal.returns-then-is_free
-returns-then-is_free c =
-    (free-holds c.args.c (value_from c.args.value.now) (sym c.is_free.ensures ∙ c.if-is_free.true), refl)
 
 pub returns : goal.returns
 returns c =

@@ -14,8 +14,8 @@ use Rattle.records.specs.Fields.{fields_from}
 use Rattle.descriptors.proofs.Judging.{formed_from}
 use Rattle.descriptors.proofs.shapes.well_formed.Given as goal
 
-abbrev pub invariant-loop-start : goal.invariant-loop-start
-invariant-loop-start l = (l.i ≤ length l.d) × (is_readable (drop l.i l.d) ≡ true) × (all fits_field (fields_from l.d l.i) ≡ true) × (length l.scratch ≡ length l.initial.scratch) × (is_well_formed int_bounds (record_in l.d) ≡ formed_from l.keyed l.sized (fields_from l.d l.i))
+abbrev pub invariant-loop-f : goal.invariant-loop-f
+invariant-loop-f l = (l.i ≤ length l.d) × (is_readable (drop l.i l.d) ≡ true) × (all fits_field (fields_from l.d l.i) ≡ true) × (length l.scratch ≡ length l.initial.scratch) × (is_well_formed int_bounds (record_in l.d) ≡ formed_from l.keyed l.sized (fields_from l.d l.i))
 
-abbrev pub decreases-loop-start : goal.decreases-loop-start
-decreases-loop-start l = length l.d - l.i
+abbrev pub decreases-loop-f : goal.decreases-loop-f
+decreases-loop-f l = length l.d - l.i

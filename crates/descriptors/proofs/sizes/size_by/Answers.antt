@@ -15,20 +15,20 @@ signs = words (text "< <= > >=")
 
 pub returns-in-0 : goal.returns-in-0
 returns-in-0 c =
-    sym (sign-is c.args.sign.now c.args.n (text "<") true (sym (same-swap c.args.sign.now (text "<") ∙ is-placed c.args.sign.now (text "<") signs c.word_place-k.result 0 c.word_place-k.ensures refl (omega arith) refl c.in-0.is)) refl)
+    sym (sign-is c.args.sign.now c.args.n (text "<") true (sym (same-swap c.args.sign.now (text "<") ∙ is-placed c.args.sign.now (text "<") signs c.word_place.result 0 c.word_place.ensures refl (omega arith) refl c.in-0.is)) refl)
 
 pub returns-in-1 : goal.returns-in-1
 returns-in-1 c =
-    sym (sign-is c.args.sign.now c.args.n (text "<=") true (sym (same-swap c.args.sign.now (text "<=") ∙ is-placed c.args.sign.now (text "<=") signs c.word_place-k.result 1 c.word_place-k.ensures refl (omega arith) refl c.in-1.is)) refl)
+    sym (sign-is c.args.sign.now c.args.n (text "<=") true (sym (same-swap c.args.sign.now (text "<=") ∙ is-placed c.args.sign.now (text "<=") signs c.word_place.result 1 c.word_place.ensures refl (omega arith) refl c.in-1.is)) refl)
 
 pub returns-in-2 : goal.returns-in-2
 returns-in-2 c =
-    sym (sign-is c.args.sign.now c.args.n (text ">") true (sym (same-swap c.args.sign.now (text ">") ∙ is-placed c.args.sign.now (text ">") signs c.word_place-k.result 2 c.word_place-k.ensures refl (omega arith) refl c.in-2.is)) refl)
+    sym (sign-is c.args.sign.now c.args.n (text ">") true (sym (same-swap c.args.sign.now (text ">") ∙ is-placed c.args.sign.now (text ">") signs c.word_place.result 2 c.word_place.ensures refl (omega arith) refl c.in-2.is)) refl)
 
 pub returns-in-3 : goal.returns-in-3
 returns-in-3 c =
-    sym (sign-is c.args.sign.now c.args.n (text ">=") true (sym (same-swap c.args.sign.now (text ">=") ∙ is-placed c.args.sign.now (text ">=") signs c.word_place-k.result 3 c.word_place-k.ensures refl (omega arith) refl c.in-3.is)) refl)
+    sym (sign-is c.args.sign.now c.args.n (text ">=") true (sym (same-swap c.args.sign.now (text ">=") ∙ is-placed c.args.sign.now (text ">=") signs c.word_place.result 3 c.word_place.ensures refl (omega arith) refl c.in-3.is)) refl)
 
 pub returns-in_default : goal.returns-in_default
 returns-in_default c =
-    sym (sign-none c.args.sign.now c.args.n (same-swap c.args.sign.now (text "<") ∙ not-placed c.args.sign.now (text "<") signs c.word_place-k.result 0 c.word_place-k.ensures refl c.in_default.in_default-own.rest.0.0.0.1) (same-swap c.args.sign.now (text "<=") ∙ not-placed c.args.sign.now (text "<=") signs c.word_place-k.result 1 c.word_place-k.ensures refl c.in_default.in_default-own.rest.0.0.1) (same-swap c.args.sign.now (text ">") ∙ not-placed c.args.sign.now (text ">") signs c.word_place-k.result 2 c.word_place-k.ensures refl c.in_default.in_default-own.rest.0.1) (same-swap c.args.sign.now (text ">=") ∙ not-placed c.args.sign.now (text ">=") signs c.word_place-k.result 3 c.word_place-k.ensures refl c.in_default.in_default-own.rest.1))
+    sym (sign-none c.args.sign.now c.args.n (same-swap c.args.sign.now (text "<") ∙ not-placed c.args.sign.now (text "<") signs c.word_place.result 0 c.word_place.ensures refl c.in_default.in_default-own.rest.0.0.0.1) (same-swap c.args.sign.now (text "<=") ∙ not-placed c.args.sign.now (text "<=") signs c.word_place.result 1 c.word_place.ensures refl c.in_default.in_default-own.rest.0.0.1) (same-swap c.args.sign.now (text ">") ∙ not-placed c.args.sign.now (text ">") signs c.word_place.result 2 c.word_place.ensures refl c.in_default.in_default-own.rest.0.1) (same-swap c.args.sign.now (text ">=") ∙ not-placed c.args.sign.now (text ">=") signs c.word_place.result 3 c.word_place.ensures refl c.in_default.in_default-own.rest.1))

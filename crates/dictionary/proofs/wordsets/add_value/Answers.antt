@@ -8,8 +8,8 @@ pub loop-start-init : goal.loop-start-init
 loop-start-init c =
     value-start c.args.d.now c.args.entries.now c.args.n c.args.i c.requires.i_in_bounds.0 c.requires.d_bound.0 c.requires.d_bound.1 c.requires.d_value
 
-pub next_word-w-requires : goal.next_word-w-requires
-next_word-w-requires c =
+pub next_word-requires : goal.next_word-requires
+next_word-requires c =
     c.loop-start.invariant.inside
 
 pub shape_of-entries-in_default : goal.shape_of-entries-in_default
@@ -18,41 +18,41 @@ shape_of-entries-in_default c =
 
 pub returns-in_default : goal.returns-in_default
 returns-in_default c =
-    let e = cuts-told c.args.d.now c.loop-start.from c.next_word-w.result c.next_word-w.ensures c.in_default.is in
+    let e = cuts-told c.args.d.now c.loop-start.from c.next_word.result c.next_word.ensures c.in_default.is in
     value-end c.args.d.now c.args.entries.now c.args.n c.args.i c.loop-start.entries c.loop-start.k c.loop-start.from c.loop-start.invariant e
 
 pub overflow_cast-k : goal.overflow_cast-k
 overflow_cast-k c =
-    let e = cuts-told c.args.d.now c.loop-start.from c.next_word-w.result c.next_word-w.ensures c.in-At.is in
+    let e = cuts-told c.args.d.now c.loop-start.from c.next_word.result c.next_word.ensures c.in-Some.is in
     omega (arith, value-few c.args.d.now c.args.entries.now c.args.n c.args.i c.loop-start.entries c.loop-start.k c.loop-start.from c.loop-start.invariant _ _ e)
 
 pub entry-requires : goal.entry-requires
 entry-requires c =
-    let e = cuts-told c.args.d.now c.loop-start.from c.next_word-w.result c.next_word-w.ensures c.in-At.is in
+    let e = cuts-told c.args.d.now c.loop-start.from c.next_word.result c.next_word.ensures c.in-Some.is in
     (omega (arith, e.2, e.3, c.requires.i_in_bounds.1), value-few c.args.d.now c.args.entries.now c.args.n c.args.i c.loop-start.entries c.loop-start.k c.loop-start.from c.loop-start.invariant _ _ e)
 
 pub offset_bounds-entries-k : goal.offset_bounds-entries-k
 offset_bounds-entries-k c =
-    let e = cuts-told c.args.d.now c.loop-start.from c.next_word-w.result c.next_word-w.ensures c.in-At.is in
+    let e = cuts-told c.args.d.now c.loop-start.from c.next_word.result c.next_word.ensures c.in-Some.is in
     let h = value_room c.args.d.now c.args.entries.now c.args.n c.args.i c.loop-start.entries c.loop-start.k c.loop-start.from c.loop-start.invariant _ _ e in
     search rules
 
 pub bounds-entries-k : goal.bounds-entries-k
 bounds-entries-k c =
-    let e = cuts-told c.args.d.now c.loop-start.from c.next_word-w.result c.next_word-w.ensures c.in-At.is in
+    let e = cuts-told c.args.d.now c.loop-start.from c.next_word.result c.next_word.ensures c.in-Some.is in
     value_room c.args.d.now c.args.entries.now c.args.n c.args.i c.loop-start.entries c.loop-start.k c.loop-start.from c.loop-start.invariant _ _ e
 
 pub overflow_add-k : goal.overflow_add-k
 overflow_add-k c =
-    let e = cuts-told c.args.d.now c.loop-start.from c.next_word-w.result c.next_word-w.ensures c.in-At.is in
+    let e = cuts-told c.args.d.now c.loop-start.from c.next_word.result c.next_word.ensures c.in-Some.is in
     omega (arith, value-few c.args.d.now c.args.entries.now c.args.n c.args.i c.loop-start.entries c.loop-start.k c.loop-start.from c.loop-start.invariant _ _ e)
 
 pub loop-start-smaller : goal.loop-start-smaller
 loop-start-smaller c =
-    let e = cuts-told c.args.d.now c.loop-start.from c.next_word-w.result c.next_word-w.ensures c.in-At.is in
+    let e = cuts-told c.args.d.now c.loop-start.from c.next_word.result c.next_word.ensures c.in-Some.is in
     omega (arith, e.1, e.2, e.3)
 
 pub loop-start-preserved : goal.loop-start-preserved
 loop-start-preserved c =
-    let e = cuts-told c.args.d.now c.loop-start.from c.next_word-w.result c.next_word-w.ensures c.in-At.is in
+    let e = cuts-told c.args.d.now c.loop-start.from c.next_word.result c.next_word.ensures c.in-Some.is in
     value-more c.args.d.now c.args.entries.now c.args.n c.args.i c.loop-start.entries c.loop-start.k c.loop-start.from c.loop-start.invariant _ _ e c.entry.result (c.entry.ensures.1, c.entry.ensures.2)

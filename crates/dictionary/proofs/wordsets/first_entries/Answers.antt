@@ -11,7 +11,7 @@ use Rattle.dictionary.proofs.wordsets.first_entries.Goals as goal
 
 pub loop-k-init : goal.loop-k-init
 loop-k-init c =
-    (omega arith, firsts-start (λ (j : ℕ). is_first j (map (word_at c.args.d.now) c.args.entries.now)))
+    (firsts-start (λ (j : ℕ). is_first j (map (word_at c.args.d.now) c.args.entries.now)))
 
 pub is_first-first-requires : goal.is_first-first-requires
 is_first-first-requires c =
@@ -21,18 +21,10 @@ pub with_place-set-requires : goal.with_place-set-requires
 with_place-set-requires c =
     omega (arith, c.loop-k-test.true, c.requires)
 
-pub overflow_add-k : goal.overflow_add-k
-overflow_add-k c =
-    omega (arith, c.loop-k-test.true, c.requires)
-
-pub loop-k-smaller : goal.loop-k-smaller
-loop-k-smaller c =
-    omega (arith, c.loop-k-test.true)
-
 pub loop-k-preserved : goal.loop-k-preserved
 loop-k-preserved c =
-    (omega (arith, c.loop-k-test.true), firsts-on (λ (j : ℕ). is_first j (map (word_at c.args.d.now) c.args.entries.now)) c.loop-k.k c.loop-k.set c.with_place-set.result c.is_first-first.result c.loop-k.invariant.1 c.is_first-first.ensures c.with_place-set.ensures)
+    (firsts-on (λ (j : ℕ). is_first j (map (word_at c.args.d.now) c.args.entries.now)) c.loop-k.k c.loop-k.set c.with_place-set.result c.is_first-first.result c.loop-k.invariant c.is_first-first.ensures c.with_place-set.ensures)
 
 pub returns : goal.returns
 returns c =
-    λ j. c.loop-k.invariant.1 j ∙ ap (λ (n : ℕ). ltb j n && is_first j (map (word_at c.args.d.now) c.args.entries.now)) (omega (arith, c.loop-k.invariant.0, c.loop-k-test.false, words_long c.args.d.now c.args.entries.now))
+    λ j. c.loop-k.invariant j ∙ ap (λ (n : ℕ). ltb j n && is_first j (map (word_at c.args.d.now) c.args.entries.now)) (omega (arith, c.loop-k-test.false, words_long c.args.d.now c.args.entries.now))

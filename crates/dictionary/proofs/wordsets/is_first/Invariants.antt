@@ -1,5 +1,5 @@
--- `dictionary::wordsets::is_first` meets its contract. The invariant: no entry before j has the word of entry k.
-use Prim.Native.Nat.{ℕ, ◌-◌, ◌<◌, ◌≤◌}
+-- `dictionary::wordsets::is_first` meets its contract. The invariant: no entry before the one that is met has the word of entry k.
+use Prim.Native.Nat.{ℕ, ◌<◌}
 use mathlib.Core.Path.{◌≡◌}
 use mathlib.Core.Bool.{false}
 use lib.ListN.{get_or}
@@ -7,8 +7,5 @@ use Rattle.format.specs.Bytes.{same}
 use Rattle.terms.specs.Entries.{word_at}
 use Rattle.dictionary.proofs.wordsets.is_first.Given as goal
 
-abbrev pub invariant-loop-j : goal.invariant-loop-j
-invariant-loop-j l = (l.j ≤ l.k) × ((i : ℕ) → i < l.j → same (word_at l.d (get_or l.entries l.k 0)) (word_at l.d (get_or l.entries i 0)) ≡ false)
-
-abbrev pub decreases-loop-j : goal.decreases-loop-j
-decreases-loop-j l = l.k - l.j
+abbrev pub invariant-loop-before : goal.invariant-loop-before
+invariant-loop-before l = (i : ℕ) → i < l.before-index → same (word_at l.fn.d (get_or l.fn.entries l.fn.k 0)) (word_at l.fn.d (get_or l.fn.entries i 0)) ≡ false

@@ -20,8 +20,8 @@ slice_bounds-build-end-2 c =
     let h = read-room c.args.d.now (listed c.args.name.now (record_in c.args.d.now)) c.args.entries.now c.add_list-n.new.entries c.add_list-n.result c.requires.described.1.few c.requires.list_words_in_bounds.0 c.add_list-n.ensures in
     sym (length-take-le c.add_list-n.result c.add_list-n.new.entries h)
 
-pub build-t-requires : goal.build-t-requires
-build-t-requires c =
+pub build-table-requires : goal.build-table-requires
+build-table-requires c =
     read-entries c.args.d.now (listed c.args.name.now (record_in c.args.d.now)) c.args.entries.now c.add_list-n.new.entries c.add_list-n.result c.requires.described.1.few c.requires.list_words_in_bounds.0 c.add_list-n.ensures
 
 pub join-requires : goal.join-requires
@@ -29,11 +29,11 @@ join-requires c =
     let h = read-room c.args.d.now (listed c.args.name.now (record_in c.args.d.now)) c.args.entries.now c.add_list-n.new.entries c.add_list-n.result c.requires.described.1.few c.requires.list_words_in_bounds.0 c.add_list-n.ensures in
     let n = length-take-le c.add_list-n.result c.add_list-n.new.entries h in
     let f = read-few c.args.d.now (listed c.args.name.now (record_in c.args.d.now)) c.args.entries.now c.add_list-n.new.entries c.add_list-n.result c.requires.described.1.few c.requires.list_words_in_bounds.0 c.add_list-n.ensures in
-    let r = c.build-t.ensures.table.room in
+    let r = c.build-table.ensures.table.room in
     let z = c.requires.list_words_in_bounds.1 in
-    let k = c.build-t.auto in
-    (read_table c.args.d.now (listed c.args.name.now (record_in c.args.d.now)) c.args.entries.now c.add_list-n.new.entries c.add_list-n.result c.requires.described.1.few c.requires.list_words_in_bounds.0 c.add_list-n.ensures c.build-t.new.entries c.build-t.result c.build-t.ensures, omega (arith, k.entries))
+    let k = c.build-table.auto in
+    (read_table c.args.d.now (listed c.args.name.now (record_in c.args.d.now)) c.args.entries.now c.add_list-n.new.entries c.add_list-n.result c.requires.described.1.few c.requires.list_words_in_bounds.0 c.add_list-n.ensures c.build-table.new.entries c.build-table.result c.build-table.ensures, omega (arith, k.entries))
 
 pub returns : goal.returns
 returns c =
-    read-words c.args.d.now (listed c.args.name.now (record_in c.args.d.now)) c.args.entries.now c.add_list-n.new.entries c.add_list-n.result c.requires.described.1.few c.requires.list_words_in_bounds.0 c.add_list-n.ensures c.build-t.new.entries c.build-t.result c.build-t.ensures c.join.new.sets c.join.ensures
+    read-words c.args.d.now (listed c.args.name.now (record_in c.args.d.now)) c.args.entries.now c.add_list-n.new.entries c.add_list-n.result c.requires.described.1.few c.requires.list_words_in_bounds.0 c.add_list-n.ensures c.build-table.new.entries c.build-table.result c.build-table.ensures c.join.new.sets c.join.ensures

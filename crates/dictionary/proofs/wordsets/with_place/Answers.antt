@@ -10,6 +10,6 @@ pub returns-then-more : goal.returns-then-more
 returns-then-more c =
     λ j. in-with j c.args.k c.args.set c.requires ∙ sym (ap (λ (b : Bool). in_set j c.args.set || (b && eqb j c.args.k)) c.if-more.true)
 
-pub returns : goal.returns
-returns c =
+pub returns-else-more : goal.returns-else-more
+returns-else-more c =
     λ j. sym (ap (λ (b : Bool). in_set j c.args.set || (b && eqb j c.args.k)) c.if-more.false ∙ or-false (in_set j c.args.set))

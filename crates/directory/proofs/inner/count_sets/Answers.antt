@@ -7,13 +7,13 @@ pub loop-q-init : goal.loop-q-init
 loop-q-init c =
     counted-first c.args.s.now c.requires c.next_members-m.result c.next_members-m.ensures
 
-pub next_set-x-requires : goal.next_set-x-requires
-next_set-x-requires c =
+pub next_set-requires : goal.next_set-requires
+next_set-requires c =
     part-readable c.args.s.now c.loop-q.i c.loop-q.invariant.begins.readable
 
 pub returns-in_default : goal.returns-in_default
 returns-in_default c =
-    counted-all c.args.s.now c.requires c.loop-q.n c.loop-q.i c.loop-q.invariant c.next_set-x.result c.next_set-x.ensures c.in_default.is
+    counted-all c.args.s.now c.requires c.loop-q.n c.loop-q.i c.loop-q.invariant c.next_set.result c.next_set.ensures c.in_default.is
 
 pub overflow_add-n : goal.overflow_add-n
 overflow_add-n c =
@@ -21,12 +21,12 @@ overflow_add-n c =
 
 pub overflow_add-i : goal.overflow_add-i
 overflow_add-i c =
-    omega (arith, counted-inside c.args.s.now c.requires c.loop-q.n c.loop-q.i c.loop-q.invariant c.next_set-x.result c.next_set-x.ensures c.in-At.q c.in-At.is)
+    omega (arith, counted-inside c.args.s.now c.requires c.loop-q.n c.loop-q.i c.loop-q.invariant c.next_set.result c.next_set.ensures c.in-Some.q c.in-Some.is)
 
 pub loop-q-smaller : goal.loop-q-smaller
 loop-q-smaller c =
-    omega (arith, counted-inside c.args.s.now c.requires c.loop-q.n c.loop-q.i c.loop-q.invariant c.next_set-x.result c.next_set-x.ensures c.in-At.q c.in-At.is, counted-moves c.args.s.now c.requires c.loop-q.n c.loop-q.i c.loop-q.invariant c.next_set-x.result c.next_set-x.ensures c.in-At.q c.in-At.is)
+    omega (arith, counted-inside c.args.s.now c.requires c.loop-q.n c.loop-q.i c.loop-q.invariant c.next_set.result c.next_set.ensures c.in-Some.q c.in-Some.is, counted-moves c.args.s.now c.requires c.loop-q.n c.loop-q.i c.loop-q.invariant c.next_set.result c.next_set.ensures c.in-Some.q c.in-Some.is)
 
 pub loop-q-preserved : goal.loop-q-preserved
 loop-q-preserved c =
-    counted-on c.args.s.now c.requires c.loop-q.n c.loop-q.i c.loop-q.invariant c.next_set-x.result c.next_set-x.ensures c.in-At.q c.in-At.is
+    counted-on c.args.s.now c.requires c.loop-q.n c.loop-q.i c.loop-q.invariant c.next_set.result c.next_set.ensures c.in-Some.q c.in-Some.is

@@ -4,8 +4,8 @@ use Rattle.directory.proofs.inner.next_entry.Goals as goal
 
 pub returns-in_default : goal.returns-in_default
 returns-in_default c =
-    next-none c.args.s.now c.next_set-n.result c.next_set-n.ensures c.in_default.is
+    next-none c.args.s.now c.next_set.result c.next_set.ensures c.in_default.is
 
 pub returns : goal.returns
 returns c =
-    next-there c.args.s.now c.next_set-n.result c.next_set-n.ensures c.in-At.q c.block_start.result c.in-At.is c.block_start.ensures
+    next-there c.args.s.now c.next_set.result c.next_set.ensures c.in-Some.q c.block_start.result c.in-Some.is c.block_start.ensures

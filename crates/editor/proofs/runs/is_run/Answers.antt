@@ -16,23 +16,23 @@ returns-then-left-eq0 c =
 
 pub returns-in_default : goal.returns-in_default
 returns-in_default c =
-    sym (c.loop-rest.invariant ∙ ap (is_run c.loop-rest.left) (first-fault c.loop-rest.rest.now c.first_request-f.ensures c.in_default.is))
+    sym (c.loop-rest.invariant ∙ ap (is_run c.loop-rest.left) (first-fault c.loop-rest.rest.now c.first_request.ensures c.in_default.is))
 
 pub slice_bounds-rest-count : goal.slice_bounds-rest-count
 slice_bounds-rest-count c =
-    let f = first_found c.loop-rest.rest.now c.first_request-f.ensures c.in-Ends.is in f.1
+    let f = first_found c.loop-rest.rest.now c.first_request.ensures c.in-Some.is in f.1
 
 pub slice_bounds-rest-start : goal.slice_bounds-rest-start
 slice_bounds-rest-start c =
-    let f = first_found c.loop-rest.rest.now c.first_request-f.ensures c.in-Ends.is in f.1
+    let f = first_found c.loop-rest.rest.now c.first_request.ensures c.in-Some.is in f.1
 
 pub loop-rest-smaller : goal.loop-rest-smaller
 loop-rest-smaller c =
-    let f = first_found c.loop-rest.rest.now c.first_request-f.ensures c.in-Ends.is in omega (arith, f.0, f.1)
+    let f = first_found c.loop-rest.rest.now c.first_request.ensures c.in-Some.is in omega (arith, f.0, f.1)
 
 pub loop-rest-preserved : goal.loop-rest-preserved
 loop-rest-preserved c =
-    let f = first_found c.loop-rest.rest.now c.first_request-f.ensures c.in-Ends.is in c.loop-rest.invariant ∙ run-goes c.loop-rest.left (omega arith) (requests_in c.loop-rest.rest.now) (take (c.in-Ends.end - 2) (drop 2 c.loop-rest.rest.now)) (requests_in (take (length c.loop-rest.rest.now - c.in-Ends.end) (drop c.in-Ends.end c.loop-rest.rest.now))) f.2
+    let f = first_found c.loop-rest.rest.now c.first_request.ensures c.in-Some.is in c.loop-rest.invariant ∙ run-goes c.loop-rest.left (omega arith) (requests_in c.loop-rest.rest.now) (take (c.in-Some.end - 2) (drop 2 c.loop-rest.rest.now)) (requests_in (take (length c.loop-rest.rest.now - c.in-Some.end) (drop c.in-Some.end c.loop-rest.rest.now))) f.2
 
 pub returns : goal.returns
 returns c =

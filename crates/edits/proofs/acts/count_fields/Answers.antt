@@ -1,4 +1,3 @@
-use Prim.Native.Nat.{◌-◌}
 use native.Mathlib.Omega.{arith}
 use mathlib.Core.Path.{ap}
 use lib.ListN.{length}
@@ -10,13 +9,13 @@ pub loop-end-init : goal.loop-end-init
 loop-end-init c =
     (omega arith, c.requires, omega arith, omega arith)
 
-pub next_field-f-requires : goal.next_field-f-requires
-next_field-f-requires c =
+pub next_field-requires : goal.next_field-requires
+next_field-requires c =
     (part-readable c.args.s.now c.loop-end.i c.loop-end.invariant.1)
 
 pub returns-in_default : goal.returns-in_default
 returns-in_default c =
-    let h = next-told c.args.s.now c.loop-end.i c.next_field-f.result c.next_field-f.ensures c.in_default.is in
+    let h = next-told c.args.s.now c.loop-end.i c.next_field.result c.next_field.ensures c.in_default.is in
     omega (arith, c.loop-end.invariant.3, ap length h)
 
 pub overflow_add-n : goal.overflow_add-n
@@ -25,15 +24,15 @@ overflow_add-n c =
 
 pub overflow_add-i : goal.overflow_add-i
 overflow_add-i c =
-    let h = next-told c.args.s.now c.loop-end.i c.next_field-f.result c.next_field-f.ensures c.in-At.is in
+    let h = next-told c.args.s.now c.loop-end.i c.next_field.result c.next_field.ensures c.in-Some.is in
     omega (arith, h.inside)
 
 pub loop-end-smaller : goal.loop-end-smaller
 loop-end-smaller c =
-    let h = next-told c.args.s.now c.loop-end.i c.next_field-f.result c.next_field-f.ensures c.in-At.is in
+    let h = next-told c.args.s.now c.loop-end.i c.next_field.result c.next_field.ensures c.in-Some.is in
     omega (arith, h.begins, h.moves, h.inside)
 
 pub loop-end-preserved : goal.loop-end-preserved
 loop-end-preserved c =
-    let h = next-told c.args.s.now c.loop-end.i c.next_field-f.result c.next_field-f.ensures c.in-At.is in
+    let h = next-told c.args.s.now c.loop-end.i c.next_field.result c.next_field.ensures c.in-Some.is in
     (h.inside, h.readable, omega (arith, c.loop-end.invariant.2, h.begins, h.moves), omega (arith, c.loop-end.invariant.3, ap length h.fields))

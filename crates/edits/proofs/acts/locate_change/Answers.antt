@@ -9,6 +9,7 @@ use Rattle.format.specs.Bytes.{pick}
 use Rattle.records.specs.Walk.{record_in}
 use Rattle.requests.specs.Kinds.{InChange}
 use Rattle.edits.specs.Places.{change_at}
+use Rattle.format.specs.declared.refusals.Refusal.{Refusal}
 use Rattle.edits.specs.declared.Located.{Located}
 use Rattle.edits.specs.declared.Splice.{Splice}
 use mathlib.Core.Bool.{not}
@@ -30,13 +31,13 @@ pub returns-then-not-is_legal_value : goal.returns-then-not-is_legal_value
 returns-then-not-is_legal_value c =
     let a = c.args in
     let f = a.field in
-    sym (ap (change_at a.own.now a.req.now a.name f) c.in-Value.is ∙ ap (λ (b : Bool). pick b (Located.At (Splice.Field f.start (f.end - f.start) a.name c.in-Value.value)) (Located.Refused 25)) (sym c.is_legal_value.ensures ∙ not-true c.is_legal_value.result (ap not c.if-not-is_legal_value.true)))
+    sym (ap (change_at a.own.now a.req.now a.name f) c.in-Value.is ∙ ap (λ (b : Bool). pick b (Located.At (Splice.Field f.start (f.end - f.start) a.name c.in-Value.value)) (Located.Refused Refusal.Illegal)) (sym c.is_legal_value.ensures ∙ not-true c.is_legal_value.result (ap not c.if-not-is_legal_value.true)))
 
-pub returns-in-Value : goal.returns-in-Value
-returns-in-Value c =
+pub returns-else-not-is_legal_value : goal.returns-else-not-is_legal_value
+returns-else-not-is_legal_value c =
     let a = c.args in
     let f = a.field in
-    sym (ap (change_at a.own.now a.req.now a.name f) c.in-Value.is ∙ ap (λ (b : Bool). pick b (Located.At (Splice.Field f.start (f.end - f.start) a.name c.in-Value.value)) (Located.Refused 25)) (sym c.is_legal_value.ensures ∙ not-false c.is_legal_value.result (ap not c.if-not-is_legal_value.false)))
+    sym (ap (change_at a.own.now a.req.now a.name f) c.in-Value.is ∙ ap (λ (b : Bool). pick b (Located.At (Splice.Field f.start (f.end - f.start) a.name c.in-Value.value)) (Located.Refused Refusal.Illegal)) (sym c.is_legal_value.ensures ∙ not-false c.is_legal_value.result (ap not c.if-not-is_legal_value.false)))
 
 pub count_fields-requires : goal.count_fields-requires
 count_fields-requires c =
@@ -47,14 +48,14 @@ returns-then-count_fields-lt2 c =
     let a = c.args in
     let f = a.field in
     let few = le-ltb 1 (length (record_in a.own.now)) (omega (arith, c.count_fields.ensures, c.if-count_fields-lt2.true)) in
-    sym (ap (change_at a.own.now a.req.now a.name f) c.in-Dropped.is ∙ ap (λ (b : Bool). pick b (Located.At (Splice.Cut f.start (f.end - f.start))) (Located.Refused 24)) few)
+    sym (ap (change_at a.own.now a.req.now a.name f) c.in-Dropped.is ∙ ap (λ (b : Bool). pick b (Located.At (Splice.Cut f.start (f.end - f.start))) (Located.Refused Refusal.Emptied)) few)
 
-pub returns-in-Dropped : goal.returns-in-Dropped
-returns-in-Dropped c =
+pub returns-else-count_fields-lt2 : goal.returns-else-count_fields-lt2
+returns-else-count_fields-lt2 c =
     let a = c.args in
     let f = a.field in
     let many = lt-ltb 1 (length (record_in a.own.now)) (omega (arith, c.count_fields.ensures, c.if-count_fields-lt2.false)) in
-    sym (ap (change_at a.own.now a.req.now a.name f) c.in-Dropped.is ∙ ap (λ (b : Bool). pick b (Located.At (Splice.Cut f.start (f.end - f.start))) (Located.Refused 24)) many)
+    sym (ap (change_at a.own.now a.req.now a.name f) c.in-Dropped.is ∙ ap (λ (b : Bool). pick b (Located.At (Splice.Cut f.start (f.end - f.start))) (Located.Refused Refusal.Emptied)) many)
 
 pub slice_bounds-is_legal_name-count : goal.slice_bounds-is_legal_name-count
 slice_bounds-is_legal_name-count c =
@@ -73,11 +74,11 @@ returns-then-not-is_legal_name c =
     let a = c.args in
     let f = a.field in
     let n = a.name in
-    sym (ap (change_at a.own.now a.req.now n f) c.in-Name.is ∙ ap (λ (b : Bool). pick b (Located.At (Splice.Name f.start (n.end - n.start) c.in-Name.new)) (Located.Refused 25)) (sym c.is_legal_name.ensures ∙ not-true c.is_legal_name.result (ap not c.if-not-is_legal_name.true)))
+    sym (ap (change_at a.own.now a.req.now n f) c.in-Name.is ∙ ap (λ (b : Bool). pick b (Located.At (Splice.Name f.start (n.end - n.start) c.in-Name.new)) (Located.Refused Refusal.Illegal)) (sym c.is_legal_name.ensures ∙ not-true c.is_legal_name.result (ap not c.if-not-is_legal_name.true)))
 
-pub returns-in-Name : goal.returns-in-Name
-returns-in-Name c =
+pub returns-else-not-is_legal_name : goal.returns-else-not-is_legal_name
+returns-else-not-is_legal_name c =
     let a = c.args in
     let f = a.field in
     let n = a.name in
-    sym (ap (change_at a.own.now a.req.now n f) c.in-Name.is ∙ ap (λ (b : Bool). pick b (Located.At (Splice.Name f.start (n.end - n.start) c.in-Name.new)) (Located.Refused 25)) (sym c.is_legal_name.ensures ∙ not-false c.is_legal_name.result (ap not c.if-not-is_legal_name.false)))
+    sym (ap (change_at a.own.now a.req.now n f) c.in-Name.is ∙ ap (λ (b : Bool). pick b (Located.At (Splice.Name f.start (n.end - n.start) c.in-Name.new)) (Located.Refused Refusal.Illegal)) (sym c.is_legal_name.ensures ∙ not-false c.is_legal_name.result (ap not c.if-not-is_legal_name.false)))

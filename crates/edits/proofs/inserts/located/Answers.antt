@@ -2,7 +2,7 @@
 -- what is answered of a text by a length n, which is beyond what a file may have, or not
 use native.Mathlib.Omega.{arith}
 use mathlib.Core.Path.{sym, ap, ◌∙◌}
-use mathlib.Core.Bool.{Bool, true, false}
+use mathlib.Core.Bool.{Bool}
 use Prim.Native.Nat.{ℕ}
 use lib.Dec.{ltb}
 use borrow.Author.Tests.{lt-ltb, le-ltb}
@@ -29,8 +29,8 @@ returns-then-whole-gt-BYTES c =
     ∙ ap (λ (m : ℕ). text-by a.at a.from c.in-Text.own (ltb file_bytes m) m) (sym c.capped_len-whole.ensures)
     ∙ ap (λ (b : Bool). text-by a.at a.from c.in-Text.own b n) (lt-ltb file_bytes n (omega (arith, c.if-whole-gt-BYTES.true))))
 
-pub returns-in-Text : goal.returns-in-Text
-returns-in-Text c =
+pub returns-else-whole-gt-BYTES : goal.returns-else-whole-gt-BYTES
+returns-else-whole-gt-BYTES c =
     let a = c.args in
     let n = c.capped_len-whole.result in
     sym (
@@ -47,8 +47,8 @@ returns-then-whole-gt-BYTES-2 c =
     ∙ ap (λ (m : ℕ). long-by a.used (ltb file_bytes m) m) (sym c.capped_len-whole-in-Long.ensures)
     ∙ ap (λ (b : Bool). long-by a.used b n) (lt-ltb file_bytes n (omega (arith, c.if-whole-gt-BYTES-2.true))))
 
-pub returns-in-Long : goal.returns-in-Long
-returns-in-Long c =
+pub returns-else-whole-gt-BYTES-2 : goal.returns-else-whole-gt-BYTES-2
+returns-else-whole-gt-BYTES-2 c =
     let a = c.args in
     let n = c.capped_len-whole-in-Long.result in
     ap (λ (m : ℕ). Located.Over m) c.made_len.ensures

@@ -4,6 +4,7 @@ use native.Mathlib.Omega.{arith}
 use mathlib.Core.Path.{sym, ap, ◌∙◌}
 use mathlib.Core.List.{[]}
 use lib.ListN.{length, take}
+use mathlib.Core.Logic.{inl, inr}
 use Rattle.format.specs.Written.{written}
 use Rattle.writing.proofs.Texts.{indent-length, written-length}
 use Rattle.requests.specs.Fields.{bytes_of}
@@ -25,8 +26,8 @@ returns-then-new-gt-BYTES c =
     let t = record_text (take c.in-Record.own added) req c.in-Record.new.from in
     fits-as s req added c.in-Record.is a.room (over-file a.room (length (inserted s c.in-Record.new.at t)) (omega (arith, c.if-new-gt-BYTES.true, inserted-least s c.in-Record.new.at t h.0, h.3)))
 
-pub returns-in-Record : goal.returns-in-Record
-returns-in-Record c =
+pub returns-else-new-gt-BYTES : goal.returns-else-new-gt-BYTES
+returns-else-new-gt-BYTES c =
     let a = c.args in
     let s = a.s.now in
     let req = a.req.now in
@@ -168,14 +169,9 @@ returns-in-Cut c =
     let s = a.s.now in
     let req = a.req.now in
     let added = a.added.now in
-    let h = sound-as s req added c.in-Cut.is c.requires.sound in
-    fits-as s req added c.in-Cut.is a.room (not-longer a.room (length (spliced s c.in-Cut.at c.in-Cut.old [])) (length s) (omega (arith, exchanged-length s c.in-Cut.at c.in-Cut.old [] h)) c.requires.s_len_bound.0 c.requires.s_len_bound.1)
-
-pub returns-in-Unfield : goal.returns-in-Unfield
-returns-in-Unfield c =
-    let a = c.args in
-    let s = a.s.now in
-    let req = a.req.now in
-    let added = a.added.now in
-    let h = sound-as s req added c.in-Unfield.is c.requires.sound in
-    fits-as s req added c.in-Unfield.is a.room (not-longer a.room (length (spliced s c.in-Unfield.start (c.in-Unfield.end - c.in-Unfield.start) (left_of (span c.in-Unfield.start c.in-Unfield.end s)))) (length s) (unfielded-length s c.in-Unfield.start c.in-Unfield.end h.0 h.1 h.2) c.requires.s_len_bound.0 c.requires.s_len_bound.1)
+    elim c.in-Cut.is [
+      | inl w ↦ let h = sound-as s req added w.2 c.requires.sound in
+          fits-as s req added w.2 a.room (not-longer a.room (length (spliced s w.0 w.1 [])) (length s) (omega (arith, h, exchanged-length s w.0 w.1 [] h)) c.requires.s_len_bound.0 c.requires.s_len_bound.1)
+      | inr w ↦ let h = sound-as s req added w.2 c.requires.sound in
+          fits-as s req added w.2 a.room (not-longer a.room (length (spliced s w.0 (w.1 - w.0) (left_of (span w.0 w.1 s)))) (length s) (unfielded-length s w.0 w.1 h.0 h.1 h.2) c.requires.s_len_bound.0 c.requires.s_len_bound.1)
+    ]

@@ -6,8 +6,8 @@ use Rattle.lookup.proofs.inside.count_in.Goals as goal
 
 pub returns-in_default : goal.returns-in_default
 returns-in_default c =
-    sym (count-missing c.args.s.now c.args.set.now (set_told c.args.s.now c.args.set.now c.find_set-found.result c.requires c.find_set-found.ensures c.in_default.is))
+    sym (count-missing c.args.s.now c.args.set.now (set_told c.args.s.now c.args.set.now c.find_set.result c.requires c.find_set.ensures c.in_default.is))
 
 pub returns : goal.returns
 returns c =
-    sym (count-found c.args.s.now c.args.set.now c.in-At.p (set_told c.args.s.now c.args.set.now c.find_set-found.result c.requires c.find_set-found.ensures c.in-At.is))
+    sym (count-found c.args.s.now c.args.set.now c.in-Some.p (set_told c.args.s.now c.args.set.now c.find_set.result c.requires c.find_set.ensures c.in-Some.is))

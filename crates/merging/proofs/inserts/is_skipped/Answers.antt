@@ -24,13 +24,13 @@ pub slice_bounds-next_named-end : goal.slice_bounds-next_named-end
 slice_bounds-next_named-end c =
     let f = set-stands c.args.s.now c.requires.0 c.requires.1.1.0 c.requires.1.0 c.requires.1.1.1.0 c.args.p c.requires.1.1.1.1 in omega (arith, f.ordered, f.within, f.begins, f.inside)
 
-pub next_named-f-requires : goal.next_named-f-requires
-next_named-f-requires c =
+pub next_named-requires : goal.next_named-requires
+next_named-requires c =
     let f = set-stands c.args.s.now c.requires.0 c.requires.1.1.0 c.requires.1.0 c.requires.1.1.1.0 c.args.p c.requires.1.1.1.1 in f.rules-readable
 
 pub returns-in_default : goal.returns-in_default
 returns-in_default c =
-    sym (ap (λ (b : Bool). b && any (is_twin (map pair_of (record_in c.args.own.now))) (records (read_of (span c.args.p.begin c.args.p.after c.args.s.now)))) (key-found (span c.args.p.start c.args.p.end c.args.s.now) (set-described c.args.s.now c.requires.0 c.requires.1.1.0 c.requires.1.0 c.requires.1.1.1.0 c.args.p c.requires.1.1.1.1) c.next_named-f.result c.next_named-f.ensures c.in_default.is))
+    sym (ap (λ (b : Bool). b && any (is_twin (map pair_of (record_in c.args.own.now))) (records (read_of (span c.args.p.begin c.args.p.after c.args.s.now)))) (key-found (span c.args.p.start c.args.p.end c.args.s.now) (set-described c.args.s.now c.requires.0 c.requires.1.1.0 c.requires.1.0 c.requires.1.1.1.0 c.args.p c.requires.1.1.1.1) c.next_named.result c.next_named.ensures c.in_default.is))
 
 pub slice_bounds-is_among-count : goal.slice_bounds-is_among-count
 slice_bounds-is_among-count c =
@@ -50,4 +50,4 @@ is_among-requires c =
 
 pub returns : goal.returns
 returns c =
-    c.is_among.ensures ∙ sym (ap (λ (b : Bool). b && any (is_twin (map pair_of (record_in c.args.own.now))) (records (read_of (span c.args.p.begin c.args.p.after c.args.s.now)))) (key-found (span c.args.p.start c.args.p.end c.args.s.now) (set-described c.args.s.now c.requires.0 c.requires.1.1.0 c.requires.1.0 c.requires.1.1.1.0 c.args.p c.requires.1.1.1.1) c.next_named-f.result c.next_named-f.ensures c.in-At.is))
+    c.is_among.ensures ∙ sym (ap (λ (b : Bool). b && any (is_twin (map pair_of (record_in c.args.own.now))) (records (read_of (span c.args.p.begin c.args.p.after c.args.s.now)))) (key-found (span c.args.p.start c.args.p.end c.args.s.now) (set-described c.args.s.now c.requires.0 c.requires.1.1.0 c.requires.1.0 c.requires.1.1.1.0 c.args.p c.requires.1.1.1.1) c.next_named.result c.next_named.ensures c.in-Some.is))

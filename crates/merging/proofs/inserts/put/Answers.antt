@@ -17,8 +17,8 @@ pub returns-then-has_room : goal.returns-then-has_room
 returns-then-has_room c =
     put-long c.args.text.now c.args.used c.args.room c.args.at c.args.len c.args.request.now c.args.added.now c.args.a c.in-Long.own c.has_room.result c.has_room.ensures c.in-Long.is true c.if-has_room.true
 
-pub returns-in-Long : goal.returns-in-Long
-returns-in-Long c =
+pub returns-else-has_room : goal.returns-else-has_room
+returns-else-has_room c =
     put-long c.args.text.now c.args.used c.args.room c.args.at c.args.len c.args.request.now c.args.added.now c.args.a c.in-Long.own c.has_room.result c.has_room.ensures c.in-Long.is false c.if-has_room.false
 
 pub returns-then-not-has_room : goal.returns-then-not-has_room
@@ -37,6 +37,6 @@ pub put_record-n-requires : goal.put_record-n-requires
 put_record-n-requires c =
     record { at_le_used = (c.requires.at_le_used.0, omega (arith, c.requires.at_le_used.1, c.requires.at_le_used.2), omega (arith, c.requires.at_le_used.2, made-fits c.args.text.now c.args.used c.args.room c.args.at c.args.len c.args.request.now c.args.added.now c.args.a c.in-Text.own c.has_room-in-Text.result c.has_room-in-Text.ensures (own-inside c.args.added.now c.args.a c.in-Text.own c.requires.request_value.2 c.in-Text.is) c.requires.request_value.1 (not-false c.has_room-in-Text.result (ap not c.if-not-has_room.false)) c.requires.at_le_used.0 (omega (arith, c.requires.at_le_used.1, c.requires.at_le_used.2)))); from_value = c.requires.request_value.0; len_value = text-length c.args.text.now c.args.used c.args.room c.args.at c.args.len c.args.request.now c.args.added.now c.args.a c.in-Text.own c.has_room-in-Text.result c.has_room-in-Text.ensures (own-inside c.args.added.now c.args.a c.in-Text.own c.requires.request_value.2 c.in-Text.is) c.requires.request_value.1 }
 
-pub returns-in-Text : goal.returns-in-Text
-returns-in-Text c =
+pub returns-else-not-has_room : goal.returns-else-not-has_room
+returns-else-not-has_room c =
     put-done c.args.text.now c.args.used c.args.room c.args.at c.args.len c.args.request.now c.args.added.now c.args.a c.in-Text.own c.has_room-in-Text.result c.has_room-in-Text.ensures c.in-Text.is (not-false c.has_room-in-Text.result (ap not c.if-not-has_room.false)) c.put_record-n.result c.put_record-n.new.buf c.put_record-n.ensures.0 c.put_record-n.ensures.1

@@ -1,5 +1,4 @@
 -- `merging::inserts::put_pairs` meets its contract. The invariant: the fields that are left are to be put at the place reached. The measure is what is left.
-use Prim.Native.Nat.{◌-◌}
 use mathlib.Core.Path.{◌≡◌}
 use mathlib.Core.Bool.{true}
 use lib.ListN.{length}
@@ -11,8 +10,8 @@ use Rattle.merging.specs.Texts.{fits_value}
 use Rattle.merging.proofs.Requesting.{pairs_in}
 use Rattle.merging.proofs.inserts.put_pairs.Given as goal
 
-abbrev pub invariant-loop-start : goal.invariant-loop-start
-invariant-loop-start l = (is_readable l.rest ≡ true) × (all fits_value (record_in l.rest) ≡ true) × (length l.scratch ≡ length l.initial.scratch) × (length l.out ≡ length l.initial.out) × (built (pairs_in l.own) (record { next = 0; out = l.initial.out }) ≡ built (pairs_in l.rest) (record { next = l.at; out = l.out }))
+abbrev pub invariant-loop-f : goal.invariant-loop-f
+invariant-loop-f l = (is_readable l.rest ≡ true) × (all fits_value (record_in l.rest) ≡ true) × (length l.scratch ≡ length l.initial.scratch) × (length l.out ≡ length l.initial.out) × (built (pairs_in l.own) (record { next = 0; out = l.initial.out }) ≡ built (pairs_in l.rest) (record { next = l.at; out = l.out }))
 
-abbrev pub decreases-loop-start : goal.decreases-loop-start
-decreases-loop-start l = length l.rest
+abbrev pub decreases-loop-f : goal.decreases-loop-f
+decreases-loop-f l = length l.rest

@@ -1,108 +1,107 @@
 use Prim.Native.Nat.{◌-◌}
 use native.Mathlib.Omega.{arith}
 use mathlib.Core.Path.{sym, ◌∙◌}
-use mathlib.Core.Bool.{true}
 use lib.ListN.{length, drop, length-take, length-drop}
 use borrow.Author.Tests.{not-true, not-false}
 use Rattle.records.specs.Fields.{fields_from, field_between}
 use Rattle.records.proofs.Readings.{part-readable}
-use Rattle.merging.proofs.Twinning.{twins-end, twins-short, twins-names, twins-values, field_told, twins-again}
+use Rattle.merging.proofs.Twinning.{twins-end, twins-short, twins-names, twins-values, twins-again}
 use mathlib.Core.Bool.{not}
 use mathlib.Core.Path.{ap}
 use Rattle.merging.proofs.twins.are_twins.Goals as goal
 
 pub returns-in_default : goal.returns-in_default
 returns-in_default c =
-    c.is_last.ensures ∙ twins-end c.loop-s.p.now 0 c.loop-s.q.now 0 c.next_field-y.result (field_told c.loop-s.p.now c.next_field-x.result c.next_field-x.ensures c.in_default.is) c.next_field-y.ensures ∙ sym c.loop-s.invariant.2
+    c.is_last.ensures ∙ twins-end c.loop-f.p.now 0 c.loop-f.q.now 0 c.next_field-y.result c.in_default.ensures c.next_field-y.ensures ∙ sym c.loop-f.invariant.2
 
 pub returns-in_default-y : goal.returns-in_default-y
 returns-in_default-y c =
-    let h = field_told c.loop-s.p.now c.next_field-x.result c.next_field-x.ensures c.in-At.is in twins-short c.loop-s.p.now 0 c.loop-s.q.now 0 (field_between c.loop-s.p.now c.in-At.s c.in-At.n c.in-At.v c.in-At.e) (fields_from c.loop-s.p.now c.in-At.e) h.fields (field_told c.loop-s.q.now c.next_field-y.result c.next_field-y.ensures c.in_default-y.is) ∙ sym c.loop-s.invariant.2
+    let h = c.in-Some.ensures in twins-short c.loop-f.p.now 0 c.loop-f.q.now 0 (field_between c.loop-f.p.now c.in-Some.f.start c.in-Some.f.named c.in-Some.f.value c.in-Some.f.end) (fields_from c.loop-f.p.now c.in-Some.f.end) h.fields c.in_default-y.ensures ∙ sym c.loop-f.invariant.2
 
 pub slice_bounds-same_bytes-count : goal.slice_bounds-same_bytes-count
 slice_bounds-same_bytes-count c =
-    let h = field_told c.loop-s.p.now c.next_field-x.result c.next_field-x.ensures c.in-At.is in omega (arith, h.named, h.name-inside, h.inside)
+    let h = c.in-Some.ensures in omega (arith, h.named, h.name-inside, h.inside)
 
 pub slice_bounds-same_bytes-start : goal.slice_bounds-same_bytes-start
 slice_bounds-same_bytes-start c =
-    let h = field_told c.loop-s.p.now c.next_field-x.result c.next_field-x.ensures c.in-At.is in omega (arith, h.named, h.name-inside, h.inside)
+    let h = c.in-Some.ensures in omega (arith, h.named, h.name-inside, h.inside)
 
 pub slice_bounds-same_bytes-end : goal.slice_bounds-same_bytes-end
 slice_bounds-same_bytes-end c =
-    let h = field_told c.loop-s.p.now c.next_field-x.result c.next_field-x.ensures c.in-At.is in omega (arith, h.named, h.name-inside, h.inside)
+    let h = c.in-Some.ensures in omega (arith, h.named, h.name-inside, h.inside)
 
-pub slice_bounds-same_bytes-count-in-loop-s : goal.slice_bounds-same_bytes-count-in-loop-s
-slice_bounds-same_bytes-count-in-loop-s c =
-    let h = field_told c.loop-s.q.now c.next_field-y.result c.next_field-y.ensures c.in-At-y.is in omega (arith, h.named, h.name-inside, h.inside)
+pub slice_bounds-same_bytes-count-in-loop-f : goal.slice_bounds-same_bytes-count-in-loop-f
+slice_bounds-same_bytes-count-in-loop-f c =
+    let h = c.in-Some-y.ensures in omega (arith, h.named, h.name-inside, h.inside)
 
-pub slice_bounds-same_bytes-start-in-loop-s : goal.slice_bounds-same_bytes-start-in-loop-s
-slice_bounds-same_bytes-start-in-loop-s c =
-    let h = field_told c.loop-s.q.now c.next_field-y.result c.next_field-y.ensures c.in-At-y.is in omega (arith, h.named, h.name-inside, h.inside)
+pub slice_bounds-same_bytes-start-in-loop-f : goal.slice_bounds-same_bytes-start-in-loop-f
+slice_bounds-same_bytes-start-in-loop-f c =
+    let h = c.in-Some-y.ensures in omega (arith, h.named, h.name-inside, h.inside)
 
-pub slice_bounds-same_bytes-end-in-loop-s : goal.slice_bounds-same_bytes-end-in-loop-s
-slice_bounds-same_bytes-end-in-loop-s c =
-    let h = field_told c.loop-s.q.now c.next_field-y.result c.next_field-y.ensures c.in-At-y.is in omega (arith, h.named, h.name-inside, h.inside)
+pub slice_bounds-same_bytes-end-in-loop-f : goal.slice_bounds-same_bytes-end-in-loop-f
+slice_bounds-same_bytes-end-in-loop-f c =
+    let h = c.in-Some-y.ensures in omega (arith, h.named, h.name-inside, h.inside)
 
 pub returns-then-not-same_bytes : goal.returns-then-not-same_bytes
 returns-then-not-same_bytes c =
-    let h = field_told c.loop-s.p.now c.next_field-x.result c.next_field-x.ensures c.in-At.is in let k = field_told c.loop-s.q.now c.next_field-y.result c.next_field-y.ensures c.in-At-y.is in twins-names c.loop-s.p.now 0 c.loop-s.q.now 0 (field_between c.loop-s.p.now c.in-At.s c.in-At.n c.in-At.v c.in-At.e) (field_between c.loop-s.q.now c.in-At-y.t c.in-At-y.m c.in-At-y.w c.in-At-y.f) (fields_from c.loop-s.p.now c.in-At.e) (fields_from c.loop-s.q.now c.in-At-y.f) h.fields k.fields (sym c.same_bytes.ensures ∙ not-true c.same_bytes.result (ap not c.if-not-same_bytes.true)) ∙ sym c.loop-s.invariant.2
+    let h = c.in-Some.ensures in let k = c.in-Some-y.ensures in twins-names c.loop-f.p.now 0 c.loop-f.q.now 0 (field_between c.loop-f.p.now c.in-Some.f.start c.in-Some.f.named c.in-Some.f.value c.in-Some.f.end) (field_between c.loop-f.q.now c.in-Some-y.g.start c.in-Some-y.g.named c.in-Some-y.g.value c.in-Some-y.g.end) (fields_from c.loop-f.p.now c.in-Some.f.end) (fields_from c.loop-f.q.now c.in-Some-y.g.end) h.fields k.fields (sym c.same_bytes.ensures ∙ not-true c.same_bytes.result (ap not c.if-not-same_bytes.true)) ∙ sym c.loop-f.invariant.2
 
 pub slice_bounds-are_equal-count : goal.slice_bounds-are_equal-count
 slice_bounds-are_equal-count c =
-    let h = field_told c.loop-s.p.now c.next_field-x.result c.next_field-x.ensures c.in-At.is in omega (arith, h.value-inside, h.inside)
+    let h = c.in-Some.ensures in omega (arith, h.value-inside, h.inside)
 
 pub slice_bounds-are_equal-start : goal.slice_bounds-are_equal-start
 slice_bounds-are_equal-start c =
-    let h = field_told c.loop-s.p.now c.next_field-x.result c.next_field-x.ensures c.in-At.is in omega (arith, h.value-inside, h.inside)
+    let h = c.in-Some.ensures in omega (arith, h.value-inside, h.inside)
 
 pub slice_bounds-are_equal-end : goal.slice_bounds-are_equal-end
 slice_bounds-are_equal-end c =
-    let h = field_told c.loop-s.p.now c.next_field-x.result c.next_field-x.ensures c.in-At.is in omega (arith, h.value-inside, h.inside)
+    let h = c.in-Some.ensures in omega (arith, h.value-inside, h.inside)
 
-pub slice_bounds-are_equal-count-in-loop-s : goal.slice_bounds-are_equal-count-in-loop-s
-slice_bounds-are_equal-count-in-loop-s c =
-    let h = field_told c.loop-s.q.now c.next_field-y.result c.next_field-y.ensures c.in-At-y.is in omega (arith, h.value-inside, h.inside)
+pub slice_bounds-are_equal-count-in-loop-f : goal.slice_bounds-are_equal-count-in-loop-f
+slice_bounds-are_equal-count-in-loop-f c =
+    let h = c.in-Some-y.ensures in omega (arith, h.value-inside, h.inside)
 
-pub slice_bounds-are_equal-start-in-loop-s : goal.slice_bounds-are_equal-start-in-loop-s
-slice_bounds-are_equal-start-in-loop-s c =
-    let h = field_told c.loop-s.q.now c.next_field-y.result c.next_field-y.ensures c.in-At-y.is in omega (arith, h.value-inside, h.inside)
+pub slice_bounds-are_equal-start-in-loop-f : goal.slice_bounds-are_equal-start-in-loop-f
+slice_bounds-are_equal-start-in-loop-f c =
+    let h = c.in-Some-y.ensures in omega (arith, h.value-inside, h.inside)
 
-pub slice_bounds-are_equal-end-in-loop-s : goal.slice_bounds-are_equal-end-in-loop-s
-slice_bounds-are_equal-end-in-loop-s c =
-    let h = field_told c.loop-s.q.now c.next_field-y.result c.next_field-y.ensures c.in-At-y.is in omega (arith, h.value-inside, h.inside)
+pub slice_bounds-are_equal-end-in-loop-f : goal.slice_bounds-are_equal-end-in-loop-f
+slice_bounds-are_equal-end-in-loop-f c =
+    let h = c.in-Some-y.ensures in omega (arith, h.value-inside, h.inside)
 
 pub returns-then-not-are_equal : goal.returns-then-not-are_equal
 returns-then-not-are_equal c =
-    let h = field_told c.loop-s.p.now c.next_field-x.result c.next_field-x.ensures c.in-At.is in let k = field_told c.loop-s.q.now c.next_field-y.result c.next_field-y.ensures c.in-At-y.is in twins-values c.loop-s.p.now 0 c.loop-s.q.now 0 (field_between c.loop-s.p.now c.in-At.s c.in-At.n c.in-At.v c.in-At.e) (field_between c.loop-s.q.now c.in-At-y.t c.in-At-y.m c.in-At-y.w c.in-At-y.f) (fields_from c.loop-s.p.now c.in-At.e) (fields_from c.loop-s.q.now c.in-At-y.f) h.fields k.fields (sym c.same_bytes.ensures ∙ not-false c.same_bytes.result (ap not c.if-not-same_bytes.false)) (sym c.are_equal.ensures ∙ not-true c.are_equal.result (ap not c.if-not-are_equal.true)) ∙ sym c.loop-s.invariant.2
+    let h = c.in-Some.ensures in let k = c.in-Some-y.ensures in twins-values c.loop-f.p.now 0 c.loop-f.q.now 0 (field_between c.loop-f.p.now c.in-Some.f.start c.in-Some.f.named c.in-Some.f.value c.in-Some.f.end) (field_between c.loop-f.q.now c.in-Some-y.g.start c.in-Some-y.g.named c.in-Some-y.g.value c.in-Some-y.g.end) (fields_from c.loop-f.p.now c.in-Some.f.end) (fields_from c.loop-f.q.now c.in-Some-y.g.end) h.fields k.fields (sym c.same_bytes.ensures ∙ not-false c.same_bytes.result (ap not c.if-not-same_bytes.false)) (sym c.are_equal.ensures ∙ not-true c.are_equal.result (ap not c.if-not-are_equal.true)) ∙ sym c.loop-f.invariant.2
 
 pub slice_bounds-p-count : goal.slice_bounds-p-count
 slice_bounds-p-count c =
-    let h = field_told c.loop-s.p.now c.next_field-x.result c.next_field-x.ensures c.in-At.is in omega (arith, h.inside)
+    let h = c.in-Some.ensures in omega (arith, h.inside)
 
 pub slice_bounds-p-start : goal.slice_bounds-p-start
 slice_bounds-p-start c =
-    let h = field_told c.loop-s.p.now c.next_field-x.result c.next_field-x.ensures c.in-At.is in omega (arith, h.inside)
+    let h = c.in-Some.ensures in omega (arith, h.inside)
 
 pub slice_bounds-p-end : goal.slice_bounds-p-end
 slice_bounds-p-end c =
-    let h = field_told c.loop-s.p.now c.next_field-x.result c.next_field-x.ensures c.in-At.is in omega (arith, h.inside)
+    let h = c.in-Some.ensures in omega (arith, h.inside)
 
 pub slice_bounds-q-count : goal.slice_bounds-q-count
 slice_bounds-q-count c =
-    let h = field_told c.loop-s.q.now c.next_field-y.result c.next_field-y.ensures c.in-At-y.is in omega (arith, h.inside)
+    let h = c.in-Some-y.ensures in omega (arith, h.inside)
 
 pub slice_bounds-q-start : goal.slice_bounds-q-start
 slice_bounds-q-start c =
-    let h = field_told c.loop-s.q.now c.next_field-y.result c.next_field-y.ensures c.in-At-y.is in omega (arith, h.inside)
+    let h = c.in-Some-y.ensures in omega (arith, h.inside)
 
 pub slice_bounds-q-end : goal.slice_bounds-q-end
 slice_bounds-q-end c =
-    let h = field_told c.loop-s.q.now c.next_field-y.result c.next_field-y.ensures c.in-At-y.is in omega (arith, h.inside)
+    let h = c.in-Some-y.ensures in omega (arith, h.inside)
 
-pub loop-s-smaller : goal.loop-s-smaller
-loop-s-smaller c =
-    let h = field_told c.loop-s.p.now c.next_field-x.result c.next_field-x.ensures c.in-At.is in omega (arith, h.begins, h.moves, h.inside, length-take (length c.loop-s.p.now - c.in-At.e) (drop c.in-At.e c.loop-s.p.now), length-drop c.in-At.e c.loop-s.p.now)
+pub loop-f-smaller : goal.loop-f-smaller
+loop-f-smaller c =
+    let h = c.in-Some.ensures in omega (arith, h.begins, h.moves, h.inside, length-take (length c.loop-f.p.now - c.in-Some.f.end) (drop c.in-Some.f.end c.loop-f.p.now), length-drop c.in-Some.f.end c.loop-f.p.now)
 
-pub loop-s-preserved : goal.loop-s-preserved
-loop-s-preserved c =
-    let h = field_told c.loop-s.p.now c.next_field-x.result c.next_field-x.ensures c.in-At.is in let k = field_told c.loop-s.q.now c.next_field-y.result c.next_field-y.ensures c.in-At-y.is in (part-readable c.loop-s.p.now c.in-At.e h.readable, part-readable c.loop-s.q.now c.in-At-y.f k.readable, c.loop-s.invariant.2 ∙ twins-again c.loop-s.p.now c.loop-s.q.now c.in-At.s c.in-At.n c.in-At.v c.in-At.e c.in-At-y.t c.in-At-y.m c.in-At-y.w c.in-At-y.f h k (sym c.same_bytes.ensures ∙ not-false c.same_bytes.result (ap not c.if-not-same_bytes.false)) (sym c.are_equal.ensures ∙ not-false c.are_equal.result (ap not c.if-not-are_equal.false)))
+pub loop-f-preserved : goal.loop-f-preserved
+loop-f-preserved c =
+    let h = c.in-Some.ensures in let k = c.in-Some-y.ensures in (part-readable c.loop-f.p.now c.in-Some.f.end h.readable, part-readable c.loop-f.q.now c.in-Some-y.g.end k.readable, c.loop-f.invariant.2 ∙ twins-again c.loop-f.p.now c.loop-f.q.now c.in-Some.f.start c.in-Some.f.named c.in-Some.f.value c.in-Some.f.end c.in-Some-y.g.start c.in-Some-y.g.named c.in-Some-y.g.value c.in-Some-y.g.end h k (sym c.same_bytes.ensures ∙ not-false c.same_bytes.result (ap not c.if-not-same_bytes.false)) (sym c.are_equal.ensures ∙ not-false c.are_equal.result (ap not c.if-not-are_equal.false)))

@@ -1,5 +1,4 @@
 -- `merging::twins::are_twins` meets its contract. The invariant: what is left of both is to be compared. The measure is what is left of the first.
-use Prim.Native.Nat.{◌-◌}
 use mathlib.Core.Path.{◌≡◌}
 use mathlib.Core.Bool.{true}
 use lib.ListN.{length}
@@ -7,8 +6,8 @@ use Rattle.records.specs.Places.{is_readable}
 use Rattle.merging.proofs.Twinning.{twins_from}
 use Rattle.merging.proofs.twins.are_twins.Given as goal
 
-abbrev pub invariant-loop-s : goal.invariant-loop-s
-invariant-loop-s l = (is_readable l.p ≡ true) × (is_readable l.q ≡ true) × (twins_from l.a 0 l.b 0 ≡ twins_from l.p 0 l.q 0)
+abbrev pub invariant-loop-f : goal.invariant-loop-f
+invariant-loop-f l = (is_readable l.p ≡ true) × (is_readable l.q ≡ true) × (twins_from l.a 0 l.b 0 ≡ twins_from l.p 0 l.q 0)
 
-abbrev pub decreases-loop-s : goal.decreases-loop-s
-decreases-loop-s l = length l.p
+abbrev pub decreases-loop-f : goal.decreases-loop-f
+decreases-loop-f l = length l.p

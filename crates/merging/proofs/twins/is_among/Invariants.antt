@@ -1,11 +1,9 @@
 -- `merging::twins::is_among` meets its contract. The invariant: what is left of the part is to be looked at. The measure is its length.
-use Prim.Native.Nat.{◌-◌}
 use mathlib.Core.Path.{◌≡◌}
 use mathlib.Core.Bool.{true}
 use mathlib.Core.List.{map}
 use lib.ListN.{length}
 use Rattle.format.specs.Bytes.{any}
-use Rattle.lines.proofs.Cuts.{rest}
 use Rattle.format.specs.Pieces.{read_of}
 use Rattle.format.proofs.Records.{records}
 use Rattle.records.specs.Places.{is_readable}

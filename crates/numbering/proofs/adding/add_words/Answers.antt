@@ -24,69 +24,69 @@ pub returns-in_default : goal.returns-in_default
 returns-in_default c =
     let ws = auto (record_in c.args.d.now) in
     let f = pair_by ws c.args.bounds.floors c.args.bounds.limits in
-    λ t h l. going_end f ws c.loop-start.out c.loop-start.sums (words_of c.loop-start.rest.now) (step_all f t (words_of c.args.s.now)) (c.loop-start.invariant.3 t h l) (not_found c.loop-start.rest.now c.next_word-x.ensures c.in_default.is)
+    λ t h l. going_end f ws c.loop-start.out c.loop-start.sums (words_of c.loop-start.rest.now) (step_all f t (words_of c.args.s.now)) (c.loop-start.invariant.3 t h l) (not_found c.loop-start.rest.now c.next_word.ensures c.in_default.is)
 
 pub slice_bounds-add_word-count : goal.slice_bounds-add_word-count
 slice_bounds-add_word-count c =
-    let w = found c.loop-start.rest.now c.next_word-x.ensures c.in-At.is in
+    let w = found c.loop-start.rest.now c.next_word.ensures c.in-Some.is in
     omega arith
 
 pub slice_bounds-add_word-start : goal.slice_bounds-add_word-start
 slice_bounds-add_word-start c =
-    let w = found c.loop-start.rest.now c.next_word-x.ensures c.in-At.is in
+    let w = found c.loop-start.rest.now c.next_word.ensures c.in-Some.is in
     omega arith
 
 pub slice_bounds-add_word-end : goal.slice_bounds-add_word-end
 slice_bounds-add_word-end c =
-    let w = found c.loop-start.rest.now c.next_word-x.ensures c.in-At.is in
+    let w = found c.loop-start.rest.now c.next_word.ensures c.in-Some.is in
     omega arith
 
-pub add_word-y-requires : goal.add_word-y-requires
-add_word-y-requires c =
+pub add_word-requires : goal.add_word-requires
+add_word-requires c =
     let ws = auto (record_in c.args.d.now) in
     let f = pair_by ws c.args.bounds.floors c.args.bounds.limits in
-    let w = found c.loop-start.rest.now c.next_word-x.ensures c.in-At.is in
+    let w = found c.loop-start.rest.now c.next_word.ensures c.in-Some.is in
     let g = first_passes (λ (n : Bytes). among n ws) (words_of c.loop-start.rest.now) _ _ w.2 c.loop-start.invariant.1 in
     let t = c.requires.sums in
     let go = c.loop-start.invariant.3 t.0 t.1 t.2 in
-    record { listed = c.requires.listed; limited = c.requires.limited; d_value = (g.0, omega (arith, span-within c.loop-start.rest.now c.in-At.start c.in-At.end w.1, c.loop-start.invariant.0, c.requires.s_value.1), omega (arith, c.loop-start.invariant.2, c.requires.s_value.2)); sums = (go.reached, go.sums, omega (arith, go.few, ap length w.2)) }
+    record { listed = c.requires.listed; limited = c.requires.limited; d_value = (g.0, omega (arith, span-within c.loop-start.rest.now c.in-Some.field-0.start c.in-Some.field-0.end w.1, c.loop-start.invariant.0, c.requires.s_value.1), omega (arith, c.loop-start.invariant.2, c.requires.s_value.2)); sums = (go.reached, go.sums, omega (arith, go.few, ap length w.2)) }
 
-pub shape_of-out-in_default-y : goal.shape_of-out-in_default-y
-shape_of-out-in_default-y c =
-    c.add_word-y.auto.out ∙ c.loop-start.invariant.2
+pub shape_of-out-in_err-sums : goal.shape_of-out-in_err-sums
+shape_of-out-in_err-sums c =
+    c.add_word.auto.out ∙ c.loop-start.invariant.2
 
-pub returns-in_default-y : goal.returns-in_default-y
-returns-in_default-y c =
+pub returns-in_err-sums : goal.returns-in_err-sums
+returns-in_err-sums c =
     let ws = auto (record_in c.args.d.now) in
     let f = pair_by ws c.args.bounds.floors c.args.bounds.limits in
-    let w = found c.loop-start.rest.now c.next_word-x.ensures c.in-At.is in
+    let w = found c.loop-start.rest.now c.next_word.ensures c.in-Some.is in
     λ t h l. let go = c.loop-start.invariant.3 t h l in
-    going-none f ws c.loop-start.out c.loop-start.sums (words_of c.loop-start.rest.now) (step_all f t (words_of c.args.s.now)) go (span c.in-At.start c.in-At.end c.loop-start.rest.now ∷ []) (words_of (span c.in-At.end (length c.loop-start.rest.now) c.loop-start.rest.now)) w.2 c.add_word-y.new.out c.add_word-y.result (c.add_word-y.ensures go.reached go.sums) c.in_default-y.is
+    rw c.from_residual.ensures (going-none f ws c.loop-start.out c.loop-start.sums (words_of c.loop-start.rest.now) (step_all f t (words_of c.args.s.now)) go (span c.in-Some.field-0.start c.in-Some.field-0.end c.loop-start.rest.now ∷ []) (words_of (span c.in-Some.field-0.end (length c.loop-start.rest.now) c.loop-start.rest.now)) w.2 c.add_word.new.out c.add_word.result (c.add_word.ensures go.reached go.sums) c.in_err-sums.was)
 
 pub slice_bounds-rest-count : goal.slice_bounds-rest-count
 slice_bounds-rest-count c =
-    let w = found c.loop-start.rest.now c.next_word-x.ensures c.in-At.is in
+    let w = found c.loop-start.rest.now c.next_word.ensures c.in-Some.is in
     omega (arith, w.1)
 
 pub slice_bounds-rest-start : goal.slice_bounds-rest-start
 slice_bounds-rest-start c =
-    let w = found c.loop-start.rest.now c.next_word-x.ensures c.in-At.is in
+    let w = found c.loop-start.rest.now c.next_word.ensures c.in-Some.is in
     omega (arith, w.1)
 
 pub loop-start-smaller : goal.loop-start-smaller
 loop-start-smaller c =
-    let w = found c.loop-start.rest.now c.next_word-x.ensures c.in-At.is in
+    let w = found c.loop-start.rest.now c.next_word.ensures c.in-Some.is in
     omega (arith, w.0, w.1)
 
 pub loop-start-preserved : goal.loop-start-preserved
 loop-start-preserved c =
     let ws = auto (record_in c.args.d.now) in
     let f = pair_by ws c.args.bounds.floors c.args.bounds.limits in
-    let w = found c.loop-start.rest.now c.next_word-x.ensures c.in-At.is in
+    let w = found c.loop-start.rest.now c.next_word.ensures c.in-Some.is in
     let g = first_passes (λ (n : Bytes). among n ws) (words_of c.loop-start.rest.now) _ _ w.2 c.loop-start.invariant.1 in (
       omega (arith, c.loop-start.invariant.0),
       g.1,
-      c.add_word-y.auto.out ∙ c.loop-start.invariant.2,
+      c.add_word.auto.out ∙ c.loop-start.invariant.2,
       λ t h l. let go = c.loop-start.invariant.3 t h l in
-          going_on f ws c.loop-start.out c.loop-start.sums (words_of c.loop-start.rest.now) (step_all f t (words_of c.args.s.now)) go (span c.in-At.start c.in-At.end c.loop-start.rest.now ∷ []) (words_of (span c.in-At.end (length c.loop-start.rest.now) c.loop-start.rest.now)) w.2 c.add_word-y.new.out c.add_word-y.result (c.add_word-y.ensures go.reached go.sums) c.in-Is.next c.in-Is.is,
+          going_on f ws c.loop-start.out c.loop-start.sums (words_of c.loop-start.rest.now) (step_all f t (words_of c.args.s.now)) go (span c.in-Some.field-0.start c.in-Some.field-0.end c.loop-start.rest.now ∷ []) (words_of (span c.in-Some.field-0.end (length c.loop-start.rest.now) c.loop-start.rest.now)) w.2 c.add_word.new.out c.add_word.result (c.add_word.ensures go.reached go.sums) c.in_ok-sums.sums c.in_ok-sums.was,
     )

@@ -34,10 +34,10 @@ returns-then-short c =
     let h = c.requires.value_in_bounds c.if-short.true in
     (ap (λ (n : ℕ). c.args.len + n) c.put_field.ensures.0, λ s. put-behind c.args.out.now (written c.args.name.now c.args.value.now) c.put_field.new.out c.args.len c.put_field.result h c.put_field.ensures.0 c.put_field.ensures.1)
 
-pub overflow_add-result-2 : goal.overflow_add-result-2
-overflow_add-result-2 c =
+pub overflow_add-result-else-short : goal.overflow_add-result-else-short
+overflow_add-result-else-short c =
     omega (arith, c.written_len.ensures, written-length c.args.name.now c.args.value.now, indent-length c.args.value.now, c.requires.name_len_bound.0, c.requires.name_len_bound.1, c.requires.name_len_bound.2)
 
-pub returns : goal.returns
-returns c =
+pub returns-else-short : goal.returns-else-short
+returns-else-short c =
     (ap (λ (n : ℕ). c.args.len + n) c.written_len.ensures, λ s. absurd (false≢true (sym c.if-short.false ∙ s)))

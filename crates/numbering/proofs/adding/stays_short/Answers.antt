@@ -1,5 +1,5 @@
 -- `numbering::adding::stays_short` meets its contract.
-use mathlib.Core.Path.{sym, ap}
+use mathlib.Core.Path.{sym, ap, ◌∙◌}
 use mathlib.Core.Bool.{Bool, ◌&&◌}
 use lib.Dec.{leb}
 use lib.ListN.{length}
@@ -9,6 +9,6 @@ pub returns-then-short : goal.returns-then-short
 returns-then-short c =
     sym (ap (λ (t : Bool). t && leb (length c.args.name.now) 64) c.if-short.true)
 
-pub returns : goal.returns
-returns c =
-    sym (ap (λ (t : Bool). t && leb (length c.args.name.now) 64) c.if-short.false)
+pub returns-else-short : goal.returns-else-short
+returns-else-short c =
+    c.if-short.false ∙ sym (ap (λ (t : Bool). t && leb (length c.args.name.now) 64) c.if-short.false)

@@ -8,8 +8,8 @@ returns-in_default c =
 
 pub returns-then-sum : goal.returns-then-sum
 returns-then-sum c =
-    λ ws s out h few room. told_text ws s out c.args.r h c.in-Is.sum c.in-Is.is few room c.if-sum.true
+    λ ws s out h few room. told_text ws s out c.args.r h c.in-Some.sum c.in-Some.is few room c.if-sum.true
 
-pub returns : goal.returns
-returns c =
-    λ ws s out h few room. told-long ws s out c.args.r h c.in-Is.sum c.in-Is.is c.if-sum.false
+pub returns-else-sum : goal.returns-else-sum
+returns-else-sum c =
+    λ ws s out h few room. told-long ws s out c.args.r h c.in-Some.sum c.in-Some.is c.if-sum.false

@@ -10,17 +10,17 @@ use Rattle.numbering.specs.Bounds.{above_in}
 use Rattle.numbering.proofs.Bounding.{IsSmall, small_int}
 use Rattle.numbering.proofs.bounds.exceed_value.Goals as goal
 
-pub returns-in_default : goal.returns-in_default
-returns-in_default c =
-    let z = ap above_in (sym (ap int_answer c.in_default.is) ∙ c.int_in-i.ensures) in
+pub returns-in-None : goal.returns-in-None
+returns-in-None c =
+    let z = ap above_in (sym (ap int_answer c.in-None.is) ∙ c.int_in.ensures) in
     omega (arith, z)
 
 pub exceed-requires : goal.exceed-requires
 exceed-requires c =
-    let e = sym (ap int_answer c.in-Value.is) ∙ c.int_in-i.ensures in
+    let e = sym (ap int_answer c.in-Some.is) ∙ c.int_in.ensures in
     subst IsSmall (sym e) (small_int (trim c.args.v.now))
 
-pub returns : goal.returns
-returns c =
-    let e = sym (ap int_answer c.in-Value.is) ∙ c.int_in-i.ensures in
+pub returns-in-Some : goal.returns-in-Some
+returns-in-Some c =
+    let e = sym (ap int_answer c.in-Some.is) ∙ c.int_in.ensures in
     c.exceed.ensures ∙ ap (λ (x : Option Int). max c.args.floor (above_in x)) e

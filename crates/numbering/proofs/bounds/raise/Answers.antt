@@ -6,17 +6,12 @@ use Rattle.numbers.specs.Meaning.{int_in}
 use Rattle.numbers.specs.declared.Whole.{Whole}
 use Rattle.numbering.proofs.bounds.raise.Goals as goal
 
-pub returns-in_default : goal.returns-in_default
-returns-in_default c =
-    let e = ap (λ (y : Whole). from (int_in y)) c.in_default.is in
+pub returns-in-Plus : goal.returns-in-Plus
+returns-in-Plus c =
+    let e = ap (λ (y : Whole). from (int_in y)) c.in-Plus.is in
+    omega (arith, e, c.max.ensures)
+
+pub returns-in-Minus : goal.returns-in-Minus
+returns-in-Minus c =
+    let e = ap (λ (y : Whole). from (int_in y)) c.in-Minus.is in
     omega (arith, e)
-
-pub returns-then-floor-n : goal.returns-then-floor-n
-returns-then-floor-n c =
-    let e = ap (λ (y : Whole). from (int_in y)) c.in-Plus.is in
-    omega (arith, e, c.if-floor-n.true)
-
-pub returns-else-floor-n : goal.returns-else-floor-n
-returns-else-floor-n c =
-    let e = ap (λ (y : Whole). from (int_in y)) c.in-Plus.is in
-    omega (arith, e, c.if-floor-n.false)

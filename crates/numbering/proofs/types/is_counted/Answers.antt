@@ -5,4 +5,4 @@ use Rattle.numbering.proofs.types.is_counted.Goals as goal
 
 pub returns-in_default : goal.returns-in_default
 returns-in_default c =
-    none-counted c.args.kind (opened c.in_default.in_default-own.keys3)
+    none-counted c.args.kind (opened c.in_default.in_default-own.keys2)

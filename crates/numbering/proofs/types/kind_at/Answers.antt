@@ -11,10 +11,10 @@ pub end_of-t-requires : goal.end_of-t-requires
 end_of-t-requires c =
     (c.requires.described.2.bounded, c.requires.described.2.long)
 
-pub returns-in_default : goal.returns-in_default
-returns-in_default c =
-    span-fault c.args.d.now c.requires.described.0 c.args.names c.requires.described.1 c.args.defs c.requires.described.2 c.args.value c.requires.has_type.0 c.read_typedef-own.result c.read_typedef-own.ensures c.end_of-t.result c.end_of-t.ensures c.in_default.is
+pub returns-in-None : goal.returns-in-None
+returns-in-None c =
+    span-fault c.args.d.now c.requires.described.0 c.args.names c.requires.described.1 c.args.defs c.requires.described.2 c.args.value c.requires.has_type.0 c.read_typedef-own.result c.read_typedef-own.ensures c.end_of-t.result c.end_of-t.ensures c.in-None.is
 
-pub returns : goal.returns
-returns c =
-    span-read c.args.d.now c.requires.described.0 c.args.names c.requires.described.1 c.args.defs c.requires.described.2 c.args.value c.requires.has_type.0 c.read_typedef-own.result c.read_typedef-own.ensures c.end_of-t.result c.end_of-t.ensures c.in-Is.shape c.in-Is.is
+pub returns-in-Some : goal.returns-in-Some
+returns-in-Some c =
+    span-read c.args.d.now c.requires.described.0 c.args.names c.requires.described.1 c.args.defs c.requires.described.2 c.args.value c.requires.has_type.0 c.read_typedef-own.result c.read_typedef-own.ensures c.end_of-t.result c.end_of-t.ensures c.in-Some.shape c.in-Some.is

@@ -21,13 +21,13 @@ pub place_in-requires : goal.place_in-requires
 place_in-requires c =
     (auto (record_in c.args.d.now), c.requires)
 
-pub returns-then-place_in-w : goal.returns-then-place_in-w
-returns-then-place_in-w c =
-    sym (c.loop-rest.invariant.1 ∙ any_here (λ (n : Bytes). among n (auto (record_in c.args.d.now))) c.loop-rest.rest.now c.part_end-e.result c.part_end-e.ensures (placed-listed _ (auto (record_in c.args.d.now)) c.place_in.result (c.place_in.ensures (auto (record_in c.args.d.now)) c.requires) (omega (arith, c.if-place_in-w.true, c.requires.count))))
+pub returns-then-place_in-l : goal.returns-then-place_in-l
+returns-then-place_in-l c =
+    sym (c.loop-rest.invariant.1 ∙ any_here (λ (n : Bytes). among n (auto (record_in c.args.d.now))) c.loop-rest.rest.now c.part_end-e.result c.part_end-e.ensures (placed-listed _ (auto (record_in c.args.d.now)) c.place_in.result (c.place_in.ensures (auto (record_in c.args.d.now)) c.requires) (omega (arith, c.if-place_in-l.true, c.requires.count))))
 
 pub returns-then-e-rest : goal.returns-then-e-rest
 returns-then-e-rest c =
-    sym (c.loop-rest.invariant.1 ∙ any_last (λ (n : Bytes). among n (auto (record_in c.args.d.now))) c.loop-rest.rest.now c.part_end-e.result c.part_end-e.ensures (unplaced _ (auto (record_in c.args.d.now)) c.place_in.result (c.place_in.ensures (auto (record_in c.args.d.now)) c.requires) (omega (arith, c.if-place_in-w.false, c.requires.count))) c.if-e-rest.true)
+    sym (c.loop-rest.invariant.1 ∙ any_last (λ (n : Bytes). among n (auto (record_in c.args.d.now))) c.loop-rest.rest.now c.part_end-e.result c.part_end-e.ensures (unplaced _ (auto (record_in c.args.d.now)) c.place_in.result (c.place_in.ensures (auto (record_in c.args.d.now)) c.requires) (omega (arith, c.if-place_in-l.false, c.requires.count))) c.if-e-rest.true)
 
 pub overflow_add-rest : goal.overflow_add-rest
 overflow_add-rest c =
@@ -47,4 +47,4 @@ loop-rest-smaller c =
 
 pub loop-rest-preserved : goal.loop-rest-preserved
 loop-rest-preserved c =
-    (omega arith, c.loop-rest.invariant.1 ∙ any-more (λ (n : Bytes). among n (auto (record_in c.args.d.now))) c.loop-rest.rest.now c.part_end-e.result c.part_end-e.ensures (unplaced _ (auto (record_in c.args.d.now)) c.place_in.result (c.place_in.ensures (auto (record_in c.args.d.now)) c.requires) (omega (arith, c.if-place_in-w.false, c.requires.count))) (omega (arith, c.part_end-e.ensures, c.if-e-rest.false, run-le (not_byte 44) c.loop-rest.rest.now)))
+    (omega arith, c.loop-rest.invariant.1 ∙ any-more (λ (n : Bytes). among n (auto (record_in c.args.d.now))) c.loop-rest.rest.now c.part_end-e.result c.part_end-e.ensures (unplaced _ (auto (record_in c.args.d.now)) c.place_in.result (c.place_in.ensures (auto (record_in c.args.d.now)) c.requires) (omega (arith, c.if-place_in-l.false, c.requires.count))) (omega (arith, c.part_end-e.ensures, c.if-e-rest.false, run-le (not_byte 44) c.loop-rest.rest.now)))

@@ -1,22 +1,13 @@
 -- `requests::kinds::add_at` meets its contract: a record and a pair.
-use Rattle.requests.proofs.Reading.{number-found, number-missed}
-use Rattle.requests.proofs.Pairing.{pair_found, pair-missed}
 use Rattle.requests.proofs.Kinding.{add-fault, add-no-pair, add_reads}
 use Rattle.requests.proofs.kinds.add_at.Goals as goal
 
-pub returns-in_default : goal.returns-in_default
-returns-in_default c =
-    add-fault c.args.req.now c.args.i (number-missed c.args.req.now c.args.i 3 c.number_at-a.result c.number_at-a.ensures c.in_default.is)
+pub returns-in_err-row : goal.returns-in_err-row
+returns-in_err-row c = rw c.from_residual.ensures (add-fault c.args.req.now c.args.i c.in_err-row.ensures)
 
-pub returns-in_default-p : goal.returns-in_default-p
-returns-in_default-p c =
-    add-no-pair c.args.req.now c.args.i c.in-Is.row c.in-Is.next (number-found c.args.req.now c.args.i 3 c.number_at-a.result c.in-Is.row c.in-Is.next c.number_at-a.ensures c.in-Is.is) (pair-missed c.args.req.now c.in-Is.next c.pair_at-p.result c.pair_at-p.ensures c.in_default-p.is)
-
-pub ending-requires : goal.ending-requires
-ending-requires c =
-    let found = pair_found c.args.req.now c.in-Is.next c.pair_at-p.result c.in-At.name c.in-At.value c.in-At.end c.pair_at-p.ensures c.in-At.is in
-    (found.3, found.5)
+pub returns-in_err-pair : goal.returns-in_err-pair
+returns-in_err-pair c = rw c.from_residual-in_err-pair.ensures (add-no-pair c.args.req.now c.args.i c.in_ok-row.row.value c.in_ok-row.row.next c.in_ok-row.ensures c.in_err-pair.ensures)
 
 pub returns : goal.returns
 returns c =
-    add_reads c.args.req.now c.args.i c.in-Is.row c.in-Is.next (number-found c.args.req.now c.args.i 3 c.number_at-a.result c.in-Is.row c.in-Is.next c.number_at-a.ensures c.in-Is.is) c.in-At.name c.in-At.value c.in-At.end (pair_found c.args.req.now c.in-Is.next c.pair_at-p.result c.in-At.name c.in-At.value c.in-At.end c.pair_at-p.ensures c.in-At.is) c.ending.result c.ending.ensures
+    add_reads c.args.req.now c.args.i c.in_ok-row.row.value c.in_ok-row.row.next c.in_ok-row.ensures c.in_ok-pair.pair.name c.in_ok-pair.pair.value c.in_ok-pair.pair.next c.in_ok-pair.ensures c.ending.result c.ending.ensures

@@ -1,33 +1,27 @@
 -- `requests::kinds::request_of` meets its contract: the length, the kind, the set, and then the fields of the kind.
 use native.Mathlib.Omega.{arith}
-use Rattle.requests.proofs.Reading.{text-found, text-missed}
 use Rattle.requests.proofs.Kinding.{request-long, no_kind, no-set, wrong-kind, no-edit, an-edit}
 use Rattle.requests.proofs.kinds.request_of.Goals as goal
 
 pub returns-then-req-gt-BYTES : goal.returns-then-req-gt-BYTES
-returns-then-req-gt-BYTES c =
-    request-long c.args.req.now c.if-req-gt-BYTES.true
+returns-then-req-gt-BYTES c = request-long c.args.req.now c.if-req-gt-BYTES.true
 
-pub returns-in_default : goal.returns-in_default
-returns-in_default c =
-    no_kind c.args.req.now c.if-req-gt-BYTES.false (text-missed c.args.req.now 0 1 c.text_at-k.result c.text_at-k.ensures c.in_default.is)
+pub returns-in_err-kind : goal.returns-in_err-kind
+returns-in_err-kind c = rw c.from_residual.ensures (no_kind c.args.req.now c.if-req-gt-BYTES.false c.in_err-kind.ensures)
 
-pub returns-in_default-s : goal.returns-in_default-s
-returns-in_default-s c =
-    no-set c.args.req.now c.if-req-gt-BYTES.false c.in-At.kind (text-found c.args.req.now 0 1 c.text_at-k.result c.in-At.kind c.text_at-k.ensures c.in-At.is) (text-missed c.args.req.now c.in-At.kind.end 2 c.text_at-s.result c.text_at-s.ensures c.in_default-s.is)
+pub returns-in_err-set : goal.returns-in_err-set
+returns-in_err-set c = rw c.from_residual-in_err-set.ensures (no-set c.args.req.now c.if-req-gt-BYTES.false c.in_ok-kind.kind c.in_ok-kind.ensures c.in_err-set.ensures)
 
 pub overflow_sub-kind : goal.overflow_sub-kind
-overflow_sub-kind c =
-    let h = text-found c.args.req.now 0 1 c.text_at-k.result c.in-At.kind c.text_at-k.ensures c.in-At.is in omega (arith, h.2.0)
+overflow_sub-kind c = omega (arith, c.in_ok-kind.ensures.2.0)
 
 pub returns-then-kind-ne1 : goal.returns-then-kind-ne1
-returns-then-kind-ne1 c =
-    wrong-kind c.args.req.now c.if-req-gt-BYTES.false c.in-At.kind (text-found c.args.req.now 0 1 c.text_at-k.result c.in-At.kind c.text_at-k.ensures c.in-At.is) c.in-At-s.set (text-found c.args.req.now c.in-At.kind.end 2 c.text_at-s.result c.in-At-s.set c.text_at-s.ensures c.in-At-s.is) c.if-kind-ne1.true
+returns-then-kind-ne1 c = wrong-kind c.args.req.now c.if-req-gt-BYTES.false c.in_ok-kind.kind c.in_ok-kind.ensures c.in_ok-set.set c.in_ok-set.ensures c.if-kind-ne1.true
 
-pub returns-in_default-e : goal.returns-in_default-e
-returns-in_default-e c =
-    no-edit c.args.req.now c.if-req-gt-BYTES.false c.in-At.kind (text-found c.args.req.now 0 1 c.text_at-k.result c.in-At.kind c.text_at-k.ensures c.in-At.is) c.in-At-s.set (text-found c.args.req.now c.in-At.kind.end 2 c.text_at-s.result c.in-At-s.set c.text_at-s.ensures c.in-At-s.is) c.byte-number.result c.byte-number.ensures c.if-kind-ne1.false c.edit_at-e.result c.edit_at-e.ensures c.in_default-e.is
+pub returns-in_err-edit : goal.returns-in_err-edit
+returns-in_err-edit c =
+    rw c.from_residual-in_err-edit.ensures (no-edit c.args.req.now c.if-req-gt-BYTES.false c.in_ok-kind.kind c.in_ok-kind.ensures c.in_ok-set.set c.in_ok-set.ensures c.byte-number.result c.byte-number.ensures c.if-kind-ne1.false c.in_err-edit.ensures)
 
 pub returns : goal.returns
 returns c =
-    an-edit c.args.req.now c.if-req-gt-BYTES.false c.in-At.kind (text-found c.args.req.now 0 1 c.text_at-k.result c.in-At.kind c.text_at-k.ensures c.in-At.is) c.in-At-s.set (text-found c.args.req.now c.in-At.kind.end 2 c.text_at-s.result c.in-At-s.set c.text_at-s.ensures c.in-At-s.is) c.byte-number.result c.byte-number.ensures c.if-kind-ne1.false c.edit_at-e.result c.in-Is.edit c.edit_at-e.ensures c.in-Is.is
+    an-edit c.args.req.now c.if-req-gt-BYTES.false c.in_ok-kind.kind c.in_ok-kind.ensures c.in_ok-set.set c.in_ok-set.ensures c.byte-number.result c.byte-number.ensures c.if-kind-ne1.false c.in_ok-edit.edit c.in_ok-edit.ensures

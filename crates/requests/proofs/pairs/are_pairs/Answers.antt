@@ -1,19 +1,19 @@
 use native.Mathlib.Omega.{arith}
 use mathlib.Core.Path.{refl, sym, ◌∙◌}
-use Rattle.requests.proofs.Pairing.{pair_found, pair-missed, some_more, some_end}
+use Rattle.requests.proofs.Pairing.{some_more, some_end}
 use Rattle.requests.proofs.pairs.are_pairs.Goals as goal
 
-pub loop-next-init : goal.loop-next-init
-loop-next-init c = refl
+pub loop-pair-init : goal.loop-pair-init
+loop-pair-init c = refl
 
 pub returns-in_default : goal.returns-in_default
 returns-in_default c =
-    sym (c.loop-next.invariant ∙ some_end c.args.req.now c.loop-next.i (pair-missed c.args.req.now c.loop-next.i c.pair_at-p.result c.pair_at-p.ensures c.in_default.is))
+    sym (c.loop-pair.invariant ∙ some_end c.args.req.now c.loop-pair.i c.in_default.ensures)
 
-pub loop-next-smaller : goal.loop-next-smaller
-loop-next-smaller c =
-    let h = pair_found c.args.req.now c.loop-next.i c.pair_at-p.result c.in-At.name c.in-At.value c.in-At.next c.pair_at-p.ensures c.in-At.is in omega (arith, h.2, h.3.0, h.4, h.5.0, h.5.1, h.6)
+pub loop-pair-smaller : goal.loop-pair-smaller
+loop-pair-smaller c =
+    omega (arith, c.in-Some.ensures.2, c.in-Some.ensures.3.0, c.in-Some.ensures.4, c.in-Some.ensures.5.0, c.in-Some.ensures.5.1, c.in-Some.ensures.6)
 
-pub loop-next-preserved : goal.loop-next-preserved
-loop-next-preserved c =
-    c.loop-next.invariant ∙ some_more c.args.req.now c.loop-next.i c.in-At.name c.in-At.value c.in-At.next (pair_found c.args.req.now c.loop-next.i c.pair_at-p.result c.in-At.name c.in-At.value c.in-At.next c.pair_at-p.ensures c.in-At.is)
+pub loop-pair-preserved : goal.loop-pair-preserved
+loop-pair-preserved c =
+    c.loop-pair.invariant ∙ some_more c.args.req.now c.loop-pair.i c.in-Some.pair.name c.in-Some.pair.value c.in-Some.pair.next c.in-Some.ensures

@@ -6,8 +6,8 @@ use lib.ListN.{length}
 use Rattle.requests.specs.Pairs.{pairs_from}
 use Rattle.requests.proofs.pairs.are_pairs.Given as goal
 
-abbrev pub invariant-loop-next : goal.invariant-loop-next
-invariant-loop-next l = is_some (pairs_from l.req l.from) ≡ is_some (pairs_from l.req l.i)
+abbrev pub invariant-loop-pair : goal.invariant-loop-pair
+invariant-loop-pair l = is_some (pairs_from l.req l.from) ≡ is_some (pairs_from l.req l.i)
 
-abbrev pub decreases-loop-next : goal.decreases-loop-next
-decreases-loop-next l = length l.req - l.i
+abbrev pub decreases-loop-pair : goal.decreases-loop-pair
+decreases-loop-pair l = length l.req - l.i

@@ -7,7 +7,7 @@ use lib.ListN.{length}
 use Rattle.format.specs.Bytes.{all}
 use Rattle.format.specs.Written.{Pair, written_all, is_legal_pair}
 use Rattle.requests.specs.Pairs.{pairs_at, pair_of}
-use Rattle.requests.proofs.Pairing.{pair_found, pair-missed, some_more, list-more, list-end}
+use Rattle.requests.proofs.Pairing.{some_more, list-more, list-end}
 use Rattle.requests.proofs.Weighing.{pair_size, first-illegal, first-legal, first-length, first_count}
 use mathlib.Core.Bool.{not}
 use Rattle.requests.proofs.pairs.weigh.Goals as goal
@@ -18,40 +18,39 @@ loop-name-init c =
 
 pub returns-in_default : goal.returns-in_default
 returns-in_default c =
-    let e = list-end c.args.req.now c.loop-name.i (pair-missed c.args.req.now c.loop-name.i c.pair_at-p.result c.pair_at-p.ensures c.in_default.is) in (c.loop-name.invariant.4 ∙ ap (all is_legal_pair) e, omega (arith, c.loop-name.invariant.5, ap (λ (ps : List Pair). length (written_all ps)) e), omega (arith, c.loop-name.invariant.6, ap length e))
+    let e = list-end c.args.req.now c.loop-name.i c.in_default.ensures in (c.loop-name.invariant.4 ∙ ap (all is_legal_pair) e, omega (arith, c.loop-name.invariant.5, ap (λ (ps : List Pair). length (written_all ps)) e), omega (arith, c.loop-name.invariant.6, ap length e))
 
 pub is_legal_pair-requires : goal.is_legal_pair-requires
 is_legal_pair-requires c =
-    let h = pair_found c.args.req.now c.loop-name.i c.pair_at-p.result c.in-At.name c.in-At.value c.in-At.next c.pair_at-p.ensures c.in-At.is in ((h.3, h.5))
+    ((c.in-Some.ensures.3, c.in-Some.ensures.5))
 
 pub returns-then-not-is_legal_pair : goal.returns-then-not-is_legal_pair
 returns-then-not-is_legal_pair c =
-    let h = pair_found c.args.req.now c.loop-name.i c.pair_at-p.result c.in-At.name c.in-At.value c.in-At.next c.pair_at-p.ensures c.in-At.is in c.loop-name.invariant.4 ∙ first-illegal (pairs_at c.args.req.now c.loop-name.i) (pairs_at c.args.req.now c.in-At.next) (pair_of c.args.req.now c.in-At.name c.in-At.value) (list-more c.args.req.now c.loop-name.i c.in-At.name c.in-At.value c.in-At.next h c.loop-name.invariant.1) (sym c.is_legal_pair.ensures ∙ not-true c.is_legal_pair.result (ap not c.if-not-is_legal_pair.true))
+    c.loop-name.invariant.4 ∙ first-illegal (pairs_at c.args.req.now c.loop-name.i) (pairs_at c.args.req.now c.in-Some.field-0.next) (pair_of c.args.req.now c.in-Some.field-0.name c.in-Some.field-0.value) (list-more c.args.req.now c.loop-name.i c.in-Some.field-0.name c.in-Some.field-0.value c.in-Some.field-0.next c.in-Some.ensures c.loop-name.invariant.1) (sym c.is_legal_pair.ensures ∙ not-true c.is_legal_pair.result (ap not c.if-not-is_legal_pair.true))
 
 pub pair_len-len-requires : goal.pair_len-len-requires
 pair_len-len-requires c =
-    let h = pair_found c.args.req.now c.loop-name.i c.pair_at-p.result c.in-At.name c.in-At.value c.in-At.next c.pair_at-p.ensures c.in-At.is in record { req_len_bound = c.requires.req_len_bound.0; in_span = (h.3, h.5) }
+    record { req_len_bound = c.requires.req_len_bound.0; in_span = (c.in-Some.ensures.3, c.in-Some.ensures.5) }
 
 pub overflow_add-len : goal.overflow_add-len
 overflow_add-len c =
-    let h = pair_found c.args.req.now c.loop-name.i c.pair_at-p.result c.in-At.name c.in-At.value c.in-At.next c.pair_at-p.ensures c.in-At.is in omega (arith, pair_size c.args.req.now c.loop-name.i c.in-At.name c.in-At.value c.in-At.next h, c.pair_len-len.ensures, c.loop-name.invariant.2, c.requires.req_len_bound.0, h.5.1, h.6)
+    omega (arith, pair_size c.args.req.now c.loop-name.i c.in-Some.field-0.name c.in-Some.field-0.value c.in-Some.field-0.next c.in-Some.ensures, c.pair_len-len.ensures, c.loop-name.invariant.2, c.requires.req_len_bound.0, c.in-Some.ensures.5.1, c.in-Some.ensures.6)
 
 pub overflow_add-count : goal.overflow_add-count
 overflow_add-count c =
-    let h = pair_found c.args.req.now c.loop-name.i c.pair_at-p.result c.in-At.name c.in-At.value c.in-At.next c.pair_at-p.ensures c.in-At.is in omega (arith, c.loop-name.invariant.3, c.loop-name.invariant.0, c.requires.req_len_bound.0)
+    omega (arith, c.loop-name.invariant.3, c.loop-name.invariant.0, c.requires.req_len_bound.0)
 
 pub loop-name-smaller : goal.loop-name-smaller
 loop-name-smaller c =
-    let h = pair_found c.args.req.now c.loop-name.i c.pair_at-p.result c.in-At.name c.in-At.value c.in-At.next c.pair_at-p.ensures c.in-At.is in omega (arith, h.2, h.3.0, h.4, h.5.0, h.5.1, h.6)
+    omega (arith, c.in-Some.ensures.2, c.in-Some.ensures.3.0, c.in-Some.ensures.4, c.in-Some.ensures.5.0, c.in-Some.ensures.5.1, c.in-Some.ensures.6)
 
 pub loop-name-preserved : goal.loop-name-preserved
-loop-name-preserved c =
-    let h = pair_found c.args.req.now c.loop-name.i c.pair_at-p.result c.in-At.name c.in-At.value c.in-At.next c.pair_at-p.ensures c.in-At.is in (
-      omega (arith, h.5.1, h.6),
-      sym (some_more c.args.req.now c.loop-name.i c.in-At.name c.in-At.value c.in-At.next h) ∙ c.loop-name.invariant.1,
-      omega (arith, pair_size c.args.req.now c.loop-name.i c.in-At.name c.in-At.value c.in-At.next h, c.pair_len-len.ensures, c.loop-name.invariant.2),
-      omega (arith, c.loop-name.invariant.3, h.2, h.3.0, h.4, h.5.0, h.5.1, h.6),
-      c.loop-name.invariant.4 ∙ first-legal (pairs_at c.args.req.now c.loop-name.i) (pairs_at c.args.req.now c.in-At.next) (pair_of c.args.req.now c.in-At.name c.in-At.value) (list-more c.args.req.now c.loop-name.i c.in-At.name c.in-At.value c.in-At.next h c.loop-name.invariant.1) (sym c.is_legal_pair.ensures ∙ not-false c.is_legal_pair.result (ap not c.if-not-is_legal_pair.false)),
-      omega (arith, first-length (pairs_at c.args.req.now c.loop-name.i) (pairs_at c.args.req.now c.in-At.next) (pair_of c.args.req.now c.in-At.name c.in-At.value) (list-more c.args.req.now c.loop-name.i c.in-At.name c.in-At.value c.in-At.next h c.loop-name.invariant.1), c.pair_len-len.ensures, c.loop-name.invariant.5),
-      omega (arith, first_count (pairs_at c.args.req.now c.loop-name.i) (pairs_at c.args.req.now c.in-At.next) (pair_of c.args.req.now c.in-At.name c.in-At.value) (list-more c.args.req.now c.loop-name.i c.in-At.name c.in-At.value c.in-At.next h c.loop-name.invariant.1), c.loop-name.invariant.6),
-    )
+loop-name-preserved c = (
+  omega (arith, c.in-Some.ensures.5.1, c.in-Some.ensures.6),
+  sym (some_more c.args.req.now c.loop-name.i c.in-Some.field-0.name c.in-Some.field-0.value c.in-Some.field-0.next c.in-Some.ensures) ∙ c.loop-name.invariant.1,
+  omega (arith, pair_size c.args.req.now c.loop-name.i c.in-Some.field-0.name c.in-Some.field-0.value c.in-Some.field-0.next c.in-Some.ensures, c.pair_len-len.ensures, c.loop-name.invariant.2),
+  omega (arith, c.loop-name.invariant.3, c.in-Some.ensures.2, c.in-Some.ensures.3.0, c.in-Some.ensures.4, c.in-Some.ensures.5.0, c.in-Some.ensures.5.1, c.in-Some.ensures.6),
+  c.loop-name.invariant.4 ∙ first-legal (pairs_at c.args.req.now c.loop-name.i) (pairs_at c.args.req.now c.in-Some.field-0.next) (pair_of c.args.req.now c.in-Some.field-0.name c.in-Some.field-0.value) (list-more c.args.req.now c.loop-name.i c.in-Some.field-0.name c.in-Some.field-0.value c.in-Some.field-0.next c.in-Some.ensures c.loop-name.invariant.1) (sym c.is_legal_pair.ensures ∙ not-false c.is_legal_pair.result (ap not c.if-not-is_legal_pair.false)),
+  omega (arith, first-length (pairs_at c.args.req.now c.loop-name.i) (pairs_at c.args.req.now c.in-Some.field-0.next) (pair_of c.args.req.now c.in-Some.field-0.name c.in-Some.field-0.value) (list-more c.args.req.now c.loop-name.i c.in-Some.field-0.name c.in-Some.field-0.value c.in-Some.field-0.next c.in-Some.ensures c.loop-name.invariant.1), c.pair_len-len.ensures, c.loop-name.invariant.5),
+  omega (arith, first_count (pairs_at c.args.req.now c.loop-name.i) (pairs_at c.args.req.now c.in-Some.field-0.next) (pair_of c.args.req.now c.in-Some.field-0.name c.in-Some.field-0.value) (list-more c.args.req.now c.loop-name.i c.in-Some.field-0.name c.in-Some.field-0.value c.in-Some.field-0.next c.in-Some.ensures c.loop-name.invariant.1), c.loop-name.invariant.6),
+)

@@ -1,22 +1,19 @@
 -- `rules::questions::lesser` meets its contract.
 use native.Mathlib.Omega.{arith}
 use mathlib.Core.Path.{sym, ap}
+use Rattle.format.specs.Refusals.{no_of}
 use Rattle.format.proofs.Least.{least}
-use Rattle.rules.proofs.Leasts.{least-none, least-min}
+use Rattle.rules.proofs.Leasts.{least-none, least-min, errs}
 use Rattle.rules.proofs.questions.lesser.Goals as goal
 
-pub returns-then-a-eq0 : goal.returns-then-a-eq0
-returns-then-a-eq0 c =
-    ap (λ x. least x c.args.b) (sym c.if-a-eq0.true)
+pub returns-in_default : goal.returns-in_default
+returns-in_default c =
+    ap (λ x. least (no_of x) (no_of c.args.b)) (sym c.in_default.is)
 
-pub returns-then-b-eq0 : goal.returns-then-b-eq0
-returns-then-b-eq0 c =
-    least-none c.args.a c.args.b c.if-b-eq0.true
+pub returns-then-number : goal.returns-then-number
+returns-then-number c =
+    omega (arith, least-min (no_of c.args.a) (no_of c.args.b) (errs c.args.a c.in-Err.p c.in-Err.is) (errs c.args.b c.in-Err-b.q c.in-Err-b.is), ap no_of c.in-Err.is, ap no_of c.in-Err-b.is)
 
-pub returns-then-a-b : goal.returns-then-a-b
-returns-then-a-b c =
-    omega (arith, least-min c.args.a c.args.b c.if-a-eq0.false c.if-b-eq0.false)
-
-pub returns-else-a-b : goal.returns-else-a-b
-returns-else-a-b c =
-    omega (arith, least-min c.args.a c.args.b c.if-a-eq0.false c.if-b-eq0.false)
+pub returns-else-number : goal.returns-else-number
+returns-else-number c =
+    omega (arith, least-min (no_of c.args.a) (no_of c.args.b) (errs c.args.a c.in-Err.p c.in-Err.is) (errs c.args.b c.in-Err-b.q c.in-Err-b.is), ap no_of c.in-Err.is, ap no_of c.in-Err-b.is)

@@ -10,6 +10,6 @@ pub returns-then-asked : goal.returns-then-asked
 returns-then-asked c =
     c.is_satisfied.ensures ∙ ap (λ (b : Bool). b && satisfies (operator_in c.args.row.operator) (operand_in c.args.e.now c.args.row.operand) c.args.v.now) (sym c.if-asked.true)
 
-pub returns : goal.returns
-returns c =
-    ap (λ (b : Bool). b && satisfies (operator_in c.args.row.operator) (operand_in c.args.e.now c.args.row.operand) c.args.v.now) (sym c.if-asked.false)
+pub returns-else-asked : goal.returns-else-asked
+returns-else-asked c =
+    c.if-asked.false ∙ ap (λ (b : Bool). b && satisfies (operator_in c.args.row.operator) (operand_in c.args.e.now c.args.row.operand) c.args.v.now) (sym c.if-asked.false)

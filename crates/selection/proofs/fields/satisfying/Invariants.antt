@@ -1,5 +1,5 @@
--- `selection::fields::satisfying` meets its contract. The invariant: of the comparisons below k those are marked that are asked and satisfied. The measure is how many are left.
-use Prim.Native.Nat.{ℕ, ◌-◌, ◌≤◌}
+-- `selection::fields::satisfying` meets its contract. The invariant: of the comparisons below k those are marked that are asked and satisfied.
+use Prim.Native.Nat.{ℕ}
 use mathlib.Core.Bool.{◌&&◌}
 use Rattle.terms.specs.Sets.{in_set}
 use Rattle.selection.specs.Rows.{satisfies_at}
@@ -7,7 +7,4 @@ use Rattle.selection.proofs.Marking.{Marked}
 use Rattle.selection.proofs.fields.satisfying.Given as goal
 
 abbrev pub invariant-loop-k : goal.invariant-loop-k
-invariant-loop-k l = (l.k ≤ l.p.count) × Marked (λ (j : ℕ). in_set j l.hits && satisfies_at l.e l.p.rows j l.v) l.k l.set
-
-abbrev pub decreases-loop-k : goal.decreases-loop-k
-decreases-loop-k l = l.p.count - l.k
+invariant-loop-k l = Marked (λ (j : ℕ). in_set j l.hits && satisfies_at l.e l.p.rows j l.v) l.k l.set

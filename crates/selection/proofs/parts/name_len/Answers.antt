@@ -1,21 +1,15 @@
-use mathlib.Core.Path.{sym, ◌∙◌}
-use Prim.Native.Nat.{◌-◌}
-use native.Mathlib.Omega.{arith}
+-- `selection::parts::name_len` meets its contract.
+use mathlib.Core.Path.{◌∙◌}
+use mathlib.Core.Bool.{not}
+use Rattle.std.proofs.Common.{rules, tests}
+use Rattle.std.proofs.lemmas.Iterator.{YieldsList-from_slice}
+use Rattle.std.proofs.lemmas.Iterator.Search.{position_from_yields_List}
 use Rattle.format.specs.Lines.{is_later}
-use Rattle.lines.proofs.Heads.{run_more, run-stop, run_end}
+use Rattle.lines.proofs.Scans.{run_found, not-not}
 use Rattle.selection.proofs.parts.name_len.Goals as goal
-
-pub loop-i-init : goal.loop-i-init
-loop-i-init c = (omega arith, omega arith)
-
-pub loop-i-preserved : goal.loop-i-preserved
-loop-i-preserved c =
-    omega (arith, run_more is_later c.args.s.now c.loop-i.i c.loop-i-test.true (sym c.is_later.ensures ∙ c.if-is_later.true))
-
-pub returns-else-is_later : goal.returns-else-is_later
-returns-else-is_later c =
-    omega (arith, run-stop is_later c.args.s.now c.loop-i.i c.loop-i-test.true (sym c.is_later.ensures ∙ c.if-is_later.false))
 
 pub returns : goal.returns
 returns c =
-    omega (arith, run_end is_later c.args.s.now c.loop-i.i c.loop-i-test.false)
+    let s = c.args.s.now in
+    c.unwrap_or.ensures ∙ run_found is_later (λ b. not (is_later b)) (λ b. not-not (is_later b)) s c.position.result
+    (position_from_yields_List (λ b. not (is_later b)) _ _ _ c.position.ensures.ran (YieldsList-from_slice s c.iter.ensures.rest) (λ x b q k. search (rules, tests)))

@@ -1,4 +1,5 @@
 -- `selection::parts::token_at` meets its contract: each answer by a law of what is found.
+use Rattle.std.specs.Prelude.{Some, None}
 use Prim.Native.Nat.{ℕ}
 use native.Mathlib.Omega.{arith}
 use mathlib.Core.Path.{sym, ap, ◌∙◌}
@@ -6,7 +7,6 @@ use mathlib.Core.List.{[], ◌∷◌}
 use lib.ListN.{get_or}
 use Rattle.format.specs.Lines.{is_later}
 use Rattle.words.specs.Spans.{not_byte}
-use Rattle.numbers.specs.declared.IntOf.{IntOf}
 use Rattle.selection.specs.Reading.{all_signs, sign_among}
 use Rattle.selection.specs.Tokens.{sign_in}
 use Rattle.selection.proofs.Finding.{run-behind, run_short, name-found, int-told-by, gap-found, tab-found, text-found, sign-found}
@@ -31,11 +31,11 @@ slice_bounds-int_of-end c =
 
 pub returns-in_default : goal.returns-in_default
 returns-in_default c =
-    int-told-by c.args.s.now c.name_len-n-then-is_int_first.result c.int_of-x.result IntOf.NotInt c.requires.s_nonzero.0 (sym c.is_first.ensures ∙ c.if-is_first.false) (sym c.is_int_first.ensures ∙ c.if-is_int_first.true) c.name_len-n-then-is_int_first.ensures c.int_of-x.ensures c.in_default.is
+    int-told-by c.args.s.now c.name_len-n-then-is_int_first.result c.int_of.result None c.requires.s_nonzero.0 (sym c.is_first.ensures ∙ c.if-is_first.false) (sym c.is_int_first.ensures ∙ c.if-is_int_first.true) c.name_len-n-then-is_int_first.ensures c.int_of.ensures c.in_default.is
 
 pub returns-then-is_int_first : goal.returns-then-is_int_first
 returns-then-is_int_first c =
-    int-told-by c.args.s.now c.name_len-n-then-is_int_first.result c.int_of-x.result (IntOf.Value c.in-Value.w) c.requires.s_nonzero.0 (sym c.is_first.ensures ∙ c.if-is_first.false) (sym c.is_int_first.ensures ∙ c.if-is_int_first.true) c.name_len-n-then-is_int_first.ensures c.int_of-x.ensures c.in-Value.is
+    int-told-by c.args.s.now c.name_len-n-then-is_int_first.result c.int_of.result (Some c.in-Some.w) c.requires.s_nonzero.0 (sym c.is_first.ensures ∙ c.if-is_first.false) (sym c.is_int_first.ensures ∙ c.if-is_int_first.true) c.name_len-n-then-is_int_first.ensures c.int_of.ensures c.in-Some.is
 
 pub returns-then-b-eq32 : goal.returns-then-b-eq32
 returns-then-b-eq32 c =

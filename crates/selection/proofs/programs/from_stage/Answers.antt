@@ -1,12 +1,12 @@
 -- `selection::programs::from_stage` meets its contract.
-use Rattle.selection.specs.Rows.{progress_in}
-use Rattle.selection.proofs.Making.{at_stage, off-stage}
+use Rattle.selection.specs.Rows.{step_no, progress_in}
+use Rattle.selection.proofs.Making.{at_stage, off-stage, step-is, step-other}
 use Rattle.selection.proofs.programs.from_stage.Goals as goal
 
-pub returns-then-r-at : goal.returns-then-r-at
-returns-then-r-at c =
-    λ s. at_stage c.args.at (progress_in s c.args.r) _ _ c.if-r-at.true (c.to_stage.ensures s)
+pub returns-then-eq : goal.returns-then-eq
+returns-then-eq c =
+    λ s. at_stage (step_no c.args.at) (progress_in s c.args.r) _ _ (step-is c.args.r.stage c.args.at c.eq.result c.eq.ensures c.if-eq.true) (c.to_stage.ensures s)
 
 pub returns : goal.returns
 returns c =
-    λ s. off-stage c.args.at (progress_in s c.args.r) _ _ c.if-r-at.false (c.to_stage-2.ensures s)
+    λ s. off-stage (step_no c.args.at) (progress_in s c.args.r) _ _ (step-other c.args.r.stage c.args.at c.eq.result c.eq.ensures c.if-eq.false) (c.to_stage-2.ensures s)

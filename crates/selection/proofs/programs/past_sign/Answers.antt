@@ -1,4 +1,5 @@
 -- `selection::programs::past_sign` meets its contract.
+use mathlib.Core.Logic.{inl, inr}
 use mathlib.Core.Path.{sym, ap, ◌∙◌}
 use Rattle.selection.specs.Tokens.{sign_in}
 use Rattle.selection.specs.Rows.{progress_in, past_symbol}
@@ -13,14 +14,6 @@ pub returns-in-Not : goal.returns-in-Not
 returns-in-Not c =
     λ s. c.from_stage.ensures s ∙ ap (λ (g : Symbol). past_symbol (sign_in g) (progress_in s c.args.r)) (sym c.in-Not.is)
 
-pub returns-in-And : goal.returns-in-And
-returns-in-And c =
-    λ s. c.from_stage-in-And.ensures s ∙ ap (λ (g : Symbol). past_symbol (sign_in g) (progress_in s c.args.r)) (sym c.in-And.is)
-
-pub returns-in-Or : goal.returns-in-Or
-returns-in-Or c =
-    λ s. c.from_stage-in-Or.ensures s ∙ ap (λ (g : Symbol). past_symbol (sign_in g) (progress_in s c.args.r)) (sym c.in-Or.is)
-
 pub returns-in-Open : goal.returns-in-Open
 returns-in-Open c =
     λ s. c.past_open.ensures s ∙ ap (λ (g : Symbol). past_symbol (sign_in g) (progress_in s c.args.r)) (sym c.in-Open.is)
@@ -32,3 +25,7 @@ returns-in-Close c =
 pub returns-in-Unknown : goal.returns-in-Unknown
 returns-in-Unknown c =
     λ s. c.to_stage.ensures s ∙ ap (λ (g : Symbol). past_symbol (sign_in g) (progress_in s c.args.r)) (sym c.in-Unknown.is)
+
+pub returns-in-And : goal.returns-in-And
+returns-in-And c =
+    λ s. c.from_stage-in-And.ensures s ∙ elim c.in-And.is [ inl e ↦ ap (λ (g : Symbol). past_symbol (sign_in g) (progress_in s c.args.r)) (sym e) | inr e ↦ ap (λ (g : Symbol). past_symbol (sign_in g) (progress_in s c.args.r)) (sym e) ]

@@ -1,5 +1,6 @@
 -- `selection::programs::with_token` meets its contract.
 use native.Mathlib.Omega.{arith}
+use mathlib.Core.Logic.{inl, inr}
 use mathlib.Core.Path.{refl, ap}
 use lib.ListN.{drop}
 use Rattle.selection.specs.Tokens.{token_bytes}
@@ -27,18 +28,6 @@ pub with_sign-requires : goal.with_sign-requires
 with_sign-requires c =
     (c.requires.filled.0, c.requires.filled.1)
 
-pub returns-in-Nothing : goal.returns-in-Nothing
-returns-in-Nothing c =
-    λ s. token-adds s (drop c.args.at s) (progress_in s c.args.r) c.args.p c.args.p c.args.t _ c.in-Nothing.is (no-code-added c.args.p c.requires.filled.0, refl)
-
-pub returns-in-Gap : goal.returns-in-Gap
-returns-in-Gap c =
-    λ s. token-adds s (drop c.args.at s) (progress_in s c.args.r) c.args.p c.args.p c.args.t _ c.in-Gap.is (no-code-added c.args.p c.requires.filled.0, refl)
-
-pub returns-in-Name : goal.returns-in-Name
-returns-in-Name c =
-    λ s. token-adds s (drop c.args.at s) (progress_in s c.args.r) c.args.p c.args.p c.args.t _ c.in-Name.is (no-code-added c.args.p c.requires.filled.0, refl)
-
 pub returns-in-Int : goal.returns-in-Int
 returns-in-Int c =
     λ s. token-adds s (drop c.args.at s) (progress_in s c.args.r) c.args.p c.with_operand.result c.args.t _ c.in-Int.is (c.with_operand.ensures.0, c.with_operand.ensures.1 s)
@@ -50,3 +39,13 @@ returns-in-Text c =
 pub returns-in-Sign : goal.returns-in-Sign
 returns-in-Sign c =
     λ s. token-adds s (drop c.args.at s) (progress_in s c.args.r) c.args.p c.with_sign.result c.args.t _ c.in-Sign.is (sign-adds s (drop c.args.at s) (progress_in s c.args.r) c.args.p c.with_sign.result c.in-Sign.g c.with_sign.ensures.0 (c.with_sign.ensures.1 s))
+
+pub returns-in-Nothing : goal.returns-in-Nothing
+returns-in-Nothing c = λ s.
+    elim c.in-Nothing.is [
+      | inl e ↦ token-adds s (drop c.args.at s) (progress_in s c.args.r) c.args.p c.args.p c.args.t _ e (no-code-added c.args.p c.requires.filled.0, refl)
+      | inr r ↦ elim r [
+        | inl e ↦ token-adds s (drop c.args.at s) (progress_in s c.args.r) c.args.p c.args.p c.args.t _ e (no-code-added c.args.p c.requires.filled.0, refl)
+        | inr e ↦ token-adds s (drop c.args.at s) (progress_in s c.args.r) c.args.p c.args.p c.args.t _ e.1 (no-code-added c.args.p c.requires.filled.0, refl)
+      ]
+    ]

@@ -1,24 +1,25 @@
 -- `selection::runs::on_code` meets its contract.
-use mathlib.Core.Path.{refl}
+use mathlib.Core.Path.{refl, ap}
+use Rattle.selection.specs.Programs.{code_no}
 use Rattle.selection.proofs.Running.{on-test, on-other, on-join, on-close}
 use Rattle.selection.proofs.runs.on_code.Goals as goal
 
-pub returns-then-c-eq0 : goal.returns-then-c-eq0
-returns-then-c-eq0 c =
-    on-test c.args.m c.args.c c.answered_by.result c.if-c-eq0.true c.answered_by.ensures
+pub returns-in-Test : goal.returns-in-Test
+returns-in-Test c =
+    on-test c.args.m (code_no c.args.c) c.answered_by.result (ap code_no c.in-Test.is) c.answered_by.ensures
 
-pub returns-then-c-eq1 : goal.returns-then-c-eq1
-returns-then-c-eq1 c =
-    on-other c.args.m c.args.c 1 _ c.if-c-eq1.true refl
+pub returns-in-Not : goal.returns-in-Not
+returns-in-Not c =
+    on-other c.args.m (code_no c.args.c) 1 _ (ap code_no c.in-Not.is) refl
 
-pub returns-then-c-eq2 : goal.returns-then-c-eq2
-returns-then-c-eq2 c =
-    on-join c.args.m c.args.c c.joined.result c.if-c-eq2.true c.joined.ensures
+pub returns-in-Or : goal.returns-in-Or
+returns-in-Or c =
+    on-join c.args.m (code_no c.args.c) c.joined.result (ap code_no c.in-Or.is) c.joined.ensures
 
-pub returns-then-c-eq3 : goal.returns-then-c-eq3
-returns-then-c-eq3 c =
-    on-other c.args.m c.args.c 3 _ c.if-c-eq3.true refl
+pub returns-in-Open : goal.returns-in-Open
+returns-in-Open c =
+    on-other c.args.m (code_no c.args.c) 3 _ (ap code_no c.in-Open.is) refl
 
-pub returns : goal.returns
-returns c =
-    on-close c.args.m c.args.c c.answered_by-2.result c.whole_answer.result c.if-c-eq0.false c.if-c-eq1.false c.if-c-eq2.false c.if-c-eq3.false c.whole_answer.ensures c.answered_by-2.ensures
+pub returns-in-Close : goal.returns-in-Close
+returns-in-Close c =
+    on-close c.args.m (code_no c.args.c) c.answered_by-in-Close.result c.whole_answer.result (ap code_no c.in-Close.is) c.whole_answer.ensures c.answered_by-in-Close.ensures

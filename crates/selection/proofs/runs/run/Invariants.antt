@@ -1,12 +1,9 @@
--- `selection::runs::run` meets its contract. The invariant: all codes from the start do what those from here on do to what was reached. The measure is what is left of the codes.
-use Prim.Native.Nat.{◌-◌, ◌≤◌}
+-- `selection::runs::run` meets its contract. The invariant: all codes from the start do what those from here on do to what was reached.
 use mathlib.Core.Path.{◌≡◌}
-use lib.ListN.{length, drop}
-use Rattle.selection.specs.Programs.{runs, started}
+use mathlib.Core.List.{map}
+use lib.ListN.{drop}
+use Rattle.selection.specs.Programs.{code_no, runs, started}
 use Rattle.selection.proofs.runs.run.Given as goal
 
-abbrev pub invariant-loop-i : goal.invariant-loop-i
-invariant-loop-i l = (l.i ≤ length l.codes) × (runs l.codes (started l.bits) ≡ runs (drop l.i l.codes) l.m)
-
-abbrev pub decreases-loop-i : goal.decreases-loop-i
-decreases-loop-i l = length l.codes - l.i
+abbrev pub invariant-loop-c : goal.invariant-loop-c
+invariant-loop-c l = runs (map code_no l.codes) (started l.bits) ≡ runs (map code_no (drop l.c-index l.codes)) l.m

@@ -33,25 +33,25 @@ returns-in_default c =
 
 pub move_down-requires-in-loop-start : goal.move_down-requires-in-loop-start
 move_down-requires-in-loop-start c =
-    let m = next-told c.loop-start.part c.loop-start.i c.next_field-f.result c.next_field-f.ensures c.in-At.is in
+    let m = next-told c.loop-start.part c.loop-start.i c.next_field-f.result c.next_field-f.ensures c.in-Some.is in
     (c.loop-start.invariant.low, omega (arith, m.begins, m.moves, m.inside))
 
 pub overflow_add-n : goal.overflow_add-n
 overflow_add-n c =
-    let m = next-told c.loop-start.part c.loop-start.i c.next_field-f.result c.next_field-f.ensures c.in-At.is in
+    let m = next-told c.loop-start.part c.loop-start.i c.next_field-f.result c.next_field-f.ensures c.in-Some.is in
     omega (arith, c.loop-start.invariant.low, m.begins, m.moves, m.inside, c.well_formed.0.0)
 
 pub overflow_add-i : goal.overflow_add-i
 overflow_add-i c =
-    let m = next-told c.loop-start.part c.loop-start.i c.next_field-f.result c.next_field-f.ensures c.in-At.is in
+    let m = next-told c.loop-start.part c.loop-start.i c.next_field-f.result c.next_field-f.ensures c.in-Some.is in
     omega (arith, m.inside, c.well_formed.0.0)
 
 pub loop-start-smaller : goal.loop-start-smaller
 loop-start-smaller c =
-    let m = next-told c.loop-start.part c.loop-start.i c.next_field-f.result c.next_field-f.ensures c.in-At.is in
+    let m = next-told c.loop-start.part c.loop-start.i c.next_field-f.result c.next_field-f.ensures c.in-Some.is in
     omega (arith, m.begins, m.moves, m.inside, c.loop-start.invariant.same)
 
 pub loop-start-preserved : goal.loop-start-preserved
 loop-start-preserved c =
-    let m = next-told c.loop-start.part c.loop-start.i c.next_field-f.result c.next_field-f.ensures c.in-At.is in
+    let m = next-told c.loop-start.part c.loop-start.i c.next_field-f.result c.next_field-f.ensures c.in-Some.is in
     keeping-field c.loop-start.invariant _ _ _ _ m _ c.move_down-in-loop-start.ensures

@@ -1,8 +1,6 @@
 -- n values are added, those of the fields from i on are to come. The measure is what is left of the text.
 use Prim.Native.Nat.{◌-◌}
 use lib.ListN.{length}
-use mir.Syntax.{w64}
-use mir.Val.{to_z}
 use Rattle.totals.proofs.Walking.{Adds}
 use Rattle.totals.proofs.adding.add_values.Given as goal
 

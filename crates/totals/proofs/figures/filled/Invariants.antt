@@ -1,5 +1,5 @@
 -- The zeros that are still to come make of the number reached what all of them make of the first.
-use Prim.Native.Nat.{◌+◌, ◌-◌, ◌^◌, ◌≤◌, ◌<◌}
+use Prim.Native.Nat.{◌+◌, ◌^◌, ◌≤◌, ◌<◌}
 use mathlib.Core.Path.{◌≡◌}
 use Rattle.totals.specs.Totals.{whole_digits, fraction_digits}
 use Rattle.totals.specs.Figures.{filled_from}
@@ -7,6 +7,3 @@ use Rattle.totals.proofs.figures.filled.Given as goal
 
 abbrev pub invariant-loop-k : goal.invariant-loop-k
 invariant-loop-k l = (l.k ≤ fraction_digits) × (l.m < 10 ^ (whole_digits + l.k)) × (filled_from l.digits l.number ≡ filled_from l.k l.m)
-
-abbrev pub decreases-loop-k : goal.decreases-loop-k
-decreases-loop-k l = fraction_digits - l.k

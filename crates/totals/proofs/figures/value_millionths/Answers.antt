@@ -1,4 +1,3 @@
-use Prim.Native.Nat.{◌-◌}
 use native.Mathlib.Omega.{arith}
 use mathlib.Core.Path.{sym, ap, ◌∙◌, subst}
 use lib.ListN.{drop}
@@ -19,7 +18,7 @@ told-requires c =
 
 pub returns-in_default : goal.returns-in_default
 returns-in_default c =
-    c.told.ensures ∙ sym (c.loop-byte.invariant.1 ∙ ap (read_on c.loop-byte.f) (ended c.args.s.now c.loop-byte.i c.value_byte-d.result c.value_byte-d.ensures c.in_default.is))
+    c.told.ensures ∙ sym (c.loop-byte.invariant.1 ∙ ap (read_on c.loop-byte.f) (ended c.args.s.now c.loop-byte.i c.value_byte.result c.value_byte.ensures c.in_default.is))
 
 pub step-f-requires : goal.step-f-requires
 step-f-requires c =
@@ -27,11 +26,11 @@ step-f-requires c =
 
 pub loop-byte-smaller : goal.loop-byte-smaller
 loop-byte-smaller c =
-    let e = goes_on c.args.s.now c.loop-byte.i c.value_byte-d.result c.value_byte-d.ensures c.in-Byte.is in omega (arith, e.1, e.2)
+    let e = goes_on c.args.s.now c.loop-byte.i c.value_byte.result c.value_byte.ensures c.in-Some.is in omega (arith, e.1, e.2)
 
 pub loop-byte-preserved : goal.loop-byte-preserved
 loop-byte-preserved c =
-    let e = goes_on c.args.s.now c.loop-byte.i c.value_byte-d.result c.value_byte-d.ensures c.in-Byte.is in (
-      subst Within (sym c.step-f.ensures) (stepped_within c.loop-byte.f c.in-Byte.byte c.loop-byte.invariant.0),
-      c.loop-byte.invariant.1 ∙ ap (read_on c.loop-byte.f) e.0 ∙ ap (λ (f : Figure). read_on f (value_from (drop c.in-Byte.next c.args.s.now))) (sym c.step-f.ensures),
+    let e = goes_on c.args.s.now c.loop-byte.i c.value_byte.result c.value_byte.ensures c.in-Some.is in (
+      subst Within (sym c.step-f.ensures) (stepped_within c.loop-byte.f c.in-Some.field-0.byte c.loop-byte.invariant.0),
+      c.loop-byte.invariant.1 ∙ ap (read_on c.loop-byte.f) e.0 ∙ ap (λ (f : Figure). read_on f (value_from (drop c.in-Some.field-0.next c.args.s.now))) (sym c.step-f.ensures),
     )

@@ -1,16 +1,14 @@
-use Prim.Native.Nat.{◌-◌}
-use native.Mathlib.Omega.{arith}
 use Rattle.totals.proofs.Specials.{special-start, special-more, special-end}
 use Rattle.totals.proofs.parts.has_special_line.Goals as goal
 
 pub loop-i-init : goal.loop-i-init
 loop-i-init c =
-    (omega arith, special-start c.args.s.now c.byte-found.result c.byte-found.ensures)
+    special-start c.args.s.now c.byte-found.result c.byte-found.ensures
 
 pub loop-i-preserved : goal.loop-i-preserved
 loop-i-preserved c =
-    (omega arith, special-more _ c.loop-i.i c.loop-i.found c.loop-i.invariant.1 c.loop-i-test.true)
+    special-more _ c.loop-i.i c.loop-i.found c.loop-i.invariant c.loop-i-test.true
 
 pub returns : goal.returns
 returns c =
-    special-end _ c.loop-i.i c.loop-i.found c.loop-i.invariant.1 c.loop-i-test.false
+    special-end _ c.loop-i.i c.loop-i.found c.loop-i.invariant c.loop-i-test.false

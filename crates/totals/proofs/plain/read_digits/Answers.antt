@@ -1,5 +1,7 @@
-use Prim.Native.Nat.{◌+◌, ◌-◌}
+use Prim.Native.Nat.{ℕ, ◌+◌, ◌-◌}
 use native.Mathlib.Omega.{arith}
+use mathlib.Core.Path.{◌≡◌, subst}
+use Rattle.totals.specs.Plain.{Run}
 use Rattle.totals.proofs.Stepping.{power_below}
 use Rattle.totals.proofs.Running.{run_none, run_more}
 use Rattle.totals.proofs.plain.read_digits.Goals as goal
@@ -34,4 +36,4 @@ loop-at-preserved c =
 
 pub returns : goal.returns
 returns c =
-    c.loop-at.invariant
+    subst (λ (j : ℕ). Run c.args.s.now c.args.i c.args.end c.args.number j c.loop-at.m) (let e : c.loop-at.at ≡ c.args.end = omega (arith, c.loop-at-test.false, c.loop-at.invariant.before) in e) c.loop-at.invariant

@@ -8,8 +8,8 @@ returns-in_default c = c.value_millionths.ensures
 
 pub signed_of-requires : goal.signed_of-requires
 signed_of-requires c =
-    omega (arith, (plain-told c.args.s.now c.plain_value-p.result c.plain_value-p.ensures c.in-Millionths.is).0)
+    omega (arith, (plain-told c.args.s.now c.plain_value.result c.plain_value.ensures c.in-Some.is).0)
 
 pub returns : goal.returns
 returns c =
-    plain-counted c.args.s.now c.in-Millionths.m c.signed_of.result (plain-told c.args.s.now c.plain_value-p.result c.plain_value-p.ensures c.in-Millionths.is) c.signed_of.ensures
+    plain-counted c.args.s.now c.in-Some.m c.signed_of.result (plain-told c.args.s.now c.plain_value.result c.plain_value.ensures c.in-Some.is) c.signed_of.ensures

@@ -1,24 +1,21 @@
-use native.Mathlib.Omega.{arith}
+-- `typing::kinds::head_end` meets its contract.
+use Rattle.std.proofs.Common.{rules, tests}
+use mathlib.Core.Path.{refl, ◌≡◌, ◌∙◌}
+use Prim.Native.Nat.{ℕ}
+use mathlib.Core.Bool.{Bool, true, false, not, ◌||◌, ◌&&◌}
+use lib.Dec.{eqb}
+use Rattle.std.proofs.lemmas.Iterator.{YieldsList-from_slice}
+use Rattle.std.proofs.lemmas.Iterator.Search.{position_from_yields_List}
+use Rattle.format.specs.Words.{is_gap}
 use Rattle.format.specs.Types.{before_comment}
-use borrow.Author.Tests.{eq-eqb, ne_eqb}
-use Rattle.lines.proofs.Heads.{run_more, run-stop, run_end}
+use Rattle.lines.proofs.Scans.{run_found}
 use Rattle.typing.proofs.kinds.head_end.Goals as goal
 
-pub loop-e-init : goal.loop-e-init
-loop-e-init c = (omega arith, omega arith)
-
-pub returns-then-is_gap : goal.returns-then-is_gap
-returns-then-is_gap c =
-    omega (arith, run-stop before_comment c.args.s.now c.loop-e.e c.loop-e-test.true (rw (← c.is_gap.ensures, c.if-is_gap.true)))
-
-pub returns-then-s-e-eq40 : goal.returns-then-s-e-eq40
-returns-then-s-e-eq40 c =
-    omega (arith, run-stop before_comment c.args.s.now c.loop-e.e c.loop-e-test.true (rw (← c.is_gap.ensures, c.if-is_gap.false, eq-eqb _ _ c.if-s-e-eq40.true)))
-
-pub loop-e-preserved : goal.loop-e-preserved
-loop-e-preserved c =
-    omega (arith, run_more before_comment c.args.s.now c.loop-e.e c.loop-e-test.true (rw (← c.is_gap.ensures, c.if-is_gap.false, ne_eqb _ _ c.if-s-e-eq40.false)))
+neither : (a b : Bool) → (not a && not b) ≡ not (a || b)
+neither true b = refl
+neither false b = refl
 
 pub returns : goal.returns
 returns c =
-    omega (arith, run_end before_comment c.args.s.now c.loop-e.e c.loop-e-test.false)
+    c.unwrap_or.ensures ∙ run_found before_comment (λ (b : ℕ). is_gap b || eqb b 40) (λ b. neither (is_gap b) (eqb b 40)) c.args.s.now c.position.result
+    (position_from_yields_List (λ (b : ℕ). is_gap b || eqb b 40) _ _ _ c.position.ensures.ran (YieldsList-from_slice c.args.s.now c.iter.ensures.rest) (λ x b q k. search (rules, tests)))

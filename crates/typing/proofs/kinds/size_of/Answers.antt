@@ -14,49 +14,49 @@ use Rattle.numbers.specs.Meaning.{natural_answer}
 use Rattle.typing.proofs.TypeHeads.{told-fault}
 use Rattle.typing.proofs.kinds.size_of.Goals as goal
 
-pub returns-in_default : goal.returns-in_default
-returns-in_default c =
-    λ x. told-fault x (ap (size_of int_bounds) (not_found c.args.s.now c.next_word-w.ensures c.in_default.is))
+pub returns-in_err-w : goal.returns-in_err-w
+returns-in_err-w c =
+    rw c.from_residual.ensures (λ x. told-fault x (ap (size_of int_bounds) (not_found c.args.s.now c.next_word.ensures c.in_err-w.was)))
 
 pub slice_bounds-next_word-count : goal.slice_bounds-next_word-count
 slice_bounds-next_word-count c =
-    let f = found c.args.s.now c.next_word-w.ensures c.in-At.is in
-    omega (arith, f.0)
+    let f = found c.args.s.now c.next_word.ensures c.in_ok-w.was in
+    omega (arith, f.0, f.1)
 
 pub slice_bounds-next_word-start : goal.slice_bounds-next_word-start
 slice_bounds-next_word-start c =
-    let f = found c.args.s.now c.next_word-w.ensures c.in-At.is in
-    omega (arith, f.0)
-
-pub returns-in_default-v : goal.returns-in_default-v
-returns-in_default-v c =
-    let f = found c.args.s.now c.next_word-w.ensures c.in-At.is in
-    let k = found (span c.in-At.end (length c.args.s.now) c.args.s.now) c.next_word-v.ensures c.in_default-v.is in
-    λ x. told-fault x (ap (size_of int_bounds) (f.2 ∙ ap (λ (l : List Bytes). span c.in-At.start c.in-At.end c.args.s.now ∷ l) k.2))
+    let f = found c.args.s.now c.next_word.ensures c.in_ok-w.was in
+    omega (arith, f.0, f.1)
 
 pub slice_bounds-number_of-count : goal.slice_bounds-number_of-count
 slice_bounds-number_of-count c =
-    let f = found c.args.s.now c.next_word-w.ensures c.in-At.is in
+    let f = found c.args.s.now c.next_word.ensures c.in_ok-w.was in
     omega (arith, f.0, f.1)
 
 pub slice_bounds-number_of-start : goal.slice_bounds-number_of-start
 slice_bounds-number_of-start c =
-    let f = found c.args.s.now c.next_word-w.ensures c.in-At.is in
+    let f = found c.args.s.now c.next_word.ensures c.in_ok-w.was in
     omega (arith, f.0, f.1)
 
 pub slice_bounds-number_of-end : goal.slice_bounds-number_of-end
 slice_bounds-number_of-end c =
-    let f = found c.args.s.now c.next_word-w.ensures c.in-At.is in
+    let f = found c.args.s.now c.next_word.ensures c.in_ok-w.was in
     omega (arith, f.0, f.1)
 
-pub returns-in-Of : goal.returns-in-Of
-returns-in-Of c =
-    let f = found c.args.s.now c.next_word-w.ensures c.in-At.is in
-    let n = not_found (span c.in-At.end (length c.args.s.now) c.args.s.now) c.next_word-v.ensures c.in-Nothing.is in
-    λ x. record { answers = sym (ap (size_of int_bounds) (f.2 ∙ ap (λ (l : List Bytes). span c.in-At.start c.in-At.end c.args.s.now ∷ l) n) ∙ ap (map (λ (n : ℕ). Typed.kind (Kind.size n))) (sym c.number_of-x.ensures ∙ ap natural_answer c.in-Of.is)); sound = tt }
+pub returns-in_default : goal.returns-in_default
+returns-in_default c =
+    let f = found c.args.s.now c.next_word.ensures c.in_ok-w.was in
+    let k = found (span c.in_ok-w.w.end (length c.args.s.now) c.args.s.now) c.next_word-2.ensures c.in_default.is in
+    λ x. told-fault x (ap (size_of int_bounds) (f.2 ∙ ap (λ (l : List Bytes). span c.in_ok-w.w.start c.in_ok-w.w.end c.args.s.now ∷ l) k.2))
 
-pub returns-in-Not : goal.returns-in-Not
-returns-in-Not c =
-    let f = found c.args.s.now c.next_word-w.ensures c.in-At.is in
-    let n = not_found (span c.in-At.end (length c.args.s.now) c.args.s.now) c.next_word-v.ensures c.in-Nothing.is in
-    λ x. told-fault x (ap (size_of int_bounds) (f.2 ∙ ap (λ (l : List Bytes). span c.in-At.start c.in-At.end c.args.s.now ∷ l) n) ∙ ap (map (λ (n : ℕ). Typed.kind (Kind.size n))) (sym c.number_of-x.ensures ∙ ap natural_answer c.in-Not.is))
+pub returns-in_err-n : goal.returns-in_err-n
+returns-in_err-n c =
+    let f = found c.args.s.now c.next_word.ensures c.in_ok-w.was in
+    let n = not_found (span c.in_ok-w.w.end (length c.args.s.now) c.args.s.now) c.next_word-2.ensures c.in-None.is in
+    rw c.from_residual-in_err-n.ensures (λ x. told-fault x (ap (size_of int_bounds) (f.2 ∙ ap (λ (l : List Bytes). span c.in_ok-w.w.start c.in_ok-w.w.end c.args.s.now ∷ l) n) ∙ ap (map (λ (n : ℕ). Typed.kind (Kind.size n))) (sym c.number_of.ensures ∙ ap natural_answer c.in_err-n.was)))
+
+pub returns : goal.returns
+returns c =
+    let f = found c.args.s.now c.next_word.ensures c.in_ok-w.was in
+    let n = not_found (span c.in_ok-w.w.end (length c.args.s.now) c.args.s.now) c.next_word-2.ensures c.in-None.is in
+    λ x. record { answers = sym (ap (size_of int_bounds) (f.2 ∙ ap (λ (l : List Bytes). span c.in_ok-w.w.start c.in_ok-w.w.end c.args.s.now ∷ l) n) ∙ ap (map (λ (n : ℕ). Typed.kind (Kind.size n))) (sym c.number_of.ensures ∙ ap natural_answer c.in_ok-n.was)); sound = tt }

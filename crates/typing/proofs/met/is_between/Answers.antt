@@ -10,8 +10,8 @@ returns-in_default c =
 
 pub returns-then-at_most : goal.returns-then-at_most
 returns-then-at_most c =
-    sym (ap (is_in_range (int_in c.args.a) (int_in c.args.b)) (ap int_answer c.in-Value.is) ∙ rw (← c.at_most.ensures, c.if-at_most.true, ← c.at_most-then-at_most.ensures))
+    sym (ap (is_in_range (int_in c.args.a) (int_in c.args.b)) (ap int_answer c.in-Some.is) ∙ rw (← c.at_most.ensures, c.if-at_most.true, ← c.at_most-then-at_most.ensures))
 
 pub returns-else-at_most : goal.returns-else-at_most
 returns-else-at_most c =
-    sym (ap (is_in_range (int_in c.args.a) (int_in c.args.b)) (ap int_answer c.in-Value.is) ∙ rw (← c.at_most.ensures, c.if-at_most.false))
+    sym (ap (is_in_range (int_in c.args.a) (int_in c.args.b)) (ap int_answer c.in-Some.is) ∙ rw (← c.at_most.ensures, c.if-at_most.false))

@@ -1,17 +1,12 @@
-use native.Mathlib.Omega.{arith}
-use mathlib.Core.Path.{sym, ◌∙◌}
-use Rattle.typing.proofs.Meeting.{size-counted, size-passed, size-end}
+-- `typing::met::size_count` meets its contract.
+use Rattle.std.proofs.Common.{rules, tests}
+use Prim.Native.Nat.{ℕ}
+use mathlib.Core.Bool.{not}
+use Rattle.std.proofs.lemmas.Iterator.{YieldsList-from_slice}
+use Rattle.std.proofs.lemmas.Iterator.Consumers.{YieldsList-from_filter, count_from_yields_List}
+use Rattle.format.specs.Types.{is_continuation}
 use Rattle.typing.proofs.met.size_count.Goals as goal
-use Rattle.typing.proofs.met.size_count.Goals.{then-not-is_continuation, else-not-is_continuation}
-
-pub loop-i-init : goal.loop-i-init
-loop-i-init c = (omega arith, omega arith, omega arith)
-
-pub loop-i-preserved : goal.loop-i-preserved
-loop-i-preserved c =
-    let told = sym c.is_continuation.ensures in
-    elim c.if-not-is_continuation.branch [ then-not-is_continuation w ↦ (omega (arith, w.n-is, c.loop-i.invariant.0), omega arith, omega (arith, w.n-is, c.loop-i.invariant.2, size-counted c.args.v.now c.loop-i.i c.loop-i-test.true (told ∙ w.if-not-is_continuation.true))) | else-not-is_continuation w ↦ (omega (arith, w.n-is, c.loop-i.invariant.0), omega arith, omega (arith, w.n-is, c.loop-i.invariant.2, size-passed c.args.v.now c.loop-i.i c.loop-i-test.true (told ∙ w.if-not-is_continuation.false))) ]
 
 pub returns : goal.returns
 returns c =
-    omega (arith, c.loop-i.invariant.2, size-end c.args.v.now c.loop-i.i c.loop-i-test.false)
+    count_from_yields_List _ c.count.result c.count.ensures.ran (YieldsList-from_filter _ (λ (b : ℕ). not (is_continuation b)) (YieldsList-from_slice c.args.v.now (cc)) c.filter.ensures.closure (λ x b q k. search (rules, tests)))

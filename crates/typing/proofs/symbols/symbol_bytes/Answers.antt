@@ -1,20 +1,14 @@
-use mathlib.Core.Path.{refl}
-use native.Mathlib.Omega.{arith}
-use lib.ListN.{drop_of_length-le}
-use Rattle.lines.proofs.Cuts.{at-cons}
+-- `typing::symbols::symbol_bytes` meets its contract.
+use Rattle.std.proofs.Common.{rules, tests}
+use mathlib.Core.Path.{◌∙◌}
+use Rattle.std.proofs.lemmas.Iterator.{YieldsList-from_slice}
+use Rattle.std.proofs.lemmas.Iterator.Search.{all_from_yields_List}
+use lib.ListN.{drop}
+use Rattle.format.specs.Types.{is_symbol_byte}
+use Rattle.lines.proofs.Cuts.{rest}
+use Rattle.lines.proofs.Scans.{all_pass}
 use Rattle.typing.proofs.symbols.symbol_bytes.Goals as goal
-
-pub loop-i-init : goal.loop-i-init
-loop-i-init c = (omega arith, refl)
-
-pub loop-i-preserved : goal.loop-i-preserved
-loop-i-preserved c =
-    (omega arith, rw (c.loop-i.invariant.1, at-cons c.args.s.now c.loop-i.i c.loop-i-test.true, ← c.symbol_byte.ensures, c.if-symbol_byte.true))
-
-pub returns-else-symbol_byte : goal.returns-else-symbol_byte
-returns-else-symbol_byte c =
-    rw (c.loop-i.invariant.1, at-cons c.args.s.now c.loop-i.i c.loop-i-test.true, ← c.symbol_byte.ensures, c.if-symbol_byte.false)
 
 pub returns : goal.returns
 returns c =
-    rw (c.loop-i.invariant.1, drop_of_length-le c.args.s.now c.loop-i-test.false)
+    all_from_yields_List is_symbol_byte _ _ c.all.result c.all.ensures.ran (YieldsList-from_slice (drop c.args.from c.args.s.now) (c.iter.ensures.rest ∙ rest c.args.s.now c.args.from)) (λ x b q k. search (rules, tests)) ∙ all_pass is_symbol_byte (drop c.args.from c.args.s.now)

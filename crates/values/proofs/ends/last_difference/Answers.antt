@@ -27,21 +27,21 @@ returns-in_default-y c =
 
 pub overflow_sub-place : goal.overflow_sub-place
 overflow_sub-place c =
-    place-before c.args.a.now c.loop-c.p c.loop-c.place _ _ c.loop-c.invariant.3 (comes-before c.args.a.now c.loop-c.p c.byte_before-x.result c.byte_before-x.ensures c.in-Byte.is)
+    place-before c.args.a.now c.loop-c.p c.loop-c.place _ _ c.loop-c.invariant.3 (comes-before c.args.a.now c.loop-c.p c.byte_before-x.result c.byte_before-x.ensures c.in-Some.is)
 
 pub returns-then-c-d : goal.returns-then-c-d
 returns-then-c-d c =
-    let x = comes-before c.args.a.now c.loop-c.p c.byte_before-x.result c.byte_before-x.ensures c.in-Byte.is in
-    let y = comes-before c.args.b.now c.loop-c.q c.byte_before-y.result c.byte_before-y.ensures c.in-Byte-y.is in
+    let x = comes-before c.args.a.now c.loop-c.p c.byte_before-x.result c.byte_before-x.ensures c.in-Some.is in
+    let y = comes-before c.args.b.now c.loop-c.q c.byte_before-y.result c.byte_before-y.ensures c.in-Some-y.is in
     differs c.args.a.now c.args.b.now c.loop-c.p c.loop-c.q (c.requires.0.size ∙ sym c.requires.1.size) c.loop-c.invariant.2 _ _ _ _ x y c.loop-c.place c.loop-c.invariant.3 c.if-c-d.true
 
 pub loop-c-smaller : goal.loop-c-smaller
 loop-c-smaller c =
-    (comes-before c.args.a.now c.loop-c.p c.byte_before-x.result c.byte_before-x.ensures c.in-Byte.is).1
+    (comes-before c.args.a.now c.loop-c.p c.byte_before-x.result c.byte_before-x.ensures c.in-Some.is).1
 
 pub loop-c-preserved : goal.loop-c-preserved
 loop-c-preserved c =
-    let x = comes-before c.args.a.now c.loop-c.p c.byte_before-x.result c.byte_before-x.ensures c.in-Byte.is in
-    let y = comes-before c.args.b.now c.loop-c.q c.byte_before-y.result c.byte_before-y.ensures c.in-Byte-y.is in
+    let x = comes-before c.args.a.now c.loop-c.p c.byte_before-x.result c.byte_before-x.ensures c.in-Some.is in
+    let y = comes-before c.args.b.now c.loop-c.q c.byte_before-y.result c.byte_before-y.ensures c.in-Some-y.is in
     let h = place-before c.args.a.now c.loop-c.p c.loop-c.place _ _ c.loop-c.invariant.3 x in
     (x.2, y.2, alike-before c.args.a.now c.args.b.now c.loop-c.p c.loop-c.q (c.requires.0.size ∙ sym c.requires.1.size) c.loop-c.invariant.2 _ _ _ _ x y c.if-c-d.false, omega (arith, c.loop-c.invariant.3, h, ap length x.0))

@@ -20,20 +20,20 @@ overflow_add-n c =
 
 pub returns-in_default : goal.returns-in_default
 returns-in_default c =
-    let e = ended c.args.v.now c.plain_end-end.result c.value_byte-d.result c.value_byte-d.ensures c.in_default.is in
+    let e = ended c.args.v.now c.plain_end-end.result c.value_byte.result c.value_byte.ensures c.in_default.is in
     record { size = omega (arith, c.loop-next.invariant.1, c.plain_end-end.ensures.counted, ap length e); reached = reaches-on c.loop-next.invariant.0 c.plain_end-end.ensures.reached; rest = e }
 
 pub overflow_add-n-in-loop-next : goal.overflow_add-n-in-loop-next
 overflow_add-n-in-loop-next c =
-    let e = goes_on c.args.v.now c.plain_end-end.result c.value_byte-d.result c.value_byte-d.ensures c.in-Byte.is in
+    let e = goes_on c.args.v.now c.plain_end-end.result c.value_byte.result c.value_byte.ensures c.in-Some.is in
     omega (arith, c.loop-next.invariant.1, c.plain_end-end.ensures.on, c.plain_end-end.ensures.counted, ap length e.0, value-length c.args.v.now)
 
 pub loop-next-smaller : goal.loop-next-smaller
 loop-next-smaller c =
-    let e = goes_on c.args.v.now c.plain_end-end.result c.value_byte-d.result c.value_byte-d.ensures c.in-Byte.is in
+    let e = goes_on c.args.v.now c.plain_end-end.result c.value_byte.result c.value_byte.ensures c.in-Some.is in
     omega (arith, e.1, e.2, c.plain_end-end.ensures.on)
 
 pub loop-next-preserved : goal.loop-next-preserved
 loop-next-preserved c =
-    let e = goes_on c.args.v.now c.plain_end-end.result c.value_byte-d.result c.value_byte-d.ensures c.in-Byte.is in
+    let e = goes_on c.args.v.now c.plain_end-end.result c.value_byte.result c.value_byte.ensures c.in-Some.is in
     (reaches-on (reaches-on c.loop-next.invariant.0 c.plain_end-end.ensures.reached) e.3, omega (arith, c.loop-next.invariant.1, c.plain_end-end.ensures.on, c.plain_end-end.ensures.counted, ap length e.0))

@@ -1,7 +1,0 @@
--- By the table's rule at one entry.
-use Rattle.std.proofs.Common.{rules}
-use Rattle.format.proofs.Table.{class-at}
-use Rattle.format.proofs.class_of.Goals as goal
-
-pub returns : goal.returns
-returns c = rw c.requires (class-at c.args.b (search rules))

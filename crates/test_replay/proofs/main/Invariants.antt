@@ -1,8 +1,0 @@
--- `test_replay::main` is safe and ends: the measure is how many frames are left.
-use Rattle.test_replay.proofs.main.Given as goal
-
-abbrev pub invariant-loop-left : goal.invariant-loop-left
-invariant-loop-left l = Unit {0}
-
-abbrev pub decreases-loop-left : goal.decreases-loop-left
-decreases-loop-left l = l.left
