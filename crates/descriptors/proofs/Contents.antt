@@ -69,6 +69,9 @@ pub asks_at : (n m : Bytes) (c : Content) (r k : ℕ) → r ≡ place_in n rule_
 asks_at n m c r k e f h s a q = subst (λ (x : Bytes). Asks x c) (same_true m n (is-placed n m rule_names r k e f h s q)) a
 
 -- one that has none of their places
+pub above : (r k : ℕ) → k ≤ r → (r ≡ k → ⊥) → k + 1 ≤ r
+above r k h e = omega (arith, h, e)
+
 rows-passed : (n : Bytes) (xs : List Shape) → length xs ≤ place_in n (map (λ (x : Shape). x.name) xs) → Each (λ (x : Shape). same n x.name ≡ false) xs
 rows-passed n [] h = tt
 rows-passed n (x ∷ xs) h = go (same n x.name) refl (λ g. rows-passed n xs g) h

@@ -115,9 +115,12 @@ module _ (buffer : Bytes) (used : ℕ) (v : verdict buffer used ≡ 0) where
       pub plan-sound : Sound (take used buffer) req added x
       plan-sound = (plan-read (Located.At x) refl p).2.2
 
+      pub plan-fails : (n : ℕ) → (n ≡ 0 → ⊥) → n ≡ edit_no (length buffer) 0 (made_by (take used buffer) req added x) → refused_edit n buffer ≡ edit_answer buffer used req
+      plan-fails n h = let r = plan-read (Located.At x) refl p in edit-refused req r.0 r.1 added x r.2 n (omega (arith, h))
+
       -- the answer y hands a refusal on
-      pub plan-fails : (r : Refusal) → refusal_no r ≡ edit_no (length buffer) 0 (made_by (take used buffer) req added x) → (y : Result ℕ Refusal) → IsErr y × IsErrAnd y (λ z. z ≡ r) → filled_by y buffer ≡ edit_answer buffer used req
-      plan-fails k e y h =
+      pub plan-hands-on : (r : Refusal) → refusal_no r ≡ edit_no (length buffer) 0 (made_by (take used buffer) req added x) → (y : Result ℕ Refusal) → IsErr y × IsErrAnd y (λ z. z ≡ r) → filled_by y buffer ≡ edit_answer buffer used req
+      plan-hands-on k e y h =
           let r = plan-read (Located.At x) refl p in
           ap (λ (z : Result ℕ Refusal). filled_by z buffer) (handed-as y k h) ∙ edit-refused req r.0 r.1 added x r.2 (refusal_no k) (refusal-number k) e
 

@@ -52,7 +52,8 @@ fn edit_no(
     if !edits::fits(x, s, req, added, room) {
         return Err(Refusal::Large);
     }
-    result_no(x, s, req, added, copy).map_err(Refusal::Result)
+    result_no(x, s, req, added, copy).map_err(Refusal::Result)?;
+    Ok(())
 }
 
 // The refusal of an edit that makes so many bytes, with a name among them that is longer than a field's may be.

@@ -4,13 +4,13 @@ use native.Mathlib.Nat.{not-suc-le-zero}
 use native.Mathlib.Numerals.{add-one}
 use native.Mathlib.Omega.{arith}
 use mathlib.Core.Path.{◌≡◌, refl, sym, ap, ◌∙◌}
-use mathlib.Core.Bool.{Bool, true, false}
+use mathlib.Core.Bool.{Bool, true, false, and-false}
 use mathlib.Core.List.{[], ◌∷◌}
 use borrow.Author.Tests.{eq-eqb, ne_eqb}
 use lib.Dec.{eqb}
-use lib.ListN.{length, take, drop, get_or, length-drop}
+use lib.ListN.{length, take, drop, get_or, drop_of_length-le, length-drop}
 use lib.Seq.{drop-cons, length-take-le, take_all, get_or-take, get_or-drop}
-use Rattle.format.specs.Bytes.{Bytes, pick, is_newline}
+use Rattle.format.specs.Bytes.{Bytes, pick, is_newline, same}
 use Rattle.format.specs.Lines.{lines, is_ended, joins}
 use Rattle.format.proofs.Lines.{put}
 use Rattle.lines.specs.Line.{line_len, first_line}
@@ -32,6 +32,10 @@ module _ (s : Bytes) (i : ℕ) where
   pub line-stop : i < length s → get_or s i 0 ≡ 10 → line_len (drop i s) ≡ 0
   unfolding line_len
   line-stop h e = rw (at-cons s i h, eq-eqb _ _ e)
+
+  pub line-end : length s ≤ i → line_len (drop i s) ≡ 0
+  unfolding line_len
+  line-end h = rw (drop_of_length-le s)
 
 -- where no newline stands before it, it is the bytes before a place and the line that goes on there
 pub line-from : (s : Bytes) (i : ℕ) → i ≤ line_len s → line_len s ≡ i + line_len (drop i s)
@@ -94,6 +98,13 @@ line-inside (c ∷ d ∷ s) e h = go (is_newline c) (line-inside (d ∷ s) e (om
     go : (t : Bool) → line_len (d ∷ s) < length (d ∷ s) → pick t 0 (suc (line_len (d ∷ s))) < length (c ∷ d ∷ s)
     go true h = omega arith
     go false h = omega arith
+
+-- texts that are not as long are not the same
+pub lengths_differ : (a b : Bytes) → (length a ≡ length b → ⊥) → same a b ≡ false
+lengths_differ [] [] h = absurd (h refl)
+lengths_differ [] (y ∷ b) h = refl
+lengths_differ (x ∷ a) [] h = refl
+lengths_differ (x ∷ a) (y ∷ b) h = rw (lengths_differ a b (λ e. h (ap suc e)), and-false)
 
 -- the last byte of a line tells whether it takes the next one on
 joins-last : (l : Bytes) (k : ℕ) → length l ≡ suc k → joins l ≡ eqb (get_or l k 0) 92

@@ -64,9 +64,16 @@ fn line_end(s: &[u8], i: usize) -> usize
 pub fn blank_line(table: &Classes, s: &[u8]) -> bool
     ensures { result ≡ all is_blank (first_line s.now) }
 {
-    s[..line_len(s)]
-        .iter()
-        .all(|b| table.class(*b) == Class::BLANK)
+    for &b in s {
+        let k = table.class(b);
+        if k == Class::NEWLINE {
+            return true;
+        }
+        if k != Class::BLANK {
+            return false;
+        }
+    }
+    true
 }
 
 // The number of bytes of the name that s begins with, 0 where it begins with none.

@@ -46,7 +46,10 @@ pub fn fetch(
 pub fn view_place(buf: &[u8], used: usize, set: &[u8], row: usize) -> Result<Span, Refusal>
     ensures { (seen_answer (take used buf.now) result ≡ view_answer buf.now used set.now row) × SeenInside (take used buf.now) result }
 {
-    inside::view_in(checked(buf, used)?, set, row)
+    match checked(buf, used) {
+        Ok(s) => inside::view_in(s, set, row),
+        Err(question) => Err(Refusal::File(question)),
+    }
 }
 
 // The part of the file that a record of a set stands in.
@@ -54,8 +57,10 @@ pub fn view<'a>(buf: &'a [u8], used: usize, set: &[u8], row: usize) -> Result<&'
     ensures number { refused_no result ≡ number_in (view_answer buf.now used set.now row).result }
     ensures part { IfOk result (λ part. part.now ≡ (view_answer buf.now used set.now row).part) }
 {
-    let Span { start, end } = view_place(buf, used, set, row)?;
-    Ok(&buf[start..end])
+    match view_place(buf, used, set, row) {
+        Ok(Span { start, end }) => Ok(&buf[start..end]),
+        Err(refusal) => Err(refusal),
+    }
 }
 
 // The name of set k, in file order and the default set first, put into out; what stands behind it there stays. 21 says that there are not so many sets.

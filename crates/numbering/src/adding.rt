@@ -9,14 +9,14 @@ ghost use Rattle.format.specs.Rules.{auto};
 ghost use Rattle.records.specs.Walk.{record_in};
 ghost use Rattle.requests.specs.Pairs.{pairs_from, pairs_at};
 ghost use Rattle.dictionary.specs.Known.{Described};
-ghost use Rattle.dictionary.specs.Numbered.{IsListed};
+ghost use Rattle.dictionary.specs.Numbered.{IsWords, IsListed};
 ghost use Rattle.numbering.specs.Bounds.{numbers, Limited};
 ghost use Rattle.numbering.specs.Adding.{added_room, added_most, State, pair_by, stepped, step_all, unadded, Seen, Marked, Sums, SummedAs, AddedAs};
 
 use super::Added;
 use super::bounds::Bounds;
 use dictionary::wordsets;
-use dictionary::wordsets::Listed;
+use dictionary::wordsets::{Listed, Words};
 use format::Record;
 use records::ValuePlace;
 use requests::Pair;
@@ -73,11 +73,11 @@ pub(crate) struct Sum {
 }
 
 // The places of the lists that have a field, with those of one name more.
-fn mark(d: &[u8], l: Listed, seen: u64, name: &[u8]) -> u64
-    requires { IsListed d.now (auto (record_in d.now)) l }
+fn mark(d: &[u8], entries: &[u32], sets: &[u64], w: Words, seen: u64, name: &[u8]) -> u64
+    requires { IsWords d.now (auto (record_in d.now)) entries.now sets.now w }
     ensures { Marked (auto (record_in d.now)) name.now seen result }
 {
-    seen | wordsets::places(d, l, name)
+    seen | wordsets::places_in(d, entries, sets, w, name)
 }
 
 // The places of the lists that the pairs of a request have.
@@ -92,7 +92,14 @@ pub(crate) fn mark_pairs(d: &[u8], l: Listed, req: &[u8], from: usize) -> u64
         let Some(Pair { name, next, .. }) = requests::pair_at(req, i) else {
             return seen;
         };
-        seen = mark(d, l, seen, &req[name.start..name.end]);
+        seen = mark(
+            d,
+            &l.entries,
+            &l.sets,
+            l.words,
+            seen,
+            &req[name.start..name.end],
+        );
         i = next;
     }
 }
@@ -129,7 +136,7 @@ fn add_word(
     }
     let short = stays_short(sum.short, name);
     let len = put_number(name, number, short, sum.len, out);
-    let seen = mark(d, l, sum.seen, name);
+    let seen = mark(d, &l.entries, &l.sets, l.words, sum.seen, name);
     Some(Sum { len, short, seen })
 }
 

@@ -265,7 +265,9 @@ pub struct ValuePlace {
     pub end: usize,
 }
 
-// The first field of a name in a part.
+// The first field of a name in a part. Inlined, since a call for each key is one in fifteen of the
+// instructions of a check of nothing but keys.
+#[inline(always)]
 pub fn next_named(s: &[u8], name: &[u8]) -> Option<ValuePlace>
     requires { is_readable s.now ≡ true }
     ensures { NamedNext s.now name.now 0 result }

@@ -1,5 +1,5 @@
 -- Writing a record: the answer of each case, and that what is written reads back.
-use Rattle.std.specs.Prelude.{Some, None, Result, Ok, Err}
+use Rattle.std.specs.Prelude.{Option as Maybe, Some, None, Result, Ok, Err}
 use Prim.Native.Nat.{ℕ, zero, suc, ◌≤◌}
 use native.Mathlib.Omega.{arith}
 use mathlib.Core.Path.{◌≡◌, refl, sym, ap, ◌∙◌, subst}
@@ -30,7 +30,7 @@ use Rattle.requests.specs.declared.kinds.Request.{Request}
 use Rattle.format.specs.declared.refusals.Refusal.{Refusal}
 use Rattle.format.specs.Refusals.{refusal_no}
 use Rattle.requests.specs.Pairs.{pairs_at}
-use Rattle.requests.specs.Kinds.{edit_of, request_answer}
+use Rattle.requests.specs.Kinds.{edit_of, request_answer, InEdit, Inside}
 use Rattle.requests.proofs.Kinding.{request-long}
 use Rattle.requests.proofs.Weighing.{asked-illegal}
 use Rattle.requests.specs.Writes.{write_no}
@@ -65,6 +65,10 @@ module _ (s out : Bytes) where
 
     pub write-insert : (i : ℕ) → q.edit ≡ ReadEdit.Insert i → filled_as (write_no (pairs_at s i) (length out)) (written_all (pairs_at s i)) out ≡ write_answer s out
     write-insert i a = ap (λ (x : ReadEdit). written_by (insert_of (edit_of s x)) out) (sym a) ∙ by-asked
+
+-- the pairs of an insert that was read
+pub insert-inside : (s : Bytes) (r : Maybe Request) (q : Request) (i : ℕ) → Inside s r → r ≡ Some q → q.edit ≡ ReadEdit.Insert i → InEdit s (ReadEdit.Insert i)
+insert-inside s r q i h e a = subst (InEdit s) a (subst (Inside s) e h).1
 
 -- it is not too long
 pub request-bytes : (s : Bytes) (q : Request) → request_answer s (Some q) ≡ request_of s → length s ≤ file_bytes

@@ -9,9 +9,6 @@ use borrow.Author.Tests.{eqb-true, eqb-false}
 use lib.Dec.{eqb}
 use lib.ListN.{length, get_or, set, length-set}
 use lib.Seq.{get_or-set_same, get_or-set_other}
-use Rattle.std.proofs.lemmas.Grind.{get_or_default_zero}
-use Rattle.std.specs.List.{swap}
-use Rattle.std.specs.List.Sorted.{IsPermutation, SwapsInRange, apply_swaps}
 use Rattle.format.specs.Bytes.{any}
 use Rattle.sorting.specs.Moves.{swapped, Moved, none, more}
 use Rattle.values.proofs.Tests.{by_bool, same_false, or-first, or-second}
@@ -87,20 +84,3 @@ moved-any p {l} v =
     (λ z. each-any p (swapped k i j) (λ q b. each_on k i j h g (λ (x : ℕ). p x ≡ false) (any-each p k z) q (rw n at b)))
     ∙ e)
     v refl
-
--- what the library's exchanges reach, moves reach
-swap-swapped : (l : List ℕ) (i j : ℕ) → i < length l → j < length l → swap l i j ≡ swapped l i j
-swap-swapped [] i j h g = absurd (omega arith)
-swap-swapped (d ∷ l) i j h g = rw (get_or_default_zero (d ∷ l) j d g, get_or_default_zero (d ∷ l) i d h)
-
-reached : (l : List ℕ) (ps : List (ℕ × ℕ)) → SwapsInRange (length l) ps → Moved l (apply_swaps l ps)
-reached l [] h = none
-reached l (p ∷ ps) h =
-    let r : Moved l (apply_swaps l ps) = reached l ps h.2 in
-    let n : length (apply_swaps l ps) ≡ length l = moved_length l (apply_swaps l ps) r in
-    let a : p.0 < length (apply_swaps l ps) = rw n h.0 in
-    let b : p.1 < length (apply_swaps l ps) = rw n h.1 in
-    subst (Moved l) (sym (swap-swapped (apply_swaps l ps) p.0 p.1 a b)) (more r p.0 p.1 a b)
-
-pub permutation-moved : (l m : List ℕ) → IsPermutation l m → Moved l m
-permutation-moved l m p = subst (Moved l) (sym p.is) (reached l p.moves p.below)

@@ -76,7 +76,13 @@ fn is_continuation(c: u8) -> bool
 fn size_count(v: &[u8]) -> usize
     ensures { result ≡ size_count v.now }
 {
-    v.iter().filter(|&&c| !is_continuation(c)).count()
+    let mut n = 0;
+    for &c in v {
+        if !is_continuation(c) {
+            n += 1;
+        }
+    }
+    n
 }
 
 // Does a value meet the type that was read from text? An alias has to be followed first.

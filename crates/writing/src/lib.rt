@@ -82,7 +82,10 @@ pub fn put_bytes(out: &mut [u8], s: &[u8])
     requires { length s.now ≤ length out.old }
     ensures { out.new ≡ over s.now out.old }
 {
-    out[..s.len()].copy_from_slice(s);
+    // By an index: the library's `copy_from_slice` needs memmove, and the archive asks for none.
+    for i in 0..s.len() {
+        out[i] = s[i];
+    }
 }
 
 // A value's text from a place of out on, with a plus and a space after each newline; where it ends.

@@ -2,7 +2,10 @@
 use mathlib.Core.Path.{sym, ap, ◌∙◌}
 use mathlib.Core.Bool.{Bool, not}
 use borrow.Author.Tests.{not-true, not-false}
+use Rattle.std.specs.Prelude.{Ok, Err}
 use Rattle.format.specs.Bytes.{Bytes, pick}
+use Rattle.format.specs.Refusals.{refused_no}
+use Rattle.format.proofs.Refused.{handed-as}
 use Rattle.format.proofs.Judging.{text_no}
 use Rattle.format.proofs.Results.{raised_no}
 use Rattle.edits.specs.Splices.{made_by}
@@ -26,5 +29,12 @@ result_no-requires c =
 pub returns : goal.returns
 returns c =
     let t : Bytes = made_by c.args.s.now c.args.req.now c.args.added.now c.args.x in
-    number-raised c.result_no.result c.map_err.result _ (λ q r l. l) c.map_err.ensures.cases ∙ ap raised_no c.result_no.ensures
+    number-raised c.result_no.result (Ok tt) _ (λ q r l. l) c.in_ok-map_err.ensures.cases ∙ ap raised_no c.result_no.ensures
+    ∙ sym (number-asked c.args.room t c.fits.result c.fits.ensures ∙ ap (λ (b : Bool). pick b (raised_no (text_no t)) 26) (not-false c.fits.result (ap not c.if-not-fits.false)))
+
+pub returns-in_err-map_err : goal.returns-in_err-map_err
+returns-in_err-map_err c =
+    let t : Bytes = made_by c.args.s.now c.args.req.now c.args.added.now c.args.x in
+    ap refused_no (handed-as c.from_residual.result c.in_err-map_err.field-0.0 c.from_residual.ensures)
+    ∙ number-raised c.result_no.result (Err c.in_err-map_err.field-0.0) _ (λ q r l. l) c.in_err-map_err.ensures.cases ∙ ap raised_no c.result_no.ensures
     ∙ sym (number-asked c.args.room t c.fits.result c.fits.ensures ∙ ap (λ (b : Bool). pick b (raised_no (text_no t)) 26) (not-false c.fits.result (ap not c.if-not-fits.false)))

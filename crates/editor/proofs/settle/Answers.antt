@@ -7,7 +7,7 @@ use Rattle.edits.specs.Splices.{made_by}
 use Rattle.editor.specs.Plans.{Planned}
 use Rattle.records.proofs.Checked.{checked}
 use Rattle.format.specs.Refusals.{refusal_no}
-use Rattle.editor.proofs.Editing.{number-zero, plan-refused, plan-over, plan-sound, plan-fails, plan-done}
+use Rattle.editor.proofs.Editing.{number-zero, plan-refused, plan-over, plan-sound, plan-hands-on, plan-done}
 use Rattle.editor.proofs.settle.Goals as goal
 
 pub returns-in-Refused : goal.returns-in-Refused
@@ -42,7 +42,7 @@ pub returns-in_err-edit_no-in-At : goal.returns-in_err-edit_no-in-At
 unfolding check_answer
 returns-in_err-edit_no-in-At c =
     let p = subst (Planned (take c.args.used c.args.buf.now) c.args.req.now c.args.added.now) c.in-At.is c.requires.used_value.1 in
-    plan-fails c.args.buf.now c.args.used c.requires.used_value.0 c.args.req.now c.args.added.now c.in-At.x p c.in_err-edit_no-in-At.field-0.0 c.in_err-edit_no-in-At.ensures c.from_residual.result c.from_residual.ensures
+    plan-hands-on c.args.buf.now c.args.used c.requires.used_value.0 c.args.req.now c.args.added.now c.in-At.x p c.in_err-edit_no-in-At.field-0.0 c.in_err-edit_no-in-At.ensures c.from_residual.result c.from_residual.ensures
 
 pub carry_out-new-requires : goal.carry_out-new-requires
 unfolding check_answer

@@ -1,28 +1,36 @@
--- `lines::blank_line` meets its contract: the bytes of the line are asked for their class.
-use Prim.Native.Nat.{ℕ}
+use mathlib.Core.Path.{refl}
+use Prim.Native.Nat.{◌<◌}
 use native.Mathlib.Omega.{arith}
-use mathlib.Core.Path.{sym, ap, ◌∙◌}
-use mathlib.Core.Bool.{Bool}
-use lib.Dec.{eqb}
-use lib.ListN.{take}
-use lib.Seq.{length-take-le}
-use Rattle.std.proofs.Common.{rules, tests}
-use Rattle.std.proofs.lemmas.Iterator.{YieldsList-from_slice}
-use Rattle.std.proofs.lemmas.Iterator.Search.{all_from_yields_List}
-use Rattle.format.specs.Bytes.{class_of, is_blank, all}
-use Rattle.lines.proofs.Cuts.{line-le}
-use Rattle.lines.proofs.Scans.{all_pass, classes-blank}
+use borrow.Author.Tests.{eq-eqb, ne_eqb}
+use lib.ListN.{get_or, drop_of_length-le}
+use Rattle.format.proofs.Table.{newline-class, blank-class}
+use Rattle.lines.specs.Line.{line_len}
+use Rattle.lines.proofs.Cuts.{at-cons}
 use Rattle.lines.proofs.blank_line.Goals as goal
 
-pub slice_bounds-iter-end : goal.slice_bounds-iter-end
-slice_bounds-iter-end c =
-    sym (length-take-le c.line_len.result c.args.s.now (omega (arith, c.line_len.ensures, line-le c.args.s.now)))
+pub loop-b-init : goal.loop-b-init
+loop-b-init c = (omega arith, refl)
+
+pub returns-then-k-eq-NEWLINE : goal.returns-then-k-eq-NEWLINE
+unfolding line_len
+returns-then-k-eq-NEWLINE c =
+    let s = c.args.s.now in
+    let small : get_or s c.loop-b.b-index 0 < 256 = omega (arith, c.type_inv.s c.loop-b.b-index) in rw (c.loop-b.invariant.1, at-cons s c.loop-b.b-index c.loop-b-test.true, newline-class (get_or s c.loop-b.b-index 0) small, ← c.class-k.ensures, eq-eqb _ _ c.if-k-eq-NEWLINE.true)
+
+pub returns-then-k-ne-BLANK : goal.returns-then-k-ne-BLANK
+unfolding line_len
+returns-then-k-ne-BLANK c =
+    let s = c.args.s.now in
+    let small : get_or s c.loop-b.b-index 0 < 256 = omega (arith, c.type_inv.s c.loop-b.b-index) in rw (c.loop-b.invariant.1, at-cons s c.loop-b.b-index c.loop-b-test.true, newline-class (get_or s c.loop-b.b-index 0) small, ← c.class-k.ensures, ne_eqb _ _ c.if-k-eq-NEWLINE.false, blank-class (get_or s c.loop-b.b-index 0) small, ← c.class-k.ensures, ne_eqb _ _ c.if-k-ne-BLANK.true)
+
+pub loop-b-preserved : goal.loop-b-preserved
+unfolding line_len
+loop-b-preserved c =
+    let s = c.args.s.now in
+    let small : get_or s c.loop-b.b-index 0 < 256 = omega (arith, c.type_inv.s c.loop-b.b-index) in (omega arith, rw (c.loop-b.invariant.1, at-cons s c.loop-b.b-index c.loop-b-test.true, newline-class (get_or s c.loop-b.b-index 0) small, ← c.class-k.ensures, ne_eqb _ _ c.if-k-eq-NEWLINE.false, blank-class (get_or s c.loop-b.b-index 0) small, ← c.class-k.ensures, eq-eqb _ _ c.if-k-ne-BLANK.false))
 
 pub returns : goal.returns
+unfolding line_len
 returns c =
     let s = c.args.s.now in
-    let by_class : ℕ → Bool = λ b. eqb (class_of b) 3 in
-    all_from_yields_List by_class _ _ _ c.all.ensures.ran (YieldsList-from_slice (take c.line_len.result s) cc) (λ x b q k. search (rules, tests))
-    ∙ all_pass by_class (take c.line_len.result s)
-    ∙ classes-blank c.line_len.result s (λ i. omega (arith, c.type_inv.s i))
-    ∙ ap (λ (n : ℕ). all is_blank (take n s)) c.line_len.ensures
+    rw (c.loop-b.invariant.1, drop_of_length-le s c.loop-b-test.false)

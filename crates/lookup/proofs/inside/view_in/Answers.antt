@@ -1,7 +1,7 @@
 -- `lookup::inside::view_in` meets its contract: what the searches for the set and the record tell is what questions 21 and 22 ask.
 use native.Mathlib.Omega.{arith}
 use mathlib.Core.Path.{sym, ap, ◌∙◌}
-use lib.ListN.{drop}
+use lib.ListN.{drop, length-drop}
 use Rattle.format.specs.Bytes.{Bytes}
 use Rattle.records.proofs.Readings.{part-readable}
 use Rattle.records.proofs.Members.{head-told, record-told}
@@ -39,7 +39,7 @@ overflow_add-start c =
 pub overflow_add-end : goal.overflow_add-end
 overflow_add-end c =
     let w = met c.args.s.now c.args.set.now c.args.row c.requires c.in-Some.head c.in-Some.ensures c.in-Some-find_record.p c.in-Some-find_record.ensures in
-    omega (arith, w.inside, c.well_formed.0.0)
+    omega (arith, w.head.set.inside, w.found.stand.within, w.found.stand.inside, length-drop c.in-Some.head.begin c.args.s.now, c.well_formed.0.0)
 
 pub returns : goal.returns
 returns c =

@@ -6,4 +6,4 @@ use Rattle.numbering.proofs.adding.mark.Goals as goal
 
 pub returns : goal.returns
 returns c =
-    marked_by (auto (record_in c.args.d.now)) c.args.name.now c.args.seen c.places.result (c.places.ensures (auto (record_in c.args.d.now)) c.requires)
+    marked_by (auto (record_in c.args.d.now)) c.args.name.now c.args.seen c.places_in.result (c.places_in.ensures (auto (record_in c.args.d.now)) c.requires)

@@ -26,8 +26,8 @@ slice_bounds-mark-start c =
     let h = pair_found c.args.req.now c.loop-name.i c.pair_at.result c.in-Some.field-0.name c.in-Some.field-0.value c.in-Some.field-0.next c.pair_at.ensures c.in-Some.is in
     h.3.0
 
-pub slice_bounds-mark-end : goal.slice_bounds-mark-end
-slice_bounds-mark-end c =
+pub slice_bounds-mark-end-in-loop-name-2 : goal.slice_bounds-mark-end-in-loop-name-2
+slice_bounds-mark-end-in-loop-name-2 c =
     let h = pair_found c.args.req.now c.loop-name.i c.pair_at.result c.in-Some.field-0.name c.in-Some.field-0.value c.in-Some.field-0.next c.pair_at.ensures c.in-Some.is in
     h.3.1
 

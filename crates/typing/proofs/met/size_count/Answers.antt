@@ -1,12 +1,17 @@
--- `typing::met::size_count` meets its contract.
-use Rattle.std.proofs.Common.{rules, tests}
-use Prim.Native.Nat.{ℕ}
-use mathlib.Core.Bool.{not}
-use Rattle.std.proofs.lemmas.Iterator.{YieldsList-from_slice}
-use Rattle.std.proofs.lemmas.Iterator.Consumers.{YieldsList-from_filter, count_from_yields_List}
-use Rattle.format.specs.Types.{is_continuation}
+use native.Mathlib.Omega.{arith}
+use mathlib.Core.Path.{sym, ◌∙◌}
+use Rattle.typing.proofs.Meeting.{size-counted, size-passed, size-end}
 use Rattle.typing.proofs.met.size_count.Goals as goal
+use Rattle.typing.proofs.met.size_count.Goals.{then-not-is_continuation, else-not-is_continuation}
+
+pub loop-c-init : goal.loop-c-init
+loop-c-init c = (omega arith, omega arith, omega arith)
+
+pub loop-c-preserved : goal.loop-c-preserved
+loop-c-preserved c =
+    let told = sym c.is_continuation.ensures in
+    elim c.if-not-is_continuation.branch [ then-not-is_continuation w ↦ (omega (arith, w.n-is, c.loop-c.invariant.0), omega arith, omega (arith, w.n-is, c.loop-c.invariant.2, size-counted c.args.v.now c.loop-c.c-index c.loop-c-test.true (told ∙ w.if-not-is_continuation.true))) | else-not-is_continuation w ↦ (omega (arith, w.n-is, c.loop-c.invariant.0), omega arith, omega (arith, w.n-is, c.loop-c.invariant.2, size-passed c.args.v.now c.loop-c.c-index c.loop-c-test.true (told ∙ w.if-not-is_continuation.false))) ]
 
 pub returns : goal.returns
 returns c =
-    count_from_yields_List _ c.count.result c.count.ensures.ran (YieldsList-from_filter _ (λ (b : ℕ). not (is_continuation b)) (YieldsList-from_slice c.args.v.now (cc)) c.filter.ensures.closure (λ x b q k. search (rules, tests)))
+    omega (arith, c.loop-c.invariant.2, size-end c.args.v.now c.loop-c.c-index c.loop-c-test.false)
